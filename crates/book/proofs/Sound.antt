@@ -1,0 +1,181 @@
+-- A book stays sound over its steps.
+use Rattle.std.proofs.lemmas.Grind.{common_steps}
+use Rattle.std.proofs.lemmas.List.{append_cancel_right, get_or-set_same, get_or-set_other, get_or_push, get_or_append_left, length-set}
+use Rattle.std.proofs.lemmas.List.Folds.{list_any-append}
+use Rattle.std.proofs.lemmas.List.Sums.{sum_by-cons}
+use Rattle.std.proofs.lemmas.Bool.Decides.{eqb_tells}
+use Rattle.std.proofs.Common.{◌≡◌, ◌≢◌, ◌⊎◌, inl, inr, ℕ, zero, suc, ◌+◌, ◌-◌, ◌<◌, ◌≤◌, Bool, true, false, not, ◌&&◌, ◌||◌, ◌==◌, cond, List, [], ◌∷◌, ◌++◌, length, map, slice_set, slice_index_or, sum_by, take, drop, arith, refl, sym, ap, ◌∙◌, subst, append-nil, append_assoc, eq-eqb, ne_eqb, length-append, lit≤}
+use Rattle.std.specs.List.{list_any}
+use Rattle.line_grammar.specs.declared.splitter.Piece.{Piece}
+use Rattle.chronicle.specs.declared.record.Kind.{Kind}
+use Rattle.chronicle.specs.declared.record.Kind.TheVariants.{Opened, Said}
+use Rattle.chronicle.specs.History.{Rec, actor, sessions, opened_by, accepted, misses, shut, IsMomentAfter, last_moment}
+use Rattle.chronicle.specs.Journal.{fresh_record, miss}
+use Rattle.book.specs.declared.item.Item.{Item}
+use Rattle.book.specs.declared.plan.Planned.{Planned}
+use Rattle.book.specs.Ring.{Waiting, empty_ring, with_put, with_taken}
+use Rattle.book.specs.Owed.{delivery, owed}
+use Rattle.book.specs.Legal.{IsKind, AreMissed, IsLegal}
+use Rattle.book.specs.Book.{Shown, outbox_at, numbers, kept_for, held, due, puts, others, plan_by, plan_of, planned, delivered, dropped, taken, IsOwed, IsPlan, IsSound}
+
+-- ---- the newest record is missed by one more session
+
+abbrev pub more : Rec → ℕ → Rec
+more r s = record { number = r.number; moment = r.moment; kind = r.kind; missed = r.missed ++ s ∷ [] }
+
+pub misses_same : (r : Rec) (s : ℕ) → misses (more r s) s ≡ true
+misses_same r s = list_any-append (λ u. u == s) r.missed (s ∷ []) ∙ grind (arith, common_steps, eq-eqb s s refl)
+
+pub misses_other : (r : Rec) (s t : ℕ) → s ≢ t → misses (more r s) t ≡ misses r t
+misses_other r s t ne = list_any-append (λ u. u == t) r.missed (s ∷ []) ∙ grind (arith, common_steps, ne_eqb s t ne)
+
+-- who has nothing in a plan is no head of it
+apart : (q : Planned) (qs : List Planned) (s : ℕ) → planned (q ∷ qs) s ≡ [] → (s ≢ q.session) × (planned qs s ≡ [])
+apart q qs s e =
+    elim (eqb_tells q.session s) [
+      | inl same ↦ absurd (let f : q.item ∷ planned qs s ≡ [] = rw same.0 at e in cc)
+      | inr other ↦ ((λ i. other.1 (sym i)), rw other.0 at e)
+    ]
+
+plan_after : (r : Rec) (h : List Rec) (n s : ℕ) (qs : List Planned) → planned qs s ≡ [] → IsPlan (r ∷ h) n qs → IsPlan (more r s ∷ h) n qs
+plan_after r h n s [] e p = tt
+plan_after r h n s (q ∷ qs) e p =
+    let a = apart q qs s e in
+    (p.0, p.1, p.2, (p.3.0, p.3.1, misses_other r s q.session a.0 ∙ p.3.2), plan_after r h n s qs a.1 p.4)
+
+-- the session that missed it
+owed_missed : (r : Rec) (h : List Rec) (had : List Item) (p : Planned) (ps : List Planned) → planned ps p.session ≡ [] → IsOwed (r ∷ h) p → had ++ planned (p ∷ ps) p.session ≡ owed (r ∷ h) p.session → had ++ planned ps p.session ≡ owed (more r p.session ∷ h) p.session
+owed_missed r h had p ps none own k =
+    let s = p.session in let d = delivery h r.kind s in
+    let head : planned (p ∷ ps) s ≡ p.item ∷ [] = rw (eq-eqb s s refl) (ap (λ xs. p.item ∷ xs) none) in
+    let last : cond (misses r s || shut h s) [] d ≡ p.item ∷ [] = rw (own.2, own.1) own.0 in
+    let got : had ++ p.item ∷ [] ≡ owed h s ++ p.item ∷ [] = ap (λ xs. had ++ xs) (sym head) ∙ k ∙ ap (λ xs. owed h s ++ xs) last in
+    ap (λ xs. had ++ xs) none ∙ append-nil had ∙ append_cancel_right had (owed h s) (p.item ∷ []) got ∙ sym (append-nil (owed h s))
+    ∙ ap (λ (c : Bool). owed h s ++ cond (c || shut h s) [] d) (sym (misses_same r s))
+
+-- another session
+owed_elsewhere : (r : Rec) (h : List Rec) (had : List Item) (p : Planned) (ps : List Planned) (t : ℕ) → p.session ≢ t → had ++ planned (p ∷ ps) t ≡ owed (r ∷ h) t → had ++ planned ps t ≡ owed (more r p.session ∷ h) t
+owed_elsewhere r h had p ps t ne k =
+    ap (λ (c : Bool). had ++ cond c (p.item ∷ planned ps t) (planned ps t)) (sym (ne_eqb p.session t ne)) ∙ k
+    ∙ ap (λ (c : Bool). owed h t ++ cond (c || shut h t) [] (delivery h r.kind t)) (sym (misses_other r p.session t ne))
+
+list_any-push_fresh : (t s : ℕ) (ts : List ℕ) → list_any (λ u. u == t) ts ≡ false → s ≢ t → list_any (λ u. u == t) (ts ++ s ∷ []) ≡ false
+list_any-push_fresh t s ts e ne = list_any-append (λ u. u == t) ts (s ∷ []) ∙ rw e (rw (ne_eqb s t ne) refl)
+
+missed_more : (h : List Rec) (k : Kind) (ts : List ℕ) (s : ℕ) → delivery h k s ≢ [] → shut h s ≡ false → list_any (λ u. u == s) ts ≡ false → AreMissed h k ts → AreMissed h k (ts ++ s ∷ [])
+missed_more h k [] s d o f a = (d, o, refl, tt)
+missed_more h k (t ∷ ts) s d o f a =
+    elim (eqb_tells t s) [
+      | inl same ↦ absurd (let g : true ≡ false = sym (rw same.0 refl) ∙ f in cc)
+      | inr other ↦ (a.0, a.1, list_any-push_fresh t s ts a.2 (λ e. other.1 (sym e)), missed_more h k ts s d o (let g : (false || list_any (λ u. u == s) ts) ≡ false = rw other.0 at f in g) a.3)
+    ]
+
+-- the sum of what is kept free falls where more is shut
+pub sum_le : (f g : ℕ → ℕ) (ts : List ℕ) → ((t : ℕ) → f t ≤ g t) → sum_by f ts ≤ sum_by g ts
+sum_le f g [] h = omega arith
+sum_le f g (t ∷ ts) h = let a = h t in let b = sum_le f g ts h in rw (sum_by-cons f t ts) (rw (sum_by-cons g t ts) (omega arith))
+
+kept_less : (b c : Bool) → (c ≡ true → b ≡ true) → cond b 1 2 ≤ cond c 1 2
+kept_less true true h = lit≤ tt
+kept_less true false h = lit≤ tt
+kept_less false true h = absurd (let e : false ≡ true = h refl in cc)
+kept_less false false h = lit≤ tt
+
+shut_more : (r : Rec) (h : List Rec) (s t : ℕ) → shut (r ∷ h) t ≡ true → shut (more r s ∷ h) t ≡ true
+shut_more r h s t e =
+    elim (eqb_tells s t) [
+      | inl same ↦ ap (λ (u : ℕ). misses (more r s) u || shut h u) (sym same.1) ∙ rw (misses_same r s) refl
+      | inr other ↦ ap (λ c. c || shut h t) (misses_other r s t other.1) ∙ e
+    ]
+
+dropped_at : (h : List Rec) (limit most : ℕ) (boxes : List Waiting) (p : Planned) (ps : List Planned) → let m : Shown = record { history = h; limit = limit; most = most; outboxes = boxes; plan = p ∷ ps } in IsSound m → IsSound (dropped m p ps)
+dropped_at [] limit most boxes p ps i = absurd i.plan.3
+dropped_at (r ∷ h) limit most boxes p ps i =
+    let own = i.plan.3 in
+    record {
+      owed = λ t from to.
+          let had = (outbox_at boxes t).taken ++ (outbox_at boxes t).queue in
+          elim (eqb_tells p.session t) [
+            | inl same ↦
+                let k = i.owed p.session i.plan.0 i.plan.1 in let was = (outbox_at boxes p.session).taken ++ (outbox_at boxes p.session).queue in
+                subst (λ (u : ℕ). (outbox_at boxes u).taken ++ (outbox_at boxes u).queue ++ planned ps u ≡ owed (more r p.session ∷ h) u) same.1 (owed_missed r h was p ps i.plan.2 own k)
+            | inr other ↦ owed_elsewhere r h had p ps t other.1 (i.owed t from to)
+          ];
+      plan = plan_after r h (length boxes) p.session ps i.plan.2 i.plan.4;
+      legal = (i.legal.0, i.legal.1, i.legal.2, missed_more h r.kind r.missed p.session (λ e. let f : p.item ∷ [] ≡ [] = sym own.0 ∙ e in cc) own.1 own.2 i.legal.3, i.legal.4);
+      sessions = i.sessions;
+      room =
+          let less : sum_by (kept_for (more r p.session ∷ h)) (numbers 1 (opened_by r.kind + sessions h)) ≤ sum_by (kept_for (r ∷ h)) (numbers 1 (opened_by r.kind + sessions h)) =
+          sum_le _ _ (numbers 1 (opened_by r.kind + sessions h)) (λ t. kept_less (shut (more r p.session ∷ h) t) (shut (r ∷ h) t) (shut_more r h p.session t)) in
+          let old : length (r ∷ h) + sum_by (kept_for (r ∷ h)) (numbers 1 (opened_by r.kind + sessions h)) ≤ limit = i.room in
+          let goal : length (more r p.session ∷ h) + sum_by (kept_for (more r p.session ∷ h)) (numbers 1 (opened_by r.kind + sessions h)) ≤ limit = omega arith in goal;
+    }
+
+pub dropped_sound : (m : Shown) (p : Planned) (ps : List Planned) → m.plan ≡ p ∷ ps → IsSound m → IsSound (dropped m p ps)
+dropped_sound m p ps e i = dropped_at m.history m.limit m.most m.outboxes p ps (subst (λ qs. IsSound (record { history = m.history; limit = m.limit; most = m.most; outboxes = m.outboxes; plan = qs })) e i)
+
+-- ---- outboxes by the numbers of their sessions
+
+pub box_same : (boxes : List Waiting) (s : ℕ) (v : Waiting) → 0 < s → s ≤ length boxes → outbox_at (slice_set boxes (s - 1) v) s ≡ v
+box_same boxes s v from to = let l : s - 1 < length boxes = omega arith in get_or-set_same boxes (s - 1) v (empty_ring 0) l
+
+pub box_other : (boxes : List Waiting) (s t : ℕ) (v : Waiting) → 0 < s → 0 < t → s ≢ t → outbox_at (slice_set boxes (s - 1) v) t ≡ outbox_at boxes t
+box_other boxes s t v a b ne = get_or-set_other boxes (s - 1) (t - 1) v (empty_ring 0) (λ e. ne (omega arith))
+
+-- ---- a delivery is put
+
+delivered_at : (h : List Rec) (limit most : ℕ) (boxes : List Waiting) (p : Planned) (ps : List Planned) → let m : Shown = record { history = h; limit = limit; most = most; outboxes = boxes; plan = p ∷ ps } in IsSound m → IsSound (delivered m p ps)
+delivered_at h limit most boxes p ps i =
+    let s = p.session in let b = outbox_at boxes s in let v = with_put b p.item in
+    let len : length (slice_set boxes (s - 1) v) ≡ length boxes = simp length-set in
+    record {
+      owed = λ t from to.
+          let to' : t ≤ length boxes = omega arith in
+          elim (eqb_tells s t) [
+            | inl same ↦
+                let head : planned (p ∷ ps) s ≡ p.item ∷ planned ps s = rw (eq-eqb s s refl) refl in
+                let k : (b.taken ++ (b.queue ++ p.item ∷ [])) ++ planned ps s ≡ owed h s =
+                append_assoc b.taken (b.queue ++ p.item ∷ []) (planned ps s) ∙ ap (λ xs. b.taken ++ xs) (append_assoc b.queue (p.item ∷ []) (planned ps s)) ∙ sym (append_assoc b.taken b.queue (p.item ∷ planned ps s))
+                ∙ ap (λ xs. (b.taken ++ b.queue) ++ xs) (sym head) ∙ i.owed s i.plan.0 i.plan.1 in
+                let here : (outbox_at (slice_set boxes (s - 1) v) s).taken ++ (outbox_at (slice_set boxes (s - 1) v) s).queue ++ planned ps s ≡ owed h s =
+                ap (λ (w : Waiting). w.taken ++ w.queue ++ planned ps s) (box_same boxes s v i.plan.0 i.plan.1) ∙ k in
+                subst (λ (u : ℕ). (outbox_at (slice_set boxes (s - 1) v) u).taken ++ (outbox_at (slice_set boxes (s - 1) v) u).queue ++ planned ps u ≡ owed h u) same.1 here
+            | inr other ↦
+                ap (λ (w : Waiting). w.taken ++ w.queue ++ planned ps t) (box_other boxes s t v i.plan.0 from other.1)
+                ∙ ap (λ (c : Bool). (outbox_at boxes t).taken ++ (outbox_at boxes t).queue ++ cond c (p.item ∷ planned ps t) (planned ps t)) (sym other.0) ∙ i.owed t from to'
+          ];
+      plan = rw len i.plan.4;
+      legal = i.legal;
+      sessions = i.sessions ∙ sym len;
+      room = i.room;
+    }
+
+pub delivered_sound : (m : Shown) (p : Planned) (ps : List Planned) → m.plan ≡ p ∷ ps → IsSound m → IsSound (delivered m p ps)
+delivered_sound m p ps e i = delivered_at m.history m.limit m.most m.outboxes p ps (subst (λ qs. IsSound (record { history = m.history; limit = m.limit; most = m.most; outboxes = m.outboxes; plan = qs })) e i)
+
+-- ---- an item is taken
+
+take_one : (q : List Item) → take 1 q ++ drop 1 q ≡ q
+take_one [] = refl
+take_one (x ∷ q) = refl
+
+pub taken_sound : (m : Shown) (s : ℕ) → 0 < s → s ≤ length m.outboxes → IsSound m → IsSound (taken m s)
+taken_sound m s above below i =
+    let boxes = m.outboxes in let b = outbox_at boxes s in let v = with_taken b in
+    let len : length (slice_set boxes (s - 1) v) ≡ length boxes = simp length-set in
+    record {
+      owed = λ t from to.
+          let to' : t ≤ length boxes = omega arith in
+          elim (eqb_tells s t) [
+            | inl same ↦
+                let all : (b.taken ++ take 1 b.queue) ++ drop 1 b.queue ≡ b.taken ++ b.queue = append_assoc b.taken (take 1 b.queue) (drop 1 b.queue) ∙ ap (λ xs. b.taken ++ xs) (take_one b.queue) in
+                let here : (outbox_at (slice_set boxes (s - 1) v) s).taken ++ (outbox_at (slice_set boxes (s - 1) v) s).queue ++ planned m.plan s ≡ owed m.history s =
+                ap (λ (w : Waiting). w.taken ++ w.queue ++ planned m.plan s) (box_same boxes s v above below) ∙ ap (λ xs. xs ++ planned m.plan s) all ∙ i.owed s above below in
+                subst (λ (u : ℕ). (outbox_at (slice_set boxes (s - 1) v) u).taken ++ (outbox_at (slice_set boxes (s - 1) v) u).queue ++ planned m.plan u ≡ owed m.history u) same.1 here
+            | inr other ↦ ap (λ (w : Waiting). w.taken ++ w.queue ++ planned m.plan t) (box_other boxes s t v above from other.1) ∙ i.owed t from to'
+          ];
+      plan = rw len i.plan;
+      legal = i.legal;
+      sessions = i.sessions ∙ sym len;
+      room = i.room;
+    }

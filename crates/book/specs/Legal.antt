@@ -1,0 +1,21 @@
+-- Which histories are legal: this project's own journal.
+use Rattle.std.specs.Prelude.{◌≡◌, ◌≢◌, ℕ, ◌+◌, ◌<◌, ◌≤◌, ◌==◌, false, List, [], ◌∷◌, length, All}
+use Rattle.std.specs.List.{list_any}
+use Rattle.chronicle.specs.declared.record.Kind.{Kind}
+use Rattle.chronicle.specs.declared.record.Kind.TheVariants.{Opened, Said}
+use Rattle.chronicle.specs.History.{Rec, IsMomentAfter, last_moment, sessions, accepted, shut}
+use Rattle.book.specs.Owed.{delivery}
+
+-- sessions are opened as 1, 2, 3, ..; a line is of an opened session that isn't shut, and has the next index
+abbrev pub IsKind : List Rec → Kind → Type 0
+IsKind h (Opened s host) = s ≡ sessions h + 1
+IsKind h (Said s i piece) = (0 < s) × (s ≤ sessions h) × (i ≡ length (accepted h s)) × (shut h s ≡ false)
+
+-- each session that missed a record was owed something by it, and stands once
+abbrev pub AreMissed : List Rec → Kind → List ℕ → Type 0
+AreMissed h k [] = Unit {0}
+AreMissed h k (t ∷ ts) = (delivery h k t ≢ []) × (shut h t ≡ false) × (list_any (λ u. u == t) ts ≡ false) × AreMissed h k ts
+
+abbrev pub IsLegal : List Rec → Type 0
+IsLegal [] = Unit {0}
+IsLegal (r ∷ h) = (r.number ≡ length h + 1) × IsMomentAfter (last_moment h) r.moment × IsKind h r.kind × AreMissed h r.kind r.missed × IsLegal h

@@ -1,0 +1,13 @@
+pub mod Commands
+pub mod LookBack
+pub mod Deeds
+pub mod Lines
+pub mod Owed
+pub mod Legal
+pub mod Tables
+pub mod Ring
+pub mod Book
+pub mod Seats
+pub mod Settings
+pub mod Kept
+pub mod Told

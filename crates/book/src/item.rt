@@ -1,0 +1,10 @@
+//! What stands in an outbox.
+use chronicle::RecordNumber;
+use line_grammar::Octets;
+
+/// A delivery to one session.
+#[derive(Clone, Debug, Drop, PartialEq)]
+pub enum Item {
+    /// What a record owes the session: its lines, each with CR LF.
+    Lines { number: RecordNumber, text: Octets },
+}

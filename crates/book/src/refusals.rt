@@ -1,0 +1,72 @@
+//! Why a call of the book was refused. Of several causes the first in the order of an enum is told.
+ghost use Rattle.std.specs.Prelude.{◌≡◌};
+ghost use Rattle.book.specs.declared.refusals.OpenRefusal.TheVariants as opening;
+ghost use Rattle.book.specs.declared.refusals.LineRefusal.TheVariants as accepting;
+
+use std::alloc::AllocError;
+
+/// Why no book was made.
+#[derive(Clone, Copy, Debug, PartialEq)]
+pub enum BookFault {
+    /// A setting is out of its limits.
+    BadSettings,
+    /// A growth was refused.
+    Memory,
+}
+
+/// Why a session wasn't opened.
+#[derive(Clone, Copy, Debug, PartialEq)]
+pub enum OpenRefusal {
+    /// Deliveries of a record are still to be put.
+    Busy,
+    /// As many sessions are there as may be.
+    TooManySessions,
+    /// The journal has no room for a session.
+    JournalFull,
+    /// The moment is out of range, or before that of the newest record.
+    BadMoment,
+    /// A growth was refused.
+    Memory,
+}
+
+/// Why a line wasn't accepted.
+#[derive(Clone, Copy, Debug, PartialEq)]
+pub enum LineRefusal {
+    /// Deliveries of a record are still to be put.
+    Busy,
+    /// There is no such session, or another line of it is next.
+    WrongTurn,
+    /// The session is shut.
+    Shut,
+    /// The journal has no room for a line.
+    JournalFull,
+    /// The moment is out of range, or before that of the newest record.
+    BadMoment,
+    /// A growth was refused.
+    Memory,
+}
+
+/// Why nothing was taken.
+#[derive(Clone, Copy, Debug, PartialEq)]
+pub enum TakeRefusal {
+    /// There is no such session.
+    NoSession,
+    /// Its outbox is empty.
+    Empty,
+}
+
+impl From<AllocError> for OpenRefusal {
+    ghost from_gives = { λ _ e. e ≡ opening.Memory };
+
+    fn from(_: AllocError) -> OpenRefusal {
+        OpenRefusal::Memory
+    }
+}
+
+impl From<AllocError> for LineRefusal {
+    ghost from_gives = { λ _ e. e ≡ accepting.Memory };
+
+    fn from(_: AllocError) -> LineRefusal {
+        LineRefusal::Memory
+    }
+}

@@ -1,0 +1,4 @@
+pub mod Fold
+pub mod Mask
+pub mod MaskSteps
+pub mod Names

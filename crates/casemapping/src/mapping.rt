@@ -1,0 +1,34 @@
+//! The case mapping `rfc1459` (RFC 2812, section 2.2).
+ghost use Rattle.std.specs.Prelude.{◌≡◌, ◌↔◌, IsTrue, length, slice_index, EachIndex};
+ghost use Rattle.casemapping.specs.Fold.{fold_of, folded};
+
+/// The lower case of an octet. `A` to `Z` become `a` to `z`, and `[`, `]`, `\` and `~` become `{`,
+/// `}`, `|` and `^`; any other octet is its own lower case (RFC 2812, section 2.2).
+#[tactic(auto, unfolding(crate::specs::Fold::fold_of))]
+pub fn fold(octet: u8) -> u8
+    ensures { result ≡ fold_of octet }
+{
+    match octet {
+        b'A'..=b'Z' => octet + (b'a' - b'A'),
+        b'[' => b'{',
+        b']' => b'}',
+        b'\\' => b'|',
+        b'~' => b'^',
+        _ => octet,
+    }
+}
+
+fn agree(a: &[u8], b: &[u8]) -> bool
+    requires { length a.now ≡ length b.now }
+    ensures { IsTrue result
+        ↔ EachIndex a.now (λ k. fold_of (slice_index a.now k) ≡ fold_of (slice_index b.now k)) }
+{
+    a.iter().zip(b).all(|(x, y)| fold(*x) == fold(*y))
+}
+
+/// Whether two names differ in case at most (RFC 2812, section 2.2).
+pub fn same(a: &[u8], b: &[u8]) -> bool
+    ensures { IsTrue result ↔ (folded a.now ≡ folded b.now) }
+{
+    a.len() == b.len() && agree(a, b)
+}

@@ -1,0 +1,32 @@
+//! What the journal is made of.
+use crate::{Moment, RecordNumber, SessionId};
+use line_grammar::{Octets, Piece};
+
+/// What a record says.
+#[derive(Clone, Debug, Drop, PartialEq)]
+pub enum Kind {
+    /// A session was opened, from this host.
+    Opened {
+        session: SessionId,
+        host: Octets,
+    },
+    /// A line of a session was accepted. Its lines are numbered from 0.
+    Said {
+        session: SessionId,
+        index: u64,
+        piece: Piece,
+    },
+}
+
+/// A record of the journal.
+#[derive(Debug, Drop)]
+pub struct Record {
+    /// Its place in the journal, from 1.
+    pub number: RecordNumber,
+    /// Never less than that of the record before.
+    pub moment: Moment,
+    /// What it says.
+    pub kind: Kind,
+    /// The sessions whose outbox had no room for what this record owed them.
+    pub missed: Vec<SessionId>,
+}

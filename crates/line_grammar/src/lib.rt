@@ -1,0 +1,20 @@
+//! Lines of a byte stream, and the grammar of a message in a line (RFC 2812, section 2.3).
+#![tactic(auto)]
+
+mod grammar;
+mod laws;
+mod message;
+mod octets;
+mod spelling;
+mod splitter;
+mod words;
+
+pub use grammar::{LineFault, parse};
+pub use laws::{any_cutting, one_message_a_line, reads_what_is_spelled};
+pub use message::{Message, Parameters};
+pub use octets::Octets;
+pub use spelling::{WriteFault, is_writable, write};
+pub use splitter::{Piece, Splitter, split_all};
+
+#[cfg(test)]
+mod tests;

@@ -1,0 +1,172 @@
+//! Writing a message as a line (RFC 2812, section 2.3.1; IRCv3 message-tags).
+ghost use Rattle.std.specs.Prelude.{◌≡◌, ◌↔◌, ◌==◌, ◌∷◌, ◌++◌, [], Some, true, false, List, ℕ, OnOk, IfOk, IsErrOf, IsTrue, IfSome, drop, length};
+ghost use Rattle.std.specs.List.{flat_map, list_all, list_any};
+ghost use Rattle.line_grammar.specs.Grammar.{Reads};
+ghost use Rattle.line_grammar.specs.Reading.{reading};
+ghost use Rattle.line_grammar.specs.Spelling.{IsWritable, is_text_octet, is_word_octet, needs_colon, plain_count, plain_parameters, spelled_source, spelled_tags, spelling};
+ghost use Rattle.line_grammar.specs.declared.spelling.WriteFault.TheVariants.{Memory};
+
+use crate::grammar::{MAX_PARAMETERS, is_command};
+use crate::{Message, Octets};
+use std::alloc::{AllocError, Global};
+
+/// Why a message is not written.
+#[derive(Clone, Copy, Debug, PartialEq)]
+pub enum WriteFault {
+    /// A parameter that is to stand without a colon is empty, has a space in it or begins with a colon.
+    CannotSpell,
+    /// A growth was refused.
+    Memory,
+}
+
+impl From<AllocError> for WriteFault {
+    ghost from_gives = { λ _ e. e ≡ Memory };
+
+    fn from(_error: AllocError) -> WriteFault {
+        WriteFault::Memory
+    }
+}
+
+/// Whether a message may be handed to [`write`].
+pub fn is_writable(message: &Message) -> bool
+    ensures { IsTrue result ↔ IsWritable message.now }
+{
+    let count = message.params.len();
+    is_command(message.command.as_slice())
+        && count <= MAX_PARAMETERS
+        && (!message.colon || count > 0)
+        && is_word(message.tags.as_slice())
+        && is_word_or_none(&message.source)
+        && are_texts(message.params.as_slice())
+}
+
+fn is_word(octets: &[u8]) -> bool
+    ensures { result ≡ list_all is_word_octet octets.now }
+{
+    octets
+        .iter()
+        .all(|octet| !matches!(*octet, b' ' | b'\0' | b'\r' | b'\n'))
+}
+
+fn is_word_or_none(source: &Option<Octets>) -> bool
+    ensures { IsTrue result ↔ IfSome source.now (λ s. list_all is_word_octet s ≡ true) }
+{
+    match source {
+        Some(source) => is_word(source.as_slice()),
+        None => true,
+    }
+}
+
+fn are_texts(parameters: &[Octets]) -> bool
+    ensures { result ≡ list_all (λ p. list_all is_text_octet p) parameters.now }
+{
+    parameters
+        .iter()
+        .all(|parameter| is_text(parameter.as_slice()))
+}
+
+fn is_text(octets: &[u8]) -> bool
+    ensures { result ≡ list_all is_text_octet octets.now }
+{
+    octets
+        .iter()
+        .all(|octet| !matches!(*octet, b'\0' | b'\r' | b'\n'))
+}
+
+/// Writes a message as a line, without what ends it. It may be longer than the limits of a line.
+/// Empty tag data is written as no tags. `CannotSpell` comes before `Memory`.
+pub fn write(alloc: Global, message: &Message) -> Result<Octets, WriteFault>
+    requires { IsWritable message.now }
+    ensures spelled { IfOk result (λ line. line ≡ spelling message.now) }
+    ensures is_read { IfOk result (λ line. reading line ≡ Some message.now) }
+    ensures spells { IfOk result (λ line. Reads line message.now) }
+    ensures text { IfOk result (λ line. list_all is_text_octet line ≡ true) }
+    ensures cannot { IsErrOf result WriteFault.CannotSpell ↔ (list_any needs_colon (plain_parameters message.now) ≡ true) }
+{
+    let (plain, trailing) = message.params.as_slice().split_at(count_plain(message));
+    if any_needs_colon(plain) {
+        return Err(WriteFault::CannotSpell);
+    }
+    let line = spell(alloc, message, plain, trailing)?;
+    Ok(line)
+}
+
+/// Writes the message, whose parameters come in two parts: those without a colon, and one with it.
+#[tactic(auto, unfolding(crate::specs::Spelling::spelling))]
+fn spell(
+    alloc: Global,
+    message: &Message,
+    plain: &[Octets],
+    trailing: &[Octets],
+) -> Result<Octets, AllocError>
+    requires plain { plain.now ≡ plain_parameters message.now }
+    requires trailing { trailing.now ≡ drop (plain_count message.now) message.now.params }
+    ensures { IfOk result (λ line. line ≡ spelling message.now) }
+{
+    let mut line = Vec::new(alloc);
+    push_front(&mut line, message)?;
+    push_each(&mut line, b" ", plain)?;
+    push_each(&mut line, b" :", trailing)?;
+    Ok(Octets::from_vec(line))
+}
+
+/// How many parameters stand without a colon.
+fn count_plain(message: &Message) -> usize
+    ensures { result ≡ plain_count message.now }
+{
+    let count = message.params.as_slice().len();
+    if message.colon {
+        count.saturating_sub(1)
+    } else {
+        count
+    }
+}
+
+fn any_needs_colon(parameters: &[Octets]) -> bool
+    ensures { result ≡ list_any needs_colon parameters.now }
+{
+    parameters
+        .iter()
+        .any(|parameter| needs_colon(parameter.as_slice()))
+}
+
+fn needs_colon(parameter: &[u8]) -> bool
+    ensures { result ≡ needs_colon parameter.now }
+{
+    matches!(parameter, [] | [b':', ..]) || parameter.contains(&b' ')
+}
+
+/// Adds the tags, the source and the command.
+fn push_front(line: &mut Vec<u8>, message: &Message) -> Result<(), AllocError>
+    ensures { OnOk result (line.new.items ≡ line.old.items ++ (spelled_tags message.now.tags ++ (spelled_source message.now.source ++ message.now.command))) }
+{
+    if !message.tags.is_empty() {
+        push_enclosed(line, b"@", message.tags.as_slice())?;
+    }
+    if let Some(source) = &message.source {
+        push_enclosed(line, b":", source.as_slice())?;
+    }
+    line.extend_from_slice(message.command.as_slice())?;
+    Ok(())
+}
+
+/// Adds a word between what announces it and a space.
+fn push_enclosed(line: &mut Vec<u8>, front: &[u8], word: &[u8]) -> Result<(), AllocError>
+    ensures { OnOk result (line.new.items ≡ line.old.items ++ (front.now ++ (word.now ++ 32 ∷ []))) }
+{
+    line.extend_from_slice(front)?;
+    line.extend_from_slice(word)?;
+    line.push(b' ')?;
+    Ok(())
+}
+
+/// Adds parameters, each after what announces it.
+fn push_each(line: &mut Vec<u8>, front: &[u8], parameters: &[Octets]) -> Result<(), AllocError>
+    ensures { OnOk result (line.new.items ≡ line.old.items ++ flat_map (λ p. front.now ++ p) parameters.now) }
+{
+    for parameter in parameters {
+        line.extend_from_slice(front)?;
+        line.extend_from_slice(parameter.as_slice())?;
+    }
+    Ok(())
+}

@@ -1,0 +1,3 @@
+pub mod ClientLemmas
+pub mod TagsLemmas
+pub mod ValueLemmas

@@ -1,0 +1,11 @@
+use Rattle.std.proofs.Common.{◌≡◌, [], length}
+use Rattle.message_tags.specs.ClientOnly.{spellings}
+use Rattle.message_tags.proofs.ClientLemmas.{joined_onto}
+use Rattle.message_tags.proofs.client.client_only.Given as goal
+
+-- what is left, added to the tag data so far, gives the whole
+abbrev pub invariant-loop-tag : goal.invariant-loop-tag
+invariant-loop-tag l = joined_onto l.tag_data.items (spellings l.rest) ≡ joined_onto [] (spellings l.tags)
+
+abbrev pub decreases-loop-tag : goal.decreases-loop-tag
+decreases-loop-tag l = length l.rest

@@ -1,0 +1,3 @@
+pub mod ClientOnly
+pub mod Tags
+pub mod Value

@@ -1,0 +1,17 @@
+//! The tags of a message, as they stand in a line and as they are meant (IRCv3 message-tags).
+#![tactic(auto)]
+
+mod client;
+mod escaping;
+mod key;
+mod list;
+mod reading;
+mod tag;
+#[cfg(test)]
+mod tests;
+
+pub use client::client_only;
+pub use escaping::{escape, unescape, unescape_undoes_escape};
+pub use list::Tags;
+pub use reading::tags_of;
+pub use tag::Tag;
