@@ -17,3 +17,4 @@ pub mod Committed
 pub mod Joining
 pub mod Sending
 pub mod Begins
+mod Examples
