@@ -1,0 +1,6 @@
+mod Numbers
+mod Words
+mod Reading
+mod Bad
+mod Faults
+mod Known

@@ -1,0 +1,313 @@
+//! Scripts and their notes.
+use crate::entry::{LIMITS, Limits, PlayFault, play, play_with};
+use crate::escape::{print_octet, unescape};
+use crate::notes::notes_of;
+use crate::script::StepFault;
+use interleave::{BookRefusal, LineRefusal, OpenRefusal, SessionId, StepRefusal};
+use std::alloc::Global;
+use std::io;
+use std::io::{ErrorKind, Read, Write};
+use std::test::Fail;
+
+fn played(alloc: Global, script: &[u8]) -> (Result<(), PlayFault>, Vec<u8>) {
+    let mut input = script;
+    let mut notes = Vec::new(alloc);
+    let result = play(alloc, &mut input, &mut notes);
+    (result, notes)
+}
+
+#[test]
+fn scripts_and_notes(rt: HostRuntime) -> Result<(), Fail> {
+    for (script, end, want) in [
+        (b"".as_slice(), Ok(()), b"".as_slice()),
+        (b"\n\n", Ok(()), b""),
+        (b"connect h1 0\n", Ok(()), b"session 1\n"),
+        (
+            b"connect h1 0\nconnect [",
+            Err(PlayFault::BadLine(2)),
+            b"session 1\n",
+        ),
+        (
+            b"connect a.b-c:1 007\ntake 1",
+            Ok(()),
+            b"session 1\nempty\n",
+        ),
+        (b"connect h 253370764799999", Ok(()), b"session 1\n"),
+        (
+            b"connect h 253370764800000\nconnect h 5\nconnect h 4",
+            Ok(()),
+            b"refused BadMoment\nsession 1\nrefused BadMoment\n",
+        ),
+        (
+            b"connect h 0\nfeed 1 \"\"\n",
+            Ok(()),
+            b"session 1\nread 0\n",
+        ),
+        (
+            b"connect h 0\nfeed 1 \"NICK al\\r\\nUSER\"",
+            Ok(()),
+            b"session 1\nread 1\n",
+        ),
+        (
+            b"connect h 0\nfeed 1 \"\\x4eICK \\\\\\\" \xff\\x0D\\x0a\"",
+            Ok(()),
+            b"session 1\nread 1\n",
+        ),
+        (
+            b"connect h 0\ndo 1 0\ndrain 1",
+            Ok(()),
+            b"session 1\nrefused NothingRead\nempty\n",
+        ),
+        (
+            b"take 0\ndrain 7\nfeed 1 \"a\"\ndo 18446744073709551615 5",
+            Ok(()),
+            b"refused NoSession\nrefused NoSession\nrefused NoSession\nrefused NoSession\n",
+        ),
+        (
+            b"take 1\n\n\nhello\ntake 1\n",
+            Err(PlayFault::BadLine(4)),
+            b"refused NoSession\n",
+        ),
+    ] {
+        let (result, notes) = played(rt.alloc(), script);
+        assert_eq!(rt; result, end, "{script:?}");
+        assert_eq!(rt; notes.as_slice(), want, "{script:?}");
+    }
+    Ok(())
+}
+
+const TWO_PEOPLE: &[u8; 209] =
+    b"connect h1 0\nconnect h2 0\nfeed 1 \"NICK al\\r\\nUSER a 0 * :Al\\r\\nJOIN #a\\r\\n\"\nfeed 2 \"NICK bo\\r\\nUSER b 0 * :Bo\\r\\nJOIN #a\\r\\nPRIVMSG #a :hi\\r\\n\"\ndo 1 0\ndo 1 0\ndo 1 0\ndo 2 0\ndo 2 0\ndo 2 0\ndo 2 0\ndrain 1\ndrain 2\n";
+
+#[test]
+fn two_people(rt: HostRuntime) -> Result<(), Fail> {
+    let (result, notes) = played(rt.alloc(), TWO_PEOPLE);
+    assert_eq!(rt; result, Ok(()));
+    let want =
+        b"session 1\nsession 2\nread 3\nread 4\nrecord 3\nrecord 4\nrecord 5\nrecord 6\nrecord 7\nrecord 8\nrecord 9\n1> :al!a@h1 JOIN #a\n1> :bo!b@h2 JOIN #a\n1> :bo!b@h2 PRIVMSG #a :hi\nempty\n2> :bo!b@h2 JOIN #a\nempty\n";
+    assert_eq!(rt; notes.as_slice(), want.as_slice());
+    Ok(())
+}
+
+#[test]
+fn bad_lines(rt: HostRuntime) -> Result<(), Fail> {
+    for line in [
+        b" ".as_slice(),
+        b"take",
+        b"take ",
+        b"take  1",
+        b" take 1",
+        b"take 1 ",
+        b"take 1\r",
+        b"take -1",
+        b"take +1",
+        b"take 0x1",
+        b"take 18446744073709551616",
+        b"TAKE 1",
+        b"takes 1",
+        b"drain 1 2",
+        b"do 1",
+        b"do 1 ",
+        b"do 1 9223372036854775808",
+        b"do  0",
+        b"connect h",
+        b"connect h 0 0",
+        b"connect  0",
+        b"connect :h 0",
+        b"connect h_1 0",
+        b"connect h 9223372036854775808",
+        b"feed 1",
+        b"feed 1 a",
+        b"feed 1 \"",
+        b"feed 1 \"a",
+        b"feed 1 a\"",
+        b"feed 1  \"a\"",
+        b"feed 1 \"a\" ",
+        b"feed 1 \"a\"b\"",
+        b"feed 1 \"\\\"",
+        b"feed 1 \"\\t\"",
+        b"feed 1 \"\\x\"",
+        b"feed 1 \"\\x0\"",
+        b"feed 1 \"\\x0g\"",
+        b"feed x \"\"",
+        b"server irc.example",
+    ] {
+        let mut script = b"take 9\n".to_vec(rt.alloc())?;
+        script.extend_from_slice(line)?;
+        let (result, notes) = played(rt.alloc(), &script);
+        assert_eq!(rt; result, Err(PlayFault::BadLine(2)), "{line:?}");
+        assert_eq!(rt;
+            notes.as_slice(),
+            b"refused NoSession\n".as_slice(),
+            "{line:?}"
+        );
+    }
+    Ok(())
+}
+
+#[test]
+fn escapes_both_ways(rt: HostRuntime) -> Result<(), Fail> {
+    let octets = unescape(rt.alloc(), b"a \\r\\n\\\\\\\"\\x00\\xfF\x80")
+        .ok()
+        .ok_or("a text")?;
+    assert_eq!(rt; octets.as_slice(), b"a \r\n\\\"\x00\xff\x80".as_slice());
+    assert!(rt; unescape(rt.alloc(), b"\"").err() == Some(StepFault::Bad));
+    let mut printed = Vec::new(rt.alloc());
+    for octet in octets {
+        print_octet(&mut printed, octet)?;
+    }
+    assert_eq!(rt;
+        printed.as_slice(),
+        b"a \\x0d\\x0a\\x5c\"\\x00\\xff\\x80".as_slice()
+    );
+    Ok(())
+}
+
+#[test]
+fn refusals(rt: HostRuntime) -> Result<(), Fail> {
+    for (refusal, want) in [
+        (StepRefusal::NoSession, b"refused NoSession\n".as_slice()),
+        (StepRefusal::NothingRead, b"refused NothingRead\n"),
+        (StepRefusal::Memory, b"refused Memory\n"),
+        (
+            StepRefusal::Book(BookRefusal::Open(OpenRefusal::BadMoment)),
+            b"refused BadMoment\n",
+        ),
+        (
+            StepRefusal::Book(BookRefusal::Line(LineRefusal::WrongTurn)),
+            b"refused WrongTurn\n",
+        ),
+        (
+            StepRefusal::Book(BookRefusal::Line(LineRefusal::Shut)),
+            b"refused Shut\n",
+        ),
+    ] {
+        let notes = notes_of(rt.alloc(), SessionId::new(1), &Err(refusal))?;
+        assert_eq!(rt; notes.as_slice(), want, "{refusal:?}");
+    }
+    Ok(())
+}
+
+#[test]
+fn small_limits(rt: HostRuntime) -> Result<(), Fail> {
+    for (limits, end, want) in [
+        (
+            Limits {
+                sessions: 1,
+                ..LIMITS
+            },
+            Ok(()),
+            b"session 1\nrefused TooManySessions\n".as_slice(),
+        ),
+        (
+            Limits {
+                records: 3,
+                ..LIMITS
+            },
+            Ok(()),
+            b"session 1\nrefused JournalFull\n",
+        ),
+        (
+            Limits {
+                workers: 0,
+                ..LIMITS
+            },
+            Err(PlayFault::BadSettings),
+            b"",
+        ),
+    ] {
+        let mut input = b"connect h 0\nconnect h 0".as_slice();
+        let mut notes = Vec::new(rt.alloc());
+        let result = play_with(rt.alloc(), limits, &mut input, &mut notes);
+        assert_eq!(rt; result, end, "{limits:?}");
+        assert_eq!(rt; notes.as_slice(), want, "{limits:?}");
+    }
+    Ok(())
+}
+
+// Gives one octet at a time, and fails in place of each read after the first `left`.
+#[derive(Drop)]
+struct Slow<'a> {
+    octets: &'a [u8],
+    left: usize,
+}
+
+impl Read for Slow<'_> {
+    fn read(&mut self, buf: &mut [u8]) -> io::Result<usize> {
+        if self.left == 0 {
+            return Err(io::Error::from(ErrorKind::BrokenPipe));
+        }
+        self.left -= 1;
+        let Some((first, rest)) = self.octets.split_first() else {
+            return Ok(0);
+        };
+        if buf.is_empty() {
+            return Ok(0);
+        }
+        buf[0] = *first;
+        self.octets = rest;
+        Ok(1)
+    }
+}
+
+// Takes one octet at a time, and `left` in all. Then it takes none, or fails.
+#[derive(Drop)]
+struct Narrow {
+    octets: Vec<u8>,
+    left: usize,
+    fails: bool,
+}
+
+impl Write for Narrow {
+    fn write(&mut self, buf: &[u8]) -> io::Result<usize> {
+        if buf.is_empty() {
+            return Ok(0);
+        }
+        if self.left == 0 {
+            return if self.fails {
+                Err(io::Error::from(ErrorKind::BrokenPipe))
+            } else {
+                Ok(0)
+            };
+        }
+        self.left -= 1;
+        self.octets.push(buf[0])?;
+        Ok(1)
+    }
+
+    fn flush(&mut self) -> io::Result<()> {
+        Ok(())
+    }
+}
+
+#[test]
+fn readers_and_writers(rt: HostRuntime) -> Result<(), Fail> {
+    let script = b"take 1\ntake 2\n";
+    let whole = b"refused NoSession\nrefused NoSession\n";
+    for (reads, writes, fails, end, want) in [
+        (99, 99, true, Ok(()), whole.as_slice()),
+        (14, 99, true, Err(PlayFault::ReadFailed), whole.as_slice()),
+        (13, 99, true, Err(PlayFault::ReadFailed), &whole[..18]),
+        (0, 99, true, Err(PlayFault::ReadFailed), b""),
+        (99, 20, true, Err(PlayFault::WriteFailed), &whole[..20]),
+        (99, 20, false, Err(PlayFault::WriteFailed), &whole[..20]),
+    ] {
+        let mut input = Slow {
+            octets: script,
+            left: reads,
+        };
+        let mut output = Narrow {
+            octets: Vec::new(rt.alloc()),
+            left: writes,
+            fails,
+        };
+        let result = play(rt.alloc(), &mut input, &mut output);
+        assert_eq!(rt; result, end, "{reads} reads, {writes} writes");
+        assert_eq!(rt;
+            output.octets.as_slice(),
+            want,
+            "{reads} reads, {writes} writes"
+        );
+    }
+    Ok(())
+}

@@ -1,0 +1,77 @@
+//! The program `halld`.
+#![tactic(auto)]
+
+use clap::error::ErrorKind;
+use clap::{ArgMatches, Command, Error};
+use halld::{PlayFault, play};
+use std::alloc::{AllocError, Global};
+use std::env;
+use std::fmt::Display;
+use std::io::BufWriter;
+use std::process::ExitCode;
+
+/// The status after a fault.
+const FAULT: u8 = 1;
+
+/// The status after a command line that was refused.
+const REFUSED: u8 = 2;
+
+/// Reads a command line, whose first word is the program's own name.
+fn parse<'a>(alloc: Global, words: &'a [String]) -> Result<ArgMatches<'a>, Error> {
+    let play = Command::new(alloc, "play").about(
+        "Play a script of steps from standard input and print what each step gave",
+    );
+    let command = Command::new(alloc, "halld")
+        .about("An IRC server whose core is proved")
+        .subcommand_required(true)
+        .subcommand(play)?;
+    command.try_get_matches_from(words)
+}
+
+/// Tells of a fault on standard error.
+fn fault<D: Display + Drop>(rt: &impl Eprint, fault: D) -> ExitCode {
+    let _ = eprintln!(rt; "halld: {fault}");
+    ExitCode::from(FAULT)
+}
+
+/// Shows help, or why the command line was refused.
+fn refuse(rt: &(impl Print + Eprint), error: Error) -> ExitCode {
+    if error.kind() == ErrorKind::OutOfMemory {
+        return fault(rt, PlayFault::Memory);
+    }
+    if error.print(rt).is_err() {
+        return fault(rt, PlayFault::WriteFailed);
+    }
+    if error.use_stderr() {
+        ExitCode::from(REFUSED)
+    } else {
+        ExitCode::SUCCESS
+    }
+}
+
+/// Plays the script on standard input.
+fn play_standard(rt: &HostRuntime) -> ExitCode {
+    let alloc = rt.alloc();
+    let Ok(mut output) = BufWriter::new(alloc, rt.stdout()) else {
+        return fault(rt, PlayFault::Memory);
+    };
+    match play(alloc, &mut rt.stdin(), &mut output) {
+        Ok(()) => ExitCode::SUCCESS,
+        Err(ended) => fault(rt, ended),
+    }
+}
+
+fn main(rt: HostRuntime) -> ExitCode {
+    let alloc = rt.alloc();
+    let Ok(args) = env::args(&rt) else {
+        return fault(&rt, PlayFault::Memory);
+    };
+    let words: Result<Vec<String>, AllocError> = args.collect(alloc);
+    let Ok(words) = words else {
+        return fault(&rt, PlayFault::Memory);
+    };
+    match parse(alloc, words.as_slice()) {
+        Ok(_) => play_standard(&rt),
+        Err(error) => refuse(&rt, error),
+    }
+}

@@ -1,0 +1,19 @@
+-- What follows from the definitions for a user: this project's own promise.
+use Rattle.std.specs.Prelude.{ℕ, List}
+use Rattle.line_grammar.specs.Lines.{lines}
+use Rattle.chronicle.specs.History.{Rec, accepted}
+use Rattle.book.specs.Owed.{owed}
+use Rattle.interleave.specs.State.{State, IsSound, ForEach, inbox_at, taken_of}
+use Rattle.interleave.specs.Order.{IsPrefix, IsRising}
+
+-- a history owes a session at most one delivery of each record, in the order of the records
+abbrev pub OnceInOrder : Type 0
+OnceInOrder = (h : List Rec) (t : ℕ) → IsRising (owed h t)
+
+-- a session is sent at most one delivery of each record, in the order of the records, with none left out that it is owed before
+abbrev pub TakenInOrder : Type 0
+TakenInOrder = (m : State) → IsSound m → ForEach m (λ t. IsRising (taken_of m t) × IsPrefix (taken_of m t) (owed m.book.history t))
+
+-- the accepted lines of a session are the first of the lines that it sent
+abbrev pub AcceptedIsPrefixOfSent : Type 0
+AcceptedIsPrefixOfSent = (m : State) → IsSound m → ForEach m (λ t. IsPrefix (accepted m.book.history t) (lines (inbox_at m t).fed))

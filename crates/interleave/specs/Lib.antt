@@ -1,0 +1,9 @@
+pub mod Limits
+pub mod Refusals
+pub mod Inbox
+pub mod State
+pub mod Kept
+pub mod Steps
+pub mod Runs
+pub mod Order
+pub mod Laws

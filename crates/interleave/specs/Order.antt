@@ -1,0 +1,21 @@
+-- Prefixes, and the order of deliveries: this project's own promise.
+use Rattle.std.specs.Prelude.{◌≡◌, ℕ, ◌<◌, List, [], ◌∷◌, ◌++◌}
+use Rattle.book.specs.declared.item.Item.{Item}
+use Rattle.book.specs.declared.item.Item.TheVariants.{Lines}
+
+abbrev pub IsPrefix : {X : Type 0} → List X → List X → Type 0
+IsPrefix {X} xs ys = (rest : List X) × (xs ++ rest ≡ ys)
+
+-- the record that an item is of
+abbrev pub number_of : Item → ℕ
+number_of (Lines number text) = number
+
+-- each is of a record after number n
+abbrev pub AreAfter : ℕ → List Item → Type 0
+AreAfter n [] = Unit {0}
+AreAfter n (x ∷ xs) = (n < number_of x) × AreAfter n xs
+
+-- the record numbers rise strictly, so that each record stands at most once
+abbrev pub IsRising : List Item → Type 0
+IsRising [] = Unit {0}
+IsRising (x ∷ xs) = AreAfter (number_of x) xs × IsRising xs

@@ -1,0 +1,36 @@
+-- Runs of a play, and what is read off events and answers: this project's own promise.
+use Rattle.std.specs.Prelude.{◌≡◌, ℕ, ◌==◌, cond, List, [], ◌∷◌, ◌++◌, Result, Ok}
+use Rattle.book.specs.declared.item.Item.{Item}
+use Rattle.interleave.specs.declared.event.Event.{Event}
+use Rattle.interleave.specs.declared.event.Event.TheVariants.{Feed, Take}
+use Rattle.interleave.specs.declared.event.Note.{Note}
+use Rattle.interleave.specs.declared.event.Note.TheVariants as note
+use Rattle.interleave.specs.declared.event.StepRefusal.{StepRefusal}
+use Rattle.interleave.specs.State.{State, IsSound}
+use Rattle.interleave.specs.Steps.{IsStep}
+
+-- events in turn, from m to k, each with its answer; each state on the way is sound
+abbrev pub IsRun : State → List Event → List (Result Note StepRefusal) → State → Type 0
+IsRun m [] [] k = k ≡ m
+IsRun m (e ∷ es) (r ∷ rs) k = (l : State) × IsStep m e r l × IsSound l × IsRun l es rs k
+IsRun m es rs k = ⊥
+
+-- the octets of an event that were read of session t
+abbrev pub sent_by : ℕ → Event → Result Note StepRefusal → List ℕ
+sent_by t (Feed s octets) (Ok (note.Read n)) = cond (s == t) octets []
+sent_by t e r = []
+
+-- in order
+abbrev pub sent : ℕ → List Event → List (Result Note StepRefusal) → List ℕ
+sent t (e ∷ es) (r ∷ rs) = sent_by t e r ++ sent t es rs
+sent t es rs = []
+
+-- the item of session t that an event's answer hands out
+abbrev pub took_by : ℕ → Event → Result Note StepRefusal → List Item
+took_by t (Take s) (Ok (note.Item x)) = cond (s == t) (x ∷ []) []
+took_by t e r = []
+
+-- in order
+abbrev pub took : ℕ → List Event → List (Result Note StepRefusal) → List Item
+took t (e ∷ es) (r ∷ rs) = took_by t e r ++ took t es rs
+took t es rs = []
