@@ -7,11 +7,13 @@ use Rattle.casemapping.specs.Names.{nick_shape, channel_shape}
 use Rattle.chronicle.specs.declared.record.Kind.{Kind}
 use Rattle.chronicle.specs.declared.record.Kind.TheVariants.{Opened, Said}
 use Rattle.chronicle.specs.History.{Rec}
+use Rattle.book.specs.declared.item.Item.{Item}
 use Rattle.book.specs.declared.item.Item.TheVariants.{Lines}
+use Rattle.book.specs.declared.deed.Deed.{Deed}
 use Rattle.book.specs.declared.deed.Deed.TheVariants as deed
 use Rattle.book.specs.Commands.{command_of}
 use Rattle.book.specs.LookBack.{is_same, members, channels, nick, user, real, registered}
-use Rattle.book.specs.Deeds.{facts}
+use Rattle.book.specs.Deeds.{deeds, facts}
 use Rattle.book.specs.Lines.{source, join_line, privmsg_line, sent}
 use Rattle.book.specs.Owed.{owed}
 
@@ -66,9 +68,34 @@ members_after_each : after_each (λ h. members (facts h) (codes "#a")) bo_speaks
 unfolding reading parameters with_command command_of is_same fold_of nick_shape channel_shape
 members_after_each = refl
 
-owed_after_each : after_each {X = ℕ × ℕ} (λ h. (length (owed h 1), length (owed h 2))) bo_speaks ≡ (3, 1) ∷ (2, 1) ∷ (1, 0) ∷ (1, 0) ∷ (1, 0) ∷ (0, 0) ∷ (0, 0) ∷ (0, 0) ∷ (0, 0) ∷ []
+abbrev al_join : Item
+al_join = Lines 5 (codes ":al!a@h1 JOIN #a" ++ crlf)
+
+abbrev bo_join : Item
+bo_join = Lines 8 (codes ":bo!b@h2 JOIN #a" ++ crlf)
+
+abbrev bo_text : Item
+bo_text = Lines 9 (codes ":bo!b@h2 PRIVMSG #a :hi" ++ crlf)
+
+owed_to_al_after_each : after_each (λ h. owed h 1) bo_speaks ≡ (al_join ∷ bo_join ∷ bo_text ∷ []) ∷ (al_join ∷ bo_join ∷ []) ∷ (al_join ∷ []) ∷ (al_join ∷ []) ∷ (al_join ∷ []) ∷ [] ∷ [] ∷ [] ∷ [] ∷ []
 unfolding reading parameters with_command command_of is_same fold_of nick_shape channel_shape source join_line privmsg_line sent
-owed_after_each = refl
+owed_to_al_after_each = refl
+
+owed_to_bo_after_each : after_each (λ h. owed h 2) bo_speaks ≡ (bo_join ∷ []) ∷ (bo_join ∷ []) ∷ [] ∷ [] ∷ [] ∷ [] ∷ [] ∷ [] ∷ [] ∷ []
+unfolding reading parameters with_command command_of is_same fold_of nick_shape channel_shape source join_line privmsg_line sent
+owed_to_bo_after_each = refl
+
+-- the facts that each record establishes, the last record first
+abbrev established : List Kind → List (List Deed)
+established [] = []
+established (k ∷ ks) = deeds (facts (records ks)) k ∷ established ks
+
+facts_of_each : established bo_speaks
+    ≡ [] ∷ (deed.Joined 2 (codes "#a") ∷ []) ∷ (deed.UserSet 2 (codes "b") (codes "Bo") ∷ deed.Enrolled 2 ∷ []) ∷ (deed.NickSet 2 (codes "bo") ∷ [])
+    ∷ (deed.ChannelMade (codes "#a") ∷ deed.Joined 1 (codes "#a") ∷ []) ∷ (deed.UserSet 1 (codes "a") (codes "Al") ∷ deed.Enrolled 1 ∷ []) ∷ (deed.NickSet 1 (codes "al") ∷ [])
+    ∷ (deed.Opened 2 (codes "h2") ∷ []) ∷ (deed.Opened 1 (codes "h1") ∷ []) ∷ []
+unfolding reading parameters with_command command_of is_same fold_of nick_shape channel_shape
+facts_of_each = refl
 
 -- a nickname that is taken, in other letters; a JOIN before registration; a JOIN twice; a PRIVMSG from outside; an unknown command; a line that is too long
 abbrev left_undone : List Kind
@@ -80,9 +107,16 @@ members_of_the_second : after_each (λ h. members (facts h) (codes "#a")) left_u
 unfolding reading parameters with_command command_of is_same fold_of nick_shape channel_shape
 members_of_the_second = refl
 
-owed_in_the_second : after_each {X = ℕ × ℕ} (λ h. (length (owed h 1), length (owed h 2))) left_undone ≡ (1, 0) ∷ (1, 0) ∷ (1, 0) ∷ (1, 0) ∷ (1, 0) ∷ (1, 0) ∷ (1, 0) ∷ (0, 0) ∷ (0, 0) ∷ (0, 0) ∷ (0, 0) ∷ (0, 0) ∷ (0, 0) ∷ []
+abbrev al_join_7 : List Item
+al_join_7 = Lines 7 (codes ":al!a@h1 JOIN #a" ++ crlf) ∷ []
+
+owed_in_the_second : after_each (λ h. owed h 1) left_undone ≡ al_join_7 ∷ al_join_7 ∷ al_join_7 ∷ al_join_7 ∷ al_join_7 ∷ al_join_7 ∷ al_join_7 ∷ [] ∷ [] ∷ [] ∷ [] ∷ [] ∷ [] ∷ []
 unfolding reading parameters with_command command_of is_same fold_of nick_shape channel_shape source join_line privmsg_line sent
 owed_in_the_second = refl
+
+none_owed_in_the_second : after_each (λ h. owed h 2) left_undone ≡ [] ∷ [] ∷ [] ∷ [] ∷ [] ∷ [] ∷ [] ∷ [] ∷ [] ∷ [] ∷ [] ∷ [] ∷ [] ∷ []
+unfolding reading parameters with_command command_of is_same fold_of nick_shape channel_shape source join_line privmsg_line sent
+none_owed_in_the_second = refl
 
 facts_of_the_second : facts (records left_undone) ≡ deed.Enrolled 2 ∷ deed.UserSet 2 (codes "b") (codes "Bo") ∷ deed.NickSet 2 (codes "bo") ∷ deed.Joined 1 (codes "#a") ∷ deed.ChannelMade (codes "#a") ∷ deed.Enrolled 1 ∷ deed.UserSet 1 (codes "a") (codes "Al") ∷ deed.NickSet 1 (codes "al") ∷ deed.Opened 2 (codes "h2") ∷ deed.Opened 1 (codes "h1") ∷ []
 unfolding reading parameters with_command command_of is_same fold_of nick_shape channel_shape
