@@ -8,3 +8,6 @@ mod record;
 pub use journal::{Journal, JournalRefusal};
 pub use names::{Moment, RecordNumber, SessionId};
 pub use record::{Kind, Record};
+
+#[cfg(test)]
+mod tests;
