@@ -79,12 +79,35 @@ fn scripts_and_notes(rt: HostRuntime) -> Result<(), Fail> {
 const TWO_PEOPLE: &[u8; 209] =
     b"connect h1 0\nconnect h2 0\nfeed 1 \"NICK al\\r\\nUSER a 0 * :Al\\r\\nJOIN #a\\r\\n\"\nfeed 2 \"NICK bo\\r\\nUSER b 0 * :Bo\\r\\nJOIN #a\\r\\nPRIVMSG #a :hi\\r\\n\"\ndo 1 0\ndo 1 0\ndo 1 0\ndo 2 0\ndo 2 0\ndo 2 0\ndo 2 0\ndrain 1\ndrain 2\n";
 
+const TWO_PEOPLE_NOTES: &[u8; 196] =
+    b"session 1\nsession 2\nread 3\nread 4\nrecord 3\nrecord 4\nrecord 5\nrecord 6\nrecord 7\nrecord 8\nrecord 9\n1> :al!a@h1 JOIN #a\n1> :bo!b@h2 JOIN #a\n1> :bo!b@h2 PRIVMSG #a :hi\nempty\n2> :bo!b@h2 JOIN #a\nempty\n";
+
+/// Plays a script with each growth refused in turn: one is refused at most, so the second play answers as it should.
 #[test]
 fn two_people(rt: HostRuntime) -> Result<(), Fail> {
     let (result, notes) = played(rt.alloc(), TWO_PEOPLE);
+    if result == Ok(()) && notes.as_slice() == TWO_PEOPLE_NOTES.as_slice() {
+        return Ok(());
+    }
+    let told = notes
+        .as_slice()
+        .windows(14)
+        .any(|seen| seen == b"refused Memory".as_slice());
+    assert!(rt; told || result == Err(PlayFault::Memory) || result == Err(PlayFault::WriteFailed));
+    let (result, notes) = played(rt.alloc(), TWO_PEOPLE);
+    assert_eq!(rt; result, Ok(()));
+    assert_eq!(rt; notes.as_slice(), TWO_PEOPLE_NOTES.as_slice());
+    Ok(())
+}
+
+#[test]
+fn names_that_differ_by_case_are_one(rt: HostRuntime) -> Result<(), Fail> {
+    let script =
+        b"connect h1 0\nconnect h2 0\nfeed 1 \"NICK al\\r\\nUSER a 0 * :Al\\r\\nJOIN #A[1]\\r\\n\"\nfeed 2 \"NICK AL\\r\\nNICK bo\\r\\nUSER b 0 * :Bo\\r\\nJOIN #a{1}\\r\\n\"\ndo 1 0\ndo 1 0\ndo 1 0\ndo 2 0\ndo 2 0\ndo 2 0\ndo 2 0\ndrain 1\n";
+    let (result, notes) = played(rt.alloc(), script);
     assert_eq!(rt; result, Ok(()));
     let want =
-        b"session 1\nsession 2\nread 3\nread 4\nrecord 3\nrecord 4\nrecord 5\nrecord 6\nrecord 7\nrecord 8\nrecord 9\n1> :al!a@h1 JOIN #a\n1> :bo!b@h2 JOIN #a\n1> :bo!b@h2 PRIVMSG #a :hi\nempty\n2> :bo!b@h2 JOIN #a\nempty\n";
+        b"session 1\nsession 2\nread 3\nread 4\nrecord 3\nrecord 4\nrecord 5\nrecord 6\nrecord 7\nrecord 8\nrecord 9\n1> :al!a@h1 JOIN #A[1]\n1> :bo!b@h2 JOIN #A[1]\nempty\n";
     assert_eq!(rt; notes.as_slice(), want.as_slice());
     Ok(())
 }
