@@ -24,9 +24,9 @@ fn twice<T, F: Fn() -> Result<T, AllocError>>(call: F) -> Result<T, AllocError>
     }
 }
 
-/// Room for the notes of any script here, which are written into it without another growth.
+/// Room for any script here, or for its notes, which are written into it without another growth.
 fn room(alloc: Global) -> Result<Vec<u8>, AllocError> {
-    twice(|| Vec::with_capacity(alloc, 1_024))
+    twice(|| Vec::with_capacity(alloc, 16_384))
 }
 
 fn played_once(
@@ -149,16 +149,18 @@ impl Read for Lines<'_> {
     }
 }
 
-// Keeps the notes, those of want of memory apart.
+// Keeps the notes, the first of want of memory apart: one growth is refused at most.
 #[derive(Drop)]
 struct Notes<'a> {
     octets: Vec<u8>,
     is_refused: &'a Cell<bool>,
+    was_refused: bool,
 }
 
 impl Write for Notes<'_> {
     fn write(&mut self, buf: &[u8]) -> io::Result<usize> {
-        if buf == REFUSED.as_slice() {
+        if buf == REFUSED.as_slice() && !self.was_refused {
+            self.was_refused = true;
             self.is_refused.set(true);
         } else {
             self.octets.extend_from_slice(buf)?;
@@ -184,6 +186,7 @@ fn tell(rt: &impl Abort, alloc: Global, script: &[u8], want: &[u8]) -> Result<()
         let mut output = Notes {
             octets: room(alloc)?,
             is_refused: &is_refused,
+            was_refused: false,
         };
         let result = play(alloc, &mut input, &mut output);
         if result != Err(PlayFault::Memory) {
@@ -209,6 +212,72 @@ fn names_that_differ_by_case_are_one(rt: HostRuntime) -> Result<(), Fail> {
     let want =
         b"session 1\nsession 2\nread 3\nread 4\nrecord 3\nrecord 4\nrecord 5\nrecord 6\nrecord 7\nrecord 8\nrecord 9\n1> :al!a@h1 JOIN #A[1]\n1> :bo!b@h2 JOIN #A[1]\nempty\n";
     tell(&rt, rt.alloc(), script, want)?;
+    Ok(())
+}
+
+/// Two people join a channel.
+const MEETING: &[u8] =
+    b"connect h1 0\nconnect h2 0\nfeed 1 \"NICK al\\nUSER a 0 * :Al\\nJOIN #a\\n\"\nfeed 2 \"NICK bo\\nUSER b 0 * :Bo\\nJOIN #a\\n\"\ndo 1 0\ndo 1 0\ndo 1 0\ndo 2 0\ndo 2 0\ndo 2 0\n";
+
+const MEETING_NOTES: &[u8] =
+    b"session 1\nsession 2\nread 3\nread 3\nrecord 3\nrecord 4\nrecord 5\nrecord 6\nrecord 7\nrecord 8\n";
+
+#[test]
+fn what_is_taken_is_its_sessions(rt: HostRuntime) -> Result<(), Fail> {
+    let mut script = room(rt.alloc())?;
+    script.extend_from_slice(MEETING)?;
+    script.extend_from_slice(b"take 2\ntake 1\ntake 2\ntake 1\ntake 1\n")?;
+    let mut want = room(rt.alloc())?;
+    want.extend_from_slice(MEETING_NOTES)?;
+    want.extend_from_slice(
+        b"2> :bo!b@h2 JOIN #a\n1> :al!a@h1 JOIN #a\nempty\n1> :bo!b@h2 JOIN #a\nempty\n",
+    )?;
+    tell(&rt, rt.alloc(), &script, &want)?;
+    Ok(())
+}
+
+#[test]
+fn a_line_is_cut_to_510_octets(rt: HostRuntime) -> Result<(), Fail> {
+    // A line that shows this text has 510 octets.
+    let text = [b'x'; 489];
+    let mut script = room(rt.alloc())?;
+    script.extend_from_slice(MEETING)?;
+    script.extend_from_slice(b"feed 1 \"PRIVMSG #a :")?;
+    script.extend_from_slice(&text)?;
+    script.extend_from_slice(b"\\nPRIVMSG #a :")?;
+    script.extend_from_slice(&text)?;
+    script.extend_from_slice(b"yz\\n\"\ndo 1 0\ndo 1 0\ndrain 2\n")?;
+    let mut want = room(rt.alloc())?;
+    want.extend_from_slice(MEETING_NOTES)?;
+    want.extend_from_slice(b"read 2\nrecord 9\nrecord 10\n2> :bo!b@h2 JOIN #a\n")?;
+    for _ in 0..2u8 {
+        want.extend_from_slice(b"2> :al!a@h1 PRIVMSG #a :")?;
+        want.extend_from_slice(&text)?;
+        want.push(b'\n')?;
+    }
+    want.extend_from_slice(b"empty\n")?;
+    tell(&rt, rt.alloc(), &script, &want)?;
+    Ok(())
+}
+
+#[test]
+fn an_outbox_holds_256_deliveries(rt: HostRuntime) -> Result<(), Fail> {
+    // The second session's own JOIN is its first delivery, so it misses message 256.
+    let mut script = room(rt.alloc())?;
+    script.extend_from_slice(MEETING)?;
+    for _ in 0..257u16 {
+        script.extend_from_slice(b"feed 1 \"PRIVMSG #a :x\\n\"\ndo 1 0\n")?;
+    }
+    let (result, notes) = played(rt.alloc(), LIMITS, &script)?;
+    assert_eq!(rt; result, Ok(()));
+    let end = b"read 1\nrecord 263\nread 1\nrecord 264\nmissed 2\nread 1\nrecord 265\n";
+    let before = notes.strip_suffix(end.as_slice()).ok_or("the end")?;
+    let missed = b"missed";
+    assert!(rt;
+        !before
+            .windows(missed.len())
+            .any(|seen| seen == missed.as_slice())
+    );
     Ok(())
 }
 
@@ -450,6 +519,73 @@ fn readers_and_writers(rt: HostRuntime) -> Result<(), Fail> {
         }
         assert_eq!(rt; result, end, "{reads} reads, {writes} writes");
         assert_eq!(rt; octets.as_slice(), want, "{reads} reads, {writes} writes");
+    }
+    Ok(())
+}
+
+// Is interrupted before each read.
+#[derive(Drop)]
+struct Interrupted<'a> {
+    octets: &'a [u8],
+    is_interrupted: bool,
+}
+
+impl Read for Interrupted<'_> {
+    fn read(&mut self, buf: &mut [u8]) -> io::Result<usize> {
+        self.is_interrupted = !self.is_interrupted;
+        if self.is_interrupted {
+            return Err(io::Error::from(ErrorKind::Interrupted));
+        }
+        self.octets.read(buf)
+    }
+}
+
+#[test]
+fn an_interrupted_read_is_tried_again(rt: HostRuntime) -> Result<(), Fail> {
+    let (result, notes) = twice(|| {
+        let mut input = Interrupted {
+            octets: b"take 1\n",
+            is_interrupted: false,
+        };
+        let mut notes = room(rt.alloc())?;
+        match play(rt.alloc(), &mut input, &mut notes) {
+            Err(PlayFault::Memory) => Err(AllocError),
+            result => Ok((result, notes)),
+        }
+    })?;
+    assert_eq!(rt; result, Ok(()));
+    assert_eq!(rt; notes.as_slice(), b"refused NoSession\n".as_slice());
+    Ok(())
+}
+
+// Takes everything, and fails to flush.
+#[derive(Drop)]
+struct Unflushed;
+
+impl Write for Unflushed {
+    fn write(&mut self, buf: &[u8]) -> io::Result<usize> {
+        Ok(buf.len())
+    }
+
+    fn flush(&mut self) -> io::Result<()> {
+        Err(io::Error::from(ErrorKind::BrokenPipe))
+    }
+}
+
+#[test]
+fn a_flush_that_fails_is_told(rt: HostRuntime) -> Result<(), Fail> {
+    for (script, want) in [
+        (b"take 1\n".as_slice(), PlayFault::WriteFailed),
+        (b"take\n", PlayFault::BadLine(1)),
+    ] {
+        let result = twice(|| {
+            let mut input = script;
+            match play(rt.alloc(), &mut input, &mut Unflushed) {
+                Err(PlayFault::Memory) => Err(AllocError),
+                result => Ok(result),
+            }
+        })?;
+        assert_eq!(rt; result, Err(want), "{script:?}");
     }
     Ok(())
 }
