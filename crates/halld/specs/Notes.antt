@@ -1,9 +1,11 @@
 -- What a step gave, as it is written: this project's own choice.
-use Rattle.std.specs.Prelude.{ℕ, Bool, false, true, List, [], ◌∷◌, ◌++◌, Result, Ok, Err, codes, decimal, flat_map, filter}
+use Rattle.std.specs.Prelude.{◌≡◌, ℕ, Bool, false, true, List, [], ◌∷◌, ◌++◌, Result, Ok, Err, codes, decimal, flat_map, filter}
 use Rattle.line_grammar.specs.Lines.{ended}
 use Rattle.chronicle.specs.declared.names.SessionId.{SessionId}
 use Rattle.book.specs.declared.book.Done.{Done}
 use Rattle.book.specs.declared.item.Item.TheVariants as item
+use Rattle.interleave.specs.declared.event.Event.{Event}
+use Rattle.interleave.specs.declared.event.Event.TheVariants as event
 use Rattle.interleave.specs.declared.event.Note.{Note}
 use Rattle.interleave.specs.declared.event.Note.TheVariants as note
 use Rattle.book.specs.declared.refusals.OpenRefusal.{OpenRefusal}
@@ -69,3 +71,10 @@ refusal_name refusal.Memory = codes "Memory"
 abbrev pub answer_text : ℕ → Result Note StepRefusal → List ℕ
 answer_text session (Ok note) = note_text session note
 answer_text session (Err refusal) = codes "refused " ++ (refusal_name refusal ++ 10 ∷ [])
+
+-- the session that an event names; a connect names none
+abbrev pub IsEventOf : ℕ → Event → Type 0
+IsEventOf session (event.Connect host moment) = Unit {0}
+IsEventOf session (event.Feed s octets) = s ≡ session
+IsEventOf session (event.Line s moment) = s ≡ session
+IsEventOf session (event.Take s) = s ≡ session

@@ -1,7 +1,7 @@
 //! A script's lines as they come, and the steps that they ask for.
 ghost use Rattle.std.specs.Prelude.{◌≡◌, ◌+◌, ◌<◌, ◌≤◌, ◌^◌, ◌++◌, ◌∷◌, [], List, ℕ, None, false, length, OnOk, IfErr};
 ghost use Rattle.std.specs.Io.KnownBytes.{Appends};
-ghost use Rattle.halld.specs.Notes.{answer_text};
+ghost use Rattle.halld.specs.Notes.{IsEventOf, answer_text};
 ghost use Rattle.interleave.specs.Steps.{IsWellShaped};
 ghost use Rattle.halld.specs.Script.{NamesHost};
 ghost use Rattle.halld.specs.Lines.{is_bad, first_bad, bad_ahead};
@@ -73,7 +73,8 @@ impl Player {
         event: &Event,
         output: &mut W,
     ) -> Result<Answer, PlayFault>
-        requires { IsWellShaped event.now }
+        requires shape { IsWellShaped event.now }
+        requires whose { IsEventOf session event.now }
         ensures line { self.new.line ≡ self.old.line }
         ensures ended { self.new.ended ≡ self.old.ended }
         ensures fault { IfErr result (IsFaultAt None) }
