@@ -1,17 +1,22 @@
--- A book stays sound where a line begins.
+-- A book stays sound where a record is appended whose deliveries are planned.
 use Rattle.std.proofs.lemmas.Bool.Decides.{eqb_tells}
 use Rattle.std.proofs.Common.{◌≡◌, ◌≢◌, ◌⊎◌, inl, inr, ℕ, zero, suc, ◌+◌, ◌-◌, ◌<◌, ◌≤◌, Bool, true, false, ◌||◌, ◌==◌, cond, List, [], ◌∷◌, ◌++◌, length, map, sum_by, arith, refl, sym, ap, ◌∙◌, subst, append-nil, eq-eqb, ne_eqb, zero-add, lit<, lit≤}
-use Rattle.line_grammar.specs.declared.splitter.Piece.{Piece}
+use Rattle.std.proofs.lemmas.List.Sums.{sum_by-cons}
+use Rattle.chronicle.specs.declared.why.Why.{Why}
 use Rattle.chronicle.specs.declared.record.Kind.{Kind}
-use Rattle.chronicle.specs.declared.record.Kind.TheVariants.{Opened, Said}
-use Rattle.chronicle.specs.History.{Rec, actor, sessions, accepted, shut, last_moment, IsMomentAfter}
+use Rattle.chronicle.specs.declared.record.Kind.TheVariants.{Opened, Said, Hung, Gone}
+use Rattle.chronicle.specs.History.{Rec, actor, opened_by, sessions, accepted, said_by, ends, leaves, shut, gone, last_moment, IsMomentAfter}
 use Rattle.chronicle.specs.Journal.{fresh_record}
-use Rattle.book.specs.declared.item.Item.{Item}
+use Rattle.outbox.specs.declared.item.Item.{Item}
 use Rattle.book.specs.declared.plan.Planned.{Planned}
-use Rattle.book.specs.Owed.{item, delivery, owed}
-use Rattle.book.specs.Lines.{lines}
-use Rattle.book.specs.Deeds.{facts}
-use Rattle.book.specs.Book.{Shown, Turn, MayBegin, outbox_at, numbers, kept_for, held, due, puts, others, plan_by, plan_of, planned, begun, IsOwed, IsPlan, IsSound}
+use Rattle.outbox.specs.declared.item.Item.TheVariants.{Last}
+use Rattle.book.specs.Owed.{item, reason, delivery, owed}
+use Rattle.book.specs.Legal.{IsKind}
+use Rattle.deeds.specs.Stands.{numbers}
+use Rattle.deeds.specs.Lines.{lines}
+use Rattle.deeds.specs.Deeds.{facts}
+use Rattle.book.specs.Book.{Shown, outbox_at, kept_for, held, due, puts, others, plan_by, plan_of, planned, begun, IsOwed, IsPlan, IsSound}
+use Rattle.book.proofs.Sound.{sum_le, kept_less}
 
 pub planned_puts : (k t : ℕ) (xs : List Item) (ps : List Planned) → planned (puts k xs ++ ps) t ≡ cond (k == t) (xs ++ planned ps t) (planned ps t)
 planned_puts k t [] ps = let P = planned ps t in elim (k == t) as (λ c. P ≡ cond c P P) [ true ↦ refl | false ↦ refl ]
@@ -65,11 +70,15 @@ planned_plan f s n t from to =
 
 due_cases : (h : List Rec) (k : Kind) (t : ℕ) → (due h k t ≡ []) ⊎ ((x : Item) × (due h k t ≡ x ∷ []) × (delivery h k t ≡ x ∷ []) × (shut h t ≡ false))
 due_cases h k t =
+    let L = Last (length h + 1) (reason k) in
     elim (shut h t) as (λ b. (cond b [] (delivery h k t) ≡ []) ⊎ ((x : Item) × (cond b [] (delivery h k t) ≡ x ∷ []) × (delivery h k t ≡ x ∷ []) × (b ≡ false))) [
       | true ↦ inl refl
-      | false ↦ elim (lines (facts h) k t) as (λ ls. (item (length h + 1) ls ≡ []) ⊎ ((x : Item) × (item (length h + 1) ls ≡ x ∷ []) × (item (length h + 1) ls ≡ x ∷ []) × (false ≡ false))) [
-        | [] ↦ inl refl
-        | l ∷ ls ↦ inr (_, refl, refl, refl)
+      | false ↦ elim (ends k t) as (λ e. (cond e (L ∷ []) (item (length h + 1) (lines (facts h) k t)) ≡ []) ⊎ ((x : Item) × (cond e (L ∷ []) (item (length h + 1) (lines (facts h) k t)) ≡ x ∷ []) × (cond e (L ∷ []) (item (length h + 1) (lines (facts h) k t)) ≡ x ∷ []) × (false ≡ false))) [
+        | true ↦ inr (_, refl, refl, refl)
+        | false ↦ elim (lines (facts h) k t) as (λ ls. (item (length h + 1) ls ≡ []) ⊎ ((x : Item) × (item (length h + 1) ls ≡ x ∷ []) × (item (length h + 1) ls ≡ x ∷ []) × (false ≡ false))) [
+          | [] ↦ inl refl
+          | l ∷ ls ↦ inr (_, refl, refl, refl)
+        ]
       ]
     ]
 
@@ -96,23 +105,79 @@ plan_ok r h n s nobody from to = puts_ok r h n s (others (due h r.kind) s 1 n) n
 
 -- ---- the step
 
-pub begun_sound : (m : Shown) (b : Turn) (piece : Piece) (moment : _) → IsSound m → MayBegin m b moment → IsSound (begun m b.session b.next piece moment)
-begun_sound m b piece moment i may =
-    let h = m.history in let s = b.session in let k = Said s b.next piece in let n = length m.outboxes in let r = fresh_record h moment k in
-    let to : s ≤ n = let e = i.sessions in let l = may.turn.opened in omega arith in
-    let none : (t : ℕ) → (outbox_at m.outboxes t).taken ++ (outbox_at m.outboxes t).queue ++ planned m.plan t ≡ (outbox_at m.outboxes t).taken ++ (outbox_at m.outboxes t).queue =
-    λ t. ap (λ ps. (outbox_at m.outboxes t).taken ++ (outbox_at m.outboxes t).queue ++ planned ps t) may.idle ∙ append-nil _ in
-    let same : 0 + sessions h ≡ sessions h = zero-add (sessions h) in
+pub begun_sound : (m : Shown) (k : Kind) (moment : _) → IsSound m → m.busy ≡ false → opened_by k ≡ 0 → 0 < actor k → actor k ≤ length m.outboxes → IsKind m.history k → IsMomentAfter (last_moment m.history) moment
+    → length m.history + 1 + held (fresh_record m.history moment k ∷ m.history) ≤ m.limit → IsSound (begun m k moment)
+begun_sound m k moment i free none from to is in_time room_ =
+    let h = m.history in let n = length m.outboxes in let r = fresh_record h moment k in
+    let nothing : (t : ℕ) → (outbox_at m.outboxes t).taken ++ (outbox_at m.outboxes t).queue ++ planned m.plan t ≡ (outbox_at m.outboxes t).taken ++ (outbox_at m.outboxes t).queue =
+    λ t. ap (λ ps. (outbox_at m.outboxes t).taken ++ (outbox_at m.outboxes t).queue ++ planned ps t) (i.idle free) ∙ append-nil _ in
+    let same : opened_by k + sessions h ≡ sessions h = ap (λ (j : ℕ). j + sessions h) none ∙ zero-add (sessions h) in
     record {
-      owed = λ t from below.
-          ap (λ xs. (outbox_at m.outboxes t).taken ++ (outbox_at m.outboxes t).queue ++ xs) (planned_plan (due h k) s n t from below)
-          ∙ ap (λ xs. xs ++ due h k t) (sym (none t) ∙ i.owed t from below);
-      plan = plan_ok r h n s refl may.turn.from_1 to;
-      legal = (refl, may.in_time, (may.turn.from_1, may.turn.opened, may.turn.next, may.not_shut), tt, i.legal);
+      owed = λ t above below here.
+          ap (λ xs. (outbox_at m.outboxes t).taken ++ (outbox_at m.outboxes t).queue ++ xs) (planned_plan (due h k) (actor k) n t above below)
+          ∙ ap (λ xs. xs ++ due h k t) (sym (nothing t) ∙ i.owed t above below here);
+      reaped = λ t above below away. rw (i.reaped t above below away) (elim (leaves k t) as (λ b. (b || true) ≡ true) [ true ↦ refl | false ↦ refl ]);
+      plan = plan_ok r h n (actor k) refl from to;
+      idle = λ e. absurd (let f : true ≡ false = e in cc);
+      legal = (refl, in_time, is, tt, i.legal);
       sessions = same ∙ i.sessions;
-      room = let room = may.room in let e : sum_by (kept_for h) (numbers 1 (0 + sessions h)) ≡ sum_by (kept_for h) (numbers 1 (sessions h)) = ap (λ (j : ℕ). sum_by (kept_for h) (numbers 1 j)) same in
-          let goal : length (r ∷ h) + sum_by (kept_for h) (numbers 1 (0 + sessions h)) ≤ m.limit = omega arith in goal;
+      room = let goal : length (r ∷ h) + held (r ∷ h) ≤ m.limit = omega arith in goal;
     }
+
+-- ---- what is kept free
+
+-- a sum falls where one of its parts does
+sum_less : (f g : ℕ → ℕ) (s k n : ℕ) → ((t : ℕ) → f t ≤ g t) → f s + 1 ≤ g s → k ≤ s → s < k + n → sum_by f (numbers k n) + 1 ≤ sum_by g (numbers k n)
+sum_less f g s k zero le less a b = absurd (omega arith)
+sum_less f g s k (suc n) le less a b =
+    rw (sum_by-cons f k (numbers (k + 1) n)) (rw (sum_by-cons g k (numbers (k + 1) n)) (elim (eqb_tells k s) [
+      | inl same ↦ let here : f k + 1 ≤ g k = subst (λ (u : ℕ). f u + 1 ≤ g u) (sym same.1) less in let rest = sum_le f g (numbers (k + 1) n) le in omega arith
+      | inr other ↦ let rest = sum_less f g s (k + 1) n le less (let ne = other.1 in omega arith) (omega arith) in let here = le k in omega arith
+    ]))
+
+-- a record that opens no session keeps no more free than was before
+kept_after : (h : List Rec) (k : Kind) (moment : _) (t : ℕ) → kept_for (fresh_record h moment k ∷ h) t ≤ kept_for h t
+kept_after h k moment t =
+    kept_less (leaves k t || gone h t) (ends k t || shut h t) (gone h t) (shut h t)
+    (λ e. rw e (elim (leaves k t) as (λ b. (b || true) ≡ true) [ true ↦ refl | false ↦ refl ]))
+    (λ e. rw e (elim (ends k t) as (λ b. (b || true) ≡ true) [ true ↦ refl | false ↦ refl ]))
+
+same_sessions : (h : List Rec) (k : Kind) → opened_by k ≡ 0 → numbers 1 (opened_by k + sessions h) ≡ numbers 1 (sessions h)
+same_sessions h k none = ap (λ (j : ℕ). numbers 1 (j + sessions h)) none ∙ ap (λ (j : ℕ). numbers 1 j) (zero-add (sessions h))
+
+pub held_after : (h : List Rec) (k : Kind) (moment : _) → opened_by k ≡ 0 → held (fresh_record h moment k ∷ h) ≤ held h
+held_after h k moment none = rw (same_sessions h k none) (sum_le (kept_for (fresh_record h moment k ∷ h)) (kept_for h) (numbers 1 (sessions h)) (kept_after h k moment))
+
+-- one less where the record ends its session or says that it is gone
+pub held_less : (h : List Rec) (k : Kind) (moment : _) (s : ℕ) → opened_by k ≡ 0 → 0 < s → s ≤ sessions h → kept_for (fresh_record h moment k ∷ h) s + 1 ≤ kept_for h s → held (fresh_record h moment k ∷ h) + 1 ≤ held h
+held_less h k moment s none from to less =
+    rw (same_sessions h k none) (sum_less (kept_for (fresh_record h moment k ∷ h)) (kept_for h) s 1 (sessions h) (kept_after h k moment) less from (omega arith))
+
+pub hung_less : (h : List Rec) (s : ℕ) (w : Why) (moment : _) → shut h s ≡ false → gone h s ≡ false → kept_for (fresh_record h moment (Hung s w) ∷ h) s + 1 ≤ kept_for h s
+hung_less h s w moment es eg = rw eg (rw es (rw (eq-eqb s s refl) (lit≤ tt)))
+
+pub gone_less : (h : List Rec) (s : ℕ) (moment : _) → shut h s ≡ true → gone h s ≡ false → kept_for (fresh_record h moment (Gone s) ∷ h) s + 1 ≤ kept_for h s
+gone_less h s moment es eg = rw eg (rw es (rw (eq-eqb s s refl) (lit≤ tt)))
+
+-- ---- the plan of a session that is hung
+
+others_none : (f : ℕ → List Item) (s k n : ℕ) → ((t : ℕ) → s ≢ t → f t ≡ []) → others f s k n ≡ []
+others_none f s k zero none = refl
+others_none f s k (suc n) none =
+    rw (others_none f s (k + 1) n none) (elim (eqb_tells k s) [
+      | inl same ↦ rw same.0 refl
+      | inr other ↦ rw other.0 (rw (none k (λ e. other.1 (sym e))) refl)
+    ])
+
+nothing_due : (b : Bool) → (let E : List Item = [] in cond b E E) ≡ []
+nothing_due true = refl
+nothing_due false = refl
+
+pub plan_hung : (h : List Rec) (s : ℕ) (w : Why) (n : ℕ) → shut h s ≡ false → plan_of h (Hung s w) n ≡ record { session = s; item = Last (length h + 1) w } ∷ []
+plan_hung h s w n open_ =
+    let mine : due h (Hung s w) s ≡ Last (length h + 1) w ∷ [] = rw open_ (rw (eq-eqb s s refl) refl) in
+    let rest : others (due h (Hung s w)) s 1 n ≡ [] = others_none (due h (Hung s w)) s 1 n (λ t ne. rw (ne_eqb s t ne) (nothing_due (shut h t))) in
+    ap (λ xs. puts s xs ++ others (due h (Hung s w)) s 1 n) mine ∙ ap (λ ps. record { session = s; item = Last (length h + 1) w } ∷ ps) rest
 
 -- a plan is no longer than the list of sessions
 item_short : (h : List Rec) (k : Kind) (t : ℕ) → length (due h k t) ≤ 1

@@ -1,96 +1,106 @@
 -- What a book keeps stands for its history over each step.
 use Rattle.std.proofs.lemmas.List.{get_or_push, get_or_append_left, get_or-set_same, get_or-set_other, length-set}
 use Rattle.std.proofs.lemmas.Bool.Decides.{eqb_tells}
-use Rattle.std.proofs.Common.{◌≡◌, ◌≢◌, inl, inr, ℕ, ℤ, ◌+◌, ◌-◌, ◌<◌, ◌≤◌, Bool, true, false, ◌||◌, List, [], ◌∷◌, ◌++◌, length, slice_set, slice_index_or, arith, refl, sym, ap, ◌∙◌, subst, append-nil, length-append, eq-eqb, ne_eqb}
+use Rattle.std.proofs.Common.{◌≡◌, ◌≢◌, inl, inr, ℕ, ℤ, ◌+◌, ◌-◌, ◌<◌, ◌≤◌, Bool, true, false, ◌||◌, ◌&&◌, ◌==◌, cond, Option, Some, None, List, [], ◌∷◌, ◌++◌, length, slice_set, slice_index_or, arith, refl, sym, ap, ◌∙◌, subst, append-nil, length-append, eq-eqb, ne_eqb}
 use Rattle.chronicle.specs.declared.record.Kind.{Kind}
-use Rattle.chronicle.specs.declared.record.Kind.TheVariants.{Opened, Said}
-use Rattle.line_grammar.specs.declared.splitter.Piece.{Piece}
-use Rattle.chronicle.specs.History.{Rec, sessions, said_by, accepted, shut}
+use Rattle.chronicle.specs.declared.record.Kind.TheVariants.{Opened, Said, Hung, Gone}
+use Rattle.chronicle.specs.History.{Rec, actor, opened_by, sessions, said_by, accepted, misses, ends, leaves, shut, gone, last_moment, IsMomentAfter}
 use Rattle.chronicle.specs.Journal.{fresh_record, Appends, Misses, miss}
 use Rattle.chronicle.specs.Journal as journal
-use Rattle.book.specs.declared.deed.Deed.{Deed}
-use Rattle.book.specs.declared.tables.Person.{Person}
-use Rattle.book.specs.declared.tables.Channel.{Channel}
+use Rattle.deeds.specs.declared.deed.Deed.{Deed}
+use Rattle.deeds.specs.declared.tables.Person.{Person}
+use Rattle.deeds.specs.declared.tables.Channel.{Channel}
 use Rattle.book.specs.declared.seat.Seat.{Seat}
 use Rattle.book.specs.declared.plan.Planned.{Planned}
-use Rattle.book.specs.Ring.{Waiting, with_put, with_taken}
-use Rattle.book.specs.Deeds.{after, deeds, facts}
-use Rattle.book.specs.Kept.{Stands, IsKept}
+use Rattle.outbox.specs.Ring.{Waiting, has_room, with_put, with_taken}
+use Rattle.deeds.specs.Deeds.{after, deeds, facts}
+use Rattle.deeds.specs.declared.deed.Deed.TheVariants as deed
+use Rattle.deeds.specs.Stands.{Stands}
+use Rattle.book.specs.Legal.{IsKind}
+use Rattle.book.specs.Kept.{IsKept}
 use Rattle.book.specs.Seats.{IsSeat, no_seat, seat_at}
-use Rattle.book.specs.Book.{Shown, Turn, MayOpen, MayBegin, outbox_at, plan_of, opened, IsPlan, IsSound}
-use Rattle.book.proofs.About.{not_shut, not_accepted}
-use Rattle.book.proofs.Opened.{opened_sound}
-use Rattle.book.proofs.Sound.{misses_same, misses_other, delivered_sound, dropped_sound, taken_sound}
-use Rattle.book.proofs.Begun.{begun_sound}
-use Rattle.book.proofs.Standing.{newcomer, stands_opened}
+use Rattle.book.specs.Book.{Shown, MayOpen, outbox_at, is_here, held, plan_of, opened, finished, IsPlan, IsSound}
+use Rattle.book.proofs.About.{not_shut, not_gone, not_accepted}
+use Rattle.book.proofs.Opened.{opened_sound, opened_held}
+use Rattle.book.proofs.Sound.{misses_same, misses_other, held_missed, delivered_sound, dropped_sound, finished_sound, taken_sound, reaped_sound}
+use Rattle.book.proofs.Begun.{begun_sound, held_after}
 
-abbrev pub shown : journal.Shown → ℕ → List Waiting → List Planned → Shown
-shown j most boxes plan = record { history = j.history; limit = j.limit; most = most; outboxes = boxes; plan = plan }
+abbrev pub shown : journal.Shown → ℕ → List (Option Waiting) → List Planned → Bool → Shown
+shown j most boxes plan busy = record { history = j.history; limit = j.limit; most = most; outboxes = boxes; plan = plan; busy = busy }
+
+-- what a book shows of a journal is of its history and its limit
+pub shown_with : (j k : journal.Shown) (h : List Rec) (most : ℕ) (boxes : List (Option Waiting)) (plan : List Planned) (busy : Bool) → k.history ≡ h → k.limit ≡ j.limit
+    → shown k most boxes plan busy ≡ record { history = h; limit = j.limit; most = most; outboxes = boxes; plan = plan; busy = busy }
+shown_with j k h most boxes plan busy eh el =
+    ap (λ (x : List Rec). record { history = x; limit = k.limit; most = most; outboxes = boxes; plan = plan; busy = busy }) eh
+    ∙ ap (λ (x : ℕ). record { history = h; limit = x; most = most; outboxes = boxes; plan = plan; busy = busy }) el
 
 -- ---- a session is opened
 
-opened_history : (j k : journal.Shown) (most : ℕ) (ps : List Person) (ks : List Channel) (seats : List Seat) (boxes : List Waiting) (plan : List Planned) (host : List ℕ) (moment : ℤ) (box : Waiting)
-    → IsKept j most ps ks seats boxes plan → MayOpen (shown j most boxes plan) moment → (box.queue ≡ []) × (box.taken ≡ [])
-    → k.history ≡ fresh_record j.history moment (Opened (sessions j.history + 1) host) ∷ j.history → k.limit ≡ j.limit
-    → IsKept k most (ps ++ newcomer host ∷ []) ks (seats ++ no_seat ∷ []) (boxes ++ box ∷ []) plan
-opened_history j k most ps ks seats boxes plan host moment box i may fresh eh el =
-    let h = j.history in let n = sessions h + 1 in let r = fresh_record h moment (Opened n host) in
-    let count : n ≡ length ps + 1 = let a = i.sound.sessions in let b = i.people in omega arith in
+opened_history : (j k : journal.Shown) (most : ℕ) (ps qs : List Person) (ks ls : List Channel) (seats : List Seat) (boxes : List (Option Waiting)) (plan : List Planned) (busy : Bool) (host : List ℕ) (moment : ℤ) (box : Waiting)
+    → IsKept j most ps ks seats boxes plan busy → MayOpen (shown j most boxes plan busy) moment → (box.queue ≡ []) × (box.taken ≡ [])
+    → k.history ≡ fresh_record j.history moment (Opened (sessions j.history + 1) host) ∷ j.history → k.limit ≡ j.limit → held j.history + 2 ≤ k.room
+    → length qs ≡ length ps + 1 → Stands qs ls (deed.Opened (length ps + 1) host ∷ facts j.history)
+    → IsKept k most qs ls (seats ++ no_seat ∷ []) (boxes ++ Some box ∷ []) plan busy
+opened_history j k most ps qs ks ls seats boxes plan busy host moment box i may fresh eh el free longer stands =
+    let h = j.history in let n = sessions h + 1 in let r = fresh_record h moment (Opened n host) in let all = boxes ++ Some box ∷ [] in
+    let count : length ps + 1 ≡ n = let a = i.sound.sessions in let b = i.people in omega arith in
     let more : length (seats ++ no_seat ∷ []) ≡ length seats + 1 = length-append seats (no_seat ∷ []) in
-    let new : IsSound (shown k most (boxes ++ box ∷ []) plan) =
-    subst (λ (l : ℕ). IsSound (record { history = k.history; limit = l; most = most; outboxes = boxes ++ box ∷ []; plan = plan })) (sym el)
-    (subst (λ (x : List Rec). IsSound (record { history = x; limit = j.limit; most = most; outboxes = boxes ++ box ∷ []; plan = plan })) (sym eh) (opened_sound (shown j most boxes plan) host moment box i.sound may fresh)) in
+    let new : IsSound (shown k most all plan busy) =
+    subst IsSound (sym (shown_with j k (r ∷ h) most all plan busy eh el)) (opened_sound (shown j most boxes plan busy) host moment box i.sound may fresh) in
     let seat : (t : ℕ) → 0 < t → t ≤ length (seats ++ no_seat ∷ []) → IsSeat (seat_at (seats ++ no_seat ∷ []) t) (r ∷ h) t = λ t from to.
     elim (eqb_tells t n) [
       | inl last ↦
           let p : length seats ≡ t - 1 = let e = last.1 in let a = i.sound.sessions in let b = i.places in omega arith in
           let past : sessions h < t = let e = last.1 in omega arith in
           subst (λ (s : Seat). IsSeat s (r ∷ h) t) (sym (get_or_push seats no_seat no_seat (t - 1) p))
-          (record { shut = sym (not_shut h t i.sound.legal past); accepted = sym (ap length (append-nil (accepted h t) ∙ not_accepted h t i.sound.legal past)) })
+          (record { shut = sym (not_shut h t i.sound.legal past); gone = sym (not_gone h t i.sound.legal past); accepted = sym (ap length (append-nil (accepted h t) ∙ not_accepted h t i.sound.legal past)) })
       | inr other ↦
           let l : t - 1 < length seats = let ne = other.1 in let a = i.sound.sessions in let b = i.places in omega arith in
           let below : t ≤ length seats = let ne = other.1 in let a = i.sound.sessions in let b = i.places in omega arith in
           let was = i.each_seat t from below in
           subst (λ (s : Seat). IsSeat s (r ∷ h) t) (sym (get_or_append_left seats (no_seat ∷ []) no_seat (t - 1) l))
-          (record { shut = was.shut; accepted = was.accepted ∙ sym (ap length (append-nil (accepted h t))) })
+          (record { shut = was.shut; gone = was.gone; accepted = was.accepted ∙ sym (ap length (append-nil (accepted h t))) })
     ] in
     record {
       sound = new;
-      stands = subst (λ (x : List Rec). Stands (ps ++ newcomer host ∷ []) ks (facts x)) (sym eh) (stands_opened ps ks (facts h) n host count i.stands);
+      stands = subst (λ (x : List Rec). Stands qs ls (facts x)) (sym eh) (subst (λ (m : ℕ). Stands qs ls (deed.Opened m host ∷ facts h)) count stands);
       each_seat = λ t from to. subst (λ (x : List Rec). IsSeat (seat_at (seats ++ no_seat ∷ []) t) x t) (sym eh) (seat t from to);
-      people = length-append ps (newcomer host ∷ []) ∙ ap (λ (m : ℕ). m + 1) i.people ∙ sym (length-append boxes (box ∷ []));
-      places = more ∙ ap (λ (m : ℕ). m + 1) i.places ∙ sym (length-append boxes (box ∷ []));
-      left = let e = may.idle in let z : length plan ≡ 0 = ap length e in let goal : length plan ≤ k.left = omega arith in goal;
+      people = longer ∙ ap (λ (m : ℕ). m + 1) i.people ∙ sym (length-append boxes (Some box ∷ []));
+      places = more ∙ ap (λ (m : ℕ). m + 1) i.places ∙ sym (length-append boxes (Some box ∷ []));
+      left = let e = i.sound.idle may.idle in let z : length plan ≡ 0 = ap length e in let goal : length plan ≤ k.left = omega arith in goal;
+      room = let two = opened_held h n host moment in rw eh (let goal : held (r ∷ h) ≤ k.room = omega arith in goal);
     }
 
-pub opened_kept : (j k : journal.Shown) (most : ℕ) (ps qs : List Person) (ks : List Channel) (seats places : List Seat) (boxes more : List Waiting) (plan : List Planned) (host told : List ℕ) (moment : ℤ) (session : ℕ) (box : Waiting)
-    → IsKept j most ps ks seats boxes plan → MayOpen (shown j most boxes plan) moment → (box.queue ≡ []) × (box.taken ≡ [])
-    → session ≡ length seats + 1 → told ≡ host → k.history ≡ fresh_record j.history moment (Opened session told) ∷ j.history → k.limit ≡ j.limit → qs ≡ ps ++ newcomer host ∷ [] → places ≡ seats ++ no_seat ∷ [] → more ≡ boxes ++ box ∷ []
-    → IsKept k most qs ks places more plan
-opened_kept j k most ps qs ks seats places boxes more plan host told moment session box i may fresh es et eh0 el ep ex eb =
+pub opened_kept : (j k : journal.Shown) (most : ℕ) (ps qs : List Person) (ks ls : List Channel) (seats places : List Seat) (boxes more : List (Option Waiting)) (plan : List Planned) (busy : Bool) (host told : List ℕ) (moment : ℤ) (session : ℕ) (box : Waiting)
+    → IsKept j most ps ks seats boxes plan busy → MayOpen (shown j most boxes plan busy) moment → (box.queue ≡ []) × (box.taken ≡ [])
+    → session ≡ length seats + 1 → told ≡ host → k.history ≡ fresh_record j.history moment (Opened session told) ∷ j.history → k.limit ≡ j.limit → held j.history + 2 ≤ k.room
+    → length qs ≡ length ps + 1 → Stands qs ls (deed.Opened (length ps + 1) host ∷ facts j.history) → places ≡ seats ++ no_seat ∷ [] → more ≡ boxes ++ Some box ∷ []
+    → IsKept k most qs ls places more plan busy
+opened_kept j k most ps qs ks ls seats places boxes more plan busy host told moment session box i may fresh es et eh0 el free longer stands ex eb =
     let n : session ≡ sessions j.history + 1 = let a = i.sound.sessions in let b = i.places in omega arith in
     let eh : k.history ≡ fresh_record j.history moment (Opened (sessions j.history + 1) host) ∷ j.history =
     eh0 ∙ ap (λ (s : ℕ). fresh_record j.history moment (Opened s told) ∷ j.history) n ∙ ap (λ (x : List ℕ). fresh_record j.history moment (Opened (sessions j.history + 1) x) ∷ j.history) et in
-    subst (λ (x : List Person). IsKept k most x ks places more plan) (sym ep)
-    (subst (λ (x : List Seat). IsKept k most (ps ++ newcomer host ∷ []) ks x more plan) (sym ex)
-    (subst (λ (x : List Waiting). IsKept k most (ps ++ newcomer host ∷ []) ks (seats ++ no_seat ∷ []) x plan) (sym eb)
-    (opened_history j k most ps ks seats boxes plan host moment box i may fresh eh el)))
+    subst (λ (x : List Seat). IsKept k most qs ls x more plan busy) (sym ex)
+    (subst (λ (x : List (Option Waiting)). IsKept k most qs ls (seats ++ no_seat ∷ []) x plan busy) (sym eb)
+    (opened_history j k most ps qs ks ls seats boxes plan busy host moment box i may fresh eh el free longer stands))
 
 -- ---- a delivery is put, or missed
 
-pub delivered_kept : (j : journal.Shown) (most : ℕ) (ps : List Person) (ks : List Channel) (seats : List Seat) (boxes more : List Waiting) (plan qs : List Planned) (p : Planned)
-    → IsKept j most ps ks seats boxes plan → plan ≡ p ∷ qs → more ≡ slice_set boxes (p.session - 1) (with_put (outbox_at boxes p.session) p.item) → IsKept j most ps ks seats more qs
-delivered_kept j most ps ks seats boxes more plan qs p i e em =
-    let new = slice_set boxes (p.session - 1) (with_put (outbox_at boxes p.session) p.item) in
+pub delivered_kept : (j : journal.Shown) (most : ℕ) (ps : List Person) (ks : List Channel) (seats : List Seat) (boxes more : List (Option Waiting)) (plan qs : List Planned) (busy : Bool) (p : Planned)
+    → IsKept j most ps ks seats boxes plan busy → plan ≡ p ∷ qs → has_room (outbox_at boxes p.session) ≡ true → more ≡ slice_set boxes (p.session - 1) (Some (with_put (outbox_at boxes p.session) p.item)) → IsKept j most ps ks seats more qs busy
+delivered_kept j most ps ks seats boxes more plan qs busy p i e room_ em =
+    let new = slice_set boxes (p.session - 1) (Some (with_put (outbox_at boxes p.session) p.item)) in
     let len : length new ≡ length boxes = simp length-set in let longer : length plan ≡ length (p ∷ qs) = ap length e in let was = i.left in
-    subst (λ (x : List Waiting). IsKept j most ps ks seats x qs) (sym em)
+    subst (λ (x : List (Option Waiting)). IsKept j most ps ks seats x qs busy) (sym em)
     (record {
-      sound = delivered_sound (shown j most boxes plan) p qs e i.sound;
+      sound = delivered_sound (shown j most boxes plan busy) p qs e room_ i.sound;
       stands = i.stands;
       each_seat = i.each_seat;
       people = i.people ∙ sym len;
       places = i.places ∙ sym len;
       left = omega arith;
+      room = i.room;
     })
 
 facts-miss : (h : List Rec) (s : ℕ) → facts (miss h s) ≡ facts h
@@ -101,40 +111,46 @@ accepted-miss : (h : List Rec) (s t : ℕ) → accepted (miss h s) t ≡ accepte
 accepted-miss [] s t = refl
 accepted-miss (r ∷ h) s t = refl
 
+gone-miss : (h : List Rec) (s t : ℕ) → gone (miss h s) t ≡ gone h t
+gone-miss [] s t = refl
+gone-miss (r ∷ h) s t = refl
+
+held-miss : (h : List Rec) (s : ℕ) → held (miss h s) ≤ held h
+held-miss [] s = omega arith
+held-miss (r ∷ h) s = held_missed r h s
+
 shut-miss_other : (h : List Rec) (s t : ℕ) → s ≢ t → shut (miss h s) t ≡ shut h t
 shut-miss_other [] s t ne = refl
-shut-miss_other (r ∷ h) s t ne = ap (λ b. b || shut h t) (misses_other r s t ne)
+shut-miss_other (r ∷ h) s t ne = ap (λ b. b || ends r.kind t || shut h t) (misses_other r s t ne)
 
 shut-miss_same : (h : List Rec) (s n : ℕ) (p : Planned) (qs : List Planned) → IsPlan h n (p ∷ qs) → s ≡ p.session → shut (miss h s) s ≡ true
 shut-miss_same [] s n p qs i e = absurd i.3
-shut-miss_same (r ∷ h) s n p qs i e = ap (λ b. b || shut h s) (misses_same r s)
+shut-miss_same (r ∷ h) s n p qs i e = ap (λ b. b || ends r.kind s || shut h s) (misses_same r s)
 
-pub dropped_kept : (j k : journal.Shown) (most : ℕ) (ps : List Person) (ks : List Channel) (seats places : List Seat) (boxes more : List Waiting) (plan qs : List Planned) (p : Planned)
-    → IsKept j most ps ks seats boxes plan → plan ≡ p ∷ qs → more ≡ boxes → places ≡ slice_set seats (p.session - 1) (record { shut = true; accepted = (seat_at seats p.session).accepted }) → Misses j k p.session → IsKept k most ps ks places more qs
-dropped_kept j k most ps ks seats places boxes more plan qs p i e em ep miss_ =
-    let h = j.history in let s = p.session in let v : Seat = record { shut = true; accepted = (seat_at seats s).accepted } in
+pub dropped_kept : (j k : journal.Shown) (most : ℕ) (ps : List Person) (ks : List Channel) (seats places : List Seat) (boxes : List (Option Waiting)) (plan qs : List Planned) (busy : Bool) (p : Planned)
+    → IsKept j most ps ks seats boxes plan busy → plan ≡ p ∷ qs
+    → places ≡ slice_set seats (p.session - 1) (record { shut = true; gone = (seat_at seats p.session).gone; accepted = (seat_at seats p.session).accepted }) → Misses j k p.session → IsKept k most ps ks places boxes qs busy
+dropped_kept j k most ps ks seats places boxes plan qs busy p i e ep miss_ =
+    let h = j.history in let s = p.session in let v : Seat = record { shut = true; gone = (seat_at seats s).gone; accepted = (seat_at seats s).accepted } in
     let planned_ : IsPlan h (length boxes) (p ∷ qs) = subst (IsPlan h (length boxes)) e i.sound.plan in
     let longer : length plan ≡ length (p ∷ qs) = ap length e in let was = i.left in let less = miss_.left in
     let from : 0 < s = planned_.0 in let to : s ≤ length seats = let a = planned_.1 in let b = i.places in omega arith in
-    let sound : IsSound (shown k most boxes qs) =
-    subst (λ (l : ℕ). IsSound (record { history = k.history; limit = l; most = most; outboxes = boxes; plan = qs })) (sym miss_.limit)
-    (subst (λ (x : List Rec). IsSound (record { history = x; limit = j.limit; most = most; outboxes = boxes; plan = qs })) (sym miss_.history) (dropped_sound (shown j most boxes plan) p qs e i.sound)) in
+    let sound : IsSound (shown k most boxes qs busy) = subst IsSound (sym (shown_with j k (miss h s) most boxes qs busy miss_.history miss_.limit)) (dropped_sound (shown j most boxes plan busy) p qs e i.sound) in
     let len : length (slice_set seats (s - 1) v) ≡ length seats = simp length-set in
     let seat : (t : ℕ) → 0 < t → t ≤ length seats → IsSeat (seat_at (slice_set seats (s - 1) v) t) (miss h s) t = λ t above below.
     elim (eqb_tells s t) [
       | inl same ↦
-          let l : s - 1 < length seats = omega arith in
+          let l : s - 1 < length seats = omega arith in let was = i.each_seat s from to in
           let here : IsSeat (seat_at (slice_set seats (s - 1) v) s) (miss h s) s =
           subst (λ (x : Seat). IsSeat x (miss h s) s) (sym (get_or-set_same seats (s - 1) v no_seat l))
-          (record { shut = sym (shut-miss_same h s (length boxes) p qs planned_ refl); accepted = (i.each_seat s from to).accepted ∙ ap length (sym (accepted-miss h s s)) }) in
+          (record { shut = sym (shut-miss_same h s (length boxes) p qs planned_ refl); gone = was.gone ∙ sym (gone-miss h s s); accepted = was.accepted ∙ ap length (sym (accepted-miss h s s)) }) in
           subst (λ (u : ℕ). IsSeat (seat_at (slice_set seats (s - 1) v) u) (miss h s) u) same.1 here
       | inr other ↦
           let apart : t - 1 ≢ s - 1 = λ x. other.1 (omega arith) in let was = i.each_seat t above below in
           subst (λ (x : Seat). IsSeat x (miss h s) t) (sym (get_or-set_other seats (s - 1) (t - 1) v no_seat apart))
-          (record { shut = was.shut ∙ sym (shut-miss_other h s t other.1); accepted = was.accepted ∙ ap length (sym (accepted-miss h s t)) })
+          (record { shut = was.shut ∙ sym (shut-miss_other h s t other.1); gone = was.gone ∙ sym (gone-miss h s t); accepted = was.accepted ∙ ap length (sym (accepted-miss h s t)) })
     ] in
-    subst (λ (x : List Waiting). IsKept k most ps ks places x qs) (sym em)
-    (subst (λ (x : List Seat). IsKept k most ps ks x boxes qs) (sym ep)
+    subst (λ (x : List Seat). IsKept k most ps ks x boxes qs busy) (sym ep)
     (record {
       sound = sound;
       stands = subst (Stands ps ks) (sym (ap facts miss_.history ∙ facts-miss h s)) i.stands;
@@ -142,69 +158,99 @@ dropped_kept j k most ps ks seats places boxes more plan qs p i e em ep miss_ =
       people = i.people;
       places = len ∙ i.places;
       left = omega arith;
-    }))
+      room = let less = held-miss h s in let same = miss_.room in let was = i.room in rw miss_.history (let goal : held (miss h s) ≤ k.room = omega arith in goal);
+    })
+
+-- ---- the plan is given back
+
+pub finished_kept : (j : journal.Shown) (most : ℕ) (ps : List Person) (ks : List Channel) (seats : List Seat) (boxes : List (Option Waiting)) (plan : List Planned) (busy : Bool)
+    → IsKept j most ps ks seats boxes plan busy → plan ≡ [] → IsKept j most ps ks seats boxes plan false
+finished_kept j most ps ks seats boxes plan busy i none =
+    record { sound = finished_sound (shown j most boxes plan busy) none i.sound; stands = i.stands; each_seat = i.each_seat; people = i.people; places = i.places; left = i.left; room = i.room }
 
 -- ---- an item is taken
 
-pub taken_kept : (j : journal.Shown) (most : ℕ) (ps : List Person) (ks : List Channel) (seats : List Seat) (boxes more : List Waiting) (plan : List Planned) (s : ℕ)
-    → IsKept j most ps ks seats boxes plan → 0 < s → s ≤ length boxes → more ≡ slice_set boxes (s - 1) (with_taken (outbox_at boxes s)) → IsKept j most ps ks seats more plan
-taken_kept j most ps ks seats boxes more plan s i from to em =
-    let new = slice_set boxes (s - 1) (with_taken (outbox_at boxes s)) in let len : length new ≡ length boxes = simp length-set in
-    subst (λ (x : List Waiting). IsKept j most ps ks seats x plan) (sym em)
+pub taken_kept : (j : journal.Shown) (most : ℕ) (ps : List Person) (ks : List Channel) (seats : List Seat) (boxes more : List (Option Waiting)) (plan : List Planned) (busy : Bool) (s : ℕ)
+    → IsKept j most ps ks seats boxes plan busy → 0 < s → s ≤ length boxes → is_here boxes s ≡ true → more ≡ slice_set boxes (s - 1) (Some (with_taken (outbox_at boxes s))) → IsKept j most ps ks seats more plan busy
+taken_kept j most ps ks seats boxes more plan busy s i from to here em =
+    let new = slice_set boxes (s - 1) (Some (with_taken (outbox_at boxes s))) in let len : length new ≡ length boxes = simp length-set in
+    subst (λ (x : List (Option Waiting)). IsKept j most ps ks seats x plan busy) (sym em)
     (record {
-      sound = taken_sound (shown j most boxes plan) s from to i.sound;
+      sound = taken_sound (shown j most boxes plan busy) s from to here i.sound;
       stands = i.stands;
       each_seat = i.each_seat;
       people = i.people ∙ sym len;
       places = i.places ∙ sym len;
       left = i.left;
+      room = i.room;
     })
 
--- ---- a line begins
+-- ---- a session is given up
 
-said_same : (s i : ℕ) (piece : Piece) → said_by (Said s i piece) s ≡ piece ∷ []
-said_same s i piece = rw (eq-eqb s s refl) refl
+pub reaped_kept : (j : journal.Shown) (most : ℕ) (ps : List Person) (ks : List Channel) (seats : List Seat) (boxes more : List (Option Waiting)) (plan : List Planned) (busy : Bool) (s : ℕ)
+    → IsKept j most ps ks seats boxes plan busy → 0 < s → s ≤ length boxes → gone j.history s ≡ true → more ≡ slice_set boxes (s - 1) None → IsKept j most ps ks seats more plan busy
+reaped_kept j most ps ks seats boxes more plan busy s i from to left_ em =
+    let new = slice_set boxes (s - 1) None in let len : length new ≡ length boxes = simp length-set in
+    subst (λ (x : List (Option Waiting)). IsKept j most ps ks seats x plan busy) (sym em)
+    (record {
+      sound = reaped_sound (shown j most boxes plan busy) s from to left_ i.sound;
+      stands = i.stands;
+      each_seat = i.each_seat;
+      people = i.people ∙ sym len;
+      places = i.places ∙ sym len;
+      left = i.left;
+      room = i.room;
+    })
 
-said_other : (s i t : ℕ) (piece : Piece) → s ≢ t → said_by (Said s i piece) t ≡ []
-said_other s i t piece ne = rw (ne_eqb s t ne) refl
+-- ---- a record is appended, and its deliveries are planned
 
-pub begun_kept : (j k : journal.Shown) (most : ℕ) (ps qs : List Person) (ks ls : List Channel) (seats places : List Seat) (boxes : List Waiting) (none plan : List Planned) (b : Turn) (piece : Piece) (moment : ℤ)
-    → IsKept j most ps ks seats boxes none → MayBegin (shown j most boxes none) b moment
-    → k.history ≡ fresh_record j.history moment (Said b.session b.next piece) ∷ j.history → k.limit ≡ j.limit → length plan ≤ k.left
-    → Stands qs ls (after (facts j.history) (deeds (facts j.history) (Said b.session b.next piece))) → length qs ≡ length ps
-    → places ≡ slice_set seats (b.session - 1) (record { shut = (seat_at seats b.session).shut; accepted = (seat_at seats b.session).accepted + 1 })
-    → plan ≡ plan_of j.history (Said b.session b.next piece) (length boxes)
-    → IsKept k most qs ls places boxes plan
-begun_kept j k most ps qs ks ls seats places boxes none plan b piece moment i may eh el room stands same ep eplan =
-    let h = j.history in let s = b.session in let kind = Said s b.next piece in let r = fresh_record h moment kind in
-    let v : Seat = record { shut = (seat_at seats s).shut; accepted = (seat_at seats s).accepted + 1 } in
-    let from : 0 < s = may.turn.from_1 in let to : s ≤ length seats = let a = may.turn.opened in let x = i.sound.sessions in let y = i.places in omega arith in
-    let sound : IsSound (shown k most boxes plan) =
-    subst (λ (l : ℕ). IsSound (record { history = k.history; limit = l; most = most; outboxes = boxes; plan = plan })) (sym el)
-    (subst (λ (x : List Rec). IsSound (record { history = x; limit = j.limit; most = most; outboxes = boxes; plan = plan })) (sym eh)
-    (subst (λ (x : List Planned). IsSound (record { history = r ∷ h; limit = j.limit; most = most; outboxes = boxes; plan = x })) (sym eplan) (begun_sound (shown j most boxes none) b piece moment i.sound may))) in
+-- what a record says of sessions other than its own
+abbrev pub IsQuiet : Kind → ℕ → Type 0
+IsQuiet k t = (ends k t ≡ false) × (leaves k t ≡ false) × (said_by k t ≡ [])
+
+pub quiet : (k : Kind) (t : ℕ) → opened_by k ≡ 0 → actor k ≢ t → IsQuiet k t
+quiet (Opened s host) t e ne = absurd (let f : 1 ≡ 0 = e in omega arith)
+quiet (Said s n piece) t e ne = (rw (ne_eqb s t ne) refl, refl, rw (ne_eqb s t ne) refl)
+quiet (Hung s w) t e ne = (ne_eqb s t ne, refl, refl)
+quiet (Gone s) t e ne = (refl, ne_eqb s t ne, refl)
+
+pub begun_kept : (j k : journal.Shown) (most : ℕ) (ps qs : List Person) (ks ls : List Channel) (seats places : List Seat) (boxes : List (Option Waiting)) (none plan : List Planned) (kind : Kind) (moment : ℤ) (v : Seat)
+    → IsKept j most ps ks seats boxes none false → opened_by kind ≡ 0 → 0 < actor kind → actor kind ≤ length seats → IsKind j.history kind → IsMomentAfter (last_moment j.history) moment
+    → length j.history + 1 + held (fresh_record j.history moment kind ∷ j.history) ≤ j.limit
+    → k.history ≡ fresh_record j.history moment kind ∷ j.history → k.limit ≡ j.limit → length plan ≤ k.left → held (fresh_record j.history moment kind ∷ j.history) ≤ k.room
+    → Stands qs ls (after (facts j.history) (deeds (facts j.history) kind)) → length qs ≡ length ps
+    → places ≡ slice_set seats (actor kind - 1) v → IsSeat v (fresh_record j.history moment kind ∷ j.history) (actor kind)
+    → plan ≡ plan_of j.history kind (length boxes)
+    → IsKept k most qs ls places boxes plan true
+begun_kept j k most ps qs ks ls seats places boxes none plan kind moment v i opens from to is in_time limit_ eh el room_ free stands same ep iv eplan =
+    let h = j.history in let s = actor kind in let r = fresh_record h moment kind in
+    let to' : s ≤ length boxes = let a = i.places in omega arith in
+    let sound : IsSound (shown k most boxes plan true) =
+    subst IsSound (sym (shown_with j k (r ∷ h) most boxes plan true eh el))
+    (subst (λ (x : List Planned). IsSound (record { history = r ∷ h; limit = j.limit; most = most; outboxes = boxes; plan = x; busy = true })) (sym eplan) (begun_sound (shown j most boxes none false) kind moment i.sound refl opens from to' is in_time limit_)) in
     let len : length (slice_set seats (s - 1) v) ≡ length seats = simp length-set in
     let seat : (t : ℕ) → 0 < t → t ≤ length seats → IsSeat (seat_at (slice_set seats (s - 1) v) t) (r ∷ h) t = λ t above below.
     elim (eqb_tells s t) [
       | inl equal ↦
-          let l : s - 1 < length seats = omega arith in let was = i.each_seat s from to in
-          let longer : length (accepted (r ∷ h) s) ≡ length (accepted h s) + 1 = ap (λ xs. length (accepted h s ++ xs)) (said_same s b.next piece) ∙ length-append (accepted h s) (piece ∷ []) in
-          let here : IsSeat (seat_at (slice_set seats (s - 1) v) s) (r ∷ h) s =
-          subst (λ (x : Seat). IsSeat x (r ∷ h) s) (sym (get_or-set_same seats (s - 1) v no_seat l))
-          (record { shut = was.shut; accepted = ap (λ (n : ℕ). n + 1) was.accepted ∙ sym longer }) in
+          let l : s - 1 < length seats = omega arith in
+          let here : IsSeat (seat_at (slice_set seats (s - 1) v) s) (r ∷ h) s = subst (λ (x : Seat). IsSeat x (r ∷ h) s) (sym (get_or-set_same seats (s - 1) v no_seat l)) iv in
           subst (λ (u : ℕ). IsSeat (seat_at (slice_set seats (s - 1) v) u) (r ∷ h) u) equal.1 here
       | inr other ↦
-          let apart : t - 1 ≢ s - 1 = λ x. other.1 (omega arith) in let was = i.each_seat t above below in
-          let kept : length (accepted (r ∷ h) t) ≡ length (accepted h t) = ap (λ xs. length (accepted h t ++ xs)) (said_other s b.next t piece other.1) ∙ ap length (append-nil (accepted h t)) in
+          let apart : t - 1 ≢ s - 1 = λ x. other.1 (omega arith) in let was = i.each_seat t above below in let q = quiet kind t opens other.1 in
           subst (λ (x : Seat). IsSeat x (r ∷ h) t) (sym (get_or-set_other seats (s - 1) (t - 1) v no_seat apart))
-          (record { shut = was.shut; accepted = was.accepted ∙ sym kept })
+          (record {
+            shut = was.shut ∙ ap (λ b. b || shut h t) (sym q.0);
+            gone = was.gone ∙ ap (λ b. b || gone h t) (sym q.1);
+            accepted = was.accepted ∙ sym (ap (λ xs. length (accepted h t ++ xs)) q.2 ∙ ap length (append-nil (accepted h t)));
+          })
     ] in
-    subst (λ (x : List Seat). IsKept k most qs ls x boxes plan) (sym ep)
+    subst (λ (x : List Seat). IsKept k most qs ls x boxes plan true) (sym ep)
     (record {
       sound = sound;
       stands = subst (λ (x : List Rec). Stands qs ls (facts x)) (sym eh) stands;
       each_seat = λ t above below. subst (λ (x : List Rec). IsSeat (seat_at (slice_set seats (s - 1) v) t) x t) (sym eh) (seat t above (let q = len in omega arith));
       people = same ∙ i.people;
       places = len ∙ i.places;
-      left = room;
+      left = room_;
+      room = rw eh free;
     })

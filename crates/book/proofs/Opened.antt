@@ -2,27 +2,30 @@
 use Rattle.std.proofs.lemmas.List.{get_or_push, get_or_append_left}
 use Rattle.std.proofs.lemmas.List.Sums.{sum_by-cons, sum_by_push}
 use Rattle.std.proofs.lemmas.Bool.Decides.{eqb_tells}
-use Rattle.std.proofs.Common.{◌≡◌, ◌≢◌, inl, inr, ℕ, ℤ, zero, suc, ◌+◌, ◌-◌, ◌<◌, ◌≤◌, Bool, true, false, ◌||◌, cond, List, [], ◌∷◌, ◌++◌, length, sum_by, slice_index_or, if◌then◌else◌, arith, refl, sym, ap, ◌∙◌, subst, append-nil, length-append, lit≤}
-use Rattle.chronicle.specs.declared.record.Kind.TheVariants.{Opened, Said}
+use Rattle.std.proofs.Common.{◌≡◌, ◌≢◌, inl, inr, ℕ, ℤ, zero, suc, ◌+◌, ◌-◌, ◌<◌, ◌≤◌, Bool, true, false, ◌||◌, cond, List, [], ◌∷◌, ◌++◌, length, sum_by, slice_index_or, if◌then◌else◌, Option, Some, None, arith, refl, sym, ap, ◌∙◌, subst, append-nil, length-append, lit≤}
+use Rattle.std.specs.Option.{is_some}
+use Rattle.chronicle.specs.declared.record.Kind.TheVariants.{Opened, Said, Hung, Gone}
 use Rattle.chronicle.specs.declared.record.Kind.{Kind}
-use Rattle.chronicle.specs.History.{Rec, opened_by, sessions, accepted, said_by, misses, shut}
+use Rattle.chronicle.specs.History.{Rec, opened_by, sessions, accepted, said_by, misses, shut, gone}
 use Rattle.chronicle.specs.Journal.{fresh_record}
-use Rattle.book.specs.declared.item.Item.{Item}
+use Rattle.outbox.specs.declared.item.Item.{Item}
 use Rattle.book.specs.declared.seat.Seat.{Seat}
-use Rattle.book.specs.Ring.{Waiting, empty_ring}
+use Rattle.outbox.specs.Ring.{Waiting, empty_ring}
 use Rattle.book.specs.Owed.{owed}
 use Rattle.book.specs.Legal.{IsLegal}
 use Rattle.book.specs.Seats.{no_seat, kept_by, IsSeat, seat_at}
-use Rattle.book.specs.Book.{Shown, MayOpen, outbox_at, numbers, kept_for, held, planned, opened, IsSound}
+use Rattle.deeds.specs.Stands.{numbers}
+use Rattle.book.specs.Book.{Shown, MayOpen, box_of, outbox_at, is_here, kept_for, held, planned, opened, IsSound}
 use Rattle.book.proofs.About.{not_owed}
 
 pub numbers_push : (k n : ℕ) → numbers k (suc n) ≡ numbers k n ++ (k + n) ∷ []
 numbers_push k zero = let e : k ≡ k + 0 = omega arith in ap (λ (j : ℕ). j ∷ []) e
 numbers_push k (suc n) = let e : k + 1 + n ≡ k + suc n = omega arith in ap (λ xs. k ∷ xs) (numbers_push (k + 1) n ∙ ap (λ (j : ℕ). numbers (k + 1) n ++ j ∷ []) e)
 
-kept_small : (b : Bool) → cond b 1 2 ≤ 2
-kept_small true = lit≤ tt
-kept_small false = lit≤ tt
+kept_small : (b c : Bool) → cond b 0 (cond c 1 2) ≤ 2
+kept_small true c = lit≤ tt
+kept_small false true = lit≤ tt
+kept_small false false = lit≤ tt
 
 -- two records more are kept free, at most
 held_more : (h : List Rec) (f : ℕ → ℕ) (n : ℕ) → ((t : ℕ) → f t ≤ 2) → sum_by f (numbers 1 (1 + n)) ≤ sum_by f (numbers 1 n) + 2
@@ -30,53 +33,70 @@ held_more h f n small =
     let e : 1 + n ≡ suc n = omega arith in let k = small (1 + n) in
     rw (ap (λ (j : ℕ). sum_by f (numbers 1 j)) e ∙ ap (sum_by f) (numbers_push 1 n) ∙ sum_by_push f (numbers 1 n) (1 + n)) (omega arith)
 
+pub opened_held : (h : List Rec) (n : ℕ) (host : List ℕ) (moment : _) → held (fresh_record h moment (Opened n host) ∷ h) ≤ held h + 2
+opened_held h n host moment = held_more h (kept_for h) (sessions h) (λ t. kept_small (gone h t) (shut h t))
+
 pub opened_sound : (m : Shown) (host : List ℕ) (moment : ℤ) (box : Waiting) → IsSound m → MayOpen m moment → (box.queue ≡ []) × (box.taken ≡ []) → IsSound (opened m host moment box)
 opened_sound m host moment box i may fresh =
     let h = m.history in let n = length m.outboxes in let r = fresh_record h moment (Opened (sessions h + 1) host) in
-    let more : length (m.outboxes ++ box ∷ []) ≡ n + 1 = length-append m.outboxes (box ∷ []) in
+    let boxes = m.outboxes ++ Some box ∷ [] in let more : length boxes ≡ n + 1 = length-append m.outboxes (Some box ∷ []) in
     let same : (t : ℕ) → owed (r ∷ h) t ≡ owed h t = λ t. let E : List Item = [] in ap (λ xs. owed h t ++ xs) (elim (misses r t || shut h t) as (λ b. cond b E E ≡ E) [ true ↦ refl | false ↦ refl ]) ∙ append-nil (owed h t) in
     let count : sessions (r ∷ h) ≡ n + 1 = let e = i.sessions in let goal : 1 + sessions h ≡ n + 1 = omega arith in goal in
+    let idle : m.plan ≡ [] = i.idle may.idle in
+    let last : (t : ℕ) → t ≡ n + 1 → slice_index_or boxes (t - 1) None ≡ Some box = λ t e. let p : n ≡ t - 1 = omega arith in get_or_push m.outboxes (Some box) None (t - 1) p in
+    let kept : (t : ℕ) → 0 < t → t ≤ n → slice_index_or boxes (t - 1) None ≡ slice_index_or m.outboxes (t - 1) None = λ t a b. let l : t - 1 < n = omega arith in get_or_append_left m.outboxes (Some box ∷ []) None (t - 1) l in
     record {
-      owed = λ t from to.
+      owed = λ t from to here.
           let to' : t ≤ n + 1 = omega arith in
           elim (eqb_tells t (n + 1)) [
-            | inl last ↦
-                let p : t - 1 ≡ n = let e = last.1 in omega arith in
-                let is : outbox_at (m.outboxes ++ box ∷ []) t ≡ box = get_or_push m.outboxes box (empty_ring 0) (t - 1) (sym p) in
-                let none : owed h t ≡ [] = not_owed h t i.legal (let e = last.1 in let s = i.sessions in omega arith) in
-                let empty : box.taken ++ box.queue ++ planned m.plan t ≡ [] = rw fresh.1 (rw fresh.0 (ap (λ ps. planned ps t) may.idle)) in
-                ap (λ (b : Waiting). b.taken ++ b.queue ++ planned m.plan t) is ∙ empty ∙ sym none ∙ sym (same t)
+            | inl end ↦
+                let none : owed h t ≡ [] = not_owed h t i.legal (let e = end.1 in let s = i.sessions in omega arith) in
+                let empty : box.taken ++ box.queue ++ planned m.plan t ≡ [] = rw fresh.1 (rw fresh.0 (ap (λ ps. planned ps t) idle)) in
+                ap (λ o. (box_of o).taken ++ (box_of o).queue ++ planned m.plan t) (last t end.1) ∙ empty ∙ sym none ∙ sym (same t)
             | inr other ↦
-                let within : t - 1 < n = let ne = other.1 in omega arith in let below : t ≤ n = let ne = other.1 in omega arith in
-                ap (λ (b : Waiting). b.taken ++ b.queue ++ planned m.plan t) (get_or_append_left m.outboxes (box ∷ []) (empty_ring 0) (t - 1) within) ∙ i.owed t from below ∙ sym (same t)
+                let below : t ≤ n = let ne = other.1 in omega arith in let is = kept t from below in
+                ap (λ o. (box_of o).taken ++ (box_of o).queue ++ planned m.plan t) is ∙ i.owed t from below (ap (λ o. is_some o) (sym is) ∙ here) ∙ sym (same t)
           ];
-      plan = rw may.idle tt;
+      reaped = λ t from to away.
+          let to' : t ≤ n + 1 = omega arith in
+          elim (eqb_tells t (n + 1)) [
+            | inl end ↦ absurd (let f : true ≡ false = ap (λ o. is_some o) (sym (last t end.1)) ∙ away in cc)
+            | inr other ↦ let below : t ≤ n = let ne = other.1 in omega arith in i.reaped t from below (ap (λ o. is_some o) (sym (kept t from below)) ∙ away)
+          ];
+      plan = rw idle tt;
+      idle = λ e. idle;
       legal = (refl, may.in_time, refl, tt, i.legal);
       sessions = count ∙ sym more;
       room =
           let room = may.room in
-          let two : sum_by (kept_for (r ∷ h)) (numbers 1 (1 + sessions h)) ≤ sum_by (kept_for h) (numbers 1 (sessions h)) + 2 = held_more h (kept_for h) (sessions h) (λ t. kept_small (shut h t)) in
-          let goal : length (r ∷ h) + sum_by (kept_for (r ∷ h)) (numbers 1 (1 + sessions h)) ≤ m.limit = omega arith in goal;
+          let two = opened_held h (sessions h + 1) host moment in
+          let goal : length (r ∷ h) + held (r ∷ h) ≤ m.limit = omega arith in goal;
     }
 
 -- ---- what is kept free, counted over the seats
 
-pub kept_sum : (h : List Rec) (xs : List Seat) (k : ℕ) → ((i : ℕ) → i < length xs → (slice_index_or xs i no_seat).shut ≡ shut h (k + i)) → sum_by kept_by xs ≡ sum_by (kept_for h) (numbers k (length xs))
+kept_same : (h : List Rec) (x : Seat) (t : ℕ) → x.shut ≡ shut h t → x.gone ≡ gone h t → kept_by x ≡ kept_for h t
+kept_same h x t es eg = ap (λ b. cond b 0 (cond x.shut 1 2)) eg ∙ ap (λ b. cond (gone h t) 0 (cond b 1 2)) es
+
+pub kept_sum : (h : List Rec) (xs : List Seat) (k : ℕ) → ((i : ℕ) → i < length xs → kept_by (slice_index_or xs i no_seat) ≡ kept_for h (k + i)) → sum_by kept_by xs ≡ sum_by (kept_for h) (numbers k (length xs))
 kept_sum h [] k f = refl
 kept_sum h (x ∷ xs) k f =
-    let rest = kept_sum h xs (k + 1) (λ i l. let e : k + suc i ≡ k + 1 + i = omega arith in f (suc i) (omega arith) ∙ ap (shut h) e) in
-    let here : x.shut ≡ shut h k = let e : k + 0 ≡ k = omega arith in f 0 (omega arith) ∙ ap (shut h) e in
-    sum_by-cons kept_by x xs ∙ ap (λ (j : ℕ). kept_by x + j) rest ∙ ap (λ b. cond b 1 2 + sum_by (kept_for h) (numbers (k + 1) (length xs))) here ∙ sym (sum_by-cons (kept_for h) k (numbers (k + 1) (length xs)))
+    let rest = kept_sum h xs (k + 1) (λ i l. let e : k + suc i ≡ k + 1 + i = omega arith in f (suc i) (omega arith) ∙ ap (kept_for h) e) in
+    let here : kept_by x ≡ kept_for h k = let e : k + 0 ≡ k = omega arith in f 0 (omega arith) ∙ ap (kept_for h) e in
+    sum_by-cons kept_by x xs ∙ ap (λ (j : ℕ). kept_by x + j) rest ∙ ap (λ (j : ℕ). j + sum_by (kept_for h) (numbers (k + 1) (length xs))) here ∙ sym (sum_by-cons (kept_for h) k (numbers (k + 1) (length xs)))
 
 pub seats_held : (h : List Rec) (seats : List Seat) → ((t : ℕ) → 0 < t → t ≤ length seats → IsSeat (seat_at seats t) h t) → sessions h ≡ length seats → sum_by kept_by seats ≡ held h
 seats_held h seats f e =
-    kept_sum h seats 1 (λ i l. let from : 0 < 1 + i = omega arith in let to : 1 + i ≤ length seats = omega arith in let j : i ≡ 1 + i - 1 = omega arith in ap (λ (k : ℕ). (slice_index_or seats k no_seat).shut) j ∙ (f (1 + i) from to).shut)
+    kept_sum h seats 1 (λ i l. let from : 0 < 1 + i = omega arith in let to : 1 + i ≤ length seats = omega arith in let j : i ≡ 1 + i - 1 = omega arith in
+    ap (λ (k : ℕ). kept_by (slice_index_or seats k no_seat)) j ∙ kept_same h (seat_at seats (1 + i)) (1 + i) (f (1 + i) from to).shut (f (1 + i) from to).gone)
     ∙ ap (λ (n : ℕ). sum_by (kept_for h) (numbers 1 n)) (sym e)
 
 -- there are no more sessions than records
 opened_small : (k : Kind) → opened_by k ≤ 1
 opened_small (Opened s h) = lit≤ tt
 opened_small (Said s i p) = lit≤ tt
+opened_small (Hung s w) = lit≤ tt
+opened_small (Gone s) = lit≤ tt
 
 pub sessions_le : (h : List Rec) → sessions h ≤ length h
 sessions_le [] = lit≤ tt
@@ -85,6 +105,8 @@ sessions_le (r ∷ h) = let a = opened_small r.kind in let b = sessions_le h in 
 -- nor more accepted lines of a session
 said_small : (k : Kind) (t : ℕ) → length (said_by k t) ≤ 1
 said_small (Opened s h) t = lit≤ tt
+said_small (Hung s w) t = lit≤ tt
+said_small (Gone s) t = lit≤ tt
 said_small (Said s i p) t = elim (eqb_tells s t) [ inl same ↦ rw same.0 (lit≤ tt) | inr other ↦ rw other.0 (lit≤ tt) ]
 
 pub accepted_le : (h : List Rec) (t : ℕ) → length (accepted h t) ≤ length h

@@ -4,19 +4,19 @@ use Rattle.std.proofs.lemmas.List.{append_cancel_right, get_or-set_same, get_or-
 use Rattle.std.proofs.lemmas.List.Folds.{list_any-append}
 use Rattle.std.proofs.lemmas.List.Sums.{sum_by-cons}
 use Rattle.std.proofs.lemmas.Bool.Decides.{eqb_tells}
-use Rattle.std.proofs.Common.{◌≡◌, ◌≢◌, ◌⊎◌, inl, inr, ℕ, zero, suc, ◌+◌, ◌-◌, ◌<◌, ◌≤◌, Bool, true, false, not, ◌&&◌, ◌||◌, ◌==◌, cond, List, [], ◌∷◌, ◌++◌, length, map, slice_set, slice_index_or, sum_by, take, drop, arith, refl, sym, ap, ◌∙◌, subst, append-nil, append_assoc, eq-eqb, ne_eqb, length-append, lit≤}
+use Rattle.std.proofs.Common.{◌≡◌, ◌≢◌, ◌⊎◌, inl, inr, ℕ, zero, suc, ◌+◌, ◌-◌, ◌<◌, ◌≤◌, Bool, true, false, not, ◌&&◌, ◌||◌, ◌==◌, cond, List, [], ◌∷◌, ◌++◌, length, map, slice_set, slice_index_or, sum_by, take, drop, Option, Some, None, nat_lt, arith, refl, sym, ap, ◌∙◌, subst, append-nil, append_assoc, eq-eqb, ne_eqb, length-append, lit≤}
 use Rattle.std.specs.List.{list_any}
-use Rattle.line_grammar.specs.declared.splitter.Piece.{Piece}
+use Rattle.std.specs.Option.{is_some}
 use Rattle.chronicle.specs.declared.record.Kind.{Kind}
-use Rattle.chronicle.specs.declared.record.Kind.TheVariants.{Opened, Said}
-use Rattle.chronicle.specs.History.{Rec, actor, sessions, opened_by, accepted, misses, shut, IsMomentAfter, last_moment}
+use Rattle.chronicle.specs.History.{Rec, actor, sessions, opened_by, accepted, misses, ends, shut, gone, IsMomentAfter, last_moment}
 use Rattle.chronicle.specs.Journal.{fresh_record, miss}
-use Rattle.book.specs.declared.item.Item.{Item}
+use Rattle.outbox.specs.declared.item.Item.{Item}
 use Rattle.book.specs.declared.plan.Planned.{Planned}
-use Rattle.book.specs.Ring.{Waiting, empty_ring, with_put, with_taken}
+use Rattle.outbox.specs.Ring.{Waiting, empty_ring, has_room, with_put, with_taken}
 use Rattle.book.specs.Owed.{delivery, owed}
 use Rattle.book.specs.Legal.{IsKind, AreMissed, IsLegal}
-use Rattle.book.specs.Book.{Shown, outbox_at, numbers, kept_for, held, due, puts, others, plan_by, plan_of, planned, delivered, dropped, taken, IsOwed, IsPlan, IsSound}
+use Rattle.deeds.specs.Stands.{numbers}
+use Rattle.book.specs.Book.{Shown, box_of, outbox_at, is_here, kept_for, held, due, puts, others, plan_by, plan_of, planned, delivered, dropped, finished, taken, reaped, IsOwed, IsPlan, IsSound}
 
 -- ---- the newest record is missed by one more session
 
@@ -75,83 +75,113 @@ pub sum_le : (f g : ℕ → ℕ) (ts : List ℕ) → ((t : ℕ) → f t ≤ g t)
 sum_le f g [] h = omega arith
 sum_le f g (t ∷ ts) h = let a = h t in let b = sum_le f g ts h in rw (sum_by-cons f t ts) (rw (sum_by-cons g t ts) (omega arith))
 
-kept_less : (b c : Bool) → (c ≡ true → b ≡ true) → cond b 1 2 ≤ cond c 1 2
-kept_less true true h = lit≤ tt
-kept_less true false h = lit≤ tt
-kept_less false true h = absurd (let e : false ≡ true = h refl in cc)
-kept_less false false h = lit≤ tt
+pub kept_less : (a b c d : Bool) → (c ≡ true → a ≡ true) → (d ≡ true → b ≡ true) → cond a 0 (cond b 1 2) ≤ cond c 0 (cond d 1 2)
+kept_less true b true d g h = lit≤ tt
+kept_less true b false true g h = lit≤ tt
+kept_less true b false false g h = lit≤ tt
+kept_less false b true d g h = absurd (let e : false ≡ true = g refl in cc)
+kept_less false true false true g h = lit≤ tt
+kept_less false true false false g h = lit≤ tt
+kept_less false false false true g h = absurd (let e : false ≡ true = h refl in cc)
+kept_less false false false false g h = lit≤ tt
 
 shut_more : (r : Rec) (h : List Rec) (s t : ℕ) → shut (r ∷ h) t ≡ true → shut (more r s ∷ h) t ≡ true
 shut_more r h s t e =
     elim (eqb_tells s t) [
-      | inl same ↦ ap (λ (u : ℕ). misses (more r s) u || shut h u) (sym same.1) ∙ rw (misses_same r s) refl
-      | inr other ↦ ap (λ c. c || shut h t) (misses_other r s t other.1) ∙ e
+      | inl same ↦ ap (λ (u : ℕ). misses (more r s) u || ends r.kind t || shut h t) (sym same.1) ∙ rw (misses_same r s) refl
+      | inr other ↦ ap (λ c. c || ends r.kind t || shut h t) (misses_other r s t other.1) ∙ e
     ]
 
-dropped_at : (h : List Rec) (limit most : ℕ) (boxes : List Waiting) (p : Planned) (ps : List Planned) → let m : Shown = record { history = h; limit = limit; most = most; outboxes = boxes; plan = p ∷ ps } in IsSound m → IsSound (dropped m p ps)
-dropped_at [] limit most boxes p ps i = absurd i.plan.3
-dropped_at (r ∷ h) limit most boxes p ps i =
+-- one more that misses the newest record keeps no more free
+pub held_missed : (r : Rec) (h : List Rec) (s : ℕ) → held (more r s ∷ h) ≤ held (r ∷ h)
+held_missed r h s =
+    sum_le _ _ (numbers 1 (sessions (r ∷ h))) (λ t. kept_less (gone (r ∷ h) t) (shut (more r s ∷ h) t) (gone (r ∷ h) t) (shut (r ∷ h) t) (λ e. e) (shut_more r h s t))
+
+dropped_at : (h : List Rec) (limit most : ℕ) (boxes : List (Option Waiting)) (busy : Bool) (p : Planned) (ps : List Planned) → let m : Shown = record { history = h; limit = limit; most = most; outboxes = boxes; plan = p ∷ ps; busy = busy } in IsSound m → IsSound (dropped m p ps)
+dropped_at [] limit most boxes busy p ps i = absurd i.plan.3
+dropped_at (r ∷ h) limit most boxes busy p ps i =
     let own = i.plan.3 in
     record {
-      owed = λ t from to.
+      owed = λ t from to here.
           let had = (outbox_at boxes t).taken ++ (outbox_at boxes t).queue in
           elim (eqb_tells p.session t) [
             | inl same ↦
-                let k = i.owed p.session i.plan.0 i.plan.1 in let was = (outbox_at boxes p.session).taken ++ (outbox_at boxes p.session).queue in
+                let k = i.owed p.session i.plan.0 i.plan.1 (ap (is_here boxes) same.1 ∙ here) in let was = (outbox_at boxes p.session).taken ++ (outbox_at boxes p.session).queue in
                 subst (λ (u : ℕ). (outbox_at boxes u).taken ++ (outbox_at boxes u).queue ++ planned ps u ≡ owed (more r p.session ∷ h) u) same.1 (owed_missed r h was p ps i.plan.2 own k)
-            | inr other ↦ owed_elsewhere r h had p ps t other.1 (i.owed t from to)
+            | inr other ↦ owed_elsewhere r h had p ps t other.1 (i.owed t from to here)
           ];
+      reaped = λ t from to away. i.reaped t from to away;
       plan = plan_after r h (length boxes) p.session ps i.plan.2 i.plan.4;
+      idle = λ e. absurd (let f : p ∷ ps ≡ [] = i.idle e in cc);
       legal = (i.legal.0, i.legal.1, i.legal.2, missed_more h r.kind r.missed p.session (λ e. let f : p.item ∷ [] ≡ [] = sym own.0 ∙ e in cc) own.1 own.2 i.legal.3, i.legal.4);
       sessions = i.sessions;
       room =
-          let less : sum_by (kept_for (more r p.session ∷ h)) (numbers 1 (opened_by r.kind + sessions h)) ≤ sum_by (kept_for (r ∷ h)) (numbers 1 (opened_by r.kind + sessions h)) =
-          sum_le _ _ (numbers 1 (opened_by r.kind + sessions h)) (λ t. kept_less (shut (more r p.session ∷ h) t) (shut (r ∷ h) t) (shut_more r h p.session t)) in
-          let old : length (r ∷ h) + sum_by (kept_for (r ∷ h)) (numbers 1 (opened_by r.kind + sessions h)) ≤ limit = i.room in
-          let goal : length (more r p.session ∷ h) + sum_by (kept_for (more r p.session ∷ h)) (numbers 1 (opened_by r.kind + sessions h)) ≤ limit = omega arith in goal;
+          let less = held_missed r h p.session in let old : length (r ∷ h) + held (r ∷ h) ≤ limit = i.room in
+          let goal : length (more r p.session ∷ h) + held (more r p.session ∷ h) ≤ limit = omega arith in goal;
     }
 
 pub dropped_sound : (m : Shown) (p : Planned) (ps : List Planned) → m.plan ≡ p ∷ ps → IsSound m → IsSound (dropped m p ps)
-dropped_sound m p ps e i = dropped_at m.history m.limit m.most m.outboxes p ps (subst (λ qs. IsSound (record { history = m.history; limit = m.limit; most = m.most; outboxes = m.outboxes; plan = qs })) e i)
+dropped_sound m p ps e i = dropped_at m.history m.limit m.most m.outboxes m.busy p ps (subst (λ qs. IsSound (record { history = m.history; limit = m.limit; most = m.most; outboxes = m.outboxes; plan = qs; busy = m.busy })) e i)
 
 -- ---- outboxes by the numbers of their sessions
 
-pub box_same : (boxes : List Waiting) (s : ℕ) (v : Waiting) → 0 < s → s ≤ length boxes → outbox_at (slice_set boxes (s - 1) v) s ≡ v
-box_same boxes s v from to = let l : s - 1 < length boxes = omega arith in get_or-set_same boxes (s - 1) v (empty_ring 0) l
+pub box_same : (boxes : List (Option Waiting)) (s : ℕ) (v : Option Waiting) → 0 < s → s ≤ length boxes → slice_index_or (slice_set boxes (s - 1) v) (s - 1) None ≡ v
+box_same boxes s v from to = let l : s - 1 < length boxes = omega arith in get_or-set_same boxes (s - 1) v None l
 
-pub box_other : (boxes : List Waiting) (s t : ℕ) (v : Waiting) → 0 < s → 0 < t → s ≢ t → outbox_at (slice_set boxes (s - 1) v) t ≡ outbox_at boxes t
-box_other boxes s t v a b ne = get_or-set_other boxes (s - 1) (t - 1) v (empty_ring 0) (λ e. ne (omega arith))
+pub box_other : (boxes : List (Option Waiting)) (s t : ℕ) (v : Option Waiting) → 0 < s → 0 < t → s ≢ t → slice_index_or (slice_set boxes (s - 1) v) (t - 1) None ≡ slice_index_or boxes (t - 1) None
+box_other boxes s t v a b ne = get_or-set_other boxes (s - 1) (t - 1) v None (λ e. ne (omega arith))
+
+-- an outbox with room is that of a session that isn't reaped
+room_here : (o : Option Waiting) → has_room (box_of o) ≡ true → is_some o ≡ true
+room_here None e = absurd (let f : false ≡ true = e in cc)
+room_here (Some b) e = refl
 
 -- ---- a delivery is put
 
-delivered_at : (h : List Rec) (limit most : ℕ) (boxes : List Waiting) (p : Planned) (ps : List Planned) → let m : Shown = record { history = h; limit = limit; most = most; outboxes = boxes; plan = p ∷ ps } in IsSound m → IsSound (delivered m p ps)
-delivered_at h limit most boxes p ps i =
-    let s = p.session in let b = outbox_at boxes s in let v = with_put b p.item in
-    let len : length (slice_set boxes (s - 1) v) ≡ length boxes = simp length-set in
+delivered_at : (h : List Rec) (limit most : ℕ) (boxes : List (Option Waiting)) (busy : Bool) (p : Planned) (ps : List Planned) → has_room (outbox_at boxes p.session) ≡ true
+    → let m : Shown = record { history = h; limit = limit; most = most; outboxes = boxes; plan = p ∷ ps; busy = busy } in IsSound m → IsSound (delivered m p ps)
+delivered_at h limit most boxes busy p ps room_ i =
+    let s = p.session in let b = outbox_at boxes s in let v = with_put b p.item in let new = slice_set boxes (s - 1) (Some v) in
+    let len : length new ≡ length boxes = simp length-set in
+    let there : is_here boxes s ≡ true = room_here (slice_index_or boxes (s - 1) None) room_ in
     record {
-      owed = λ t from to.
+      owed = λ t from to here.
           let to' : t ≤ length boxes = omega arith in
           elim (eqb_tells s t) [
             | inl same ↦
                 let head : planned (p ∷ ps) s ≡ p.item ∷ planned ps s = rw (eq-eqb s s refl) refl in
                 let k : (b.taken ++ (b.queue ++ p.item ∷ [])) ++ planned ps s ≡ owed h s =
                 append_assoc b.taken (b.queue ++ p.item ∷ []) (planned ps s) ∙ ap (λ xs. b.taken ++ xs) (append_assoc b.queue (p.item ∷ []) (planned ps s)) ∙ sym (append_assoc b.taken b.queue (p.item ∷ planned ps s))
-                ∙ ap (λ xs. (b.taken ++ b.queue) ++ xs) (sym head) ∙ i.owed s i.plan.0 i.plan.1 in
-                let here : (outbox_at (slice_set boxes (s - 1) v) s).taken ++ (outbox_at (slice_set boxes (s - 1) v) s).queue ++ planned ps s ≡ owed h s =
-                ap (λ (w : Waiting). w.taken ++ w.queue ++ planned ps s) (box_same boxes s v i.plan.0 i.plan.1) ∙ k in
-                subst (λ (u : ℕ). (outbox_at (slice_set boxes (s - 1) v) u).taken ++ (outbox_at (slice_set boxes (s - 1) v) u).queue ++ planned ps u ≡ owed h u) same.1 here
+                ∙ ap (λ xs. (b.taken ++ b.queue) ++ xs) (sym head) ∙ i.owed s i.plan.0 i.plan.1 there in
+                let here_ : (outbox_at new s).taken ++ (outbox_at new s).queue ++ planned ps s ≡ owed h s =
+                ap (λ o. (box_of o).taken ++ (box_of o).queue ++ planned ps s) (box_same boxes s (Some v) i.plan.0 i.plan.1) ∙ k in
+                subst (λ (u : ℕ). (outbox_at new u).taken ++ (outbox_at new u).queue ++ planned ps u ≡ owed h u) same.1 here_
             | inr other ↦
-                ap (λ (w : Waiting). w.taken ++ w.queue ++ planned ps t) (box_other boxes s t v i.plan.0 from other.1)
-                ∙ ap (λ (c : Bool). (outbox_at boxes t).taken ++ (outbox_at boxes t).queue ++ cond c (p.item ∷ planned ps t) (planned ps t)) (sym other.0) ∙ i.owed t from to'
+                let is = box_other boxes s t (Some v) i.plan.0 from other.1 in
+                ap (λ o. (box_of o).taken ++ (box_of o).queue ++ planned ps t) is
+                ∙ ap (λ (c : Bool). (outbox_at boxes t).taken ++ (outbox_at boxes t).queue ++ cond c (p.item ∷ planned ps t) (planned ps t)) (sym other.0) ∙ i.owed t from to' (ap (λ o. is_some o) (sym is) ∙ here)
+          ];
+      reaped = λ t from to away.
+          let to' : t ≤ length boxes = omega arith in
+          elim (eqb_tells s t) [
+            | inl same ↦ absurd (let f : true ≡ false = ap (λ o. is_some o) (sym (box_same boxes s (Some v) i.plan.0 i.plan.1)) ∙ ap (is_here new) same.1 ∙ away in cc)
+            | inr other ↦ i.reaped t from to' (ap (λ o. is_some o) (sym (box_other boxes s t (Some v) i.plan.0 from other.1)) ∙ away)
           ];
       plan = rw len i.plan.4;
+      idle = λ e. absurd (let f : p ∷ ps ≡ [] = i.idle e in cc);
       legal = i.legal;
       sessions = i.sessions ∙ sym len;
       room = i.room;
     }
 
-pub delivered_sound : (m : Shown) (p : Planned) (ps : List Planned) → m.plan ≡ p ∷ ps → IsSound m → IsSound (delivered m p ps)
-delivered_sound m p ps e i = delivered_at m.history m.limit m.most m.outboxes p ps (subst (λ qs. IsSound (record { history = m.history; limit = m.limit; most = m.most; outboxes = m.outboxes; plan = qs })) e i)
+pub delivered_sound : (m : Shown) (p : Planned) (ps : List Planned) → m.plan ≡ p ∷ ps → has_room (outbox_at m.outboxes p.session) ≡ true → IsSound m → IsSound (delivered m p ps)
+delivered_sound m p ps e room_ i =
+    delivered_at m.history m.limit m.most m.outboxes m.busy p ps room_ (subst (λ qs. IsSound (record { history = m.history; limit = m.limit; most = m.most; outboxes = m.outboxes; plan = qs; busy = m.busy })) e i)
+
+-- ---- the plan is given back
+
+pub finished_sound : (m : Shown) → m.plan ≡ [] → IsSound m → IsSound (finished m)
+finished_sound m none i = record { owed = i.owed; reaped = i.reaped; plan = i.plan; idle = λ e. none; legal = i.legal; sessions = i.sessions; room = i.room }
 
 -- ---- an item is taken
 
@@ -159,22 +189,59 @@ take_one : (q : List Item) → take 1 q ++ drop 1 q ≡ q
 take_one [] = refl
 take_one (x ∷ q) = refl
 
-pub taken_sound : (m : Shown) (s : ℕ) → 0 < s → s ≤ length m.outboxes → IsSound m → IsSound (taken m s)
-taken_sound m s above below i =
-    let boxes = m.outboxes in let b = outbox_at boxes s in let v = with_taken b in
-    let len : length (slice_set boxes (s - 1) v) ≡ length boxes = simp length-set in
+pub taken_sound : (m : Shown) (s : ℕ) → 0 < s → s ≤ length m.outboxes → is_here m.outboxes s ≡ true → IsSound m → IsSound (taken m s)
+taken_sound m s above below there i =
+    let boxes = m.outboxes in let b = outbox_at boxes s in let v = with_taken b in let new = slice_set boxes (s - 1) (Some v) in
+    let len : length new ≡ length boxes = simp length-set in
     record {
-      owed = λ t from to.
+      owed = λ t from to here.
           let to' : t ≤ length boxes = omega arith in
           elim (eqb_tells s t) [
             | inl same ↦
                 let all : (b.taken ++ take 1 b.queue) ++ drop 1 b.queue ≡ b.taken ++ b.queue = append_assoc b.taken (take 1 b.queue) (drop 1 b.queue) ∙ ap (λ xs. b.taken ++ xs) (take_one b.queue) in
-                let here : (outbox_at (slice_set boxes (s - 1) v) s).taken ++ (outbox_at (slice_set boxes (s - 1) v) s).queue ++ planned m.plan s ≡ owed m.history s =
-                ap (λ (w : Waiting). w.taken ++ w.queue ++ planned m.plan s) (box_same boxes s v above below) ∙ ap (λ xs. xs ++ planned m.plan s) all ∙ i.owed s above below in
-                subst (λ (u : ℕ). (outbox_at (slice_set boxes (s - 1) v) u).taken ++ (outbox_at (slice_set boxes (s - 1) v) u).queue ++ planned m.plan u ≡ owed m.history u) same.1 here
-            | inr other ↦ ap (λ (w : Waiting). w.taken ++ w.queue ++ planned m.plan t) (box_other boxes s t v above from other.1) ∙ i.owed t from to'
+                let here_ : (outbox_at new s).taken ++ (outbox_at new s).queue ++ planned m.plan s ≡ owed m.history s =
+                ap (λ o. (box_of o).taken ++ (box_of o).queue ++ planned m.plan s) (box_same boxes s (Some v) above below) ∙ ap (λ xs. xs ++ planned m.plan s) all ∙ i.owed s above below there in
+                subst (λ (u : ℕ). (outbox_at new u).taken ++ (outbox_at new u).queue ++ planned m.plan u ≡ owed m.history u) same.1 here_
+            | inr other ↦
+                let is = box_other boxes s t (Some v) above from other.1 in
+                ap (λ o. (box_of o).taken ++ (box_of o).queue ++ planned m.plan t) is ∙ i.owed t from to' (ap (λ o. is_some o) (sym is) ∙ here)
+          ];
+      reaped = λ t from to away.
+          let to' : t ≤ length boxes = omega arith in
+          elim (eqb_tells s t) [
+            | inl same ↦ absurd (let f : true ≡ false = ap (λ o. is_some o) (sym (box_same boxes s (Some v) above below)) ∙ ap (is_here new) same.1 ∙ away in cc)
+            | inr other ↦ i.reaped t from to' (ap (λ o. is_some o) (sym (box_other boxes s t (Some v) above from other.1)) ∙ away)
           ];
       plan = rw len i.plan;
+      idle = i.idle;
+      legal = i.legal;
+      sessions = i.sessions ∙ sym len;
+      room = i.room;
+    }
+
+-- ---- a session is given up
+
+pub reaped_sound : (m : Shown) (s : ℕ) → 0 < s → s ≤ length m.outboxes → gone m.history s ≡ true → IsSound m → IsSound (reaped m s)
+reaped_sound m s above below left i =
+    let boxes = m.outboxes in let new = slice_set boxes (s - 1) None in
+    let len : length new ≡ length boxes = simp length-set in
+    record {
+      owed = λ t from to here.
+          let to' : t ≤ length boxes = omega arith in
+          elim (eqb_tells s t) [
+            | inl same ↦ absurd (let f : false ≡ true = ap (λ o. is_some o) (sym (box_same boxes s None above below)) ∙ ap (is_here new) same.1 ∙ here in cc)
+            | inr other ↦
+                let is = box_other boxes s t None above from other.1 in
+                ap (λ o. (box_of o).taken ++ (box_of o).queue ++ planned m.plan t) is ∙ i.owed t from to' (ap (λ o. is_some o) (sym is) ∙ here)
+          ];
+      reaped = λ t from to away.
+          let to' : t ≤ length boxes = omega arith in
+          elim (eqb_tells s t) [
+            | inl same ↦ ap (gone m.history) (sym same.1) ∙ left
+            | inr other ↦ i.reaped t from to' (ap (λ o. is_some o) (sym (box_other boxes s t None above from other.1)) ∙ away)
+          ];
+      plan = rw len i.plan;
+      idle = i.idle;
       legal = i.legal;
       sessions = i.sessions ∙ sym len;
       room = i.room;

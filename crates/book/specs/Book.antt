@@ -1,40 +1,61 @@
 -- What clauses see of a book, and its steps: this project's own promise of how deliveries reach outboxes.
-use Rattle.std.specs.Prelude.{◌≡◌, ◌≢◌, ℕ, ℤ, zero, suc, ◌+◌, ◌-◌, ◌<◌, ◌≤◌, Bool, true, false, ◌==◌, nat_lt, cond, List, [], ◌∷◌, ◌++◌, length, map, sum_by, slice_index_or, slice_set, slice_get, Option, Some, None}
+use Rattle.std.specs.Prelude.{◌≡◌, ◌≢◌, ℕ, ℤ, zero, suc, ◌+◌, ◌-◌, ◌<◌, ◌≤◌, Bool, true, false, not, ◌&&◌, ◌==◌, nat_lt, cond, List, [], ◌∷◌, ◌++◌, length, map, sum_by, if◌then◌else◌, slice_index_or, slice_set, slice_get, Option, Some, None}
+use Rattle.std.specs.Option.{is_some}
 use Rattle.line_grammar.specs.declared.splitter.Piece.{Piece}
 use Rattle.chronicle.specs.declared.record.Kind.{Kind}
-use Rattle.chronicle.specs.declared.record.Kind.TheVariants.{Opened, Said}
-use Rattle.chronicle.specs.History.{Rec, IsMomentAfter, last_moment, sessions, actor, accepted, misses, shut}
+use Rattle.chronicle.specs.declared.record.Kind.TheVariants.{Opened, Said, Hung, Gone}
+use Rattle.chronicle.specs.declared.why.Why.{Why}
+use Rattle.chronicle.specs.History.{Rec, IsMomentAfter, last_moment, sessions, actor, accepted, misses, shut, gone}
 use Rattle.chronicle.specs.Journal.{fresh_record, miss}
-use Rattle.book.specs.declared.item.Item.{Item}
+use Rattle.outbox.specs.declared.item.Item.{Item}
 use Rattle.book.specs.declared.plan.Planned.{Planned}
 use Rattle.book.specs.declared.refusals.OpenRefusal.{OpenRefusal}
 use Rattle.book.specs.declared.refusals.OpenRefusal.TheVariants as opening
 use Rattle.book.specs.declared.refusals.LineRefusal.{LineRefusal}
 use Rattle.book.specs.declared.refusals.LineRefusal.TheVariants as accepting
-use Rattle.book.specs.Ring.{Waiting, empty_ring, has_room, with_put, with_taken}
+use Rattle.book.specs.declared.refusals.HangRefusal.{HangRefusal}
+use Rattle.book.specs.declared.refusals.HangRefusal.TheVariants as hanging
+use Rattle.book.specs.declared.refusals.SweepRefusal.{SweepRefusal}
+use Rattle.book.specs.declared.refusals.SweepRefusal.TheVariants as sweeping
+use Rattle.book.specs.declared.refusals.ReapRefusal.{ReapRefusal}
+use Rattle.book.specs.declared.refusals.ReapRefusal.TheVariants as reaping
+use Rattle.outbox.specs.Ring.{Waiting, empty_ring, has_room, with_put, with_taken}
 use Rattle.book.specs.Owed.{delivery, owed}
 use Rattle.book.specs.Legal.{IsLegal}
+use Rattle.deeds.specs.Stands.{numbers}
 
--- the history, how many records and how many sessions there may be, each session's outbox, and the deliveries of the newest record that aren't put yet
+-- the history, how many records and how many sessions there may be, each session's outbox until it is reaped, the deliveries
+-- of the newest record that aren't put yet, and whether a plan is out
 pub record Shown : Type 0 where
   pub history : List Rec
   pub limit : ℕ
   pub most : ℕ
-  pub outboxes : List Waiting
+  pub outboxes : List (Option Waiting)
   pub plan : List Planned
+  pub busy : Bool
+
+abbrev pub box_of : Option Waiting → Waiting
+box_of None = empty_ring 0
+box_of (Some b) = b
 
 -- the outbox of session t
-abbrev pub outbox_at : List Waiting → ℕ → Waiting
-outbox_at boxes t = slice_index_or boxes (t - 1) (empty_ring 0)
+abbrev pub outbox_at : List (Option Waiting) → ℕ → Waiting
+outbox_at boxes t = box_of (slice_index_or boxes (t - 1) None)
 
--- n numbers from k on
-abbrev pub numbers : ℕ → ℕ → List ℕ
-numbers k zero = []
-numbers k (suc n) = k ∷ numbers (k + 1) n
+-- whether session t was opened and isn't reaped
+abbrev pub is_here : List (Option Waiting) → ℕ → Bool
+is_here boxes t = is_some (slice_index_or boxes (t - 1) None)
 
--- records that are kept free: two for each session that isn't shut, one for each that is
+-- how many sessions are
+abbrev pub here_by : Option Waiting → ℕ
+here_by o = if is_some o then 1 else 0
+
+abbrev pub count_here : List (Option Waiting) → ℕ
+count_here boxes = sum_by here_by boxes
+
+-- records that are kept free for a session: two until it is shut, one until it is gone
 abbrev pub kept_for : List Rec → ℕ → ℕ
-kept_for h t = cond (shut h t) 1 2
+kept_for h t = cond (gone h t) 0 (cond (shut h t) 1 2)
 
 abbrev pub held : List Rec → ℕ
 held h = sum_by (kept_for h) (numbers 1 (sessions h))
@@ -66,30 +87,40 @@ planned (p ∷ ps) t = cond (p.session == t) (p.item ∷ planned ps t) (planned 
 -- ---- steps
 
 abbrev pub empty_book : ℕ → ℕ → Shown
-empty_book limit most = record { history = []; limit = limit; most = most; outboxes = []; plan = [] }
+empty_book limit most = record { history = []; limit = limit; most = most; outboxes = []; plan = []; busy = false }
 
 -- one more session
 abbrev pub opened : Shown → List ℕ → ℤ → Waiting → Shown
-opened m host moment box = record { history = fresh_record m.history moment (Opened (sessions m.history + 1) host) ∷ m.history; limit = m.limit; most = m.most; outboxes = m.outboxes ++ box ∷ []; plan = m.plan }
-
--- a line was accepted, and its deliveries are planned
-abbrev pub begun : Shown → ℕ → ℕ → Piece → ℤ → Shown
-begun m s i piece moment =
+opened m host moment box =
     record {
-      history = fresh_record m.history moment (Said s i piece) ∷ m.history;
+      history = fresh_record m.history moment (Opened (sessions m.history + 1) host) ∷ m.history;
       limit = m.limit;
       most = m.most;
-      outboxes = m.outboxes;
-      plan = plan_of m.history (Said s i piece) (length m.outboxes);
+      outboxes = m.outboxes ++ Some box ∷ [];
+      plan = m.plan;
+      busy = m.busy;
     }
+
+-- a record was appended, and its deliveries are planned
+abbrev pub begun : Shown → Kind → ℤ → Shown
+begun m k moment =
+    record { history = fresh_record m.history moment k ∷ m.history; limit = m.limit; most = m.most; outboxes = m.outboxes; plan = plan_of m.history k (length m.outboxes); busy = true }
 
 -- a planned delivery was put at the end of its outbox
 abbrev pub delivered : Shown → Planned → List Planned → Shown
-delivered m p ps = record { history = m.history; limit = m.limit; most = m.most; outboxes = slice_set m.outboxes (p.session - 1) (with_put (outbox_at m.outboxes p.session) p.item); plan = ps }
+delivered m p ps =
+    record {
+      history = m.history;
+      limit = m.limit;
+      most = m.most;
+      outboxes = slice_set m.outboxes (p.session - 1) (Some (with_put (outbox_at m.outboxes p.session) p.item));
+      plan = ps;
+      busy = m.busy;
+    }
 
 -- a planned delivery found its outbox full: the newest record misses the session
 abbrev pub dropped : Shown → Planned → List Planned → Shown
-dropped m p ps = record { history = miss m.history p.session; limit = m.limit; most = m.most; outboxes = m.outboxes; plan = ps }
+dropped m p ps = record { history = miss m.history p.session; limit = m.limit; most = m.most; outboxes = m.outboxes; plan = ps; busy = m.busy }
 
 -- the plan's first delivery was put, or missed where its outbox was full
 abbrev pub put_next : Shown → List Planned → Shown
@@ -101,13 +132,35 @@ abbrev pub put_all : Shown → List Planned → Shown
 put_all m [] = m
 put_all m (p ∷ ps) = put_all (put_next m (p ∷ ps)) ps
 
--- a line was accepted, and all its deliveries were put or missed
-abbrev pub after_line : Shown → ℕ → ℕ → Piece → ℤ → Shown
-after_line m s i piece moment = put_all (begun m s i piece moment) (plan_of m.history (Said s i piece) (length m.outboxes))
+-- the plan is given back
+abbrev pub finished : Shown → Shown
+finished m = record { history = m.history; limit = m.limit; most = m.most; outboxes = m.outboxes; plan = m.plan; busy = false }
+
+-- a record was appended, and all its deliveries were put or missed
+abbrev pub done : Shown → Kind → ℤ → Shown
+done m k moment = finished (put_all (begun m k moment) (plan_of m.history k (length m.outboxes)))
 
 -- the front of a session's outbox was taken
 abbrev pub taken : Shown → ℕ → Shown
-taken m t = record { history = m.history; limit = m.limit; most = m.most; outboxes = slice_set m.outboxes (t - 1) (with_taken (outbox_at m.outboxes t)); plan = m.plan }
+taken m t =
+    record { history = m.history; limit = m.limit; most = m.most; outboxes = slice_set m.outboxes (t - 1) (Some (with_taken (outbox_at m.outboxes t))); plan = m.plan; busy = m.busy }
+
+-- a session and its outbox were given up
+abbrev pub reaped : Shown → ℕ → Shown
+reaped m t = record { history = m.history; limit = m.limit; most = m.most; outboxes = slice_set m.outboxes (t - 1) None; plan = m.plan; busy = m.busy }
+
+-- the first that f holds of
+abbrev pub first : (ℕ → Bool) → List ℕ → Option ℕ
+first f [] = None
+first f (t ∷ ts) = cond (f t) (Some t) (first f ts)
+
+-- shut, and not gone
+abbrev pub is_to_sweep : List Rec → ℕ → Bool
+is_to_sweep h t = shut h t && not (gone h t)
+
+-- the session of the lowest number that is so
+abbrev pub to_sweep : List Rec → Option ℕ
+to_sweep h = first (is_to_sweep h) (numbers 1 (sessions h))
 
 -- ---- what holds of every book
 
@@ -123,8 +176,10 @@ IsPlan h n (p ∷ ps) = (0 < p.session) × (p.session ≤ n) × (planned ps p.se
 
 -- the promise: what was taken, what waits and what is still in the plan is what the history owes
 pub record IsSound (m : Shown) : Type 0 where
-  pub owed : (t : ℕ) → 0 < t → t ≤ length m.outboxes → (outbox_at m.outboxes t).taken ++ (outbox_at m.outboxes t).queue ++ planned m.plan t ≡ owed m.history t
+  pub owed : (t : ℕ) → 0 < t → t ≤ length m.outboxes → is_here m.outboxes t ≡ true → (outbox_at m.outboxes t).taken ++ (outbox_at m.outboxes t).queue ++ planned m.plan t ≡ owed m.history t
+  pub reaped : (t : ℕ) → 0 < t → t ≤ length m.outboxes → is_here m.outboxes t ≡ false → gone m.history t ≡ true
   pub plan : IsPlan m.history (length m.outboxes) m.plan
+  pub idle : m.busy ≡ false → m.plan ≡ []
   pub legal : IsLegal m.history
   pub sessions : sessions m.history ≡ length m.outboxes
   pub room : length m.history + held m.history ≤ m.limit
@@ -140,38 +195,114 @@ pub record Turn : Type 0 where
 pub record IsTurn (m : Shown) (b : Turn) : Type 0 where
   pub from_1 : 0 < b.session
   pub opened : b.session ≤ sessions m.history
+  pub here : is_here m.outboxes b.session ≡ true
   pub next : b.next ≡ length (accepted m.history b.session)
 
 pub record MayOpen (m : Shown) (moment : ℤ) : Type 0 where
-  pub idle : m.plan ≡ []
-  pub few : sessions m.history < m.most
+  pub idle : m.busy ≡ false
+  pub few : count_here m.outboxes < m.most
   pub room : length m.history + held m.history + 3 ≤ m.limit
   pub in_time : IsMomentAfter (last_moment m.history) moment
 
 -- the first of the refusals whose cause holds, want of memory last
 abbrev pub IsOpenRefusal : Shown → ℤ → OpenRefusal → Type 0
-IsOpenRefusal m moment opening.Busy = m.plan ≢ []
-IsOpenRefusal m moment opening.TooManySessions = (m.plan ≡ []) × (m.most ≤ sessions m.history)
-IsOpenRefusal m moment opening.JournalFull = (m.plan ≡ []) × (sessions m.history < m.most) × (m.limit < length m.history + held m.history + 3)
-IsOpenRefusal m moment opening.BadMoment = (m.plan ≡ []) × (sessions m.history < m.most) × (length m.history + held m.history + 3 ≤ m.limit) × (IsMomentAfter (last_moment m.history) moment → ⊥)
+IsOpenRefusal m moment opening.Busy = m.busy ≡ true
+IsOpenRefusal m moment opening.TooManySessions = (m.busy ≡ false) × (m.most ≤ count_here m.outboxes)
+IsOpenRefusal m moment opening.JournalFull = (m.busy ≡ false) × (count_here m.outboxes < m.most) × (m.limit < length m.history + held m.history + 3)
+IsOpenRefusal m moment opening.BadMoment = (m.busy ≡ false) × (count_here m.outboxes < m.most) × (length m.history + held m.history + 3 ≤ m.limit) × (IsMomentAfter (last_moment m.history) moment → ⊥)
 IsOpenRefusal m moment opening.Memory = MayOpen m moment
 
 pub record MayBegin (m : Shown) (b : Turn) (moment : ℤ) : Type 0 where
-  pub idle : m.plan ≡ []
+  pub idle : m.busy ≡ false
   pub turn : IsTurn m b
   pub not_shut : shut m.history b.session ≡ false
   pub room : length m.history + held m.history + 1 ≤ m.limit
   pub in_time : IsMomentAfter (last_moment m.history) moment
 
 abbrev pub IsLineRefusal : Shown → Turn → ℤ → LineRefusal → Type 0
-IsLineRefusal m b moment accepting.Busy = m.plan ≢ []
-IsLineRefusal m b moment accepting.WrongTurn = (m.plan ≡ []) × (IsTurn m b → ⊥)
-IsLineRefusal m b moment accepting.Shut = (m.plan ≡ []) × IsTurn m b × (shut m.history b.session ≡ true)
-IsLineRefusal m b moment accepting.JournalFull = (m.plan ≡ []) × IsTurn m b × (shut m.history b.session ≡ false) × (m.limit < length m.history + held m.history + 1)
-IsLineRefusal m b moment accepting.BadMoment = (m.plan ≡ []) × IsTurn m b × (shut m.history b.session ≡ false) × (length m.history + held m.history + 1 ≤ m.limit) × (IsMomentAfter (last_moment m.history) moment → ⊥)
+IsLineRefusal m b moment accepting.Busy = m.busy ≡ true
+IsLineRefusal m b moment accepting.WrongTurn = (m.busy ≡ false) × (IsTurn m b → ⊥)
+IsLineRefusal m b moment accepting.Shut = (m.busy ≡ false) × IsTurn m b × (shut m.history b.session ≡ true)
+IsLineRefusal m b moment accepting.JournalFull = (m.busy ≡ false) × IsTurn m b × (shut m.history b.session ≡ false) × (m.limit < length m.history + held m.history + 1)
+IsLineRefusal m b moment accepting.BadMoment = (m.busy ≡ false) × IsTurn m b × (shut m.history b.session ≡ false) × (length m.history + held m.history + 1 ≤ m.limit) × (IsMomentAfter (last_moment m.history) moment → ⊥)
 IsLineRefusal m b moment accepting.Memory = MayBegin m b moment
+
+-- a session that was opened and isn't reaped
+pub record IsKnown (m : Shown) (s : ℕ) : Type 0 where
+  pub from_1 : 0 < s
+  pub opened : s ≤ sessions m.history
+  pub here : is_here m.outboxes s ≡ true
+
+pub record MayHang (m : Shown) (s : ℕ) (moment : ℤ) : Type 0 where
+  pub idle : m.busy ≡ false
+  pub known : IsKnown m s
+  pub not_shut : shut m.history s ≡ false
+  pub in_time : IsMomentAfter (last_moment m.history) moment
+
+abbrev pub IsHangRefusal : Shown → ℕ → ℤ → HangRefusal → Type 0
+IsHangRefusal m s moment hanging.Busy = m.busy ≡ true
+IsHangRefusal m s moment hanging.NoSession = (m.busy ≡ false) × (IsKnown m s → ⊥)
+IsHangRefusal m s moment hanging.Shut = (m.busy ≡ false) × IsKnown m s × (shut m.history s ≡ true)
+IsHangRefusal m s moment hanging.BadMoment = (m.busy ≡ false) × IsKnown m s × (shut m.history s ≡ false) × (IsMomentAfter (last_moment m.history) moment → ⊥)
+
+pub record MaySweep (m : Shown) (moment : ℤ) : Type 0 where
+  pub idle : m.busy ≡ false
+  pub in_time : IsMomentAfter (last_moment m.history) moment
+
+abbrev pub IsSweepRefusal : Shown → ℤ → SweepRefusal → Type 0
+IsSweepRefusal m moment sweeping.Busy = m.busy ≡ true
+IsSweepRefusal m moment sweeping.BadMoment = (m.busy ≡ false) × (IsMomentAfter (last_moment m.history) moment → ⊥)
+IsSweepRefusal m moment sweeping.Memory = MaySweep m moment
+
+pub record MayReap (m : Shown) (s : ℕ) : Type 0 where
+  pub idle : m.busy ≡ false
+  pub known : IsKnown m s
+  pub gone : gone m.history s ≡ true
+
+abbrev pub IsReapRefusal : Shown → ℕ → ReapRefusal → Type 0
+IsReapRefusal m s reaping.Busy = m.busy ≡ true
+IsReapRefusal m s reaping.Stranger = (m.busy ≡ false) × (IsKnown m s → ⊥)
+IsReapRefusal m s reaping.NotGone = (m.busy ≡ false) × IsKnown m s × (gone m.history s ≡ false)
 
 -- who missed the newest record
 abbrev pub newest_missed : List Rec → List ℕ
 newest_missed [] = []
 newest_missed (r ∷ h) = r.missed
+
+-- the session of the newest record
+abbrev pub newest_actor : List Rec → ℕ
+newest_actor [] = 0
+newest_actor (r ∷ h) = actor r.kind
+
+-- which line of its session is next, where the newest record is a line
+abbrev pub next_of : Kind → Option ℕ
+next_of (Opened s host) = None
+next_of (Said s i piece) = Some (i + 1)
+next_of (Hung s why) = None
+next_of (Gone s) = None
+
+abbrev pub newest_next : List Rec → Option ℕ
+newest_next [] = None
+newest_next (r ∷ h) = next_of r.kind
+
+-- ---- a plan that is handed out
+
+-- the number and the session of its record, which of the session's lines is next, where the record is a line, who missed the
+-- record so far, and how many more it has room to note
+pub record Out : Type 0 where
+  pub number : ℕ
+  pub session : ℕ
+  pub next : Option ℕ
+  pub missed : List ℕ
+  pub room : ℕ
+
+-- it is the one that is out
+pub record IsOut (m : Shown) (p : Out) : Type 0 where
+  pub busy : m.busy ≡ true
+  pub number : p.number ≡ length m.history
+  pub session : p.session ≡ newest_actor m.history
+  pub next : p.next ≡ newest_next m.history
+  pub from_1 : 0 < p.session
+  pub opened : p.session ≤ sessions m.history
+  pub missed : p.missed ≡ newest_missed m.history
+  pub room : length m.plan ≤ p.room

@@ -1,15 +1,18 @@
 -- Which histories are legal: this project's own journal.
-use Rattle.std.specs.Prelude.{◌≡◌, ◌≢◌, ℕ, ◌+◌, ◌<◌, ◌≤◌, ◌==◌, false, List, [], ◌∷◌, length, All}
+use Rattle.std.specs.Prelude.{◌≡◌, ◌≢◌, ℕ, ◌+◌, ◌<◌, ◌≤◌, ◌==◌, true, false, List, [], ◌∷◌, length, All}
 use Rattle.std.specs.List.{list_any}
 use Rattle.chronicle.specs.declared.record.Kind.{Kind}
-use Rattle.chronicle.specs.declared.record.Kind.TheVariants.{Opened, Said}
-use Rattle.chronicle.specs.History.{Rec, IsMomentAfter, last_moment, sessions, accepted, shut}
+use Rattle.chronicle.specs.declared.record.Kind.TheVariants.{Opened, Said, Hung, Gone}
+use Rattle.chronicle.specs.History.{Rec, IsMomentAfter, last_moment, sessions, accepted, shut, gone}
 use Rattle.book.specs.Owed.{delivery}
 
--- sessions are opened as 1, 2, 3, ..; a line is of an opened session that isn't shut, and has the next index
+-- sessions are opened as 1, 2, 3, ..; a line is of an opened session that isn't shut, and has the next index; a session is hung
+-- before it is shut, and gone once after
 abbrev pub IsKind : List Rec → Kind → Type 0
 IsKind h (Opened s host) = s ≡ sessions h + 1
 IsKind h (Said s i piece) = (0 < s) × (s ≤ sessions h) × (i ≡ length (accepted h s)) × (shut h s ≡ false)
+IsKind h (Hung s why) = (0 < s) × (s ≤ sessions h) × (shut h s ≡ false)
+IsKind h (Gone s) = (0 < s) × (s ≤ sessions h) × (shut h s ≡ true) × (gone h s ≡ false)
 
 -- each session that missed a record was owed something by it, and stands once
 abbrev pub AreMissed : List Rec → Kind → List ℕ → Type 0

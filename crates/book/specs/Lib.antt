@@ -1,11 +1,5 @@
-pub mod Commands
-pub mod LookBack
-pub mod Deeds
-pub mod Lines
 pub mod Owed
 pub mod Legal
-pub mod Tables
-pub mod Ring
 pub mod Book
 pub mod Seats
 pub mod Settings

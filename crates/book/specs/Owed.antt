@@ -2,20 +2,28 @@
 use Rattle.std.specs.Prelude.{ℕ, ◌+◌, ◌||◌, cond, List, [], ◌∷◌, ◌++◌, length}
 use Rattle.line_grammar.specs.declared.splitter.Piece.{Piece}
 use Rattle.chronicle.specs.declared.record.Kind.{Kind}
-use Rattle.chronicle.specs.History.{Rec, misses, shut}
-use Rattle.book.specs.declared.item.Item.{Item}
-use Rattle.book.specs.declared.item.Item.TheVariants.{Lines}
-use Rattle.book.specs.Deeds.{facts}
-use Rattle.book.specs.Lines.{lines, text}
+use Rattle.chronicle.specs.declared.record.Kind.TheVariants as kind
+use Rattle.chronicle.specs.declared.why.Why.{Why}
+use Rattle.chronicle.specs.declared.why.Why.TheVariants.{Quit}
+use Rattle.chronicle.specs.History.{Rec, misses, ends, shut}
+use Rattle.outbox.specs.declared.item.Item.{Item}
+use Rattle.outbox.specs.declared.item.Item.TheVariants.{Lines, Last}
+use Rattle.deeds.specs.Deeds.{facts}
+use Rattle.deeds.specs.Lines.{lines, text}
 
 -- none where there is no line
 abbrev pub item : ℕ → List (List ℕ) → List Item
 item n [] = []
 item n (l ∷ ls) = Lines n (text (l ∷ ls)) ∷ []
 
--- the delivery of a record of this kind after h to t
+-- why a record ends a session
+abbrev pub reason : Kind → Why
+reason (kind.Hung s why) = why
+reason k = Quit
+
+-- the delivery of a record of this kind after h to t: the last one to a session that it ends
 abbrev pub delivery : List Rec → Kind → ℕ → List Item
-delivery h k t = item (length h + 1) (lines (facts h) k t)
+delivery h k t = cond (ends k t) (Last (length h + 1) (reason k) ∷ []) (item (length h + 1) (lines (facts h) k t))
 
 -- the deliveries to t in order, but for each record that misses t and each after t was shut
 abbrev pub owed : List Rec → ℕ → List Item

@@ -1,70 +1,29 @@
 //! The book: the journal and, for each session, its outbox.
-ghost use Rattle.std.specs.Prelude.{◌≡◌, ◌<◌, ◌≤◌, ◌+◌, ◌^◌, ◌++◌, ◌↔◌, [], Some, true, false, length, slice_get, vec_len, vec_capacity, IsTrue, IfOk, IfErr, OnOk, OnErr};
-ghost use Rattle.book.specs.Told.{missed_by};
+ghost use Rattle.std.specs.Prelude.{◌≡◌, ◌<◌, ◌≤◌, ◌+◌, ◌-◌, ◌^◌, ◌++◌, ◌↔◌, ◌==◌, [], ℕ, cond, sum_by, Some, None, true, false, length, slice_get, slice_set, vec_len, vec_capacity, IsTrue, IfOk, IfErr, IfSome, OnOk, OnErr};
+ghost use Rattle.std.specs.List.{list_any};
 ghost use Rattle.casemapping.specs.Names.{host_shape};
-ghost use Rattle.chronicle.specs.History.{sessions, last_moment, shut};
+ghost use Rattle.chronicle.specs.declared.record.Kind.TheVariants as kind;
+ghost use Rattle.chronicle.specs.History.{sessions, last_moment, shut, gone, misses};
 ghost use Rattle.chronicle.specs.Journal.{numbered, record_at};
+ghost use Rattle.outbox.specs.Ring.{has_room, with_put, with_taken};
 ghost use Rattle.book.specs.Settings.{is_well_set};
+ghost use Rattle.book.specs.Book.{outbox_at, is_here, here_by};
 
-use crate::decide::Verdict;
-use crate::item::Item;
-use crate::outbox::Outbox;
-use crate::plan::{Planned, Prepared, prepare_line};
-use crate::refusals::{BookFault, LineRefusal, OpenRefusal, TakeRefusal};
-use crate::ring::Ring;
-use crate::seat::{Seat, held};
-use crate::sessions::Sessions;
+use crate::baton::Baton;
+use crate::out::{Done, Hung, Left, Plan, Step};
+use crate::plan::{Planned, Prepared, prepare_gone, prepare_line};
+use crate::refusals::{
+    BookFault, HangRefusal, LineRefusal, OpenRefusal, ReapRefusal, SweepRefusal, TakeRefusal,
+};
+use crate::seat::{Seat, held, is_to_sweep};
 use crate::settings::{Settings, is_well_set};
-use crate::tables::{Person, Tables, commit, is_among, prepare};
-use chronicle::{Journal, Kind, Moment, Record, RecordNumber, SessionId};
+use chronicle::{Journal, Kind, Moment, Record, RecordNumber, SessionId, Why};
+use deeds::{Sessions, Tables, Verdict, commit, prepare};
 use line_grammar::{Octets, Piece};
+use outbox::{Item, Outbox, Ring};
 use std::alloc::{AllocError, Global};
 use std::collections::VecDeque;
 use std::marker::Model;
-
-/// Whose line is next: a session has one baton. It is made by `open` alone.
-#[derive(Debug, Drop)]
-pub struct Baton {
-    session: SessionId,
-    next: u64,
-}
-
-impl Model for Baton {
-    ghost use Rattle.book.specs.Book.{Turn};
-
-    ghost Value = { Turn };
-
-    ghost view = { λ a. record { session = a.session; next = a.next } };
-}
-
-impl Baton {
-    /// Its session.
-    pub fn session(&self) -> SessionId
-        ensures { result ≡ self.now.session }
-    {
-        self.session
-    }
-}
-
-/// What became of a line.
-#[derive(Debug, Drop)]
-pub struct Done {
-    /// The number of its record.
-    pub number: RecordNumber,
-    /// Who had no room for what it owed.
-    pub missed: Sessions,
-    /// Whether its own session is shut then.
-    pub shut: bool,
-}
-
-/// One delivery of a plan.
-#[derive(Clone, Copy, Debug, PartialEq)]
-pub enum Step {
-    /// It was put into the session's outbox.
-    Put(SessionId),
-    /// The session's outbox was full, so it missed the record and is shut.
-    Missed(SessionId),
-}
 
 /// The journal, what is known at its end, and the sessions' outboxes.
 #[derive(Drop)]
@@ -74,8 +33,9 @@ pub struct Book {
     most: usize,
     tables: Tables,
     seats: Vec<Seat>,
-    outboxes: Vec<Ring>,
+    outboxes: Vec<Option<Ring>>,
     plan: VecDeque<Planned>,
+    busy: bool,
 }
 
 impl Model for Book {
@@ -84,13 +44,67 @@ impl Model for Book {
 
     ghost Value = { Shown };
 
-    ghost view = { λ a. record { history = a.journal.history; limit = a.journal.limit; most = a.most; outboxes = a.outboxes.items; plan = a.plan.items } };
+    ghost view = { λ a. record { history = a.journal.history; limit = a.journal.limit; most = a.most; outboxes = a.outboxes.items; plan = a.plan.items; busy = a.busy } };
 
-    ghost invariant = { λ a. IsKept a.journal a.most a.tables.people.items a.tables.channels.items a.seats.items a.outboxes.items a.plan.items };
+    ghost invariant = { λ a. IsKept a.journal a.most a.tables.people.items a.tables.channels.items a.seats.items a.outboxes.items a.plan.items a.busy };
+}
+
+/// One where there is an outbox.
+fn here_by(outbox: &Option<Ring>) -> usize
+    ensures { result ≡ here_by outbox.now }
+{
+    if outbox.is_some() { 1 } else { 0 }
+}
+
+/// How many sessions aren't reaped.
+fn count_here(outboxes: &[Option<Ring>]) -> usize
+    requires { sum_by here_by outboxes.now < 2 ^ 64 }
+    ensures { result ≡ sum_by here_by outboxes.now }
+{
+    outboxes.iter().map(here_by).sum()
+}
+
+/// Puts a delivery into its session's outbox, and answers whether that had room. It takes no memory.
+fn offer(outboxes: &mut Vec<Option<Ring>>, put: Planned) -> bool
+    requires from_1 { 0 < put.session }
+    requires opened { put.session ≤ length outboxes.old.items }
+    ensures room { result ≡ has_room (outbox_at outboxes.old.items put.session) }
+    ensures put { result ≡ true → outboxes.new.items ≡ slice_set outboxes.old.items (put.session - 1) (Some (with_put (outbox_at outboxes.old.items put.session) put.item)) }
+    ensures full { result ≡ false → outboxes.new.items ≡ outboxes.old.items }
+{
+    match &mut outboxes[put.session.number() as usize - 1] {
+        Some(outbox) => outbox.put(put.item).is_ok(),
+        None => false,
+    }
+}
+
+/// Takes the item that waits longest in the outbox at a place.
+fn take_at(outboxes: &mut Vec<Option<Ring>>, place: usize) -> Option<Item>
+    requires { place < length outboxes.old.items }
+    ensures value { result ≡ slice_get (outbox_at outboxes.old.items (place + 1)).queue 0 }
+    ensures none { result ≡ None → outboxes.new.items ≡ outboxes.old.items }
+    ensures taken { is_here outboxes.old.items (place + 1) ≡ true → outboxes.new.items ≡ slice_set outboxes.old.items place (Some (with_taken (outbox_at outboxes.old.items (place + 1)))) }
+{
+    match &mut outboxes[place] {
+        Some(outbox) => outbox.take_now(),
+        None => None,
+    }
+}
+
+/// Gives up the outbox at a place, and answers how many items were left in it.
+fn give_up(outboxes: &mut Vec<Option<Ring>>, place: usize) -> usize
+    requires { place < length outboxes.old.items }
+    ensures count { result ≡ length (outbox_at outboxes.old.items (place + 1)).queue }
+    ensures given { outboxes.new.items ≡ slice_set outboxes.old.items place None }
+{
+    match outboxes[place].take() {
+        Some(outbox) => outbox.len(),
+        None => 0,
+    }
 }
 
 impl Book {
-    ghost use Rattle.book.specs.Book.{empty_book, opened, begun, after_line, put_next, put_all, taken, IsTurn, MayOpen, MayBegin, IsOpenRefusal, IsLineRefusal, IsSound, newest_missed, outbox_at, held};
+    ghost use Rattle.book.specs.Book.{empty_book, opened, begun, done, finished, put_next, put_all, taken, reaped, to_sweep, IsKnown, IsTurn, MayOpen, MayBegin, MayHang, MaySweep, MayReap, IsOpenRefusal, IsLineRefusal, IsHangRefusal, IsSweepRefusal, IsReapRefusal, IsSound, IsOut, newest_missed, held};
     ghost use Rattle.book.specs.Told.{told_of, IsTakeRefusal};
 
     /// An empty book for at most `limit` records.
@@ -107,13 +121,11 @@ impl Book {
             alloc,
             journal,
             most: settings.sessions,
-            tables: Tables {
-                people: Vec::new(alloc),
-                channels: Vec::new(alloc),
-            },
+            tables: Tables::new(alloc),
             seats: Vec::new(alloc),
             outboxes: Vec::new(alloc),
             plan: VecDeque::new(alloc),
+            busy: false,
         })
     }
 
@@ -125,18 +137,44 @@ impl Book {
         self.journal.limit() - self.journal.len() - held(&self.seats)
     }
 
+    /// How many records are kept free.
+    fn held(&self) -> usize
+        ensures kept { result ≡ held self.now.history }
+        ensures fits { self.now.limit < 2 ^ 64 }
+    {
+        self.journal.limit() - self.journal.len() - self.free()
+    }
+
+    /// The place of a session that was opened and isn't reaped.
+    fn place(&self, session: SessionId) -> Option<usize>
+        ensures known { IfSome result (λ place. (place + 1 ≡ session) × IsKnown self.now session) }
+        ensures unknown { result ≡ None → IsKnown self.now session → ⊥ }
+    {
+        let number = session.number();
+        if number == 0 || self.outboxes.len() < number as usize {
+            return None;
+        }
+        let place = number as usize - 1;
+        match &self.outboxes[place] {
+            Some(_) => Some(place),
+            None => None,
+        }
+    }
+
     /// Whether a session may be opened now, memory apart.
     fn check_open(&self, moment: Moment) -> Result<(), OpenRefusal>
         ensures ok { OnOk result (MayOpen self.now moment) }
+        ensures fits { OnOk result (self.now.limit < 2 ^ 64) }
         ensures err { IfErr result (λ e. IsOpenRefusal self.now moment e) }
     {
-        if !self.plan.is_empty() {
+        let free = self.free();
+        if self.busy {
             return Err(OpenRefusal::Busy);
         }
-        if self.most <= self.seats.len() {
+        if self.most <= count_here(&self.outboxes) {
             return Err(OpenRefusal::TooManySessions);
         }
-        if self.free() < 3 {
+        if free < 3 {
             return Err(OpenRefusal::JournalFull);
         }
         if !moment.may_follow(self.journal.last_moment()) {
@@ -167,10 +205,11 @@ impl Book {
         let Ok(told) = host.clone() else {
             return Err((OpenRefusal::Memory, outbox));
         };
-        if self.tables.people.reserve(1).is_err()
+        let room = self.held() + 3;
+        if self.tables.reserve_person().is_err()
             || self.seats.reserve(1).is_err()
             || self.outboxes.reserve(1).is_err()
-            || self.journal.reserve(1, 0).is_err()
+            || self.journal.reserve(room, 0).is_err()
         {
             return Err((OpenRefusal::Memory, outbox));
         }
@@ -182,17 +221,13 @@ impl Book {
                 host: told,
             },
         );
-        self.tables.people.push_reserved(Person {
-            host,
-            nick: None,
-            user: None,
-            real: None,
-        });
+        self.tables.open(self.alloc, host);
         self.seats.push_reserved(Seat {
             shut: false,
+            gone: false,
             accepted: 0,
         });
-        self.outboxes.push_reserved(outbox);
+        self.outboxes.push_reserved(Some(outbox));
         Ok((session, Baton { session, next: 0 }))
     }
 
@@ -200,17 +235,15 @@ impl Book {
     fn check_line(&self, baton: &Baton, moment: Moment) -> Result<usize, LineRefusal>
         ensures place { IfOk result (λ place. place + 1 ≡ baton.now.session) }
         ensures ok { OnOk result (MayBegin self.now baton.now moment) }
-        ensures fits { OnOk result (length self.now.history + 1 < 2 ^ 64) }
+        ensures fits { OnOk result (self.now.limit < 2 ^ 64) }
         ensures err { IfErr result (λ e. IsLineRefusal self.now baton.now moment e) }
     {
-        if !self.plan.is_empty() {
+        if self.busy {
             return Err(LineRefusal::Busy);
         }
-        let session = baton.session.number();
-        if session == 0 || self.seats.len() < session as usize {
+        let Some(place) = self.place(baton.session) else {
             return Err(LineRefusal::WrongTurn);
-        }
-        let place = session as usize - 1;
+        };
         let seat = self.seats[place];
         if seat.accepted != baton.next {
             return Err(LineRefusal::WrongTurn);
@@ -227,26 +260,33 @@ impl Book {
         Ok(place)
     }
 
-    /// Appends the record of an accepted line, and plans its deliveries. All memory is taken here.
-    /// It answers room for those who miss the record.
-    fn begin(
+    /// Begins the next line of a session: its record is appended, and a plan of its deliveries is handed out. All memory is
+    /// taken here; a refusal changes nothing.
+    pub fn begin(
         &mut self,
         baton: &Baton,
         piece: &Piece,
         moment: Moment,
-    ) -> Result<Vec<SessionId>, LineRefusal>
-        ensures room { IfOk result (λ missed. (missed.items ≡ []) × (length self.new.plan ≤ vec_capacity missed)) }
-        ensures ok { OnOk result (self.new ≡ begun self.old baton.now.session baton.now.next piece.now moment) }
+    ) -> Result<Plan, LineRefusal>
+        ensures ok { OnOk result (self.new ≡ begun self.old (kind.Said baton.now.session baton.now.next piece.now) moment) }
+        ensures out { IfOk result (λ p. IsOut self.new p) }
+        ensures line { IfOk result (λ p. (p.session ≡ baton.now.session) × (p.next ≡ Some (baton.now.next + 1))) }
         ensures may { OnOk result (MayBegin self.old baton.now moment) }
-        ensures fits { OnOk result (length self.old.history + 1 < 2 ^ 64) }
         ensures refusal { IfErr result (λ e. IsLineRefusal self.old baton.now moment e) }
         ensures err { OnErr result (self.new ≡ self.old) }
     {
         let place = self.check_line(baton, moment)?;
         let number = RecordNumber::new(self.journal.len() as u64 + 1);
-        let prepared = prepare_line(self.alloc, &self.tables, &self.seats, place, number, piece)?;
+        let told = piece.copy()?;
+        let (prepared, quits) = prepare_line(
+            self.alloc,
+            &self.tables,
+            &self.seats,
+            place,
+            number,
+            piece,
+        )?;
         let Prepared {
-            told,
             verdict,
             plan,
             missed,
@@ -257,8 +297,9 @@ impl Book {
             hearers,
         } = verdict;
         prepare(&mut self.tables)?;
+        let room = self.held() + 1;
         self.journal
-            .reserve(1, plan.len())
+            .reserve(room, plan.len())
             .map_err(|_| LineRefusal::Memory)?;
         self.journal.append(
             moment,
@@ -271,39 +312,116 @@ impl Book {
         commit(&mut self.tables, place, change, hearers);
         let seat = &mut self.seats[place];
         seat.accepted += 1;
+        seat.shut = quits;
         self.plan = plan;
-        Ok(missed)
+        self.busy = true;
+        Ok(Plan {
+            number,
+            session: baton.session,
+            next: Some(baton.next + 1),
+            missed,
+        })
     }
 
-    /// Puts the plan's first delivery into its session's outbox, or notes that the session missed it where the outbox is full.
-    /// It takes no memory.
-    fn put_next(&mut self) -> Option<Step>
+    /// Puts the first delivery of the plan that is out into its session's outbox, or notes that the session missed the record
+    /// where the outbox is full. It answers `None` where nothing is left, and takes no memory.
+    pub fn put_next(&mut self, plan: &mut Plan) -> Option<Step>
+        requires out { IsOut self.old plan.old }
         ensures told { result ≡ told_of self.old self.old.plan }
         ensures put { self.new ≡ put_next self.old self.old.plan }
+        ensures none { result ≡ None → self.new.plan ≡ [] }
+        ensures out { IsOut self.new plan.new }
+        ensures number { plan.new.number ≡ plan.old.number }
+        ensures session { plan.new.session ≡ plan.old.session }
+        ensures next { plan.new.next ≡ plan.old.next }
     {
         let put = self.plan.pop_front()?;
         let session = put.session;
-        let place = session.number() as usize - 1;
-        let outbox = &mut self.outboxes[place];
-        match outbox.put(put.item) {
-            Ok(()) => return Some(Step::Put(session)),
-            Err(_) => {}
+        if offer(&mut self.outboxes, put) {
+            return Some(Step::Put(session));
         }
-        let seat = &mut self.seats[place];
+        let seat = &mut self.seats[session.number() as usize - 1];
         seat.shut = true;
         self.journal.miss(session);
+        plan.note(session);
         Some(Step::Missed(session))
     }
 
-    /// Accepts the next line of a session: its record is appended, and all that it owes is put or missed.
-    /// A refusal changes nothing.
+    /// Puts or misses all that is left of a plan.
+    fn put_rest(&mut self, plan: &mut Plan)
+        requires out { IsOut self.old plan.old }
+        ensures put { self.new ≡ put_all self.old self.old.plan }
+        ensures out { IsOut self.new plan.new }
+        ensures none { self.new.plan ≡ [] }
+        ensures number { plan.new.number ≡ plan.old.number }
+        ensures session { plan.new.session ≡ plan.old.session }
+        ensures next { plan.new.next ≡ plan.old.next }
+    {
+        while let Some(_) = self.put_next(plan) {}
+    }
+
+    /// Gives back the plan of a line, with nothing left in it, and the turn to the next line. It takes no memory.
+    pub fn finish(&mut self, plan: Plan, baton: &mut Baton) -> Done
+        requires out { IsOut self.old plan }
+        requires none { self.old.plan ≡ [] }
+        requires line { (plan.session ≡ baton.old.session) × (plan.next ≡ Some (baton.old.next + 1)) }
+        ensures book { self.new ≡ finished self.old }
+        ensures baton { baton.new ≡ record { session = baton.old.session; next = baton.old.next + 1 } }
+        ensures number { result.number ≡ length self.old.history }
+        ensures missed { result.missed ≡ newest_missed self.old.history }
+        ensures shut { result.shut ≡ shut self.old.history baton.old.session }
+    {
+        if let Some(next) = plan.next {
+            baton.next = next;
+        }
+        self.give_back(plan)
+    }
+
+    /// Gives back the plan of a sweep, with nothing left in it. It takes no memory.
+    pub fn finish_sweep(&mut self, plan: Plan) -> Done
+        requires out { IsOut self.old plan }
+        requires none { self.old.plan ≡ [] }
+        requires sweep { plan.next ≡ None }
+        ensures book { self.new ≡ finished self.old }
+        ensures number { result.number ≡ length self.old.history }
+        ensures missed { result.missed ≡ newest_missed self.old.history }
+        ensures shut { result.shut ≡ shut self.old.history plan.session }
+    {
+        self.give_back(plan)
+    }
+
+    fn give_back(&mut self, plan: Plan) -> Done
+        requires out { IsOut self.old plan }
+        requires none { self.old.plan ≡ [] }
+        ensures book { self.new ≡ finished self.old }
+        ensures number { result.number ≡ length self.old.history }
+        ensures missed { result.missed ≡ newest_missed self.old.history }
+        ensures shut { result.shut ≡ shut self.old.history plan.session }
+    {
+        let Plan {
+            number,
+            session,
+            next: _,
+            missed,
+        } = plan;
+        let shut = self.is_shut(session);
+        self.busy = false;
+        Done {
+            number,
+            missed: Sessions::from_vec(missed),
+            shut,
+        }
+    }
+
+    /// Accepts the next line of a session: begins it, puts or misses all that it owes, and finishes it. A refusal changes
+    /// nothing.
     pub fn line(
         &mut self,
         baton: &mut Baton,
         piece: &Piece,
         moment: Moment,
     ) -> Result<Done, LineRefusal>
-        ensures ok { OnOk result (self.new ≡ after_line self.old baton.old.session baton.old.next piece.now moment) }
+        ensures ok { OnOk result (self.new ≡ done self.old (kind.Said baton.old.session baton.old.next piece.now) moment) }
         ensures baton { OnOk result (baton.new ≡ record { session = baton.old.session; next = baton.old.next + 1 }) }
         ensures may { OnOk result (MayBegin self.old baton.old moment) }
         ensures number { IfOk result (λ d. d.number ≡ length self.old.history + 1) }
@@ -312,34 +430,208 @@ impl Book {
         ensures refusal { IfErr result (λ e. IsLineRefusal self.old baton.old moment e) }
         ensures err { OnErr result ((self.new ≡ self.old) × (baton.new ≡ baton.old)) }
     {
-        let mut missed = self.begin(baton, piece, moment)?;
-        let number = RecordNumber::new(self.journal.len() as u64);
-        while let Some(step) = self.put_next() {
-            note_missed(&mut missed, step);
+        let mut plan = self.begin(baton, piece, moment)?;
+        self.put_rest(&mut plan);
+        Ok(self.finish(plan, baton))
+    }
+
+    /// Whether a session may be hung now.
+    fn check_hang(&self, session: SessionId, moment: Moment) -> Result<usize, HangRefusal>
+        ensures place { IfOk result (λ place. place + 1 ≡ session) }
+        ensures ok { OnOk result (MayHang self.now session moment) }
+        ensures err { IfErr result (λ e. IsHangRefusal self.now session moment e) }
+    {
+        if self.busy {
+            return Err(HangRefusal::Busy);
         }
-        baton.next += 1;
-        let shut = is_among(&missed, baton.session);
-        Ok(Done {
+        let Some(place) = self.place(session) else {
+            return Err(HangRefusal::NoSession);
+        };
+        if self.seats[place].shut {
+            return Err(HangRefusal::Shut);
+        }
+        if !moment.may_follow(self.journal.last_moment()) {
+            return Err(HangRefusal::BadMoment);
+        }
+        Ok(place)
+    }
+
+    /// Ends a session: one record is appended, and its last item is put, or missed where its outbox is full. It takes no
+    /// memory; a refusal changes nothing.
+    pub fn hang(
+        &mut self,
+        session: SessionId,
+        why: Why,
+        moment: Moment,
+    ) -> Result<Hung, HangRefusal>
+        ensures ok { OnOk result (self.new ≡ done self.old (kind.Hung session why) moment) }
+        ensures may { OnOk result (MayHang self.old session moment) }
+        ensures number { IfOk result (λ d. d.number ≡ length self.old.history + 1) }
+        ensures missed { IfOk result (λ d. d.missed ≡ list_any (λ u. u == session) (newest_missed self.new.history)) }
+        ensures refusal { IfErr result (λ e. IsHangRefusal self.old session moment e) }
+        ensures err { OnErr result (self.new ≡ self.old) }
+    {
+        let place = self.check_hang(session, moment)?;
+        let number = self.journal.append(moment, Kind::Hung { session, why });
+        self.tables.end(session, place, why);
+        let seat = &mut self.seats[place];
+        seat.shut = true;
+        let item = Item::Last { number, why };
+        if offer(&mut self.outboxes, Planned { session, item }) {
+            return Ok(Hung {
+                number,
+                missed: false,
+            });
+        }
+        self.journal.miss(session);
+        Ok(Hung {
             number,
-            missed: Sessions::from_vec(missed),
-            shut,
+            missed: true,
         })
+    }
+
+    /// The place of the shut session of the lowest number that isn't gone.
+    fn next_to_sweep(&self) -> Option<usize>
+        ensures some { IfSome result (λ place. to_sweep self.now.history ≡ Some (place + 1)) }
+        ensures none { result ≡ None → to_sweep self.now.history ≡ None }
+    {
+        for (place, seat) in self.seats.iter().enumerate() {
+            if is_to_sweep(seat) {
+                return Some(place);
+            }
+        }
+        None
+    }
+
+    /// Begins to sweep the shut session of the lowest number that isn't gone: its record is appended, and a plan is handed out
+    /// of what others are told. It answers `None` where there is no such session. All memory is taken here; a refusal changes
+    /// nothing.
+    pub fn begin_sweep(&mut self, moment: Moment) -> Result<Option<Plan>, SweepRefusal>
+        ensures some { IfOk result (λ o. IfSome o (λ p. (to_sweep self.old.history ≡ Some p.session) × (self.new ≡ begun self.old (kind.Gone p.session) moment) × IsOut self.new p × (p.next ≡ None))) }
+        ensures none { IfOk result (λ o. o ≡ None → (to_sweep self.old.history ≡ None) × (self.new ≡ self.old)) }
+        ensures may { OnOk result (MaySweep self.old moment) }
+        ensures refusal { IfErr result (λ e. IsSweepRefusal self.old moment e) }
+        ensures err { OnErr result (self.new ≡ self.old) }
+    {
+        if self.busy {
+            return Err(SweepRefusal::Busy);
+        }
+        if !moment.may_follow(self.journal.last_moment()) {
+            return Err(SweepRefusal::BadMoment);
+        }
+        match self.next_to_sweep() {
+            Some(place) => Ok(Some(self.sweep_at(place, moment)?)),
+            None => Ok(None),
+        }
+    }
+
+    /// Begins to sweep the session at a place, which is the one to sweep.
+    fn sweep_at(&mut self, place: usize, moment: Moment) -> Result<Plan, AllocError>
+        requires may { MaySweep self.old moment }
+        requires next { to_sweep self.old.history ≡ Some (place + 1) }
+        ensures ok { OnOk result (self.new ≡ begun self.old (kind.Gone (place + 1)) moment) }
+        ensures out { IfOk result (λ p. IsOut self.new p) }
+        ensures line { IfOk result (λ p. (p.session ≡ place + 1) × (p.next ≡ None)) }
+        ensures err { OnErr result (self.new ≡ self.old) }
+    {
+        let room = self.held();
+        let session = SessionId::new(place as u64 + 1);
+        let number = RecordNumber::new(self.journal.len() as u64 + 1);
+        let prepared = prepare_gone(self.alloc, &self.tables, &self.seats, place, number)?;
+        let Prepared {
+            verdict,
+            plan,
+            missed,
+        } = prepared;
+        let Verdict {
+            change,
+            text: _,
+            hearers,
+        } = verdict;
+        prepare(&mut self.tables)?;
+        self.journal
+            .reserve(room, plan.len())
+            .map_err(|_| AllocError)?;
+        self.journal.append(moment, Kind::Gone { session });
+        commit(&mut self.tables, place, change, hearers);
+        let seat = &mut self.seats[place];
+        seat.gone = true;
+        self.plan = plan;
+        self.busy = true;
+        Ok(Plan {
+            number,
+            session,
+            next: None,
+            missed,
+        })
+    }
+
+    /// Sweeps up to one session: begins, puts or misses all that it owes, and finishes. A refusal changes nothing.
+    pub fn sweep(&mut self, moment: Moment) -> Result<Option<Done>, SweepRefusal>
+        ensures some { IfOk result (λ o. IfSome o (λ d. (s : ℕ) × (to_sweep self.old.history ≡ Some s) × (self.new ≡ done self.old (kind.Gone s) moment) × (d.number ≡ length self.old.history + 1) × (d.missed ≡ newest_missed self.new.history) × (d.shut ≡ shut self.new.history s))) }
+        ensures none { IfOk result (λ o. o ≡ None → (to_sweep self.old.history ≡ None) × (self.new ≡ self.old)) }
+        ensures may { OnOk result (MaySweep self.old moment) }
+        ensures refusal { IfErr result (λ e. IsSweepRefusal self.old moment e) }
+        ensures err { OnErr result (self.new ≡ self.old) }
+    {
+        let Some(mut plan) = self.begin_sweep(moment)? else {
+            return Ok(None);
+        };
+        self.put_rest(&mut plan);
+        Ok(Some(self.finish_sweep(plan)))
+    }
+
+    /// Whether a session may be reaped now.
+    fn check_reap(&self, session: SessionId) -> Result<usize, ReapRefusal>
+        ensures place { IfOk result (λ place. place + 1 ≡ session) }
+        ensures ok { OnOk result (MayReap self.now session) }
+        ensures err { IfErr result (λ e. IsReapRefusal self.now session e) }
+    {
+        if self.busy {
+            return Err(ReapRefusal::Busy);
+        }
+        let Some(place) = self.place(session) else {
+            return Err(ReapRefusal::Stranger);
+        };
+        if !self.seats[place].gone {
+            return Err(ReapRefusal::NotGone);
+        }
+        Ok(place)
+    }
+
+    /// Gives up a session that is gone, with what is left in its outbox. It takes no memory; a refusal gives the baton back,
+    /// and changes nothing.
+    pub fn reap(&mut self, baton: Baton) -> Result<Left, (ReapRefusal, Baton)>
+        ensures ok { OnOk result (self.new ≡ reaped self.old baton.session) }
+        ensures left { IfOk result (λ l. (l.session ≡ baton.session) × (l.count ≡ length (outbox_at self.old.outboxes baton.session).queue)) }
+        ensures may { OnOk result (MayReap self.old baton.session) }
+        ensures refusal { IfErr result (λ e. IsReapRefusal self.old baton.session e.0) }
+        ensures err { IfErr result (λ e. (self.new ≡ self.old) × (e.1 ≡ baton)) }
+    {
+        match self.check_reap(baton.session) {
+            Ok(place) => {
+                let count = give_up(&mut self.outboxes, place);
+                Ok(Left {
+                    session: baton.session,
+                    count,
+                })
+            }
+            Err(refusal) => Err((refusal, baton)),
+        }
     }
 
     /// Takes the item that waits longest for a session. It takes no memory.
     pub fn take(&mut self, session: SessionId) -> Result<Item, TakeRefusal>
         ensures ok { IfOk result (λ x. slice_get (outbox_at self.old.outboxes session).queue 0 ≡ Some x) }
         ensures taken { OnOk result (self.new ≡ taken self.old session) }
-        ensures known { OnOk result ((0 < session) × (session ≤ sessions self.old.history)) }
+        ensures known { OnOk result (IsKnown self.old session) }
         ensures refusal { IfErr result (λ e. IsTakeRefusal self.old session e) }
         ensures err { OnErr result (self.new ≡ self.old) }
     {
-        let number = session.number();
-        if number == 0 || self.outboxes.len() < number as usize {
+        let Some(place) = self.place(session) else {
             return Err(TakeRefusal::NoSession);
-        }
-        let outbox = &mut self.outboxes[number as usize - 1];
-        match outbox.take_now() {
+        };
+        match take_at(&mut self.outboxes, place) {
             Some(item) => Ok(item),
             None => Err(TakeRefusal::Empty),
         }
@@ -378,23 +670,19 @@ impl Book {
         !seat.shut
     }
 
+    /// Whether a session that was opened is shut.
+    fn is_shut(&self, session: SessionId) -> bool
+        requires { (0 < session) × (session ≤ sessions self.now.history) }
+        ensures { result ≡ shut self.now.history session }
+    {
+        self.seats[session.number() as usize - 1].shut
+    }
+
     /// What holds of every book: its history is legal, and what was put into each session's outbox, with what is still in
     /// the plan, is what the history owes it.
     pub fn sound(&self)
         ensures { IsSound self.now }
     {
         let _ = &self.plan;
-    }
-}
-
-/// Notes who missed a record, in room that was made before.
-fn note_missed(missed: &mut Vec<SessionId>, step: Step)
-    requires { vec_len missed.old < vec_capacity missed.old }
-    ensures items { missed.new.items ≡ missed.old.items ++ missed_by step }
-    ensures room { vec_capacity missed.new ≡ vec_capacity missed.old }
-{
-    match step {
-        Step::Put(_) => {}
-        Step::Missed(session) => missed.push_reserved(session),
     }
 }

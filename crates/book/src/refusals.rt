@@ -2,6 +2,7 @@
 ghost use Rattle.std.specs.Prelude.{◌≡◌};
 ghost use Rattle.book.specs.declared.refusals.OpenRefusal.TheVariants as opening;
 ghost use Rattle.book.specs.declared.refusals.LineRefusal.TheVariants as accepting;
+ghost use Rattle.book.specs.declared.refusals.SweepRefusal.TheVariants as sweeping;
 
 use std::alloc::AllocError;
 
@@ -17,7 +18,7 @@ pub enum BookFault {
 /// Why a session wasn't opened.
 #[derive(Clone, Copy, Debug, PartialEq)]
 pub enum OpenRefusal {
-    /// Deliveries of a record are still to be put.
+    /// A plan is out.
     Busy,
     /// As many sessions are there as may be.
     TooManySessions,
@@ -32,7 +33,7 @@ pub enum OpenRefusal {
 /// Why a line wasn't accepted.
 #[derive(Clone, Copy, Debug, PartialEq)]
 pub enum LineRefusal {
-    /// Deliveries of a record are still to be put.
+    /// A plan is out.
     Busy,
     /// There is no such session, or another line of it is next.
     WrongTurn,
@@ -44,6 +45,41 @@ pub enum LineRefusal {
     BadMoment,
     /// A growth was refused.
     Memory,
+}
+
+/// Why a session wasn't hung.
+#[derive(Clone, Copy, Debug, PartialEq)]
+pub enum HangRefusal {
+    /// A plan is out.
+    Busy,
+    /// There is no such session.
+    NoSession,
+    /// The session is shut.
+    Shut,
+    /// The moment is out of range, or before that of the newest record.
+    BadMoment,
+}
+
+/// Why nobody was swept.
+#[derive(Clone, Copy, Debug, PartialEq)]
+pub enum SweepRefusal {
+    /// A plan is out.
+    Busy,
+    /// The moment is out of range, or before that of the newest record.
+    BadMoment,
+    /// A growth was refused.
+    Memory,
+}
+
+/// Why a session wasn't reaped.
+#[derive(Clone, Copy, Debug, PartialEq)]
+pub enum ReapRefusal {
+    /// A plan is out.
+    Busy,
+    /// There is no such session.
+    Stranger,
+    /// The session isn't gone.
+    NotGone,
 }
 
 /// Why nothing was taken.
@@ -68,5 +104,13 @@ impl From<AllocError> for LineRefusal {
 
     fn from(_: AllocError) -> LineRefusal {
         LineRefusal::Memory
+    }
+}
+
+impl From<AllocError> for SweepRefusal {
+    ghost from_gives = { λ _ e. e ≡ sweeping.Memory };
+
+    fn from(_: AllocError) -> SweepRefusal {
+        SweepRefusal::Memory
     }
 }

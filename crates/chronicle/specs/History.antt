@@ -1,9 +1,13 @@
 -- Records and which histories are legal: this project's own journal. A history is a list of records, the newest first.
-use Rattle.std.specs.Prelude.{◌≡◌, ℕ, ℤ, pos, ◌≤ℤ◌, ◌+◌, ◌<◌, ◌≤◌, Bool, true, false, ◌||◌, ◌==◌, cond, List, [], ◌∷◌, ◌++◌, length}
+use Rattle.std.specs.Prelude.{◌≡◌, ℕ, ℤ, pos, ◌≤ℤ◌, ◌+◌, ◌<◌, ◌≤◌, Bool, true, false, ◌||◌, ◌&&◌, ◌==◌, cond, List, [], ◌∷◌, ◌++◌, length, codes, Option, Some, None}
+use Rattle.std.specs.Str.{str_eq_ignore_ascii_case}
 use Rattle.std.specs.List.{list_any}
+use Rattle.line_grammar.specs.declared.message.Message.{Message}
 use Rattle.line_grammar.specs.declared.splitter.Piece.{Piece}
+use Rattle.line_grammar.specs.declared.splitter.Piece.TheVariants.{Line, TooLong}
+use Rattle.line_grammar.specs.Reading.{reading}
 use Rattle.chronicle.specs.declared.record.Kind.{Kind}
-use Rattle.chronicle.specs.declared.record.Kind.TheVariants.{Opened, Said}
+use Rattle.chronicle.specs.declared.record.Kind.TheVariants.{Opened, Said, Hung, Gone}
 use Rattle.chronicle.specs.declared.record.Record.{Record}
 
 -- a record, as a history has it
@@ -32,11 +36,15 @@ last_moment (r ∷ h) = r.moment
 abbrev pub actor : Kind → ℕ
 actor (Opened s host) = s
 actor (Said s i piece) = s
+actor (Hung s why) = s
+actor (Gone s) = s
 
 -- how many sessions were opened
 abbrev pub opened_by : Kind → ℕ
 opened_by (Opened s host) = 1
 opened_by (Said s i piece) = 0
+opened_by (Hung s why) = 0
+opened_by (Gone s) = 0
 
 abbrev pub sessions : List Rec → ℕ
 sessions [] = 0
@@ -46,6 +54,8 @@ sessions (r ∷ h) = opened_by r.kind + sessions h
 abbrev pub said_by : Kind → ℕ → List Piece
 said_by (Opened s host) t = []
 said_by (Said s i piece) t = cond (s == t) (piece ∷ []) []
+said_by (Hung s why) t = []
+said_by (Gone s) t = []
 
 -- the accepted pieces of a session, in order
 abbrev pub accepted : List Rec → ℕ → List Piece
@@ -56,7 +66,36 @@ accepted (r ∷ h) t = accepted h t ++ said_by r.kind t
 abbrev pub misses : Rec → ℕ → Bool
 misses r t = list_any (λ u. u == t) r.missed
 
--- whether a session is shut: by the first record that misses it
+-- a message that asks to quit: RFC 2812, section 3.1.7. Names of commands are taken in either case
+abbrev pub asks_to_quit : Option Message → Bool
+asks_to_quit None = false
+asks_to_quit (Some m) = str_eq_ignore_ascii_case m.command (codes "QUIT")
+
+-- a piece that asks to quit
+unfoldable pub is_quit : Piece → Bool
+is_quit TooLong = false
+is_quit (Line line) = asks_to_quit (reading line)
+
+-- whether a record ends a session by what it says
+abbrev pub ends : Kind → ℕ → Bool
+ends (Opened s host) t = false
+ends (Said s i piece) t = s == t && is_quit piece
+ends (Hung s why) t = s == t
+ends (Gone s) t = false
+
+-- whether a session is shut: by the first record that misses it, or ends it
 abbrev pub shut : List Rec → ℕ → Bool
 shut [] t = false
-shut (r ∷ h) t = misses r t || shut h t
+shut (r ∷ h) t = misses r t || ends r.kind t || shut h t
+
+-- whether a record says that a session is gone
+abbrev pub leaves : Kind → ℕ → Bool
+leaves (Opened s host) t = false
+leaves (Said s i piece) t = false
+leaves (Hung s why) t = false
+leaves (Gone s) t = s == t
+
+-- whether a session is gone
+abbrev pub gone : List Rec → ℕ → Bool
+gone [] t = false
+gone (r ∷ h) t = leaves r.kind t || gone h t

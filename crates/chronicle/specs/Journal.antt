@@ -1,5 +1,5 @@
 -- What clauses see of a journal: the history and the room that was made.
-use Rattle.std.specs.Prelude.{◌≡◌, ℕ, ℤ, ◌+◌, ◌-◌, ◌≤◌, List, [], ◌∷◌, ◌++◌, length, reverse, slice_get, ◌==◌, cond, Option, Some, None, vec_len, vec_capacity}
+use Rattle.std.specs.Prelude.{◌≡◌, ℕ, ℤ, ◌+◌, ◌-◌, ◌≤◌, List, [], ◌∷◌, ◌++◌, length, reverse, slice_get, ◌==◌, cond, Option, Some, None}
 use Rattle.std.specs.Borrow.{Bor}
 use Rattle.chronicle.specs.declared.record.Kind.{Kind}
 use Rattle.chronicle.specs.declared.record.Record.{Record}
@@ -16,7 +16,7 @@ pub record Shown : Type 0 where
 
 abbrev pub room_left : List Record → ℕ
 room_left [] = 0
-room_left (r ∷ rs) = vec_capacity r.missed - vec_len r.missed
+room_left (r ∷ rs) = r.missed.capacity - length r.missed.items
 
 -- each record's number is its place
 abbrev pub IsNumbered : List Record → Type 0

@@ -2,6 +2,7 @@
 ghost use Rattle.std.specs.Prelude.{◌≡◌, ◌<◌, ◌≤◌, ◌+◌, ◌-◌, ◌↔◌, ◌∷◌, [], length, OnOk, OnErr, IfOk, IsErrOf};
 
 use crate::{Kind, Moment, Record, RecordNumber, SessionId};
+use smallvec::SmallVec;
 use std::alloc::{AllocError, Global};
 use std::marker::Model;
 use std::mem;
@@ -20,7 +21,7 @@ pub enum JournalRefusal {
 pub struct Journal {
     records: Vec<Record>,
     limit: usize,
-    prepared: Vec<SessionId>,
+    prepared: SmallVec<SessionId, 1>,
 }
 
 impl Model for Journal {
@@ -30,9 +31,9 @@ impl Model for Journal {
 
     ghost Value = { Shown };
 
-    ghost view = { λ a. record { history = map rec_of (reverse a.records.items); limit = a.limit; room = min (vec_capacity a.records - vec_len a.records) (a.limit - length a.records.items); prepared = vec_capacity a.prepared - vec_len a.prepared; left = room_left (reverse a.records.items) } };
+    ghost view = { λ a. record { history = map rec_of (reverse a.records.items); limit = a.limit; room = min (vec_capacity a.records - vec_len a.records) (a.limit - length a.records.items); prepared = a.prepared.capacity - length a.prepared.items; left = room_left (reverse a.records.items) } };
 
-    ghost invariant = { λ a. (length a.records.items ≤ a.limit) × IsNumbered (reverse a.records.items) × (a.prepared.items ≡ []) };
+    ghost invariant = { λ a. (length a.records.items ≤ a.limit) × IsNumbered (reverse a.records.items) × (a.prepared.items ≡ []) × (1 ≤ a.prepared.capacity) };
 }
 
 impl Journal {
@@ -46,7 +47,7 @@ impl Journal {
         Ok(Journal {
             records: Vec::new(alloc),
             limit,
-            prepared: Vec::new(alloc),
+            prepared: SmallVec::new(alloc),
         })
     }
 
@@ -68,14 +69,15 @@ impl Journal {
         Ok(())
     }
 
-    /// Appends a record that nobody missed, in room that was made before. It takes no memory.
+    /// Appends a record that nobody missed, in room that was made before. It takes no memory, and one session may always miss it.
     pub fn append(&mut self, moment: Moment, kind: Kind) -> RecordNumber
         requires { 0 < self.old.room }
         ensures number { result ≡ length self.old.history + 1 }
         ensures appended { Appends self.old self.new moment kind }
+        ensures one { 1 ≤ self.new.left }
     {
         let number = RecordNumber::new(self.records.len() as u64 + 1);
-        let fresh = Vec::new(*self.prepared.allocator());
+        let fresh = SmallVec::new(*self.prepared.allocator());
         let missed = mem::replace(&mut self.prepared, fresh);
         self.records.push_reserved(Record {
             number,

@@ -4,10 +4,12 @@
 mod journal;
 mod names;
 mod record;
+mod why;
 
 pub use journal::{Journal, JournalRefusal};
 pub use names::{Moment, RecordNumber, SessionId};
 pub use record::{Kind, Record};
+pub use why::Why;
 
 #[cfg(test)]
 mod tests;

@@ -1,6 +1,7 @@
 //! What the journal is made of.
-use crate::{Moment, RecordNumber, SessionId};
+use crate::{Moment, RecordNumber, SessionId, Why};
 use line_grammar::{Octets, Piece};
+use smallvec::SmallVec;
 
 /// What a record says.
 #[derive(Clone, Debug, Drop, PartialEq)]
@@ -16,6 +17,15 @@ pub enum Kind {
         index: u64,
         piece: Piece,
     },
+    /// The server ended a session.
+    Hung {
+        session: SessionId,
+        why: Why,
+    },
+    /// A session that was shut left its channels and gave its nickname back.
+    Gone {
+        session: SessionId,
+    },
 }
 
 /// A record of the journal.
@@ -28,5 +38,5 @@ pub struct Record {
     /// What it says.
     pub kind: Kind,
     /// The sessions whose outbox had no room for what this record owed them.
-    pub missed: Vec<SessionId>,
+    pub missed: SmallVec<SessionId, 1>,
 }

@@ -1,5 +1,5 @@
 //! What no clause says: that calls succeed, and that a refused growth loses nothing.
-use crate::{Journal, JournalRefusal, Kind, Moment, RecordNumber, SessionId};
+use crate::{Journal, JournalRefusal, Kind, Moment, RecordNumber, SessionId, Why};
 use line_grammar::{Octets, Piece};
 use std::alloc::{AllocError, Global};
 use std::process::Abort;
@@ -70,6 +70,23 @@ fn moments_never_go_back(rt: HostRuntime) -> Result<(), Fail> {
     ] {
         let next = Moment::new(next);
         assert_eq!(rt; next.may_follow(Moment::new(last)), may, "{last} {next:?}");
+    }
+    Ok(())
+}
+
+#[test]
+fn reasons_have_a_word_and_a_text(rt: HostRuntime) -> Result<(), Fail> {
+    for (why, word, text) in [
+        (Why::Quit, "quit", "Client Quit"),
+        (Why::SendQ, "sendq", "Max SendQ exceeded"),
+        (Why::ReadEnded, "ended", "Connection closed"),
+        (Why::ReadFailed, "readfail", "Read error"),
+        (Why::WriteFailed, "writefail", "Write error"),
+        (Why::Memory, "memory", "Out of memory"),
+        (Why::Shutdown, "shutdown", "Server shutting down"),
+    ] {
+        assert_eq!(rt; why.word(), word);
+        assert_eq!(rt; why.text(), text);
     }
     Ok(())
 }

@@ -1,9 +1,9 @@
 -- What a step gave, as it is written: this project's own choice.
-use Rattle.std.specs.Prelude.{◌≡◌, ℕ, Bool, false, true, List, [], ◌∷◌, ◌++◌, Result, Ok, Err, codes, decimal, flat_map, filter}
+use Rattle.std.specs.Prelude.{◌≡◌, ℕ, zero, suc, Bool, false, true, List, [], ◌∷◌, ◌++◌, Result, Ok, Err, codes, decimal, flat_map, filter, slice_index_or}
 use Rattle.line_grammar.specs.Lines.{ended}
 use Rattle.chronicle.specs.declared.names.SessionId.{SessionId}
-use Rattle.book.specs.declared.book.Done.{Done}
-use Rattle.book.specs.declared.item.Item.TheVariants as item
+use Rattle.book.specs.declared.out.Done.{Done}
+use Rattle.outbox.specs.Text.{item_text}
 use Rattle.interleave.specs.declared.event.Event.{Event}
 use Rattle.interleave.specs.declared.event.Event.TheVariants as event
 use Rattle.interleave.specs.declared.event.Note.{Note}
@@ -38,12 +38,13 @@ is_nonempty (b ∷ bs) = true
 abbrev pub lines_after : ℕ → List ℕ → List ℕ → List ℕ
 lines_after session line text = flat_map (line_text session) (filter is_nonempty (continued line (ended text)))
 
-abbrev pub note_text : ℕ → Note → List ℕ
-note_text session (note.Session opened) = numbered (codes "session") opened
-note_text session (note.Read count) = numbered (codes "read") count
-note_text session (note.Done done) = done_text done
-note_text session (note.Item (item.Lines number text)) = lines_after session [] text
-note_text session note.Empty = codes "empty" ++ 10 ∷ []
+-- of a step of a session that has this host
+abbrev pub note_text : ℕ → List ℕ → Note → List ℕ
+note_text session host (note.Session opened) = numbered (codes "session") opened
+note_text session host (note.Read count) = numbered (codes "read") count
+note_text session host (note.Done done) = done_text done
+note_text session host (note.Item item) = lines_after session [] (item_text item host)
+note_text session host note.Empty = codes "empty" ++ 10 ∷ []
 
 abbrev pub open_refusal_name : OpenRefusal → List ℕ
 open_refusal_name open_refusal.Busy = codes "Busy"
@@ -67,10 +68,20 @@ refusal_name (refusal.Book (book_refusal.Open r)) = open_refusal_name r
 refusal_name (refusal.Book (book_refusal.Line r)) = line_refusal_name r
 refusal_name refusal.Memory = codes "Memory"
 
--- what a step of a session gave, or why it was refused
-abbrev pub answer_text : ℕ → Result Note StepRefusal → List ℕ
-answer_text session (Ok note) = note_text session note
-answer_text session (Err refusal) = codes "refused " ++ (refusal_name refusal ++ 10 ∷ [])
+-- the host of a session, by the hosts of all that were opened
+abbrev pub host_of : List (List ℕ) → ℕ → List ℕ
+host_of hosts zero = []
+host_of hosts (suc n) = slice_index_or hosts n []
+
+-- the host that a session of this answer was opened with
+abbrev pub opened_by : List ℕ → Result Note StepRefusal → List (List ℕ)
+opened_by host (Ok (note.Session opened)) = host ∷ []
+opened_by host answer = []
+
+-- what a step of a session that has this host gave, or why it was refused
+abbrev pub answer_text : ℕ → List ℕ → Result Note StepRefusal → List ℕ
+answer_text session host (Ok note) = note_text session host note
+answer_text session host (Err refusal) = codes "refused " ++ (refusal_name refusal ++ 10 ∷ [])
 
 -- the session that an event names; a connect names none
 abbrev pub IsEventOf : ℕ → Event → Type 0

@@ -1,10 +1,12 @@
 //! What a step gave, as it is written.
 ghost use Rattle.std.specs.Prelude.{◌≡◌, ◌++◌, ◌∷◌, [], List, ℕ, OnOk, IfOk};
+ghost use Rattle.outbox.specs.Text.{item_text};
 ghost use Rattle.halld.specs.Escapes.{printed};
 ghost use Rattle.halld.specs.Notes.{numbered, done_text, line_text, lines_after, note_text, open_refusal_name, line_refusal_name, refusal_name, answer_text};
 
 use crate::escape::print_octet;
 use interleave::{BookRefusal, Done, Item, LineRefusal, Note, OpenRefusal, SessionId, StepRefusal};
+use outbox::write_out;
 use std::alloc::{AllocError, Global};
 
 /// The name of a refusal to open a session.
@@ -137,37 +139,55 @@ fn write_lines(
     Ok(())
 }
 
-/// Adds what a step of a session gave.
+/// Adds `S> LINE` for each line of an item. `host` is the session's.
+fn write_item(
+    alloc: Global,
+    out: &mut Vec<u8>,
+    session: SessionId,
+    host: &[u8],
+    item: &Item,
+) -> Result<(), AllocError>
+    ensures { OnOk result (out.new.items ≡ out.old.items ++ lines_after session [] (item_text item.now host.now)) }
+{
+    let mut text = Vec::new(alloc);
+    let (_, written) = write_out(item, host, &mut text);
+    match written {
+        Ok(()) => write_lines(alloc, out, session, &text),
+        Err(_) => Err(AllocError),
+    }
+}
+
+/// Adds what a step of a session gave. `host` is the session's.
 fn write_note(
     alloc: Global,
     out: &mut Vec<u8>,
     session: SessionId,
+    host: &[u8],
     note: &Note,
 ) -> Result<(), AllocError>
-    ensures { OnOk result (out.new.items ≡ out.old.items ++ note_text session note.now) }
+    ensures { OnOk result (out.new.items ≡ out.old.items ++ note_text session host.now note.now) }
 {
     match note {
         Note::Session(opened) => write_number(alloc, out, "session", opened.number()),
         Note::Read(count) => write_number(alloc, out, "read", *count as u64),
         Note::Done(done) => write_done(alloc, out, done),
-        Note::Item(Item::Lines { number: _, text }) => {
-            write_lines(alloc, out, session, text.as_slice())
-        }
+        Note::Item(item) => write_item(alloc, out, session, host, item),
         Note::Empty => out.extend_from_slice(b"empty\n"),
     }
 }
 
-/// The notes of a step, each a line that ends in LF. `session` is the one whose step it was; a connect has none yet, and its notes name none but the new one.
+/// The notes of a step, each a line that ends in LF. `session` is the one whose step it was, and `host` its host; a connect has none yet, and its notes name none but the new one.
 pub(crate) fn notes_of(
     alloc: Global,
     session: SessionId,
+    host: &[u8],
     answer: &Result<Note, StepRefusal>,
 ) -> Result<Vec<u8>, AllocError>
-    ensures { IfOk result (λ notes. notes.items ≡ answer_text session answer.now) }
+    ensures { IfOk result (λ notes. notes.items ≡ answer_text session host.now answer.now) }
 {
     let mut out = Vec::new(alloc);
     match answer {
-        Ok(note) => write_note(alloc, &mut out, session, note)?,
+        Ok(note) => write_note(alloc, &mut out, session, host, note)?,
         Err(refusal) => {
             out.extend_from_slice(b"refused ")?;
             out.extend_from_slice(refusal_name(*refusal).as_bytes())?;

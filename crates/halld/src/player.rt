@@ -1,8 +1,12 @@
 //! A script's lines as they come, and the steps that they ask for.
-ghost use Rattle.std.specs.Prelude.{◌≡◌, ◌+◌, ◌<◌, ◌≤◌, ◌^◌, ◌++◌, ◌∷◌, [], List, ℕ, None, false, length, OnOk, IfErr};
+ghost use Rattle.std.specs.Prelude.{◌≡◌, ◌+◌, ◌<◌, ◌≤◌, ◌^◌, ◌++◌, ◌∷◌, [], List, ℕ, None, true, false, length, Result, OnOk, IfErr};
 ghost use Rattle.std.specs.Io.KnownBytes.{Appends};
-ghost use Rattle.halld.specs.Notes.{IsEventOf, answer_text};
-ghost use Rattle.interleave.specs.Steps.{IsWellShaped};
+ghost use Rattle.halld.specs.Notes.{IsEventOf, host_of, opened_by, answer_text};
+ghost use Rattle.casemapping.specs.Names.{host_shape};
+ghost use Rattle.interleave.specs.Steps.{IsWellShaped, IsStep};
+ghost use Rattle.interleave.specs.declared.event.Event.TheVariants as event;
+ghost use Rattle.interleave.specs.declared.event.Note.{Note};
+ghost use Rattle.interleave.specs.declared.event.StepRefusal.{StepRefusal};
 ghost use Rattle.halld.specs.Script.{NamesHost};
 ghost use Rattle.halld.specs.Lines.{is_bad, first_bad, bad_ahead};
 ghost use Rattle.halld.specs.Faults.{IsFaultAt};
@@ -10,7 +14,8 @@ ghost use Rattle.halld.specs.Faults.{IsFaultAt};
 use crate::entry::PlayFault;
 use crate::notes::notes_of;
 use crate::script::{Step, StepFault, parse_step};
-use interleave::{Event, Note, Play, SessionId, StepRefusal};
+use interleave::{Event, Moment, Note, Play, SessionId, StepRefusal};
+use line_grammar::Octets;
 use std::alloc::Global;
 use std::io::Write;
 
@@ -26,26 +31,28 @@ enum Answer {
     Other,
 }
 
-/// A play, with the part of its script that has come.
+/// A play with the hosts of its sessions, by their numbers, and the part of its script that has come.
 #[derive(Drop)]
 pub(crate) struct Player {
     alloc: Global,
     play: Play,
+    hosts: Vec<Octets>,
     line: Vec<u8>,
     ended: u64,
 }
 
-/// Writes the notes of a session's step.
+/// Writes the notes of a session's step. `host` is the session's.
 fn write_notes<W: Write>(
     alloc: Global,
     session: SessionId,
+    host: &[u8],
     answer: &Result<Note, StepRefusal>,
     output: &mut W,
 ) -> Result<(), PlayFault>
-    ensures written { OnOk result (Appends (W.contents output.old) (W.contents output.new) (answer_text session answer.now)) }
+    ensures written { OnOk result (Appends (W.contents output.old) (W.contents output.new) (answer_text session host.now answer.now)) }
     ensures fault { IfErr result (IsFaultAt None) }
 {
-    let notes = notes_of(alloc, session, answer)?;
+    let notes = notes_of(alloc, session, host, answer)?;
     match output.write_all(&notes) {
         Ok(()) => Ok(()),
         Err(_) => Err(PlayFault::WriteFailed),
@@ -61,9 +68,43 @@ impl Player {
         Player {
             alloc,
             play,
+            hosts: Vec::new(alloc),
             line: Vec::new(alloc),
             ended: 0,
         }
+    }
+
+    /// The host of a session, nothing where it wasn't opened.
+    fn host(&self, session: SessionId) -> &[u8]
+        ensures { result.now ≡ host_of self.now.hosts.items session }
+    {
+        let number = session.number();
+        if number == 0 || self.hosts.len() < number as usize {
+            return &[];
+        }
+        self.hosts[number as usize - 1].as_slice()
+    }
+
+    /// Opens a session and writes the notes of that.
+    fn connect<W: Write>(
+        &mut self,
+        host: Octets,
+        moment: Moment,
+        output: &mut W,
+    ) -> Result<(), PlayFault>
+        requires { host_shape host ≡ true }
+        ensures step { OnOk result ((answer : Result Note StepRefusal) × IsStep self.old.play (event.Connect host moment) answer self.new.play × (self.new.hosts.items ≡ self.old.hosts.items ++ opened_by host answer) × Appends (W.contents output.old) (W.contents output.new) (answer_text 0 [] answer)) }
+        ensures line { self.new.line ≡ self.old.line }
+        ensures ended { self.new.ended ≡ self.old.ended }
+        ensures fault { IfErr result (IsFaultAt None) }
+    {
+        let told = host.clone()?;
+        self.hosts.reserve(1)?;
+        let answer = self.play.step(&Event::Connect { host, moment });
+        if let Ok(Note::Session(_)) = answer {
+            self.hosts.push_reserved(told);
+        }
+        write_notes(self.alloc, SessionId::new(NOBODY), &[], &answer, output)
     }
 
     /// Takes one step and writes its notes.
@@ -75,12 +116,13 @@ impl Player {
     ) -> Result<Answer, PlayFault>
         requires shape { IsWellShaped event.now }
         requires whose { IsEventOf session event.now }
+        ensures step { OnOk result ((answer : Result Note StepRefusal) × IsStep self.old.play event.now answer self.new.play × (self.new.hosts.items ≡ self.old.hosts.items) × Appends (W.contents output.old) (W.contents output.new) (answer_text session (host_of self.old.hosts.items session) answer)) }
         ensures line { self.new.line ≡ self.old.line }
         ensures ended { self.new.ended ≡ self.old.ended }
         ensures fault { IfErr result (IsFaultAt None) }
     {
         let answer = self.play.step(event);
-        write_notes(self.alloc, session, &answer, output)?;
+        write_notes(self.alloc, session, self.host(session), &answer, output)?;
         match answer {
             Ok(Note::Item(_)) => Ok(Answer::Item),
             _ => Ok(Answer::Other),
@@ -109,10 +151,7 @@ impl Player {
         ensures fault { IfErr result (IsFaultAt None) }
     {
         let (session, event) = match step {
-            Step::Connect { host, moment } => (
-                SessionId::new(NOBODY),
-                Event::Connect { host, moment },
-            ),
+            Step::Connect { host, moment } => return self.connect(host, moment, output),
             Step::Feed { session, octets } => (session, Event::Feed { session, octets }),
             Step::Do { session, moment } => (session, Event::Line { session, moment }),
             Step::Take { session } => (session, Event::Take { session }),

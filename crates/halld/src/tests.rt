@@ -206,6 +206,16 @@ fn two_people(rt: HostRuntime) -> Result<(), Fail> {
 }
 
 #[test]
+fn who_quits_is_told(rt: HostRuntime) -> Result<(), Fail> {
+    let script =
+        b"connect h1 0\nconnect h2.example 0\nfeed 2 \"NICK bo\\r\\nUSER b 0 * :Bo\\r\\nQUIT :bye\\r\\nNICK al\\r\\n\"\ndo 2 0\ndo 2 0\ndo 2 0\ndo 2 0\ndrain 2\ndrain 1\n";
+    let want =
+        b"session 1\nsession 2\nread 4\nrecord 3\nrecord 4\nrecord 5\nrefused Shut\n2> ERROR :Closing Link: h2.example (Client Quit)\nempty\nempty\n";
+    tell(&rt, rt.alloc(), script, want)?;
+    Ok(())
+}
+
+#[test]
 fn names_that_differ_by_case_are_one(rt: HostRuntime) -> Result<(), Fail> {
     let script =
         b"connect h1 0\nconnect h2 0\nfeed 1 \"NICK al\\r\\nUSER a 0 * :Al\\r\\nJOIN #A[1]\\r\\n\"\nfeed 2 \"NICK AL\\r\\nNICK bo\\r\\nUSER b 0 * :Bo\\r\\nJOIN #a{1}\\r\\n\"\ndo 1 0\ndo 1 0\ndo 1 0\ndo 2 0\ndo 2 0\ndo 2 0\ndo 2 0\ndrain 1\n";
@@ -380,7 +390,7 @@ fn refusals(rt: HostRuntime) -> Result<(), Fail> {
             b"refused Shut\n",
         ),
     ] {
-        let notes = twice(|| notes_of(rt.alloc(), SessionId::new(1), &Err(refusal)))?;
+        let notes = twice(|| notes_of(rt.alloc(), SessionId::new(1), b"h1", &Err(refusal)))?;
         assert_eq!(rt; notes.as_slice(), want, "{refusal:?}");
     }
     Ok(())

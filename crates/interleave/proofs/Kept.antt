@@ -2,19 +2,20 @@
 use Rattle.std.proofs.Math.ListN.{get_or-map}
 use Rattle.std.proofs.lemmas.List.{get_or-set_same, get_or-set_other, get_or_push, get_or_append_left, get_or_default, length-set, map-set}
 use Rattle.std.proofs.lemmas.Bool.Decides.{eqb_tells}
-use Rattle.std.proofs.Common.{◌≡◌, ◌≢◌, inl, inr, ℕ, ℤ, ◌+◌, ◌-◌, ◌<◌, ◌≤◌, List, [], ◌∷◌, ◌++◌, length, map, slice_set, slice_index_or, arith, sym, ap, ◌∙◌, subst, append-nil, append_assoc, length-append}
+use Rattle.std.proofs.Common.{◌≡◌, ◌≢◌, inl, inr, ℕ, ℤ, ◌+◌, ◌-◌, ◌<◌, ◌≤◌, List, [], ◌∷◌, ◌++◌, length, map, slice_set, slice_index_or, true, false, Option, Some, None, arith, refl, sym, ap, ◌∙◌, subst, append-nil, append_assoc, length-append}
+use Rattle.std.specs.Option.{is_some}
 use Rattle.line_grammar.specs.declared.splitter.Piece.{Piece}
 use Rattle.line_grammar.specs.Lines.{lines}
+use Rattle.chronicle.specs.declared.record.Kind.TheVariants.{Said}
 use Rattle.chronicle.specs.History.{sessions, accepted, shut}
-use Rattle.book.specs.declared.book.Done.{Done}
-use Rattle.book.specs.Ring.{Waiting}
-use Rattle.book.specs.Book.{Shown, Turn, MayBegin, opened, after_line, IsSound}
-use Rattle.book.specs.Told.{IsKnown}
+use Rattle.book.specs.declared.out.Done.{Done}
+use Rattle.outbox.specs.Ring.{Waiting}
+use Rattle.book.specs.Book.{Shown, Turn, MayBegin, IsKnown, is_here, opened, done, IsSound}
 use Rattle.interleave.specs.Inbox.{Held, IsRead, IsAccepted}
 use Rattle.interleave.specs.State.{Seen, inbox_at}
 use Rattle.interleave.specs.Kept.{seen_of, state_of, no_inbox, held_at, turn_of, IsKept}
 use Rattle.interleave.specs.Steps.{IsFeed, IsLine}
-use Rattle.interleave.proofs.Lines.{line_idle, line_outboxes, line_same, line_other, none_accepted}
+use Rattle.interleave.proofs.Lines.{line_outboxes, line_here, line_same, line_other, none_accepted}
 
 -- the inbox of session t as it is to be
 record IsHeld (m : Shown) (b : Held) (t : ℕ) : Type 0 where
@@ -30,9 +31,9 @@ kept_at m boxes p s b e l is i =
     subst (λ (x : Held). IsHeld m x s) (sym same) (record { turn = i.turns s from to; accepted = i.accepted s from to })
 
 -- one inbox changes, and with it the book at its session alone
-set_kept : (m k : Shown) (boxes : List Held) (p s : ℕ) (c : Held) → p + 1 ≡ s → p < length boxes → IsKept m boxes → k.plan ≡ [] → length k.outboxes ≡ length m.outboxes → IsHeld k c s
+set_kept : (m k : Shown) (boxes : List Held) (p s : ℕ) (c : Held) → p + 1 ≡ s → p < length boxes → IsKept m boxes → k.busy ≡ false → length k.outboxes ≡ length m.outboxes → ((t : ℕ) → is_here m.outboxes t ≡ true → is_here k.outboxes t ≡ true) → IsHeld k c s
     → ((t : ℕ) → s ≢ t → accepted k.history t ≡ accepted m.history t) → IsKept k (slice_set boxes p c)
-set_kept m k boxes p s c e l i idle len here others =
+set_kept m k boxes p s c e l i idle len stays here others =
     let size : length (slice_set boxes p c) ≡ length boxes = simp length-set in
     let at : (t : ℕ) → 0 < t → t ≤ length boxes → IsHeld k (held_at (slice_set boxes p c) t) t =
     λ t from to.
@@ -50,6 +51,7 @@ set_kept m k boxes p s c e l i idle len here others =
     ] in
     record {
       idle = idle;
+      here = λ t from to. stays t (i.here t from (let z = len in omega arith));
       inboxes = size ∙ i.inboxes ∙ sym len;
       turns = λ t from to. (at t from (let z = size in omega arith)).turn;
       accepted = λ t from to. (at t from (let z = size in omega arith)).accepted;
@@ -57,12 +59,12 @@ set_kept m k boxes p s c e l i idle len here others =
 
 -- ---- a line is accepted
 
-line_held : (m : Shown) (s : ℕ) (b c : Held) (moment : ℤ) (d : Done) (k : Shown) → IsHeld m b s → (a : IsAccepted b m moment d c k) → k ≡ after_line m s (length (accepted m.history s)) a.piece moment
-line_held m s b c moment d k i a = a.book ∙ ap (λ (u : Turn). after_line m u.session u.next a.piece moment) i.turn
+line_held : (m : Shown) (s : ℕ) (b c : Held) (moment : ℤ) (d : Done) (k : Shown) → IsHeld m b s → (a : IsAccepted b m moment d c k) → k ≡ done m (Said s (length (accepted m.history s)) a.piece) moment
+line_held m s b c moment d k i a = a.book ∙ ap (λ (u : Turn). done m (Said u.session u.next a.piece) moment) i.turn
 
 pub line_kept : (m : Shown) (boxes : List Held) (p s : ℕ) (b c : Held) (moment : ℤ) (d : Done) (k : Shown) → p + 1 ≡ s → p < length boxes → b ≡ slice_index_or boxes p b → IsKept m boxes → IsAccepted b m moment d c k → IsKept k (slice_set boxes p c)
 line_kept m boxes p s b c moment d k e l is i a =
-    let held = kept_at m boxes p s b e l is i in let n = length (accepted m.history s) in let j : Shown = after_line m s n a.piece moment in
+    let held = kept_at m boxes p s b e l is i in let n = length (accepted m.history s) in let j : Shown = done m (Said s n a.piece) moment in
     let book : k ≡ j = line_held m s b c moment d k held a in
     let more : accepted j.history s ≡ accepted m.history s ++ a.piece ∷ [] = line_same m s n a.piece moment in
     let size : length (accepted j.history s) ≡ n + 1 = ap length more ∙ length-append (accepted m.history s) (a.piece ∷ []) in
@@ -71,7 +73,7 @@ line_kept m boxes p s b c moment d k e l is i a =
     ap (λ (x : Held). accepted j.history s ++ x.unread) a.inbox ∙ ap (λ xs. xs ++ a.rest) more ∙ append_assoc (accepted m.history s) (a.piece ∷ []) a.rest
     ∙ ap (λ xs. accepted m.history s ++ xs) (sym a.next) ∙ held.accepted ∙ ap (λ (x : Held). lines x.fed) (sym a.inbox) in
     subst (λ (x : Shown). IsKept x (slice_set boxes p c)) (sym book)
-    (set_kept m j boxes p s c e l i (line_idle m s n a.piece moment) (line_outboxes m s n a.piece moment) (record { turn = turn; accepted = all }) (line_other m s n a.piece moment))
+    (set_kept m j boxes p s c e l i refl (line_outboxes m s n a.piece moment) (line_here m s n a.piece moment) (record { turn = turn; accepted = all }) (line_other m s n a.piece moment))
 
 -- ---- what is seen of an inbox
 
@@ -88,7 +90,7 @@ pub line_step : (m : Shown) (sendq : ℕ) (boxes : List Held) (p s : ℕ) (b c :
 line_step m sendq boxes p s b c moment d k e l is known i a =
     let held = kept_at m boxes p s b e l is i in let n = length (accepted m.history s) in
     let here : inbox_at (state_of m sendq boxes) s ≡ seen_of b = seen_is m sendq boxes s ∙ ap seen_of (sym (held_is boxes p s b e l is)) in
-    let book : k ≡ after_line m s n a.piece moment = line_held m s b c moment d k held a in
+    let book : k ≡ done m (Said s n a.piece) moment = line_held m s b c moment d k held a in
     let seen : seen_of c ≡ record { fed = (inbox_at (state_of m sendq boxes) s).fed; unread = a.rest } =
     ap seen_of a.inbox ∙ ap (λ (x : Seen). record { fed = x.fed; unread = a.rest }) (sym here) in
     record {
@@ -102,7 +104,7 @@ line_step m sendq boxes p s b c moment d k e l is known i a =
       is_shut = a.is_shut ∙ ap (λ (u : Turn). shut k.history u.session) held.turn;
       after =
           ap (λ (x : Shown). state_of x sendq (slice_set boxes p c)) book
-          ∙ ap (λ (xs : List Seen). record { book = after_line m s n a.piece moment; sendq = sendq; inboxes = xs }) (set_seen boxes p s c _ e seen);
+          ∙ ap (λ (xs : List Seen). record { book = done m (Said s n a.piece) moment; sendq = sendq; inboxes = xs }) (set_seen boxes p s c _ e seen);
     }
 
 -- ---- octets are read
@@ -123,12 +125,23 @@ feed_step m sendq boxes p s b c octets n e l is known a =
 
 -- ---- a client connects
 
+-- one more session is here
+push_here : (boxes : List (Option Waiting)) (box : Waiting) (t : ℕ) → 0 < t → (t ≤ length boxes → is_here boxes t ≡ true) → t ≤ length boxes + 1 → is_here (boxes ++ Some box ∷ []) t ≡ true
+push_here boxes box t from before to =
+    elim (eqb_tells t (length boxes + 1)) [
+      | inl last ↦ let p : length boxes ≡ t - 1 = let f = last.1 in omega arith in ap is_some (get_or_push boxes (Some box) None (t - 1) p)
+      | inr other ↦
+          let below : t ≤ length boxes = let ne = other.1 in omega arith in
+          let within : t - 1 < length boxes = omega arith in
+          ap is_some (get_or_append_left boxes (Some box ∷ []) None (t - 1) within) ∙ before below
+    ]
+
 pub connect_kept : (m : Shown) (boxes : List Held) (c : Held) (host : List ℕ) (moment : ℤ) (box : Waiting) → IsSound m → IsKept m boxes → c ≡ record { fed = []; unread = []; turn = record { session = sessions m.history + 1; next = 0 } }
     → IsKept (opened m host moment box) (boxes ++ c ∷ [])
 connect_kept m boxes c host moment box sound i is =
     let k : Shown = opened m host moment box in let n = length boxes in
     let size : length (boxes ++ c ∷ []) ≡ n + 1 = length-append boxes (c ∷ []) in
-    let outs : length (m.outboxes ++ box ∷ []) ≡ length m.outboxes + 1 = length-append m.outboxes (box ∷ []) in
+    let outs : length (m.outboxes ++ Some box ∷ []) ≡ length m.outboxes + 1 = length-append m.outboxes (Some box ∷ []) in
     let count : sessions m.history ≡ n = sound.sessions ∙ sym i.inboxes in
     let same : (t : ℕ) → accepted k.history t ≡ accepted m.history t = λ t. append-nil (accepted m.history t) in
     let at : (t : ℕ) → 0 < t → t ≤ n + 1 → IsHeld k (held_at (boxes ++ c ∷ []) t) t =
@@ -149,6 +162,7 @@ connect_kept m boxes c host moment box sound i is =
     ] in
     record {
       idle = i.idle;
+      here = λ t from to. push_here m.outboxes box t from (i.here t from) (let z = outs in omega arith);
       inboxes = size ∙ ap (λ (j : ℕ). j + 1) i.inboxes ∙ sym outs;
       turns = λ t from to. (at t from (let z = size in omega arith)).turn;
       accepted = λ t from to. (at t from (let z = size in omega arith)).accepted;

@@ -1,11 +1,12 @@
 -- Deliveries are owed in the order of their records.
 use Rattle.std.proofs.Common.{◌≡◌, ℕ, ◌+◌, ◌<◌, ◌≤◌, Bool, true, false, ◌||◌, cond, List, [], ◌∷◌, ◌++◌, length, arith, sym, ap, ◌∙◌, subst, append-nil}
-use Rattle.chronicle.specs.History.{Rec, misses, shut}
-use Rattle.book.specs.declared.item.Item.{Item}
-use Rattle.book.specs.declared.item.Item.TheVariants.{Lines}
-use Rattle.book.specs.Deeds.{facts}
-use Rattle.book.specs.Lines as told
-use Rattle.book.specs.Owed.{item, delivery, owed}
+use Rattle.chronicle.specs.declared.why.Why.{Why}
+use Rattle.chronicle.specs.History.{Rec, misses, ends, shut}
+use Rattle.outbox.specs.declared.item.Item.{Item}
+use Rattle.outbox.specs.declared.item.Item.TheVariants.{Lines, Last}
+use Rattle.deeds.specs.Deeds.{facts}
+use Rattle.deeds.specs.Lines as told
+use Rattle.book.specs.Owed.{item, reason, delivery, owed}
 use Rattle.book.specs.Book.{planned}
 use Rattle.interleave.specs.State.{State, IsSound, ForEach, inbox_at, taken_of, queue_of}
 use Rattle.interleave.specs.Order.{IsPrefix, number_of, AreAfter, IsRising}
@@ -37,6 +38,11 @@ record IsUpTo (n : ℕ) (xs : List Item) : Type 0 where
   pub rises : IsRising xs
   pub most : AtMost n xs
 
+last_up : (n : ℕ) (xs : List Item) (why : Why) → IsUpTo n xs → IsUpTo (n + 1) (xs ++ Last (n + 1) why ∷ [])
+last_up n xs why u =
+    let y : Item = Last (n + 1) why in
+    record { rises = rising_push n y xs u.rises u.most (omega arith); most = most_push n (n + 1) y xs (omega arith) u.most (omega arith) }
+
 item_up : (n : ℕ) (xs : List Item) (ls : List (List ℕ)) → IsUpTo n xs → IsUpTo (n + 1) (xs ++ item (n + 1) ls)
 item_up n xs [] u = subst (IsUpTo (n + 1)) (sym (append-nil xs)) (record { rises = u.rises; most = most_more n (n + 1) xs (omega arith) u.most })
 item_up n xs (l ∷ ls) u =
@@ -50,7 +56,11 @@ owed_up (r ∷ h) t =
     subst (λ (n : ℕ). IsUpTo n (owed (r ∷ h) t)) one
     (elim (misses r t || shut h t) as (λ (b : Bool). IsUpTo (length h + 1) (owed h t ++ cond b [] (delivery h r.kind t))) [
       | true ↦ item_up (length h) (owed h t) [] (owed_up h t)
-      | false ↦ item_up (length h) (owed h t) (told.lines (facts h) r.kind t) (owed_up h t)
+      | false ↦
+          elim (ends r.kind t) as (λ (b : Bool). IsUpTo (length h + 1) (owed h t ++ cond b (Last (length h + 1) (reason r.kind) ∷ []) (item (length h + 1) (told.lines (facts h) r.kind t)))) [
+            | true ↦ last_up (length h) (owed h t) (reason r.kind) (owed_up h t)
+            | false ↦ item_up (length h) (owed h t) (told.lines (facts h) r.kind t) (owed_up h t)
+          ]
     ])
 
 pub once_in_order : OnceInOrder
@@ -73,7 +83,7 @@ prefix_rises h t xs p = rising_front xs p.0 (subst IsRising (sym p.1) (once_in_o
 -- what was taken and what waits is owed
 pub sound_owed : (m : State) → IsSound m → ForEach m (λ t. taken_of m t ++ queue_of m t ≡ owed m.book.history t)
 sound_owed m i t from to =
-    sym (append-nil (taken_of m t ++ queue_of m t)) ∙ ap (λ ps. (taken_of m t ++ queue_of m t) ++ planned ps t) (sym i.idle) ∙ i.book.owed t from to
+    sym (append-nil (taken_of m t ++ queue_of m t)) ∙ ap (λ ps. (taken_of m t ++ queue_of m t) ++ planned ps t) (sym (i.book.idle i.idle)) ∙ i.book.owed t from to (i.here t from to)
 
 pub taken_in_order : TakenInOrder
 taken_in_order m i t from to =

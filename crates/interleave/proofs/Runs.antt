@@ -3,16 +3,16 @@ use Rattle.std.proofs.Math.ListN.{get_or-map}
 use Rattle.std.proofs.Math.Seq.{map-set_same}
 use Rattle.std.proofs.lemmas.List.{get_or-set_same, get_or-set_other}
 use Rattle.std.proofs.lemmas.Bool.Decides.{eqb_tells}
-use Rattle.std.proofs.Common.{◌≡◌, ◌≢◌, inl, inr, ℕ, ℤ, zero, suc, ◌-◌, ◌<◌, ◌≤◌, true, false, ◌==◌, cond, List, [], ◌∷◌, ◌++◌, length, take, slice_get, slice_set, slice_index_or, Some, Result, Ok, Err, arith, refl, sym, ap, ◌∙◌, subst, append-nil, append_assoc}
+use Rattle.std.proofs.Common.{◌≡◌, ◌≢◌, inl, inr, ℕ, ℤ, zero, suc, ◌-◌, ◌<◌, ◌≤◌, true, false, ◌==◌, cond, List, [], ◌∷◌, ◌++◌, length, take, slice_get, slice_set, slice_index_or, Option, Some, None, Result, Ok, Err, arith, refl, sym, ap, ◌∙◌, subst, append-nil, append_assoc}
 use Rattle.line_grammar.specs.declared.splitter.Piece.{Piece}
 use Rattle.line_grammar.specs.Lines.{lines}
 use Rattle.chronicle.specs.declared.record.Kind.TheVariants.{Said}
 use Rattle.chronicle.specs.History.{accepted}
-use Rattle.book.specs.declared.item.Item.{Item}
+use Rattle.outbox.specs.declared.item.Item.{Item}
 use Rattle.book.specs.declared.plan.Planned.{Planned}
 use Rattle.book.specs.Owed.{owed}
-use Rattle.book.specs.Ring.{Waiting, empty_ring, has_room, with_taken}
-use Rattle.book.specs.Told.{IsKnown}
+use Rattle.outbox.specs.Ring.{Waiting, empty_ring, has_room, with_taken}
+use Rattle.book.specs.Book.{IsKnown}
 use Rattle.book.specs.Book as book
 use Rattle.interleave.specs.declared.event.Event.{Event}
 use Rattle.interleave.specs.declared.event.Event.TheVariants.{Connect, Feed, Line, Take}
@@ -59,7 +59,10 @@ set_gains f xs s t v d ys a b l e =
 
 -- ---- what the book's steps do to what was taken
 
-abbrev taken_at : List Waiting → ℕ → List Item
+abbrev taken_in : Option Waiting → List Item
+taken_in o = (book.box_of o).taken
+
+abbrev taken_at : List (Option Waiting) → ℕ → List Item
 taken_at boxes t = (book.outbox_at boxes t).taken
 
 puts_keep : (m : book.Shown) (ps : List Planned) (t : ℕ) → taken_at (book.put_all m ps).outboxes t ≡ taken_at m.outboxes t
@@ -67,7 +70,7 @@ puts_keep m [] t = refl
 puts_keep m (p ∷ ps) t =
     let one : taken_at (book.put_next m (p ∷ ps)).outboxes t ≡ taken_at m.outboxes t =
     elim (has_room (book.outbox_at m.outboxes p.session)) as (λ b. taken_at (cond b (book.delivered m p ps) (book.dropped m p ps)).outboxes t ≡ taken_at m.outboxes t) [
-      | true ↦ set_alike (λ (b : Waiting). b.taken) m.outboxes (p.session - 1) (t - 1) _ (empty_ring 0) refl
+      | true ↦ set_alike taken_in m.outboxes (p.session - 1) (t - 1) _ None refl
       | false ↦ refl
     ] in
     puts_keep (book.put_next m (p ∷ ps)) ps t ∙ one
@@ -85,7 +88,7 @@ connect_gains : (m : State) (t : ℕ) (host : List ℕ) (moment : ℤ) → Gains
 connect_gains m t host moment =
     record {
       fed = push_alike (λ (b : Seen). b.fed) m.inboxes (t - 1) nothing_fed nothing_fed refl ∙ sym (append-nil _);
-      taken = push_alike (λ (b : Waiting). b.taken) m.book.outboxes (t - 1) (empty_ring m.sendq) (empty_ring 0) refl ∙ sym (append-nil _);
+      taken = push_alike taken_in m.book.outboxes (t - 1) (Some (empty_ring m.sendq)) None refl ∙ sym (append-nil _);
     }
 
 feed_gains : (m : State) (s t : ℕ) (octets : List ℕ) (added : List Piece) → 0 < t → IsSound m → IsKnown m.book s → Gains m (fed m s octets added) t (cond (s == t) octets []) []
@@ -99,7 +102,7 @@ line_gains m s t piece rest moment =
     let n = length (accepted m.book.history s) in
     record {
       fed = set_alike (λ (b : Seen). b.fed) m.inboxes (s - 1) (t - 1) _ nothing_fed refl ∙ sym (append-nil _);
-      taken = puts_keep (book.begun m.book s n piece moment) (book.plan_of m.book.history (Said s n piece) (length m.book.outboxes)) t ∙ sym (append-nil _);
+      taken = puts_keep (book.begun m.book (Said s n piece) moment) (book.plan_of m.book.history (Said s n piece) (length m.book.outboxes)) t ∙ sym (append-nil _);
     }
 
 take_gains : (m : State) (s t : ℕ) (x : Item) → 0 < t → IsSound m → IsKnown m.book s → slice_get (queue_of m s) 0 ≡ Some x → Gains m (took_one m s) t [] (cond (s == t) (x ∷ []) [])
@@ -108,7 +111,7 @@ take_gains m s t x from i known e =
     let l : s ≤ length m.book.outboxes = omega arith in
     record {
       fed = sym (append-nil _);
-      taken = set_gains (λ (b : Waiting). b.taken) m.book.outboxes s t (with_taken (book.outbox_at m.book.outboxes s)) (empty_ring 0) (x ∷ []) above from l (ap (λ xs. taken_of m s ++ xs) (front (queue_of m s) x e));
+      taken = set_gains taken_in m.book.outboxes s t (Some (with_taken (book.outbox_at m.book.outboxes s))) None (x ∷ []) above from l (ap (λ xs. taken_of m s ++ xs) (front (queue_of m s) x e));
     }
 
 step_gains : (m k : State) (e : Event) (r : Result Note StepRefusal) (t : ℕ) → 0 < t → IsSound m → IsStep m e r k → Gains m k t (sent_by t e r) (took_by t e r)

@@ -2,10 +2,11 @@
 use Rattle.std.specs.Prelude.{◌≡◌, ◌≢◌, ℕ, ℤ, ◌+◌, List, [], ◌∷◌, ◌++◌, length}
 use Rattle.line_grammar.specs.declared.splitter.Piece.{Piece}
 use Rattle.line_grammar.specs.Lines.{lines}
+use Rattle.chronicle.specs.declared.record.Kind.TheVariants.{Said}
 use Rattle.chronicle.specs.History.{shut}
-use Rattle.book.specs.declared.book.Done.{Done}
+use Rattle.book.specs.declared.out.Done.{Done}
 use Rattle.book.specs.declared.refusals.LineRefusal.TheVariants as accepting
-use Rattle.book.specs.Book.{Shown, Turn, MayBegin, IsLineRefusal, after_line, newest_missed}
+use Rattle.book.specs.Book.{Shown, Turn, MayBegin, IsLineRefusal, done, newest_missed}
 use Rattle.interleave.specs.declared.event.BookRefusal.TheVariants.{Open, Line}
 use Rattle.interleave.specs.declared.event.StepRefusal.{StepRefusal}
 use Rattle.interleave.specs.declared.event.StepRefusal.TheVariants.{NoSession, NothingRead, Book, Memory}
@@ -32,7 +33,7 @@ pub record IsAccepted (b : Held) (m : Shown) (moment : ℤ) (d : Done) (c : Held
   pub number : d.number ≡ length m.history + 1
   pub missed : d.missed ≡ newest_missed k.history
   pub is_shut : d.shut ≡ shut k.history b.turn.session
-  pub book : k ≡ after_line m b.turn.session b.turn.next piece moment
+  pub book : k ≡ done m (Said b.turn.session b.turn.next piece) moment
   pub inbox : c ≡ record { fed = b.fed; unread = rest; turn = record { session = b.turn.session; next = b.turn.next + 1 } }
 
 -- why the first unread line wasn't accepted

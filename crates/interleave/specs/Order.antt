@@ -1,7 +1,7 @@
 -- Prefixes, and the order of deliveries: this project's own promise.
 use Rattle.std.specs.Prelude.{◌≡◌, ℕ, ◌<◌, List, [], ◌∷◌, ◌++◌}
-use Rattle.book.specs.declared.item.Item.{Item}
-use Rattle.book.specs.declared.item.Item.TheVariants.{Lines}
+use Rattle.outbox.specs.declared.item.Item.{Item}
+use Rattle.outbox.specs.declared.item.Item.TheVariants.{Lines, Last}
 
 abbrev pub IsPrefix : {X : Type 0} → List X → List X → Type 0
 IsPrefix {X} xs ys = (rest : List X) × (xs ++ rest ≡ ys)
@@ -9,6 +9,7 @@ IsPrefix {X} xs ys = (rest : List X) × (xs ++ rest ≡ ys)
 -- the record that an item is of
 abbrev pub number_of : Item → ℕ
 number_of (Lines number text) = number
+number_of (Last number why) = number
 
 -- each is of a record after number n
 abbrev pub AreAfter : ℕ → List Item → Type 0

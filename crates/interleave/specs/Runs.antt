@@ -1,6 +1,6 @@
 -- Runs of a play, and what is read off events and answers: this project's own promise.
 use Rattle.std.specs.Prelude.{◌≡◌, ℕ, ◌==◌, cond, List, [], ◌∷◌, ◌++◌, Result, Ok}
-use Rattle.book.specs.declared.item.Item.{Item}
+use Rattle.outbox.specs.declared.item.Item.{Item}
 use Rattle.interleave.specs.declared.event.Event.{Event}
 use Rattle.interleave.specs.declared.event.Event.TheVariants.{Feed, Take}
 use Rattle.interleave.specs.declared.event.Note.{Note}

@@ -1,9 +1,10 @@
 -- What clauses see of a play, and what holds of every one: this project's own promise.
-use Rattle.std.specs.Prelude.{◌≡◌, ℕ, ◌-◌, ◌<◌, ◌≤◌, List, [], ◌++◌, length, slice_index_or}
+use Rattle.std.specs.Prelude.{◌≡◌, ℕ, ◌-◌, ◌<◌, ◌≤◌, true, false, List, [], ◌++◌, length, slice_index_or}
 use Rattle.line_grammar.specs.declared.splitter.Piece.{Piece}
 use Rattle.line_grammar.specs.Lines.{lines}
 use Rattle.chronicle.specs.History.{accepted}
-use Rattle.book.specs.declared.item.Item.{Item}
+use Rattle.outbox.specs.declared.item.Item.{Item}
+use Rattle.book.specs.Book.{is_here}
 use Rattle.book.specs.Book as book
 
 -- all octets that were ever fed to a session, which the program doesn't keep, and the lines of them that aren't accepted yet
@@ -34,10 +35,11 @@ queue_of m t = (book.outbox_at m.book.outboxes t).queue
 abbrev pub empty_state : ℕ → ℕ → ℕ → State
 empty_state limit most sendq = record { book = book.empty_book limit most; sendq = sendq; inboxes = [] }
 
--- the promise: the book's own, and the accepted lines of a session and its unread ones are the lines of what was fed
+-- the promise: the book's own, that no session is reaped, and that the accepted lines of a session and its unread ones are the lines of what was fed
 pub record IsSound (m : State) : Type 0 where
   pub book : book.IsSound m.book
-  pub idle : m.book.plan ≡ []
+  pub idle : m.book.busy ≡ false
+  pub here : (t : ℕ) → 0 < t → t ≤ length m.book.outboxes → is_here m.book.outboxes t ≡ true
   pub inboxes : length m.inboxes ≡ length m.book.outboxes
   pub accepted : (t : ℕ) → 0 < t → t ≤ length m.book.outboxes → accepted m.book.history t ++ (inbox_at m t).unread ≡ lines (inbox_at m t).fed
 

@@ -3,13 +3,13 @@ use Rattle.std.specs.Prelude.{◌≡◌, ◌≢◌, ℕ, ℤ, ◌+◌, ◌-◌, 
 use Rattle.line_grammar.specs.declared.splitter.Piece.{Piece}
 use Rattle.line_grammar.specs.Lines.{lines}
 use Rattle.casemapping.specs.Names.{host_shape}
+use Rattle.chronicle.specs.declared.record.Kind.TheVariants.{Said}
 use Rattle.chronicle.specs.History.{sessions, accepted, shut}
-use Rattle.book.specs.declared.book.Done.{Done}
+use Rattle.book.specs.declared.out.Done.{Done}
 use Rattle.book.specs.declared.refusals.OpenRefusal.TheVariants as opening
 use Rattle.book.specs.declared.refusals.LineRefusal.TheVariants as accepting
-use Rattle.book.specs.Ring.{empty_ring}
-use Rattle.book.specs.Book.{MayOpen, MayBegin, IsOpenRefusal, IsLineRefusal, opened, after_line, taken, newest_missed}
-use Rattle.book.specs.Told.{IsKnown}
+use Rattle.outbox.specs.Ring.{empty_ring}
+use Rattle.book.specs.Book.{MayOpen, MayBegin, IsOpenRefusal, IsLineRefusal, IsKnown, opened, done, taken, newest_missed}
 use Rattle.interleave.specs.declared.event.Event.{Event}
 use Rattle.interleave.specs.declared.event.Event.TheVariants.{Connect, Feed, Line, Take}
 use Rattle.interleave.specs.declared.event.Note.{Note}
@@ -37,7 +37,7 @@ fed m s octets added = record { book = m.book; sendq = m.sendq; inboxes = slice_
 
 -- a line of session s was accepted, and the rest is unread
 abbrev pub said : State → ℕ → Piece → List Piece → ℤ → State
-said m s piece rest moment = record { book = after_line m.book s (length (accepted m.book.history s)) piece moment; sendq = m.sendq; inboxes = slice_set m.inboxes (s - 1) (record { fed = (inbox_at m s).fed; unread = rest }) }
+said m s piece rest moment = record { book = done m.book (Said s (length (accepted m.book.history s)) piece) moment; sendq = m.sendq; inboxes = slice_set m.inboxes (s - 1) (record { fed = (inbox_at m s).fed; unread = rest }) }
 
 -- what waited longest for session s was taken
 abbrev pub took : State → ℕ → State

@@ -4,7 +4,7 @@ ghost use Rattle.chronicle.specs.History.{accepted};
 ghost use Rattle.line_grammar.specs.Lines.{lines};
 ghost use Rattle.book.specs.Legal.{IsLegal};
 ghost use Rattle.book.specs.Owed.{owed};
-ghost use Rattle.book.specs.Told.{IsKnown};
+ghost use Rattle.book.specs.Book.{IsKnown};
 ghost use Rattle.casemapping.specs.Names.{host_shape};
 ghost use Rattle.interleave.specs.Limits.{is_well_set};
 

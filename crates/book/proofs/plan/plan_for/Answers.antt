@@ -6,7 +6,7 @@ use Rattle.book.proofs.plan.plan_for.Goals as goal
 pub loop-other-init : goal.loop-other-init
 loop-other-init c =
     let s : c.new-actor.result ≡ c.args.place + 1 = grind (arith, common_steps) in
-    begins c.args.seats.now c.args.number c.args.verdict.now c.args.place c.new-actor.result c.new-plan.result.items c.plan_one.new.plan.items s c.new-plan.ensures.items c.in_ok-plan_one.ensures
+    begins c.args.seats.now c.args.number c.args.verdict.now c.args.quits c.args.place c.new-actor.result c.new-plan.result.items c.plan_actor.new.plan.items s c.new-plan.ensures.items c.in_ok-plan_actor.ensures
 
 pub loop-other-preserved : goal.loop-other-preserved
 loop-other-preserved c =

@@ -1,25 +1,34 @@
-use Rattle.std.proofs.Common.{arith, ◌≡◌, ◌+◌, ◌∷◌, [], ◌++◌, length, sym, ap, ◌∙◌, subst}
+use Rattle.std.proofs.Common.{arith, ◌≡◌, ◌+◌, ◌≤◌, ◌∷◌, [], ◌++◌, length, Some, sym, ap, ◌∙◌, subst}
 use Rattle.std.proofs.lemmas.Grind.{common_steps}
 use Rattle.chronicle.specs.declared.record.Kind.TheVariants.{Opened}
 use Rattle.chronicle.specs.Journal.{fresh_record}
+use Rattle.deeds.specs.declared.deed.Deed.TheVariants as deed
+use Rattle.deeds.specs.Deeds.{facts}
+use Rattle.deeds.specs.Stands.{newcomer, Stands}
 use Rattle.book.specs.Seats.{no_seat}
-use Rattle.book.specs.Book.{MayOpen}
+use Rattle.book.specs.Book.{MayOpen, held}
 use Rattle.book.proofs.KeptSteps.{shown, opened_kept}
-use Rattle.book.proofs.Standing.{newcomer}
 use Rattle.book.proofs.book.Book.open.Goals as goal
 
 pub invariant_of-self-2 : goal.invariant_of-self-2
 invariant_of-self-2 c =
     let a = c.self.inside in
-    let may : MayOpen (shown a.journal a.most a.outboxes.items a.plan.items) c.args.moment = subst (λ m. MayOpen m c.args.moment) (sym c.self.view_is) (c.in-Ok.ensures.ok) in
+    let may : MayOpen (shown a.journal a.most a.outboxes.items a.plan.items a.busy) c.args.moment = subst (λ m. MayOpen m c.args.moment) (sym c.self.view_is) (c.in-Ok.ensures.ok) in
     let session : c.new-session.result ≡ length a.seats.items + 1 = grind (arith, common_steps) in
     let told : c.in-Ok-clone.told ≡ c.args.host = grind (arith, common_steps) in
-    let people : c.push_reserved.new.self.items ≡ a.tables.people.items ++ newcomer c.args.host ∷ [] = grind (arith, common_steps) in
-    let seats : c.push_reserved-2.new.self.items ≡ a.seats.items ++ no_seat ∷ [] = grind (arith, common_steps) in
-    let boxes : c.push_reserved-3.new.self.items ≡ a.outboxes.items ++ c.args.outbox ∷ [] = grind (arith, common_steps) in
+    let same_people : c.reserve_person.new.self.people.items ≡ a.tables.people.items = c.reserve_person.ensures.people in
+    let people : c.open.new.self.people.items ≡ a.tables.people.items ++ newcomer c.args.host ∷ [] = grind (arith, common_steps) in
+    let seats : c.push_reserved.new.self.items ≡ a.seats.items ++ no_seat ∷ [] = grind (arith, common_steps) in
+    let boxes : c.push_reserved-2.new.self.items ≡ a.outboxes.items ++ Some c.args.outbox ∷ [] = grind (arith, common_steps) in
     let same = c.reserve-else-is_err-3.ensures.same in let app = c.append.ensures.appended in
     let history : c.append.new.self.history ≡ fresh_record a.journal.history c.args.moment (Opened c.new-session.result c.in-Ok-clone.told) ∷ a.journal.history =
     app.history ∙ ap (λ h. fresh_record h c.args.moment (Opened c.new-session.result c.in-Ok-clone.told) ∷ h) same.history in
     let limit : c.append.new.self.limit ≡ a.journal.limit = app.limit ∙ same.limit in
-    opened_kept a.journal c.append.new.self a.most a.tables.people.items c.push_reserved.new.self.items a.tables.channels.items a.seats.items c.push_reserved-2.new.self.items
-    a.outboxes.items c.push_reserved-3.new.self.items a.plan.items c.args.host c.in-Ok-clone.told c.args.moment c.new-session.result c.args.outbox c.self.invariant may c.requires.fresh session told history limit people seats boxes
+    let kept : c.held-room.result ≡ held a.journal.history = c.held-room.ensures.kept ∙ ap (λ m. held m.history) (sym c.self.view_is) in
+    let free : held a.journal.history + 2 ≤ c.append.new.self.room = let ok = c.reserve-else-is_err-3.ensures.ok in let more = app.room in grind (arith, common_steps) in
+    let longer : length c.open.new.self.people.items ≡ length a.tables.people.items + 1 = grind (arith, common_steps) in
+    let before : Stands c.reserve_person.new.self.people.items c.reserve_person.new.self.channels.items (facts a.journal.history) =
+    subst (λ ps. Stands ps c.reserve_person.new.self.channels.items (facts a.journal.history)) (sym same_people) (subst (λ V. Stands a.tables.people.items V.items (facts a.journal.history)) (sym c.reserve_person.ensures.channels) c.self.invariant.stands) in
+    let stands = subst (λ ps. Stands c.open.new.self.people.items c.open.new.self.channels.items (deed.Opened (length ps + 1) c.args.host ∷ facts a.journal.history)) same_people (c.open.ensures.stands (facts a.journal.history) before) in
+    opened_kept a.journal c.append.new.self a.most a.tables.people.items c.open.new.self.people.items a.tables.channels.items c.open.new.self.channels.items a.seats.items c.push_reserved.new.self.items
+    a.outboxes.items c.push_reserved-2.new.self.items a.plan.items a.busy c.args.host c.in-Ok-clone.told c.args.moment c.new-session.result c.args.outbox c.self.invariant may c.requires.fresh session told history limit free longer stands seats boxes

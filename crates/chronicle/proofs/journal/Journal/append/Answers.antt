@@ -30,5 +30,5 @@ returns-clause-appended c =
           ∙ ap (λ n. F n ∷ map rec_of (reverse xs)) count ∙ ap (λ k. fresh_record c.args.self.now.history c.args.moment c.args.kind ∷ k) eh;
       limit = el;
       room = rw (c.push_reserved.ensures.len, c.push_reserved.ensures.capacity) (ap (λ n. min (vec_capacity a.records - (vec_len a.records + 1)) (a.limit - n) + 1) longer ∙ room_less (vec_capacity a.records) (vec_len a.records) a.limit (length xs) room ∙ er);
-      left = ap (λ ys. room_left (reverse ys)) all ∙ ap room_left (reverse-append xs (r ∷ [])) ∙ ap (λ m. vec_capacity m - vec_len m) c.replace-missed.ensures.value ∙ ap (λ j. j.prepared) v;
+      left = ap (λ ys. room_left (reverse ys)) all ∙ ap room_left (reverse-append xs (r ∷ [])) ∙ ap (λ m. m.capacity - length m.items) c.replace-missed.ensures.value ∙ ap (λ j. j.prepared) v;
     }

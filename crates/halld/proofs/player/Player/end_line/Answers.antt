@@ -1,4 +1,4 @@
-use Rattle.std.proofs.Common.{◌≡◌, false, List, ℕ, Result, Ok, Err, Some, OnOk, ap, sym, ◌∙◌}
+use Rattle.std.proofs.Common.{◌≡◌, false, Result, Ok, Err, Some, OnOk, ap, sym, ◌∙◌}
 use Rattle.halld.specs.Lines.{is_bad}
 use Rattle.halld.specs.Script.{step_of}
 use Rattle.halld.proofs.Bad.{step_is_good}

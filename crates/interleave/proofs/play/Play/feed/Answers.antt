@@ -1,6 +1,6 @@
 use Rattle.std.proofs.Common.{arith, ◌≡◌, ◌<◌, ◌+◌, length, slice_set, sym, subst}
 use Rattle.std.proofs.lemmas.Grind.{common_steps}
-use Rattle.book.specs.Told.{IsKnown}
+use Rattle.book.specs.Book.{IsKnown}
 use Rattle.interleave.specs.Inbox.{IsRead}
 use Rattle.interleave.specs.Kept.{state_of}
 use Rattle.interleave.specs.Steps.{IsFeed}

@@ -1,0 +1,130 @@
+use Rattle.std.proofs.Common.{arith, ◌≡◌, ◌+◌, ◌-◌, ◌<◌, ◌≤◌, ◌∷◌, true, false, length, vec_len, vec_capacity, Some, slice_set, ℕ, List, [], zero-add, refl, ap, sym, ◌∙◌, subst}
+use Rattle.std.proofs.lemmas.Grind.{common_steps}
+use Rattle.chronicle.specs.declared.record.Kind.TheVariants.{Gone}
+use Rattle.chronicle.specs.Journal.{fresh_record}
+use Rattle.deeds.specs.Tables.{changed_people, changed_channels}
+use Rattle.book.specs.declared.seat.Seat.{Seat}
+use Rattle.chronicle.specs.History.{sessions}
+use Rattle.book.specs.Book.{MaySweep, to_sweep, plan_of, begun, held, newest_actor, newest_next, newest_missed}
+use Rattle.book.proofs.Sweeps.{swept_is}
+use Rattle.book.proofs.KeptSteps.{shown}
+use Rattle.book.proofs.Plans.{planned_from}
+use Rattle.book.proofs.Begins.{begun_is}
+use Rattle.book.proofs.Appends.{sweep_room, gone_plan, gone_kept}
+use Rattle.book.proofs.book.Book.sweep_at.Goals as goal
+
+pub overflow_add-place : goal.overflow_add-place
+overflow_add-place c =
+    let a = c.self.inside in let next = subst (λ m. to_sweep m.history ≡ Some (c.args.place + 1)) (sym c.self.view_is) c.requires.next in
+    let limit : a.journal.limit < 18446744073709551616 = subst (λ m. m.limit < 18446744073709551616) (sym c.self.view_is) c.held-room.ensures.fits in
+    let few = sweep_room a.journal a.most a.tables.people.items a.tables.channels.items a.seats.items a.outboxes.items a.plan.items a.busy c.self.invariant (c.args.place + 1) c.args.moment next in let some = few.0 in let seated = few.1 in let known = few.2 in let room = few.3 in
+    omega arith
+
+pub overflow_add-len : goal.overflow_add-len
+overflow_add-len c =
+    let a = c.self.inside in let next = subst (λ m. to_sweep m.history ≡ Some (c.args.place + 1)) (sym c.self.view_is) c.requires.next in
+    let limit : a.journal.limit < 18446744073709551616 = subst (λ m. m.limit < 18446744073709551616) (sym c.self.view_is) c.held-room.ensures.fits in
+    let few = sweep_room a.journal a.most a.tables.people.items a.tables.channels.items a.seats.items a.outboxes.items a.plan.items a.busy c.self.invariant (c.args.place + 1) c.args.moment next in let some = few.0 in let seated = few.1 in let known = few.2 in let room = few.3 in
+    let len : c.len.result ≡ length a.journal.history = c.len.ensures in omega arith
+
+pub prepare_gone-requires-clause-seated : goal.prepare_gone-requires-clause-seated
+prepare_gone-requires-clause-seated c =
+    let a = c.self.inside in let next = subst (λ m. to_sweep m.history ≡ Some (c.args.place + 1)) (sym c.self.view_is) c.requires.next in
+    let limit : a.journal.limit < 18446744073709551616 = subst (λ m. m.limit < 18446744073709551616) (sym c.self.view_is) c.held-room.ensures.fits in
+    let few = sweep_room a.journal a.most a.tables.people.items a.tables.channels.items a.seats.items a.outboxes.items a.plan.items a.busy c.self.invariant (c.args.place + 1) c.args.moment next in let some = few.0 in let seated = few.1 in let known = few.2 in let room = few.3 in
+    let len : length c.deref.result.now ≡ length a.seats.items = ap length c.deref.ensures.value in omega arith
+
+pub prepare_gone-requires-clause-known : goal.prepare_gone-requires-clause-known
+prepare_gone-requires-clause-known c =
+    let a = c.self.inside in let next = subst (λ m. to_sweep m.history ≡ Some (c.args.place + 1)) (sym c.self.view_is) c.requires.next in
+    let limit : a.journal.limit < 18446744073709551616 = subst (λ m. m.limit < 18446744073709551616) (sym c.self.view_is) c.held-room.ensures.fits in
+    let few = sweep_room a.journal a.most a.tables.people.items a.tables.channels.items a.seats.items a.outboxes.items a.plan.items a.busy c.self.invariant (c.args.place + 1) c.args.moment next in let some = few.0 in let seated = few.1 in let known = few.2 in let room = few.3 in
+    let len : vec_len a.tables.people ≡ length a.tables.people.items = grind (arith, common_steps) in omega arith
+
+pub append-requires : goal.append-requires
+append-requires c =
+    let a = c.self.inside in let next = subst (λ m. to_sweep m.history ≡ Some (c.args.place + 1)) (sym c.self.view_is) c.requires.next in
+    let limit : a.journal.limit < 18446744073709551616 = subst (λ m. m.limit < 18446744073709551616) (sym c.self.view_is) c.held-room.ensures.fits in
+    let few = sweep_room a.journal a.most a.tables.people.items a.tables.channels.items a.seats.items a.outboxes.items a.plan.items a.busy c.self.invariant (c.args.place + 1) c.args.moment next in let some = few.0 in let seated = few.1 in let known = few.2 in let room = few.3 in
+    let kept : c.held-room.result ≡ held a.journal.history = c.held-room.ensures.kept ∙ ap (λ m. held m.history) (sym c.self.view_is) in let ok = c.reserve.ensures.ok in grind (arith, common_steps)
+
+pub commit-requires-clause-known : goal.commit-requires-clause-known
+commit-requires-clause-known c =
+    let a = c.self.inside in let next = subst (λ m. to_sweep m.history ≡ Some (c.args.place + 1)) (sym c.self.view_is) c.requires.next in
+    let limit : a.journal.limit < 18446744073709551616 = subst (λ m. m.limit < 18446744073709551616) (sym c.self.view_is) c.held-room.ensures.fits in
+    let few = sweep_room a.journal a.most a.tables.people.items a.tables.channels.items a.seats.items a.outboxes.items a.plan.items a.busy c.self.invariant (c.args.place + 1) c.args.moment next in let some = few.0 in let seated = few.1 in let known = few.2 in let room = few.3 in
+    let len : vec_len c.prepare.new.tables.people ≡ length a.tables.people.items = grind (arith, common_steps) in omega arith
+
+pub commit-requires-clause-ready : goal.commit-requires-clause-ready
+commit-requires-clause-ready c =
+    let e : vec_len c.prepare.new.tables.channels ≡ length c.self.inside.tables.channels.items = grind (arith, common_steps) in
+    c.in_ok-prepared.ensures.committable c.prepare.new.tables.channels e (grind (arith, common_steps))
+
+pub index_mut-seat-requires : goal.index_mut-seat-requires
+index_mut-seat-requires c =
+    let a = c.self.inside in let next = subst (λ m. to_sweep m.history ≡ Some (c.args.place + 1)) (sym c.self.view_is) c.requires.next in
+    let limit : a.journal.limit < 18446744073709551616 = subst (λ m. m.limit < 18446744073709551616) (sym c.self.view_is) c.held-room.ensures.fits in
+    let few = sweep_room a.journal a.most a.tables.people.items a.tables.channels.items a.seats.items a.outboxes.items a.plan.items a.busy c.self.invariant (c.args.place + 1) c.args.moment next in let some = few.0 in let seated = few.1 in let known = few.2 in let room = few.3 in
+    let len : vec_len a.seats ≡ length a.seats.items = grind (arith, common_steps) in omega arith
+
+-- the record that was appended, and the plan of its deliveries
+history : (c : goal.After-drop-verdict-2) → c.append.new.self.history ≡ fresh_record c.self.inside.journal.history c.args.moment (Gone (c.args.place + 1)) ∷ c.self.inside.journal.history
+history c =
+    let app = c.append.ensures.appended in let session : c.new-session.result ≡ c.args.place + 1 = c.new-session.ensures in
+    app.history ∙ ap (λ h. fresh_record h c.args.moment (Gone c.new-session.result) ∷ h) c.reserve.ensures.same.history ∙ ap (λ (s : ℕ). fresh_record c.self.inside.journal.history c.args.moment (Gone s) ∷ c.self.inside.journal.history) session
+
+limit : (c : goal.After-drop-verdict-2) → c.append.new.self.limit ≡ c.self.inside.journal.limit
+limit c = c.append.ensures.appended.limit ∙ c.reserve.ensures.same.limit
+
+plan : (c : goal.After-drop-verdict-2) → c.in_ok-prepared.prepared.plan.items ≡ plan_of c.self.inside.journal.history (Gone (c.args.place + 1)) (length c.self.inside.outboxes.items)
+plan c =
+    let a = c.self.inside in let v = c.in_ok-prepared.prepared.verdict in let next = subst (λ m. to_sweep m.history ≡ Some (c.args.place + 1)) (sym c.self.view_is) c.requires.next in
+    let number : c.new-number.result ≡ length a.journal.history + 1 = grind (arith, common_steps) in
+    let seats : c.deref.result.now ≡ a.seats.items = c.deref.ensures.value in
+    let made : c.in_ok-prepared.prepared.plan.items ≡ planned_from a.seats.items c.new-number.result v false (c.args.place + 1) 1 (length a.seats.items) =
+    c.in_ok-prepared.ensures.plan ∙ ap (λ (xs : List Seat). planned_from xs c.new-number.result v false (c.args.place + 1) 1 (length xs)) seats in
+    gone_plan a.journal a.most a.tables.people.items a.tables.channels.items a.seats.items a.outboxes.items a.plan.items a.busy c.self.invariant c.args.place c.new-number.result v c.in_ok-prepared.prepared.plan.items
+    next number c.in_ok-prepared.ensures.right made
+
+pub invariant_of-self-2 : goal.invariant_of-self-2
+invariant_of-self-2 c =
+    let a = c.self.inside in let v = c.in_ok-prepared.prepared.verdict in let next = subst (λ m. to_sweep m.history ≡ Some (c.args.place + 1)) (sym c.self.view_is) c.requires.next in
+    let may : MaySweep (shown a.journal a.most a.outboxes.items a.plan.items a.busy) c.args.moment = subst (λ m. MaySweep m c.args.moment) (sym c.self.view_is) c.requires.may in
+    let room : length c.in_ok-prepared.prepared.plan.items ≤ c.append.new.self.left = grind (arith, common_steps) in
+    let kept : c.held-room.result ≡ held a.journal.history = c.held-room.ensures.kept ∙ ap (λ m. held m.history) (sym c.self.view_is) in
+    let ok = c.reserve.ensures.ok in let more = c.append.ensures.appended.room in
+    let free : held a.journal.history ≤ c.append.new.self.room + 1 = grind (arith, common_steps) in
+    let people : c.commit.new.tables.people.items ≡ changed_people a.tables.people.items (c.args.place + 1) v.change = grind (arith, common_steps) in
+    let channels : c.commit.new.tables.channels.items ≡ changed_channels a.tables.channels.items v.change v.hearers = grind (arith, common_steps) in
+    gone_kept a.journal a.most a.tables.people.items a.tables.channels.items a.seats.items a.outboxes.items a.plan.items a.busy c.self.invariant c.append.new.self c.commit.new.tables.people.items
+    c.commit.new.tables.channels.items c.in_ok-prepared.prepared.plan.items c.args.moment c.args.place v c.index_mut-seat.result.now may next c.in_ok-prepared.ensures.right (plan c) (history c) (limit c) room free people channels
+    c.index_mut-seat.ensures.value
+
+pub returns-clause-ok : goal.returns-clause-ok
+returns-clause-ok c =
+    let a = c.self.inside in
+    begun_is a.journal c.append.new.self a.most a.outboxes.items a.plan.items c.in_ok-prepared.prepared.plan.items a.busy (Gone (c.args.place + 1)) c.args.moment (history c) (limit c) (plan c)
+    ∙ ap (λ m. begun m (Gone (c.args.place + 1)) c.args.moment) c.self.view_is
+
+pub returns-clause-out : goal.returns-clause-out
+returns-clause-out c =
+    let a = c.self.inside in let h = a.journal.history in let next = subst (λ m. to_sweep m.history ≡ Some (c.args.place + 1)) (sym c.self.view_is) c.requires.next in
+    let is = swept_is h (c.args.place + 1) next in let eh = history c in
+    let session : c.new-session.result ≡ c.args.place + 1 = c.new-session.ensures in
+    let number : c.new-number.result ≡ length h + 1 = grind (arith, common_steps) in
+    let longer : length c.append.new.self.history ≡ length h + 1 = ap length eh ∙ (let f : length (fresh_record h c.args.moment (Gone (c.args.place + 1)) ∷ h) ≡ length h + 1 = omega arith in f) in
+    let same : sessions c.append.new.self.history ≡ sessions h = ap sessions eh ∙ zero-add (sessions h) in
+    let few = is.1 in let from = is.0 in
+    let none : c.in_ok-prepared.prepared.missed.items ≡ [] = c.in_ok-prepared.ensures.missed.0 in
+    let empty : vec_len c.in_ok-prepared.prepared.missed ≡ 0 = grind (arith, common_steps) in
+    let room = c.in_ok-prepared.ensures.missed.1 in
+    record {
+      busy = refl;
+      number = number ∙ sym longer;
+      session = session ∙ sym (ap newest_actor eh);
+      next = sym (ap newest_next eh);
+      from_1 = omega arith;
+      opened = omega arith;
+      missed = none ∙ sym (ap newest_missed eh);
+      room = omega arith;
+    }

@@ -1,0 +1,89 @@
+//! A plan that is handed out, and what comes of it.
+ghost use Rattle.std.specs.Prelude.{◌≡◌, ◌+◌, ◌<◌, ◌∷◌, ◌++◌, []};
+
+use chronicle::{RecordNumber, SessionId};
+use deeds::Sessions;
+use std::marker::Model;
+
+/// One delivery of a plan.
+#[derive(Clone, Copy, Debug, PartialEq)]
+pub enum Step {
+    /// It was put into the session's outbox.
+    Put(SessionId),
+    /// The session's outbox was full, so it missed the record and is shut.
+    Missed(SessionId),
+}
+
+/// What became of a record.
+#[derive(Debug, Drop)]
+pub struct Done {
+    /// Its number.
+    pub number: RecordNumber,
+    /// Who had no room for what it owed.
+    pub missed: Sessions,
+    /// Whether its own session is shut then.
+    pub shut: bool,
+}
+
+/// What became of a session that was hung.
+#[derive(Clone, Copy, Debug, PartialEq)]
+pub struct Hung {
+    /// The number of the record.
+    pub number: RecordNumber,
+    /// Whether its outbox had no room for the last item.
+    pub missed: bool,
+}
+
+/// A session that was given up.
+#[derive(Clone, Copy, Debug, PartialEq)]
+pub struct Left {
+    /// Its number.
+    pub session: SessionId,
+    /// How many items were left in its outbox.
+    pub count: usize,
+}
+
+/// The deliveries of a record that are still to be put. One plan is out at a time; it is made where a record is appended, and
+/// given back when nothing is left in it. A plan that is dropped leaves its book busy for good.
+#[derive(Debug, Drop)]
+pub struct Plan {
+    pub(crate) number: RecordNumber,
+    pub(crate) session: SessionId,
+    pub(crate) next: Option<u64>,
+    pub(crate) missed: Vec<SessionId>,
+}
+
+impl Model for Plan {
+    ghost use Rattle.std.specs.Prelude.{◌-◌, vec_len, vec_capacity};
+    ghost use Rattle.book.specs.Book.{Out};
+
+    ghost Value = { Out };
+
+    ghost view = { λ a. record { number = a.number; session = a.session; next = a.next; missed = a.missed.items; room = vec_capacity a.missed - vec_len a.missed } };
+}
+
+impl Plan {
+    /// The number of its record.
+    pub fn number(&self) -> RecordNumber
+        ensures { result ≡ self.now.number }
+    {
+        self.number
+    }
+
+    /// The session of its record.
+    pub fn session(&self) -> SessionId
+        ensures { result ≡ self.now.session }
+    {
+        self.session
+    }
+
+    /// Notes a session that missed the record, in room that was made before.
+    pub(crate) fn note(&mut self, session: SessionId)
+        requires { 0 < self.old.room }
+        ensures same { (self.new.number ≡ self.old.number) × (self.new.session ≡ self.old.session) × (self.new.next ≡ self.old.next) }
+        ensures missed { self.new.missed ≡ self.old.missed ++ session ∷ [] }
+        ensures room { self.new.room + 1 ≡ self.old.room }
+    {
+        self.missed.push_reserved(session);
+    }
+}

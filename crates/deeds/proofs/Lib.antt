@@ -1,0 +1,17 @@
+pub mod Same
+pub mod Quitting
+pub mod Places
+pub mod Leaves
+pub mod Members
+pub mod Channels
+pub mod Sharing
+pub mod Standing
+pub mod Apart
+pub mod Decided
+pub mod Quiet
+pub mod Committed
+pub mod Joining
+pub mod Leaving
+pub mod Sending
+pub mod Ready
+pub mod Answered
