@@ -1,22 +1,22 @@
 -- A record establishes nothing about sessions other than its actor, so who was never opened is on no channel and is owed nothing.
 use Rattle.std.proofs.lemmas.Bool.Decides.{eqb_tells}
-use Rattle.std.proofs.Common.{◌≡◌, ◌≢◌, inl, inr, ℕ, ◌+◌, ◌<◌, ◌≤◌, Bool, true, false, not, ◌&&◌, ◌||◌, ◌==◌, cond, List, [], ◌∷◌, ◌++◌, length, arith, refl, sym, ap, ◌∙◌, subst, append-nil, ne_eqb}
+use Rattle.std.proofs.Common.{◌≡◌, ◌≢◌, inl, inr, ℕ, ◌+◌, ◌<◌, Bool, true, false, not, ◌&&◌, ◌||◌, ◌==◌, cond, List, [], ◌∷◌, ◌++◌, length, arith, refl, sym, ap, ◌∙◌, ne_eqb}
 use Rattle.std.specs.List.{list_any}
 use Rattle.std.specs.Option.{is_some}
 use Rattle.chronicle.specs.declared.record.Kind.{Kind}
 use Rattle.chronicle.specs.declared.record.Kind.TheVariants as kind
-use Rattle.chronicle.specs.History.{Rec, opened_by, sessions, said_by, accepted, misses, ends, shut, leaves, gone, is_quit}
+use Rattle.chronicle.specs.History.{Rec, opened_by, sessions, said_by, accepted, misses, ends, shut, leaves, gone}
 use Rattle.deeds.specs.declared.deed.Deed.{Deed}
 use Rattle.deeds.specs.declared.deed.Deed.TheVariants.{Opened, NickSet, UserSet, Enrolled, ChannelMade, Joined, Ended, Gone}
 use Rattle.deeds.specs.declared.command.Command.{Command}
 use Rattle.deeds.specs.declared.command.Command.TheVariants.{Nick, User, Quit, Join, Privmsg, Other}
 use Rattle.outbox.specs.declared.item.Item.{Item}
 use Rattle.deeds.specs.Commands.{command_of}
-use Rattle.deeds.specs.LookBack.{is_same, nick, user, registered, is_held, on, has_member, name, channels, share, why, parting, farewell}
+use Rattle.deeds.specs.LookBack.{is_same, nick, user, registered, is_held, on, has_member, name, channels, why, parting, farewell}
 use Rattle.deeds.specs.Deeds.{when, asked, completed, after, of_command, deeds, facts}
 use Rattle.deeds.specs.Lines.{shown_deed, shown, messages, said, lines, join_line, privmsg_line, quit_line, source}
 use Rattle.deeds.specs.Lines as show
-use Rattle.book.specs.Owed.{item, reason, delivery, owed}
+use Rattle.book.specs.Owed.{item, delivery, owed}
 use Rattle.book.specs.Legal.{IsKind, AreMissed, IsLegal}
 
 -- each fact is about session s or about a channel

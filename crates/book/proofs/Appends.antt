@@ -1,12 +1,11 @@
 -- All that a book keeps stands for its history where a record is appended.
-use Rattle.std.proofs.Common.{◌≡◌, ◌≢◌, ℕ, ℤ, ◌+◌, ◌-◌, ◌<◌, ◌≤◌, Bool, true, false, ◌&&◌, ◌||◌, ◌==◌, cond, List, [], ◌∷◌, ◌++◌, length, slice_set, slice_index_or, Option, Some, None, arith, refl, sym, ap, ◌∙◌, subst, length-append, append-nil, eq-eqb, ne_eqb}
+use Rattle.std.proofs.Common.{◌≡◌, ℕ, ℤ, ◌+◌, ◌-◌, ◌<◌, ◌≤◌, Bool, true, false, ◌&&◌, ◌||◌, ◌==◌, List, [], ◌∷◌, ◌++◌, length, slice_set, slice_index_or, Option, Some, arith, refl, sym, ap, ◌∙◌, subst, length-append, append-nil, eq-eqb}
 use Rattle.std.proofs.lemmas.List.{length-set, get_or-set_same, set-get_or}
 use Rattle.deeds.specs.declared.deed.Deed.TheVariants.{Ended}
 use Rattle.line_grammar.specs.declared.splitter.Piece.{Piece}
-use Rattle.chronicle.specs.declared.record.Kind.{Kind}
-use Rattle.chronicle.specs.declared.record.Kind.TheVariants.{Opened, Said, Hung, Gone}
+use Rattle.chronicle.specs.declared.record.Kind.TheVariants.{Said, Hung, Gone}
 use Rattle.chronicle.specs.declared.why.Why.{Why}
-use Rattle.chronicle.specs.History.{Rec, sessions, said_by, accepted, ends, shut, gone, is_quit, last_moment, IsMomentAfter}
+use Rattle.chronicle.specs.History.{sessions, said_by, accepted, ends, shut, gone, is_quit}
 use Rattle.chronicle.specs.Journal.{fresh_record, Misses}
 use Rattle.chronicle.specs.Journal as journal
 use Rattle.outbox.specs.Ring.{Waiting, has_room, with_put}
@@ -21,8 +20,8 @@ use Rattle.deeds.specs.Stands.{Stands, IsRight, IsGoneRight}
 use Rattle.book.specs.declared.plan.Planned.{Planned}
 use Rattle.book.specs.declared.seat.Seat.{Seat}
 use Rattle.book.specs.Kept.{IsKept}
-use Rattle.book.specs.Seats.{IsSeat, no_seat, seat_at}
-use Rattle.book.specs.Book.{Shown, Turn, MayBegin, MayHang, MaySweep, outbox_at, held, kept_for, plan_of, first, is_to_sweep, to_sweep}
+use Rattle.book.specs.Seats.{no_seat, seat_at}
+use Rattle.book.specs.Book.{Turn, MayBegin, MayHang, MaySweep, outbox_at, held, plan_of, to_sweep}
 use Rattle.book.proofs.Index.{same_within}
 use Rattle.book.proofs.About.{not_gone_yet}
 use Rattle.book.proofs.KeptSteps.{shown, quiet, begun_kept, delivered_kept, dropped_kept, finished_kept}

@@ -1,5 +1,5 @@
 -- What the code has in hand when a record is appended is the next state.
-use Rattle.std.proofs.Common.{◌≡◌, ◌≢◌, inl, inr, ℕ, ℤ, zero, suc, ◌+◌, ◌-◌, ◌<◌, ◌≤◌, Bool, true, false, not, ◌&&◌, ◌||◌, ◌==◌, cond, List, [], ◌∷◌, ◌++◌, length, slice_set, slice_index_or, Option, Some, None, arith, refl, sym, ap, ◌∙◌, subst, lit<, eq-eqb}
+use Rattle.std.proofs.Common.{◌≡◌, ◌≢◌, inl, inr, ℕ, ℤ, zero, suc, ◌+◌, ◌-◌, ◌<◌, ◌≤◌, Bool, true, false, ◌&&◌, ◌==◌, cond, List, [], ◌∷◌, ◌++◌, length, slice_set, Option, Some, None, arith, refl, sym, ap, ◌∙◌, lit<}
 use Rattle.std.proofs.lemmas.Bool.Decides.{eqb_tells}
 use Rattle.std.specs.List.{list_any}
 use Rattle.chronicle.specs.declared.record.Kind.{Kind}
@@ -18,7 +18,7 @@ use Rattle.deeds.specs.Lines.{lines, text_of}
 use Rattle.deeds.specs.Tables.{heard}
 use Rattle.book.specs.declared.plan.Planned.{Planned}
 use Rattle.book.specs.declared.seat.Seat.{Seat}
-use Rattle.book.specs.Owed.{item, reason, delivery}
+use Rattle.book.specs.Owed.{item, reason}
 use Rattle.book.specs.Seats.{IsSeat, seat_at, told, told_to, told_actor}
 use Rattle.book.specs.Book.{Shown, due, puts, others, plan_by, plan_of, begun, outbox_at, delivered, dropped, put_next, put_all, finished, done}
 use Rattle.book.proofs.Begun.{plan_hung}

@@ -1,21 +1,21 @@
 -- A book stays sound where a record is appended whose deliveries are planned.
 use Rattle.std.proofs.lemmas.Bool.Decides.{eqb_tells}
-use Rattle.std.proofs.Common.{◌≡◌, ◌≢◌, ◌⊎◌, inl, inr, ℕ, zero, suc, ◌+◌, ◌-◌, ◌<◌, ◌≤◌, Bool, true, false, ◌||◌, ◌==◌, cond, List, [], ◌∷◌, ◌++◌, length, map, sum_by, arith, refl, sym, ap, ◌∙◌, subst, append-nil, eq-eqb, ne_eqb, zero-add, lit<, lit≤}
+use Rattle.std.proofs.Common.{◌≡◌, ◌≢◌, ◌⊎◌, inl, inr, ℕ, zero, suc, ◌+◌, ◌<◌, ◌≤◌, Bool, true, false, ◌||◌, ◌==◌, cond, List, [], ◌∷◌, ◌++◌, length, sum_by, arith, refl, sym, ap, ◌∙◌, subst, append-nil, eq-eqb, ne_eqb, zero-add, lit<, lit≤}
 use Rattle.std.proofs.lemmas.List.Sums.{sum_by-cons}
 use Rattle.chronicle.specs.declared.why.Why.{Why}
 use Rattle.chronicle.specs.declared.record.Kind.{Kind}
-use Rattle.chronicle.specs.declared.record.Kind.TheVariants.{Opened, Said, Hung, Gone}
-use Rattle.chronicle.specs.History.{Rec, actor, opened_by, sessions, accepted, said_by, ends, leaves, shut, gone, last_moment, IsMomentAfter}
+use Rattle.chronicle.specs.declared.record.Kind.TheVariants.{Hung, Gone}
+use Rattle.chronicle.specs.History.{Rec, actor, opened_by, sessions, ends, leaves, shut, gone, last_moment, IsMomentAfter}
 use Rattle.chronicle.specs.Journal.{fresh_record}
 use Rattle.outbox.specs.declared.item.Item.{Item}
 use Rattle.book.specs.declared.plan.Planned.{Planned}
 use Rattle.outbox.specs.declared.item.Item.TheVariants.{Last}
-use Rattle.book.specs.Owed.{item, reason, delivery, owed}
+use Rattle.book.specs.Owed.{item, reason, delivery}
 use Rattle.book.specs.Legal.{IsKind}
 use Rattle.deeds.specs.Stands.{numbers}
 use Rattle.deeds.specs.Lines.{lines}
 use Rattle.deeds.specs.Deeds.{facts}
-use Rattle.book.specs.Book.{Shown, outbox_at, kept_for, held, due, puts, others, plan_by, plan_of, planned, begun, IsOwed, IsPlan, IsSound}
+use Rattle.book.specs.Book.{Shown, outbox_at, kept_for, held, due, puts, others, plan_by, plan_of, planned, begun, IsPlan, IsSound}
 use Rattle.book.proofs.Sound.{sum_le, kept_less}
 
 pub planned_puts : (k t : ℕ) (xs : List Item) (ps : List Planned) → planned (puts k xs ++ ps) t ≡ cond (k == t) (xs ++ planned ps t) (planned ps t)

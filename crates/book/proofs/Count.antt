@@ -1,6 +1,6 @@
 -- There are no more sessions that aren't reaped than were opened.
 use Rattle.std.proofs.lemmas.List.Sums.{sum_by-cons}
-use Rattle.std.proofs.Common.{◌≡◌, ℕ, ◌+◌, ◌≤◌, Bool, true, false, if◌then◌else◌, List, [], ◌∷◌, length, Option, Some, None, arith, refl, lit≤}
+use Rattle.std.proofs.Common.{◌+◌, ◌≤◌, List, [], ◌∷◌, length, Option, Some, None, arith, lit≤}
 use Rattle.std.specs.List.{sum_by}
 use Rattle.outbox.specs.Ring.{Waiting}
 use Rattle.book.specs.Book.{here_by, count_here}

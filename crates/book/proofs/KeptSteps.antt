@@ -1,13 +1,12 @@
 -- What a book keeps stands for its history over each step.
 use Rattle.std.proofs.lemmas.List.{get_or_push, get_or_append_left, get_or-set_same, get_or-set_other, length-set}
 use Rattle.std.proofs.lemmas.Bool.Decides.{eqb_tells}
-use Rattle.std.proofs.Common.{◌≡◌, ◌≢◌, inl, inr, ℕ, ℤ, ◌+◌, ◌-◌, ◌<◌, ◌≤◌, Bool, true, false, ◌||◌, ◌&&◌, ◌==◌, cond, Option, Some, None, List, [], ◌∷◌, ◌++◌, length, slice_set, slice_index_or, arith, refl, sym, ap, ◌∙◌, subst, append-nil, length-append, eq-eqb, ne_eqb}
+use Rattle.std.proofs.Common.{◌≡◌, ◌≢◌, inl, inr, ℕ, ℤ, ◌+◌, ◌-◌, ◌<◌, ◌≤◌, Bool, true, false, ◌||◌, Option, Some, None, List, [], ◌∷◌, ◌++◌, length, slice_set, arith, refl, sym, ap, ◌∙◌, subst, append-nil, length-append, ne_eqb}
 use Rattle.chronicle.specs.declared.record.Kind.{Kind}
 use Rattle.chronicle.specs.declared.record.Kind.TheVariants.{Opened, Said, Hung, Gone}
-use Rattle.chronicle.specs.History.{Rec, actor, opened_by, sessions, said_by, accepted, misses, ends, leaves, shut, gone, last_moment, IsMomentAfter}
+use Rattle.chronicle.specs.History.{Rec, actor, opened_by, sessions, said_by, accepted, ends, leaves, shut, gone, last_moment, IsMomentAfter}
 use Rattle.chronicle.specs.Journal.{fresh_record, Appends, Misses, miss}
 use Rattle.chronicle.specs.Journal as journal
-use Rattle.deeds.specs.declared.deed.Deed.{Deed}
 use Rattle.deeds.specs.declared.tables.Person.{Person}
 use Rattle.deeds.specs.declared.tables.Channel.{Channel}
 use Rattle.book.specs.declared.seat.Seat.{Seat}
@@ -19,11 +18,11 @@ use Rattle.deeds.specs.Stands.{Stands}
 use Rattle.book.specs.Legal.{IsKind}
 use Rattle.book.specs.Kept.{IsKept}
 use Rattle.book.specs.Seats.{IsSeat, no_seat, seat_at}
-use Rattle.book.specs.Book.{Shown, MayOpen, outbox_at, is_here, held, plan_of, opened, finished, IsPlan, IsSound}
+use Rattle.book.specs.Book.{Shown, MayOpen, outbox_at, is_here, held, plan_of, IsPlan, IsSound}
 use Rattle.book.proofs.About.{not_shut, not_gone, not_accepted}
 use Rattle.book.proofs.Opened.{opened_sound, opened_held}
 use Rattle.book.proofs.Sound.{misses_same, misses_other, held_missed, delivered_sound, dropped_sound, finished_sound, taken_sound, reaped_sound}
-use Rattle.book.proofs.Begun.{begun_sound, held_after}
+use Rattle.book.proofs.Begun.{begun_sound}
 
 abbrev pub shown : journal.Shown → ℕ → List (Option Waiting) → List Planned → Bool → Shown
 shown j most boxes plan busy = record { history = j.history; limit = j.limit; most = most; outboxes = boxes; plan = plan; busy = busy }

@@ -2,7 +2,7 @@
 use Rattle.std.proofs.lemmas.List.{get_or_push, get_or_append_left}
 use Rattle.std.proofs.lemmas.List.Sums.{sum_by-cons, sum_by_push}
 use Rattle.std.proofs.lemmas.Bool.Decides.{eqb_tells}
-use Rattle.std.proofs.Common.{◌≡◌, ◌≢◌, inl, inr, ℕ, ℤ, zero, suc, ◌+◌, ◌-◌, ◌<◌, ◌≤◌, Bool, true, false, ◌||◌, cond, List, [], ◌∷◌, ◌++◌, length, sum_by, slice_index_or, if◌then◌else◌, Option, Some, None, arith, refl, sym, ap, ◌∙◌, subst, append-nil, length-append, lit≤}
+use Rattle.std.proofs.Common.{◌≡◌, inl, inr, ℕ, ℤ, zero, suc, ◌+◌, ◌-◌, ◌<◌, ◌≤◌, Bool, true, false, ◌||◌, cond, List, [], ◌∷◌, ◌++◌, length, sum_by, slice_index_or, Some, None, arith, refl, sym, ap, ◌∙◌, append-nil, length-append, lit≤}
 use Rattle.std.specs.Option.{is_some}
 use Rattle.chronicle.specs.declared.record.Kind.TheVariants.{Opened, Said, Hung, Gone}
 use Rattle.chronicle.specs.declared.record.Kind.{Kind}
@@ -10,12 +10,11 @@ use Rattle.chronicle.specs.History.{Rec, opened_by, sessions, accepted, said_by,
 use Rattle.chronicle.specs.Journal.{fresh_record}
 use Rattle.outbox.specs.declared.item.Item.{Item}
 use Rattle.book.specs.declared.seat.Seat.{Seat}
-use Rattle.outbox.specs.Ring.{Waiting, empty_ring}
+use Rattle.outbox.specs.Ring.{Waiting}
 use Rattle.book.specs.Owed.{owed}
-use Rattle.book.specs.Legal.{IsLegal}
 use Rattle.book.specs.Seats.{no_seat, kept_by, IsSeat, seat_at}
 use Rattle.deeds.specs.Stands.{numbers}
-use Rattle.book.specs.Book.{Shown, MayOpen, box_of, outbox_at, is_here, kept_for, held, planned, opened, IsSound}
+use Rattle.book.specs.Book.{Shown, MayOpen, box_of, kept_for, held, planned, opened, IsSound}
 use Rattle.book.proofs.About.{not_owed}
 
 pub numbers_push : (k n : ℕ) → numbers k (suc n) ≡ numbers k n ++ (k + n) ∷ []

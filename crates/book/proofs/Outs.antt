@@ -1,16 +1,13 @@
 -- The plan that is out stays the one that is out.
 use Rattle.std.proofs.Common.{◌≡◌, ℕ, ◌+◌, ◌<◌, ◌≤◌, Bool, true, false, cond, List, [], ◌∷◌, ◌++◌, length, Option, Some, None, arith, refl, sym, ap, ◌∙◌, subst}
-use Rattle.chronicle.specs.declared.record.Kind.{Kind}
-use Rattle.chronicle.specs.declared.record.Kind.TheVariants.{Opened, Said, Hung, Gone}
-use Rattle.chronicle.specs.History.{Rec, sessions, accepted}
+use Rattle.chronicle.specs.History.{Rec, sessions}
 use Rattle.chronicle.specs.Journal.{miss}
 use Rattle.outbox.specs.Ring.{has_room}
 use Rattle.book.specs.declared.plan.Planned.{Planned}
 use Rattle.book.specs.declared.out.Step.{Step}
 use Rattle.book.specs.declared.out.Step.TheVariants.{Put, Missed}
-use Rattle.book.specs.Legal.{IsKind, IsLegal}
 use Rattle.book.specs.Told.{told_of}
-use Rattle.book.specs.Book.{Shown, outbox_at, delivered, dropped, put_next, put_all, Out, IsOut, newest_missed, newest_actor, newest_next, next_of}
+use Rattle.book.specs.Book.{Shown, outbox_at, delivered, dropped, put_next, Out, IsOut, newest_missed, newest_actor, newest_next}
 
 -- what is noted of a step
 abbrev pub IsNoted : Out → Option Step → Out → Type 0

@@ -1,5 +1,5 @@
 -- What the code has in hand after a delivery is the next state.
-use Rattle.std.proofs.Common.{◌≡◌, ℕ, suc, ◌+◌, ◌-◌, ◌<◌, ◌≤◌, Bool, true, false, cond, List, [], ◌∷◌, length, slice_set, slice_index_or, Option, Some, None, arith, refl, sym, ap, ◌∙◌, subst}
+use Rattle.std.proofs.Common.{◌≡◌, ℕ, ◌-◌, ◌<◌, true, false, cond, List, ◌∷◌, length, slice_set, slice_index_or, Option, Some, sym, ap, ◌∙◌}
 use Rattle.chronicle.specs.History.{Rec}
 use Rattle.chronicle.specs.Journal.{miss}
 use Rattle.book.specs.declared.plan.Planned.{Planned}

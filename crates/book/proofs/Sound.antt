@@ -1,22 +1,21 @@
 -- A book stays sound over its steps.
 use Rattle.std.proofs.lemmas.Grind.{common_steps}
-use Rattle.std.proofs.lemmas.List.{append_cancel_right, get_or-set_same, get_or-set_other, get_or_push, get_or_append_left, length-set}
+use Rattle.std.proofs.lemmas.List.{append_cancel_right, get_or-set_same, get_or-set_other, length-set}
 use Rattle.std.proofs.lemmas.List.Folds.{list_any-append}
 use Rattle.std.proofs.lemmas.List.Sums.{sum_by-cons}
 use Rattle.std.proofs.lemmas.Bool.Decides.{eqb_tells}
-use Rattle.std.proofs.Common.{◌≡◌, ◌≢◌, ◌⊎◌, inl, inr, ℕ, zero, suc, ◌+◌, ◌-◌, ◌<◌, ◌≤◌, Bool, true, false, not, ◌&&◌, ◌||◌, ◌==◌, cond, List, [], ◌∷◌, ◌++◌, length, map, slice_set, slice_index_or, sum_by, take, drop, Option, Some, None, nat_lt, arith, refl, sym, ap, ◌∙◌, subst, append-nil, append_assoc, eq-eqb, ne_eqb, length-append, lit≤}
+use Rattle.std.proofs.Common.{◌≡◌, ◌≢◌, inl, inr, ℕ, ◌+◌, ◌-◌, ◌<◌, ◌≤◌, Bool, true, false, ◌||◌, ◌==◌, cond, List, [], ◌∷◌, ◌++◌, length, slice_set, slice_index_or, sum_by, take, drop, Option, Some, None, arith, refl, sym, ap, ◌∙◌, subst, append-nil, append_assoc, eq-eqb, ne_eqb, lit≤}
 use Rattle.std.specs.List.{list_any}
 use Rattle.std.specs.Option.{is_some}
 use Rattle.chronicle.specs.declared.record.Kind.{Kind}
-use Rattle.chronicle.specs.History.{Rec, actor, sessions, opened_by, accepted, misses, ends, shut, gone, IsMomentAfter, last_moment}
-use Rattle.chronicle.specs.Journal.{fresh_record, miss}
+use Rattle.chronicle.specs.History.{Rec, sessions, misses, ends, shut, gone}
 use Rattle.outbox.specs.declared.item.Item.{Item}
 use Rattle.book.specs.declared.plan.Planned.{Planned}
-use Rattle.outbox.specs.Ring.{Waiting, empty_ring, has_room, with_put, with_taken}
+use Rattle.outbox.specs.Ring.{Waiting, has_room, with_put, with_taken}
 use Rattle.book.specs.Owed.{delivery, owed}
-use Rattle.book.specs.Legal.{IsKind, AreMissed, IsLegal}
+use Rattle.book.specs.Legal.{AreMissed}
 use Rattle.deeds.specs.Stands.{numbers}
-use Rattle.book.specs.Book.{Shown, box_of, outbox_at, is_here, kept_for, held, due, puts, others, plan_by, plan_of, planned, delivered, dropped, finished, taken, reaped, IsOwed, IsPlan, IsSound}
+use Rattle.book.specs.Book.{Shown, box_of, outbox_at, is_here, held, planned, delivered, dropped, finished, taken, reaped, IsOwed, IsPlan, IsSound}
 
 -- ---- the newest record is missed by one more session
 

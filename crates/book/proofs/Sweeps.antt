@@ -1,5 +1,5 @@
 -- Who is to be swept.
-use Rattle.std.proofs.Common.{◌≡◌, ℕ, zero, suc, ◌+◌, ◌-◌, ◌<◌, ◌≤◌, Bool, true, false, not, ◌&&◌, cond, List, [], ◌∷◌, length, slice_index_or, Option, Some, None, arith, refl, sym, ap, ◌∙◌, subst}
+use Rattle.std.proofs.Common.{◌≡◌, ℕ, zero, suc, ◌+◌, ◌-◌, ◌<◌, ◌≤◌, Bool, true, false, not, ◌&&◌, cond, List, length, slice_index_or, Option, Some, None, arith, refl, sym, ap, ◌∙◌}
 use Rattle.chronicle.specs.History.{Rec, sessions, shut, gone}
 use Rattle.deeds.specs.Stands.{numbers}
 use Rattle.book.specs.declared.seat.Seat.{Seat}

@@ -1,10 +1,8 @@
 -- What clauses see of a book, and its steps: this project's own promise of how deliveries reach outboxes.
-use Rattle.std.specs.Prelude.{◌≡◌, ◌≢◌, ℕ, ℤ, zero, suc, ◌+◌, ◌-◌, ◌<◌, ◌≤◌, Bool, true, false, not, ◌&&◌, ◌==◌, nat_lt, cond, List, [], ◌∷◌, ◌++◌, length, map, sum_by, if◌then◌else◌, slice_index_or, slice_set, slice_get, Option, Some, None}
+use Rattle.std.specs.Prelude.{◌≡◌, ℕ, ℤ, zero, suc, ◌+◌, ◌-◌, ◌<◌, ◌≤◌, Bool, true, false, not, ◌&&◌, ◌==◌, cond, List, [], ◌∷◌, ◌++◌, length, map, sum_by, if◌then◌else◌, slice_index_or, slice_set, Option, Some, None}
 use Rattle.std.specs.Option.{is_some}
-use Rattle.line_grammar.specs.declared.splitter.Piece.{Piece}
 use Rattle.chronicle.specs.declared.record.Kind.{Kind}
 use Rattle.chronicle.specs.declared.record.Kind.TheVariants.{Opened, Said, Hung, Gone}
-use Rattle.chronicle.specs.declared.why.Why.{Why}
 use Rattle.chronicle.specs.History.{Rec, IsMomentAfter, last_moment, sessions, actor, accepted, misses, shut, gone}
 use Rattle.chronicle.specs.Journal.{fresh_record, miss}
 use Rattle.outbox.specs.declared.item.Item.{Item}

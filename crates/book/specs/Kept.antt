@@ -1,6 +1,5 @@
 -- How what a book keeps stands for its history.
 use Rattle.std.specs.Prelude.{◌≡◌, ℕ, ◌<◌, ◌≤◌, Bool, List, length, Option}
-use Rattle.chronicle.specs.History.{Rec}
 use Rattle.chronicle.specs.Journal as journal
 use Rattle.deeds.specs.declared.tables.Person.{Person}
 use Rattle.deeds.specs.declared.tables.Channel.{Channel}
@@ -10,7 +9,7 @@ use Rattle.outbox.specs.Ring.{Waiting}
 use Rattle.deeds.specs.Deeds.{facts}
 use Rattle.deeds.specs.Stands.{Stands}
 use Rattle.book.specs.Seats.{IsSeat, seat_at}
-use Rattle.book.specs.Book.{Shown, held, IsSound}
+use Rattle.book.specs.Book.{held, IsSound}
 
 -- all that a book keeps stands for its history, and there is room for the records that are kept free
 pub record IsKept (j : journal.Shown) (most : ℕ) (ps : List Person) (ks : List Channel) (seats : List Seat) (boxes : List (Option Waiting)) (plan : List Planned) (busy : Bool) : Type 0 where

@@ -1,10 +1,12 @@
 //! The book: the journal and, for each session, its outbox.
-ghost use Rattle.std.specs.Prelude.{◌≡◌, ◌<◌, ◌≤◌, ◌+◌, ◌-◌, ◌^◌, ◌++◌, ◌↔◌, ◌==◌, [], ℕ, cond, sum_by, Some, None, true, false, length, slice_get, slice_set, vec_len, vec_capacity, IsTrue, IfOk, IfErr, IfSome, OnOk, OnErr};
+ghost use Rattle.std.specs.Prelude.{◌≡◌, ◌<◌, ◌≤◌, ◌+◌, ◌-◌, ◌^◌, ◌++◌, ◌↔◌, ◌==◌, [], ℕ, cond, sum_by, Some, None, true, false, length, slice_get, slice_set, vec_len, vec_capacity, IsTrue, IfOk, IfErr, IfSome, OnOk, OnErr, option_copied};
 ghost use Rattle.std.specs.List.{list_any};
 ghost use Rattle.casemapping.specs.Names.{host_shape};
 ghost use Rattle.chronicle.specs.declared.record.Kind.TheVariants as kind;
 ghost use Rattle.chronicle.specs.History.{sessions, last_moment, shut, gone, misses};
-ghost use Rattle.chronicle.specs.Journal.{numbered, record_at};
+ghost use Rattle.chronicle.specs.Journal.{IsRoomier, numbered, record_at};
+ghost use Rattle.deeds.specs.LookBack.{nick, on};
+ghost use Rattle.deeds.specs.Deeds.{facts};
 ghost use Rattle.outbox.specs.Ring.{has_room, with_put, with_taken};
 ghost use Rattle.book.specs.Settings.{is_well_set};
 ghost use Rattle.book.specs.Book.{outbox_at, is_here, here_by};
@@ -89,6 +91,15 @@ fn take_at(outboxes: &mut Vec<Option<Ring>>, place: usize) -> Option<Item>
         Some(outbox) => outbox.take_now(),
         None => None,
     }
+}
+
+/// Makes room for so many more records, which are within the journal's limit, and for so many sessions that miss the next.
+fn reserve(journal: &mut Journal, records: usize, missed: usize) -> Result<(), AllocError>
+    requires { length journal.old.history + records ≤ journal.old.limit }
+    ensures same { IsRoomier journal.old journal.new }
+    ensures ok { OnOk result ((records ≤ journal.new.room) × (missed ≤ journal.new.prepared)) }
+{
+    journal.reserve(records, missed).map_err(|_| AllocError)
 }
 
 /// Gives up the outbox at a place, and answers how many items were left in it.
@@ -209,7 +220,7 @@ impl Book {
         if self.tables.reserve_person().is_err()
             || self.seats.reserve(1).is_err()
             || self.outboxes.reserve(1).is_err()
-            || self.journal.reserve(room, 0).is_err()
+            || reserve(&mut self.journal, room, 0).is_err()
         {
             return Err((OpenRefusal::Memory, outbox));
         }
@@ -298,9 +309,7 @@ impl Book {
         } = verdict;
         prepare(&mut self.tables)?;
         let room = self.held() + 1;
-        self.journal
-            .reserve(room, plan.len())
-            .map_err(|_| LineRefusal::Memory)?;
+        reserve(&mut self.journal, room, plan.len()).map_err(|_| LineRefusal::Memory)?;
         self.journal.append(
             moment,
             Kind::Said {
@@ -549,9 +558,7 @@ impl Book {
             hearers,
         } = verdict;
         prepare(&mut self.tables)?;
-        self.journal
-            .reserve(room, plan.len())
-            .map_err(|_| AllocError)?;
+        reserve(&mut self.journal, room, plan.len())?;
         self.journal.append(moment, Kind::Gone { session });
         commit(&mut self.tables, place, change, hearers);
         let seat = &mut self.seats[place];
@@ -668,6 +675,28 @@ impl Book {
         }
         let seat = self.seats[number as usize - 1];
         !seat.shut
+    }
+
+    /// How many deliveries of the plan that is out aren't put yet, 0 where none is out.
+    pub fn puts_left(&self) -> usize
+        ensures { result ≡ length self.now.plan }
+    {
+        self.plan.len()
+    }
+
+    /// The nickname that a session has by the history.
+    pub fn nick_of(&self, session: SessionId) -> Option<&Octets>
+        ensures opened { 0 < session → session ≤ sessions self.now.history → option_copied result ≡ nick (facts self.now.history) session }
+        ensures none { (0 < session → session ≤ sessions self.now.history → ⊥) → result ≡ None }
+    {
+        self.tables.nick_of(session)
+    }
+
+    /// Whether a session is on a channel by the history.
+    pub fn is_on(&self, session: SessionId, channel: &Octets) -> bool
+        ensures { result ≡ on (facts self.now.history) session channel.now }
+    {
+        self.tables.is_on(session, channel.as_slice())
     }
 
     /// Whether a session that was opened is shut.

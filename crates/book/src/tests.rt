@@ -20,12 +20,12 @@ fn copied(alloc: Global, octets: &[u8]) -> Result<Octets, AllocError> {
     }
 }
 
-fn book(alloc: Global) -> Result<Book, Fail> {
+fn book(alloc: Global, limit: usize) -> Result<Book, Fail> {
     let settings = Settings {
         server: copied(alloc, b"irc.example")?,
         sessions: 2,
     };
-    Ok(Book::new(alloc, settings, 40).ok().ok_or("a book")?)
+    Ok(Book::new(alloc, settings, limit).ok().ok_or("a book")?)
 }
 
 /// Opens a session whose outbox holds eight items.
@@ -98,7 +98,7 @@ fn sweep_in_steps(book: &mut Book) -> Option<Done> {
 
 #[test]
 fn a_line_goes_in_steps(rt: HostRuntime) -> Result<(), Fail> {
-    let mut book = book(rt.alloc())?;
+    let mut book = book(rt.alloc(), 40)?;
     let (al, mut first) = open(&rt, rt.alloc(), &mut book, b"h1")?;
     let (bo, mut second) = open(&rt, rt.alloc(), &mut book, b"h2")?;
     join(rt.alloc(), &mut book, &mut first, b"NICK al")?;
@@ -123,7 +123,7 @@ fn a_line_goes_in_steps(rt: HostRuntime) -> Result<(), Fail> {
 
 #[test]
 fn a_plan_that_is_dropped_leaves_the_book_busy(rt: HostRuntime) -> Result<(), Fail> {
-    let mut book = book(rt.alloc())?;
+    let mut book = book(rt.alloc(), 40)?;
     let (al, baton) = open(&rt, rt.alloc(), &mut book, b"h1")?;
     let piece = Piece::Line(copied(rt.alloc(), b"NICK al")?);
     let moment = Moment::new(NOON);
@@ -139,14 +139,32 @@ fn a_plan_that_is_dropped_leaves_the_book_busy(rt: HostRuntime) -> Result<(), Fa
     Ok(())
 }
 
+/// Compares a session's nickname, none where it is empty, and whether it is on a channel.
+fn known(
+    rt: &impl Abort,
+    book: &Book,
+    session: SessionId,
+    nick: &[u8],
+    on: bool,
+    channel: &Octets,
+) {
+    match book.nick_of(session) {
+        Some(own) => assert!(rt; own.as_slice() == nick),
+        None => assert!(rt; nick.is_empty()),
+    }
+    assert_eq!(rt; book.is_on(session, channel), on);
+}
+
 #[test]
 fn a_session_ends(rt: HostRuntime) -> Result<(), Fail> {
-    let mut book = book(rt.alloc())?;
+    let mut book = book(rt.alloc(), 40)?;
     let moment = Moment::new(NOON);
     let (al, mut first) = open(&rt, rt.alloc(), &mut book, b"h1")?;
     let (bo, mut second) = open(&rt, rt.alloc(), &mut book, b"h2")?;
     join(rt.alloc(), &mut book, &mut first, b"NICK al")?;
     join(rt.alloc(), &mut book, &mut second, b"NICK bo")?;
+    let channel = copied(rt.alloc(), b"#A")?;
+    known(&rt, &book, al, b"al", true, &channel);
     let hung = book.hang(al, Why::ReadEnded, moment).ok().ok_or("hung")?;
     assert_eq!(rt; (hung.number.number(), hung.missed), (9, false));
     assert!(rt; !book.is_open(al) && book.is_open(bo));
@@ -154,14 +172,10 @@ fn a_session_ends(rt: HostRuntime) -> Result<(), Fail> {
     let Err((ReapRefusal::NotGone, first)) = early else {
         return Err("not gone".into());
     };
-    let swept = match book.sweep(moment) {
-        Err(_) => book.sweep(moment),
-        answer => answer,
-    };
-    let Ok(Some(done)) = swept else {
-        return Err("swept".into());
-    };
+    let done = swept(&mut book, moment).ok_or("swept")?;
     assert_eq!(rt; (done.number.number(), done.shut), (10, true));
+    known(&rt, &book, al, b"", false, &channel);
+    known(&rt, &book, bo, b"bo", true, &channel);
     let joined = book.take(bo).ok().ok_or("a join")?;
     assert!(rt; matches!(joined, Item::Lines { .. }));
     let quit = book.take(bo).ok().ok_or("a QUIT line")?;
@@ -174,7 +188,7 @@ fn a_session_ends(rt: HostRuntime) -> Result<(), Fail> {
 
 #[test]
 fn a_sweep_goes_in_steps(rt: HostRuntime) -> Result<(), Fail> {
-    let mut book = book(rt.alloc())?;
+    let mut book = book(rt.alloc(), 40)?;
     let moment = Moment::new(NOON);
     let nobody = book.begin_sweep(moment).ok().ok_or("an answer")?;
     assert!(rt; nobody.is_none());
@@ -189,5 +203,35 @@ fn a_sweep_goes_in_steps(rt: HostRuntime) -> Result<(), Fail> {
     };
     let done = swept.ok_or("no delivery")?;
     assert_eq!(rt; (done.number.number(), done.shut), (3, true));
+    Ok(())
+}
+
+/// Sweeps, once more where a growth was refused.
+fn swept(book: &mut Book, moment: Moment) -> Option<Done> {
+    let swept = match book.sweep(moment) {
+        Err(_) => book.sweep(moment),
+        answer => answer,
+    };
+    swept.ok()?
+}
+
+#[test]
+fn a_journal_is_used_to_its_end(rt: HostRuntime) -> Result<(), Fail> {
+    let moment = Moment::new(NOON);
+    let piece = Piece::Line(copied(rt.alloc(), b"NICK al")?);
+    for lines in [0, 1] {
+        let mut book = book(rt.alloc(), 3 + lines)?;
+        let (al, mut baton) = open(&rt, rt.alloc(), &mut book, b"h1")?;
+        for _ in 0..lines {
+            say(rt.alloc(), &mut book, &mut baton, b"NICK al")?;
+        }
+        let full = book.line(&mut baton, &piece, moment);
+        assert_eq!(rt; full.err(), Some(LineRefusal::JournalFull));
+        let hung = book.hang(al, Why::Shutdown, moment);
+        assert!(rt; hung.is_ok());
+        assert!(rt; swept(&mut book, moment).is_some());
+        assert_eq!(rt; book.len(), 3 + lines);
+        assert!(rt; book.reap(baton).is_ok());
+    }
     Ok(())
 }

@@ -1,10 +1,10 @@
 //! What is known of sessions and channels at the end of a history.
-ghost use Rattle.std.specs.Prelude.{◌≡◌, ◌<◌, ◌+◌, ◌==◌, ◌∷◌, ◌++◌, [], List, length, vec_len, vec_capacity, IfOk, OnOk};
+ghost use Rattle.std.specs.Prelude.{◌≡◌, ◌<◌, ◌≤◌, ◌+◌, ◌==◌, ◌∷◌, ◌++◌, [], List, None, length, option_copied, vec_len, vec_capacity, IfOk, OnOk};
 ghost use Rattle.std.specs.List.{list_any};
 ghost use Rattle.deeds.specs.declared.deed.Deed.{Deed};
 ghost use Rattle.deeds.specs.declared.deed.Deed.TheVariants.{Opened, Ended};
 ghost use Rattle.deeds.specs.declared.verdict.Change.TheVariants.{End};
-ghost use Rattle.deeds.specs.LookBack.{is_named, without};
+ghost use Rattle.deeds.specs.LookBack.{is_named, nick, on, without};
 ghost use Rattle.deeds.specs.Stands.{newcomer, Stands};
 ghost use Rattle.deeds.specs.Tables.{channel_place, is_enrolled, is_held_by, with_members, left_channels, changed_people, changed_channels, IsReady};
 
@@ -92,6 +92,28 @@ impl Tables {
         let person = &mut self.people[place];
         person.why = why;
         person.parting = Octets::from_vec(nothing);
+    }
+
+    /// The nickname that a session has.
+    pub fn nick_of(&self, session: SessionId) -> Option<&Octets>
+        ensures opened { (fs : List Deed) → Stands self.now.people.items self.now.channels.items fs → 0 < session → session ≤ vec_len self.now.people → option_copied result ≡ nick fs session }
+        ensures none { (0 < session → session ≤ vec_len self.now.people → ⊥) → result ≡ None }
+    {
+        let number = session.number();
+        if number == 0 || self.people.len() < number as usize {
+            return None;
+        }
+        self.people[number as usize - 1].nick.as_ref()
+    }
+
+    /// Whether a session is on a channel.
+    pub fn is_on(&self, session: SessionId, channel: &[u8]) -> bool
+        ensures { (fs : List Deed) → Stands self.now.people.items self.now.channels.items fs → result ≡ on fs session channel.now }
+    {
+        match find_channel(&self.channels, channel) {
+            Some(place) => is_among(self.channels[place].members.as_slice(), session),
+            None => false,
+        }
     }
 }
 

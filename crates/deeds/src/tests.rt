@@ -86,6 +86,15 @@ fn compare(rt: &impl Abort, verdict: &Verdict, text: &str, hears: [bool; 2]) {
     assert_eq!(rt; is_among(hearers, SessionId::new(2)), hears[1], "{text}");
 }
 
+/// Compares a session's nickname, none where it is empty, and whether it is on the channel.
+fn known(rt: &impl Abort, tables: &Tables, session: SessionId, nick: &str, on: bool) {
+    match tables.nick_of(session) {
+        Some(own) => assert!(rt; own.as_slice() == nick.as_bytes(), "{nick}"),
+        None => assert!(rt; nick.is_empty(), "{nick}"),
+    }
+    assert_eq!(rt; tables.is_on(session, b"#Hall"), on, "{nick}");
+}
+
 #[test]
 fn two_people_meet_and_leave(rt: HostRuntime) -> Result<(), Fail> {
     let alloc = rt.alloc();
@@ -123,6 +132,7 @@ fn two_people_meet_and_leave(rt: HostRuntime) -> Result<(), Fail> {
         compare(&rt, &verdict, text, hears);
         perform(&mut tables, place, verdict)?;
     }
+    known(&rt, &tables, SessionId::new(1), "ann", true);
     assert!(rt; 1 < tables.people.len());
     let verdict = departure(alloc, &tables, 0)?;
     compare(
@@ -133,6 +143,9 @@ fn two_people_meet_and_leave(rt: HostRuntime) -> Result<(), Fail> {
     );
     perform(&mut tables, 0, verdict)?;
     assert_eq!(rt; tables.channels.len(), 1);
+    known(&rt, &tables, SessionId::new(1), "", false);
+    known(&rt, &tables, SessionId::new(2), "bob", true);
+    known(&rt, &tables, SessionId::new(3), "", false);
     assert!(rt; 1 < tables.people.len());
     tables.end(SessionId::new(2), 1, Why::ReadEnded);
     let verdict = departure(alloc, &tables, 1)?;

@@ -1,39 +1,82 @@
 -- A fault of one line is a fault of the script from that line on.
-use Rattle.std.proofs.Common.{◌≡◌, ℕ, ◌+◌, List, [], ◌∷◌, ◌++◌, length, drop, get_or, ◌<◌, Option, None, Result, Ok, Err, subst, sym, ap, ◌∙◌}
-use Rattle.std.specs.Prelude.{IfErr}
+use Rattle.std.proofs.Common.{◌≡◌, ℕ, ◌+◌, true, List, [], ◌∷◌, ◌++◌, length, drop, get_or, ◌<◌, Option, Some, None, Result, Ok, Err, refl, subst, sym, ap, ◌∙◌}
+use Rattle.std.specs.Prelude.{IfErr, OnOk, codes}
+use Rattle.std.specs.Option.{is_some}
 use Rattle.std.proofs.lemmas.List.{drop_more}
 use Rattle.halld.specs.declared.entry.PlayFault.{PlayFault}
 use Rattle.halld.specs.declared.entry.PlayFault.TheVariants.{BadLine, BadSettings, ReadFailed, WriteFailed, Memory}
-use Rattle.halld.specs.Lines.{lines_of, first_bad, bad_ahead}
-use Rattle.halld.specs.Faults.{IsFaultAt}
-use Rattle.halld.proofs.Bad.{line_before, line_last}
+use Rattle.halld.specs.declared.header.Limits.{Limits}
+use Rattle.halld.specs.declared.script.Step.{Step}
+use Rattle.interleave.specs.Limits.{is_well_set}
+use Rattle.halld.specs.Script.{step_of}
+use Rattle.halld.specs.Headers.{are_good}
+use Rattle.halld.specs.Lines.{lines_of, Told, is_set_after, told_after, told_ahead}
+use Rattle.halld.specs.Faults.{IsFaultOf, IsGood, IsOutside}
+use Rattle.halld.proofs.Ahead.{line_before, line_last, set_by, step_line}
 
-not_of_a_line : (x : Option ℕ) (e : PlayFault) → IsFaultAt None e → IsFaultAt x e
-not_of_a_line x (BadLine n) is = cc
-not_of_a_line x BadSettings is = tt
-not_of_a_line x ReadFailed is = tt
-not_of_a_line x WriteFailed is = tt
-not_of_a_line x Memory is = tt
+pub outside : (t : Told) (e : PlayFault) → IsOutside e → IsFaultOf t e
+outside t (BadLine n) is = absurd is
+outside t BadSettings is = absurd is
+outside t ReadFailed is = tt
+outside t WriteFailed is = tt
+outside t Memory is = tt
 
--- a fault that names no line is one of any script
-pub no_line : {T X : Type 0} (r : Result T PlayFault) (f : X → Option ℕ) → IfErr r (IsFaultAt None) → IfErr r (λ e. (more : X) → IsFaultAt (f more) e)
-no_line (Ok v) f is = tt
-no_line (Err e) f is = λ more. not_of_a_line (f more) e is
+-- a fault from outside is one of any script
+pub from_outside : {T : Type 0} (r : Result T PlayFault) (t : Told) → IfErr r IsOutside → IfErr r (IsFaultOf t)
+from_outside (Ok v) t is = tt
+from_outside (Err e) t is = outside t e is
 
-pub at_end_of_line : {T : Type 0} (r : Result T PlayFault) (n : ℕ) (line : List ℕ) → IfErr r (λ e. (more : List (List ℕ)) → IsFaultAt (first_bad (n + 1) (line ∷ more)) e) → IfErr r (λ e. (rest : List ℕ) → IsFaultAt (bad_ahead n line (10 ∷ rest)) e)
-at_end_of_line (Ok v) n line is = tt
-at_end_of_line (Err e) n line is = λ rest. subst (λ x. IsFaultAt x e) (line_before n line rest) (is (lines_of rest))
+setting : (h : Option Limits) (n : ℕ) (line : List ℕ) (step : Step) (more : List (List ℕ)) (e : PlayFault) → step_of line ≡ Some step → IsFaultOf (told_after h 1 []) e → IsFaultOf (told_after h n (line ∷ more)) e
+setting h n line step more (BadLine k) is fault = absurd (cc)
+setting h n line step more BadSettings is fault = set_by h line more (ap is_some is) ∙ fault
+setting h n line step more ReadFailed is fault = tt
+setting h n line step more WriteFailed is fault = tt
+setting h n line step more Memory is fault = tt
 
-pub at_end : {T : Type 0} (r : Result T PlayFault) (n : ℕ) (line : List ℕ) → IfErr r (λ e. (more : List (List ℕ)) → IsFaultAt (first_bad (n + 1) (line ∷ more)) e) → IfErr r (IsFaultAt (bad_ahead n line []))
-at_end (Ok v) n line is = tt
-at_end (Err e) n line is = subst (λ x. IsFaultAt x e) (line_last n line) (is [])
+-- where the line is a step
+pub at_step : {T : Type 0} (r : Result T PlayFault) (h : Option Limits) (n : ℕ) (line : List ℕ) (step : Step) → step_of line ≡ Some step → IfErr r (IsFaultOf (told_after h 1 [])) → IfErr r (λ e. (more : List (List ℕ)) → IsFaultOf (told_after h n (line ∷ more)) e)
+at_step (Ok v) h n line step is fault = tt
+at_step (Err e) h n line step is fault = λ more. setting h n line step more e is fault
+
+pub at_end_of_line : {T : Type 0} (r : Result T PlayFault) (h : Option Limits) (n : ℕ) (line : List ℕ) (b : ℕ) → b ≡ 10 → IfErr r (λ e. (more : List (List ℕ)) → IsFaultOf (told_after h (n + 1) (line ∷ more)) e) → IfErr r (λ e. (rest : List ℕ) → IsFaultOf (told_ahead h n line (b ∷ rest)) e)
+at_end_of_line (Ok v) h n line b lf is = tt
+at_end_of_line (Err e) h n line b lf is = λ rest. subst (λ x. IsFaultOf x e) (line_before h n line rest ∙ ap (λ c. told_ahead h n line (c ∷ rest)) (sym lf)) (is (lines_of rest))
+
+pub at_end : (h : Option Limits) (n : ℕ) (line : List ℕ) (e : PlayFault) → ((more : List (List ℕ)) → IsFaultOf (told_after h (n + 1) (line ∷ more)) e) → IsFaultOf (told_ahead h n line []) e
+at_end h n line e is = subst (λ x. IsFaultOf x e) (line_last h n line) (is [])
+
+-- what a step's line tells is told from there on
+pub after_step : {T : Type 0} (r : Result T PlayFault) (h h' : Option Limits) (n n' : ℕ) (line : List ℕ) (step : Step) → step_of line ≡ Some step → n' ≡ n → OnOk r (h' ≡ None) → OnOk r (is_set_after h [] ≡ true) → OnOk r ((more : List (List ℕ)) → told_after h' (n' + 1) more ≡ told_after h n (line ∷ more))
+after_step (Ok v) h h' n n' line step is same none set =
+    λ more. ap (λ x. told_after x (n' + 1) more) none ∙ ap (λ k. told_after None (k + 1) more) same ∙ step_line h n line step more is set
+after_step (Err e) h h' n n' line step is same none set = tt
+
+-- after the last line it is known whether the settings are good
+pub good_at_end : {T : Type 0} (r : Result T PlayFault) (h h' : Option Limits) (n n' : ℕ) (line : List ℕ) → ((more : List (List ℕ)) → told_after h' (n' + 1) more ≡ told_after h (n + 1) (line ∷ more)) → OnOk r (is_set_after h' [] ≡ true) → OnOk r (IsGood (told_ahead h n line []))
+good_at_end (Ok v) h h' n n' line same set = subst IsGood (same [] ∙ line_last h n line) (refl, set)
+good_at_end (Err e) h h' n n' line same set = tt
+
+fault_after : (h h' : Option Limits) (n n' : ℕ) (line : List ℕ) (e : PlayFault) → ((more : List (List ℕ)) → told_after h' (n' + 1) more ≡ told_after h (n + 1) (line ∷ more)) → IsFaultOf (told_after h' 1 []) e → IsFaultOf (told_ahead h n line []) e
+fault_after h h' n n' line (BadLine k) same fault = absurd (cc)
+fault_after h h' n n' line BadSettings same fault = ap (λ t. t.is_set) (sym (line_last h n line) ∙ sym (same [])) ∙ fault
+fault_after h h' n n' line ReadFailed same fault = tt
+fault_after h h' n n' line WriteFailed same fault = tt
+fault_after h h' n n' line Memory same fault = tt
+
+pub fault_at_end : {T : Type 0} (r : Result T PlayFault) (h h' : Option Limits) (n n' : ℕ) (line : List ℕ) → ((more : List (List ℕ)) → told_after h' (n' + 1) more ≡ told_after h (n + 1) (line ∷ more)) → IfErr r (IsFaultOf (told_after h' 1 [])) → IfErr r (IsFaultOf (told_ahead h n line []))
+fault_at_end (Ok v) h h' n n' line same fault = tt
+fault_at_end (Err e) h h' n n' line same fault = fault_after h h' n n' line e same fault
 
 -- a fault at an octet
-pub at_octet : (block : List ℕ) (i : ℕ) (ahead after : List ℕ → Option ℕ) (e : PlayFault) → i < length block → ((rest : List ℕ) → after (drop i block ++ rest) ≡ ahead (block ++ rest)) → ((rest : List ℕ) → IsFaultAt (after (get_or block i 0 ∷ rest)) e) → (rest : List ℕ) → IsFaultAt (ahead (block ++ rest)) e
+pub at_octet : (block : List ℕ) (i : ℕ) (ahead after : List ℕ → Told) (e : PlayFault) → i < length block → ((rest : List ℕ) → after (drop i block ++ rest) ≡ ahead (block ++ rest)) → ((rest : List ℕ) → IsFaultOf (after (get_or block i 0 ∷ rest)) e) → (rest : List ℕ) → IsFaultOf (ahead (block ++ rest)) e
 at_octet block i ahead after e lt same is rest =
-    subst (λ x. IsFaultAt x e) (ap (λ bs. after (bs ++ rest)) (sym (drop_more block i 0 lt)) ∙ same rest) (is (drop (i + 1) block ++ rest))
+    subst (λ x. IsFaultOf x e) (ap (λ bs. after (bs ++ rest)) (sym (drop_more block i 0 lt)) ∙ same rest) (is (drop (i + 1) block ++ rest))
 
 -- one octet on
-pub octet_on : (block : List ℕ) (i : ℕ) (ahead before after : List ℕ → Option ℕ) → i < length block → ((rest : List ℕ) → before (drop i block ++ rest) ≡ ahead (block ++ rest)) → ((rest : List ℕ) → after rest ≡ before (get_or block i 0 ∷ rest)) → (rest : List ℕ) → after (drop (i + 1) block ++ rest) ≡ ahead (block ++ rest)
+pub octet_on : (block : List ℕ) (i : ℕ) (ahead before after : List ℕ → Told) → i < length block → ((rest : List ℕ) → before (drop i block ++ rest) ≡ ahead (block ++ rest)) → ((rest : List ℕ) → after rest ≡ before (get_or block i 0 ∷ rest)) → (rest : List ℕ) → after (drop (i + 1) block ++ rest) ≡ ahead (block ++ rest)
 octet_on block i ahead before after lt same next rest =
     next (drop (i + 1) block ++ rest) ∙ ap (λ bs. before (bs ++ rest)) (sym (drop_more block i 0 lt)) ∙ same rest
+
+-- limits are good where they set up a server of this name
+pub good_by : (server : List ℕ) (l : Limits) → server ≡ codes "irc.example" → is_well_set (record { server = server; sessions = l.sessions }) l.records l.workers l.sendq ≡ true → are_good l ≡ true
+good_by server l is set = subst (λ name. is_well_set (record { server = name; sessions = l.sessions }) l.records l.workers l.sendq ≡ true) is set

@@ -4,36 +4,57 @@ use Rattle.std.specs.Prelude.{IfSome}
 use Rattle.std.specs.Option.{option_map}
 use Rattle.std.specs.Io.KnownBytes.{Consumes, Keeps, IsAtEnd}
 use Rattle.halld.specs.declared.entry.PlayFault.{PlayFault}
-use Rattle.halld.specs.Lines.{lines_of, bad_ahead, bad_line_of, first_bad}
-use Rattle.halld.specs.Faults.{IsFaultAt}
-use Rattle.halld.proofs.Bad.{continued-nil}
+use Rattle.halld.specs.Headers.{default_limits}
+use Rattle.halld.specs.Lines.{lines_of, Told, told_of, told_after, told_ahead}
+use Rattle.halld.specs.declared.header.Limits.{Limits}
+use Rattle.halld.specs.declared.reader.Stage.{Stage}
+use Rattle.halld.specs.declared.reader.Stage.TheVariants.{Head, Steps}
+use Rattle.halld.specs.Stages.{head_of}
+use Rattle.halld.specs.Printed.{Prints, PrintsAhead, IsPrinted}
+use Rattle.halld.specs.Faults.{IsFaultOf}
+use Rattle.halld.proofs.Ahead.{continued-nil}
 
-pub read_more : (old new : Option (List ℕ)) (bs : List ℕ) (f after : List ℕ → Option ℕ) (x : Option ℕ) → Consumes old new bs → ((rest : List ℕ) → after rest ≡ f (bs ++ rest)) → option_map f old ≡ Some x → option_map after new ≡ Some x
+pub read_more : (old new : Option (List ℕ)) (bs : List ℕ) (f after : List ℕ → Told) (x : Told) → Consumes old new bs → ((rest : List ℕ) → after rest ≡ f (bs ++ rest)) → option_map f old ≡ Some x → option_map after new ≡ Some x
 read_more None new bs f after x read same is = cc
 read_more (Some xs) None bs f after x read same is = absurd read
 read_more (Some xs) (Some ys) bs f after x read same is = ap Some (same ys ∙ ap f (sym read)) ∙ is
 
-pub read_none : (old new : Option (List ℕ)) (f : List ℕ → Option ℕ) (x : Option ℕ) → Keeps old new → option_map f old ≡ Some x → option_map f new ≡ Some x
+pub read_none : (old new : Option (List ℕ)) (f : List ℕ → Told) (x : Told) → Keeps old new → option_map f old ≡ Some x → option_map f new ≡ Some x
 read_none None new f x keeps is = cc
 read_none (Some xs) None f x keeps is = absurd keeps
 read_none (Some xs) (Some ys) f x keeps is = ap (λ bs. Some (f bs)) keeps ∙ is
 
-pub at_end : (old new : Option (List ℕ)) (f : List ℕ → Option ℕ) (x : Option ℕ) → Consumes old new [] → IsAtEnd new → option_map f old ≡ Some x → f [] ≡ x
+pub at_end : (old new : Option (List ℕ)) (f : List ℕ → Told) (x : Told) → Consumes old new [] → IsAtEnd new → option_map f old ≡ Some x → f [] ≡ x
 at_end None new f x read end is = cc
 at_end (Some xs) None f x read end is = absurd read
 at_end (Some xs) (Some ys) f x read end is = let same : Some (f []) ≡ Some x = ap (λ bs. Some (f bs)) (sym (read ∙ end)) ∙ is in cc
 
-pub fault_at : (old new : Option (List ℕ)) (bs : List ℕ) (f : List ℕ → Option ℕ) (x : Option ℕ) (e : PlayFault) → Consumes old new bs → ((rest : List ℕ) → IsFaultAt (f (bs ++ rest)) e) → option_map f old ≡ Some x → IsFaultAt x e
+pub fault_at : (old new : Option (List ℕ)) (bs : List ℕ) (f : List ℕ → Told) (x : Told) (e : PlayFault) → Consumes old new bs → ((rest : List ℕ) → IsFaultOf (f (bs ++ rest)) e) → option_map f old ≡ Some x → IsFaultOf x e
 fault_at None new bs f x e read fault is = absurd (cc)
 fault_at (Some xs) None bs f x e read fault is = absurd read
 fault_at (Some xs) (Some ys) bs f x e read fault is =
     let same : f (bs ++ ys) ≡ x = (let h : Some (f xs) ≡ Some x = is in let k : f (bs ++ ys) ≡ f xs = ap f (sym read) in cc) in
-    subst (λ y. IsFaultAt y e) same (fault ys)
+    subst (λ y. IsFaultOf y e) same (fault ys)
 
 -- a play begins before the first line
-pub start : (script : List ℕ) → bad_ahead 0 [] script ≡ bad_line_of script
-start script = ap (first_bad 1) (continued-nil (lines_of script))
+pub start : (script : List ℕ) → told_ahead (Some default_limits) 0 [] script ≡ told_of script
+start script = ap (told_after (Some default_limits) 1) (continued-nil (lines_of script))
 
 pub if_known : (P : List ℕ → Type 0) (known : Option (List ℕ)) → ((script : List ℕ) → known ≡ Some script → P script) → IfSome known P
 if_known P None all = tt
 if_known P (Some script) all = all script refl
+
+-- ---- a whole script
+
+pub told_from_start : (head : Option Limits) (ended : ℕ) (line : List ℕ) → head ≡ Some default_limits → ended ≡ 0 → line ≡ [] → (script : List ℕ) → told_ahead head ended line script ≡ told_of script
+told_from_start head ended line h e l script =
+    ap (λ (x : Option Limits). told_ahead x ended line script) h ∙ ap (λ (n : ℕ). told_ahead (Some default_limits) n line script) e ∙ ap (λ (bs : List ℕ). told_ahead (Some default_limits) 0 bs script) l ∙ start script
+
+pub at_head : (stage : Stage) (l : Limits) → head_of stage ≡ Some l → stage ≡ Head l
+at_head (Head k) l e = let kl : k ≡ l = (let f : Some k ≡ Some l = e in cc) in ap (λ (x : Limits). Head x) kl
+at_head (Steps player) l e = absurd (let f : None ≡ Some l = e in cc)
+
+pub printed_from_start : (stage : Stage) (line : List ℕ) → head_of stage ≡ Some default_limits → line ≡ [] → (script text : List ℕ) → PrintsAhead stage line script text → IsPrinted script text
+printed_from_start stage line h l script text p =
+    let at : PrintsAhead (Head default_limits) [] script text = subst (λ (bs : List ℕ). PrintsAhead (Head default_limits) bs script text) l (subst (λ (x : Stage). PrintsAhead x line script text) (at_head stage default_limits h) p) in
+    subst (λ (ls : List (List ℕ)). Prints (Head default_limits) ls text) (continued-nil (lines_of script)) at

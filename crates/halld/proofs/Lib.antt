@@ -1,6 +1,9 @@
 mod Numbers
-mod Words
+mod Spaces
 mod Reading
-mod Bad
+mod Ahead
 mod Faults
 mod Known
+mod Taken
+mod Printing
+mod Puts

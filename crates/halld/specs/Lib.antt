@@ -1,6 +1,11 @@
 pub mod Numbers
 pub mod Escapes
 pub mod Script
+pub mod Headers
 pub mod Lines
 pub mod Faults
+pub mod Refusals
 pub mod Notes
+pub mod Steps
+pub mod Stages
+pub mod Printed

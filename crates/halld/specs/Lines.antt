@@ -1,6 +1,9 @@
--- The lines of a script, and the first that is no step: this project's own choice.
-use Rattle.std.specs.Prelude.{ℕ, ◌+◌, ◌==◌, Bool, false, if◌then◌else◌, List, [], ◌∷◌, ◌++◌, Option, Some, None, is_none}
+-- The lines of a script, the first that may not stand there, and the limits: this project's own choice.
+use Rattle.std.specs.Prelude.{ℕ, ◌+◌, ◌==◌, Bool, false, true, ◌&&◌, ◌||◌, if◌then◌else◌, List, [], ◌∷◌, ◌++◌, Option, Some, None, is_none}
+use Rattle.std.specs.Option.{is_some}
+use Rattle.halld.specs.declared.header.Limits.{Limits}
 use Rattle.halld.specs.Script.{step_of}
+use Rattle.halld.specs.Headers.{header_of, default_limits, with_header, are_good}
 
 -- a text stands before the first line
 abbrev pub continued : List ℕ → List (List ℕ) → List (List ℕ)
@@ -12,20 +15,49 @@ abbrev pub lines_of : List ℕ → List (List ℕ)
 lines_of [] = [] ∷ []
 lines_of (b ∷ bs) = if b == 10 then [] ∷ lines_of bs else continued (b ∷ []) (lines_of bs)
 
--- a line that is not empty has to be a step
-abbrev pub is_bad : List ℕ → Bool
-is_bad [] = false
-is_bad (b ∷ bs) = is_none (step_of (b ∷ bs))
+abbrev pub is_step : List ℕ → Bool
+is_step line = is_some (step_of line)
 
--- the number of the first bad line, where the first line has this number
-abbrev pub first_bad : ℕ → List (List ℕ) → Option ℕ
-first_bad n [] = None
-first_bad n (line ∷ more) = if is_bad line then Some n else first_bad (n + 1) more
+-- a line that is not empty has to be a step, or a header where no step came before it
+abbrev pub is_bad : Bool → List ℕ → Bool
+is_bad began [] = false
+is_bad began (b ∷ bs) = is_none (step_of (b ∷ bs)) && (began || is_none (header_of (b ∷ bs)))
+
+-- the number of the first bad line, where the first line has this number, and a step came before it or none did
+abbrev pub first_bad : Bool → ℕ → List (List ℕ) → Option ℕ
+first_bad began n [] = None
+first_bad began n (line ∷ more) = if is_bad began line then Some n else first_bad (began || is_step line) (n + 1) more
 
 -- the number of a script's first bad line, from 1
 abbrev pub bad_line_of : List ℕ → Option ℕ
-bad_line_of script = first_bad 1 (lines_of script)
+bad_line_of script = first_bad false 1 (lines_of script)
+
+-- the limits that headers before the first step change these into
+abbrev pub limits_after : Limits → List (List ℕ) → Limits
+limits_after l [] = l
+limits_after l (line ∷ more) = if is_step line then l else limits_after (with_header l (header_of line)) more
+
+-- the limits that a script sets
+abbrev pub limits_of : List ℕ → Limits
+limits_of script = limits_after default_limits (lines_of script)
+
+-- what is told of a script: its first bad line, and whether a server can be set up with its limits
+pub record Told : Type 0 where
+  pub bad : Option ℕ
+  pub is_set : Bool
+
+abbrev pub told_of : List ℕ → Told
+told_of script = record { bad = bad_line_of script; is_set = are_good (limits_of script) }
+
+-- whether a server can be set up; it was where a step came, and there are no limits any more
+abbrev pub is_set_after : Option Limits → List (List ℕ) → Bool
+is_set_after None lines = true
+is_set_after (Some l) lines = are_good (limits_after l lines)
+
+-- the same of lines, where the first one has this number
+abbrev pub told_after : Option Limits → ℕ → List (List ℕ) → Told
+told_after head n lines = record { bad = first_bad (is_none head) n lines; is_set = is_set_after head lines }
 
 -- the same where some lines have ended, the present line has begun, and this rest of the script comes
-abbrev pub bad_ahead : ℕ → List ℕ → List ℕ → Option ℕ
-bad_ahead ended line rest = first_bad (ended + 1) (continued line (lines_of rest))
+abbrev pub told_ahead : Option Limits → ℕ → List ℕ → List ℕ → Told
+told_ahead head ended line rest = told_after head (ended + 1) (continued line (lines_of rest))

@@ -1,30 +1,43 @@
 -- What a step gave, as it is written: this project's own choice.
-use Rattle.std.specs.Prelude.{◌≡◌, ℕ, zero, suc, Bool, false, true, List, [], ◌∷◌, ◌++◌, Result, Ok, Err, codes, decimal, flat_map, filter, slice_index_or}
+use Rattle.std.specs.Prelude.{ℕ, zero, suc, Bool, false, true, List, [], ◌∷◌, ◌++◌, Option, Some, None, Result, Ok, Err, codes, decimal, flat_map, filter, slice_index_or}
 use Rattle.line_grammar.specs.Lines.{ended}
 use Rattle.chronicle.specs.declared.names.SessionId.{SessionId}
+use Rattle.chronicle.specs.declared.names.RecordNumber.{RecordNumber}
 use Rattle.book.specs.declared.out.Done.{Done}
+use Rattle.book.specs.declared.out.Hung.{Hung}
 use Rattle.outbox.specs.Text.{item_text}
 use Rattle.interleave.specs.declared.event.Event.{Event}
 use Rattle.interleave.specs.declared.event.Event.TheVariants as event
 use Rattle.interleave.specs.declared.event.Note.{Note}
 use Rattle.interleave.specs.declared.event.Note.TheVariants as note
-use Rattle.book.specs.declared.refusals.OpenRefusal.{OpenRefusal}
-use Rattle.book.specs.declared.refusals.OpenRefusal.TheVariants as open_refusal
-use Rattle.book.specs.declared.refusals.LineRefusal.{LineRefusal}
-use Rattle.book.specs.declared.refusals.LineRefusal.TheVariants as line_refusal
-use Rattle.interleave.specs.declared.event.BookRefusal.TheVariants as book_refusal
 use Rattle.interleave.specs.declared.event.StepRefusal.{StepRefusal}
-use Rattle.interleave.specs.declared.event.StepRefusal.TheVariants as refusal
 use Rattle.halld.specs.Escapes.{printed}
 use Rattle.halld.specs.Lines.{continued}
+use Rattle.halld.specs.Refusals.{refusal_name}
+
+-- a word as a line
+abbrev pub worded : List ℕ → List ℕ
+worded word = word ++ 10 ∷ []
 
 -- a label and a number on a line
 abbrev pub numbered : List ℕ → ℕ → List ℕ
 numbered label n = label ++ (codes " " ++ (decimal n ++ 10 ∷ []))
 
--- the record, and each session that missed it
-abbrev pub done_text : Done → List ℕ
-done_text done = numbered (codes "record") done.number ++ flat_map (λ (s : SessionId). numbered (codes "missed") s) done.missed
+-- the label and the number of a record, and each session that missed it
+abbrev pub done_text : List ℕ → Done → List ℕ
+done_text label done = numbered label done.number ++ flat_map (λ (s : SessionId). numbered (codes "missed") s) done.missed
+
+-- whether the session missed its last item
+abbrev pub missed_word : Bool → List ℕ
+missed_word false = []
+missed_word true = codes " missed"
+
+abbrev pub hung_text : Hung → List ℕ
+hung_text hung = codes "hung " ++ (decimal hung.number ++ (missed_word hung.missed ++ 10 ∷ []))
+
+abbrev pub swept_text : Option RecordNumber → List ℕ
+swept_text None = worded (codes "sweep none")
+swept_text (Some number) = numbered (codes "sweep") number
 
 -- a line that was due to a session
 abbrev pub line_text : ℕ → List ℕ → List ℕ
@@ -42,50 +55,52 @@ lines_after session line text = flat_map (line_text session) (filter is_nonempty
 abbrev pub note_text : ℕ → List ℕ → Note → List ℕ
 note_text session host (note.Session opened) = numbered (codes "session") opened
 note_text session host (note.Read count) = numbered (codes "read") count
-note_text session host (note.Done done) = done_text done
+note_text session host note.Picked = worded (codes "picked")
+note_text session host (note.Record number) = numbered (codes "record") number
+note_text session host (note.Put s) = numbered (codes "put") s
+note_text session host (note.Missed s) = numbered (codes "missed") s
+note_text session host (note.Done done) = numbered (codes "done") done.number
+note_text session host note.Back = worded (codes "back")
 note_text session host (note.Item item) = lines_after session [] (item_text item host)
-note_text session host note.Empty = codes "empty" ++ 10 ∷ []
+note_text session host note.Empty = worded (codes "empty")
+note_text session host (note.Hung hung) = hung_text hung
+note_text session host (note.Swept number) = swept_text number
+note_text session host (note.Left count) = numbered (codes "left") count
 
-abbrev pub open_refusal_name : OpenRefusal → List ℕ
-open_refusal_name open_refusal.Busy = codes "Busy"
-open_refusal_name open_refusal.TooManySessions = codes "TooManySessions"
-open_refusal_name open_refusal.JournalFull = codes "JournalFull"
-open_refusal_name open_refusal.BadMoment = codes "BadMoment"
-open_refusal_name open_refusal.Memory = codes "Memory"
+-- why a step was refused
+abbrev pub refused_text : StepRefusal → List ℕ
+refused_text refusal = codes "refused " ++ worded (refusal_name refusal)
 
-abbrev pub line_refusal_name : LineRefusal → List ℕ
-line_refusal_name line_refusal.Busy = codes "Busy"
-line_refusal_name line_refusal.WrongTurn = codes "WrongTurn"
-line_refusal_name line_refusal.Shut = codes "Shut"
-line_refusal_name line_refusal.JournalFull = codes "JournalFull"
-line_refusal_name line_refusal.BadMoment = codes "BadMoment"
-line_refusal_name line_refusal.Memory = codes "Memory"
+-- what a step of a session that has this host gave, or why it was refused
+abbrev pub answer_text : ℕ → List ℕ → Result Note StepRefusal → List ℕ
+answer_text session host (Ok note) = note_text session host note
+answer_text session host (Err refusal) = refused_text refusal
 
-abbrev pub refusal_name : StepRefusal → List ℕ
-refusal_name refusal.NoSession = codes "NoSession"
-refusal_name refusal.NothingRead = codes "NothingRead"
-refusal_name (refusal.Book (book_refusal.Open r)) = open_refusal_name r
-refusal_name (refusal.Book (book_refusal.Line r)) = line_refusal_name r
-refusal_name refusal.Memory = codes "Memory"
+-- what worker 1 came to alone: a record with this label and who missed it, or what any step gives
+abbrev pub whole_text : List ℕ → Result Note StepRefusal → List ℕ
+whole_text label (Ok (note.Done done)) = done_text label done
+whole_text label answer = answer_text 0 [] answer
+
+-- the session that an event names, 0 where it names none
+abbrev pub named_by : Event → ℕ
+named_by (event.Connect host moment) = 0
+named_by (event.Feed session octets) = session
+named_by (event.Pick worker session) = session
+named_by (event.Begin worker moment) = 0
+named_by (event.Put worker) = 0
+named_by (event.End worker) = 0
+named_by (event.Back worker) = 0
+named_by (event.Take session) = session
+named_by (event.Hang worker session why moment) = session
+named_by (event.Sweep worker moment) = 0
+named_by (event.Reap session) = session
 
 -- the host of a session, by the hosts of all that were opened
 abbrev pub host_of : List (List ℕ) → ℕ → List ℕ
 host_of hosts zero = []
 host_of hosts (suc n) = slice_index_or hosts n []
 
--- the host that a session of this answer was opened with
-abbrev pub opened_by : List ℕ → Result Note StepRefusal → List (List ℕ)
-opened_by host (Ok (note.Session opened)) = host ∷ []
-opened_by host answer = []
-
--- what a step of a session that has this host gave, or why it was refused
-abbrev pub answer_text : ℕ → List ℕ → Result Note StepRefusal → List ℕ
-answer_text session host (Ok note) = note_text session host note
-answer_text session host (Err refusal) = codes "refused " ++ (refusal_name refusal ++ 10 ∷ [])
-
--- the session that an event names; a connect names none
-abbrev pub IsEventOf : ℕ → Event → Type 0
-IsEventOf session (event.Connect host moment) = Unit {0}
-IsEventOf session (event.Feed s octets) = s ≡ session
-IsEventOf session (event.Line s moment) = s ≡ session
-IsEventOf session (event.Take s) = s ≡ session
+-- the host of the session that an event opened
+abbrev pub opened_by : Event → Result Note StepRefusal → List (List ℕ)
+opened_by (event.Connect host moment) (Ok (note.Session session)) = host ∷ []
+opened_by event answer = []

@@ -1,11 +1,11 @@
 //! Playing a script from a reader to a writer.
-ghost use Rattle.std.specs.Prelude.{◌≡◌, ◌<◌, ◌^◌, [], List, ℕ, Some, None, OnOk, IfOk, IfErr, IfSome};
-ghost use Rattle.halld.specs.Lines.{bad_ahead, bad_line_of};
-ghost use Rattle.halld.specs.Faults.{IsFaultAt};
+ghost use Rattle.std.specs.Prelude.{◌≡◌, ◌<◌, ◌^◌, List, ℕ, Some, OnOk, IfErr, IfSome};
+ghost use Rattle.halld.specs.Lines.{told_of, told_ahead};
+ghost use Rattle.halld.specs.Faults.{IsFaultOf, IsGood};
+ghost use Rattle.halld.specs.Stages.{head_of};
+ghost use Rattle.halld.specs.Printed.{IsPrinted, PrintsAhead, Writes};
 
-use crate::player::Player;
-use interleave::{Play, PlayRefusal, Settings};
-use line_grammar::Octets;
+use crate::reader::Reader;
 use std::alloc::{AllocError, AllocFailed, Global};
 use std::io::{ErrorKind, Read, Write};
 use thiserror::Error;
@@ -16,16 +16,13 @@ const BLOCK: usize = 4096;
 /// How many reads a script may take.
 const READS: u32 = 1_000_000;
 
-/// The server's name in a script.
-const SERVER: &[u8; 11] = b"irc.example";
-
 /// Why a script was not played to its end.
 #[derive(Clone, Copy, Debug, Error, PartialEq)]
 pub enum PlayFault {
-    /// The script's line of this number, from 1, is no step.
+    /// The script's line of this number, from 1, is no step, and no header before the first step.
     #[error("script line {0}")]
     BadLine(u64),
-    /// The server cannot be set up so.
+    /// The server can't be set up as the headers say.
     #[error("settings")]
     BadSettings,
     /// The script could not be read, or takes more than a million reads.
@@ -61,65 +58,22 @@ impl<T: Drop> From<AllocFailed<T>> for PlayFault {
     }
 }
 
-/// How much a play may hold.
-#[derive(Clone, Copy, Debug)]
-pub(crate) struct Limits {
-    /// How many sessions may be open.
-    pub sessions: usize,
-    /// How many records the journal may have.
-    pub records: usize,
-    /// How many workers carry out lines.
-    pub workers: usize,
-    /// How much may wait for one session.
-    pub sendq: usize,
-}
-
-/// The limits of a script.
-pub(crate) const LIMITS: Limits = Limits {
-    sessions: 1_024,
-    records: 1_000_000,
-    workers: 2,
-    sendq: 256,
-};
-
-/// A player of a server with these limits.
-fn new_player(alloc: Global, limits: Limits) -> Result<Player, PlayFault>
-    ensures line { IfOk result (λ player. player.line.items ≡ []) }
-    ensures ended { IfOk result (λ player. player.ended ≡ 0) }
-    ensures fault { IfErr result (IsFaultAt None) }
-{
-    let settings = Settings {
-        server: Octets::copied(alloc, SERVER)?,
-        sessions: limits.sessions,
-    };
-    match Play::new(
-        alloc,
-        settings,
-        limits.records,
-        limits.workers,
-        limits.sendq,
-    ) {
-        Ok(play) => Ok(Player::new(alloc, play)),
-        Err(PlayRefusal::BadSettings) => Err(PlayFault::BadSettings),
-        Err(PlayRefusal::Memory) => Err(PlayFault::Memory),
-    }
-}
-
 /// Reads a script to its end, and writes the notes of each step.
 fn play_lines<R: Read, W: Write>(
-    player: &mut Player,
+    reader: &mut Reader,
     input: &mut R,
     output: &mut W,
 ) -> Result<(), PlayFault>
-    requires { player.old.ended < 2 ^ 32 }
-    ensures good { OnOk result ((script : List ℕ) → R.remaining input.old ≡ Some script → bad_ahead player.old.ended player.old.line.items script ≡ None) }
-    ensures fault { IfErr result (λ e. (script : List ℕ) → R.remaining input.old ≡ Some script → IsFaultAt (bad_ahead player.old.ended player.old.line.items script) e) }
+    requires { reader.old.ended < 2 ^ 32 }
+    ensures good { OnOk result ((script : List ℕ) → R.remaining input.old ≡ Some script → IsGood (told_ahead (head_of reader.old.stage) reader.old.ended reader.old.line.items script)) }
+    ensures printed { OnOk result (Writes (W.contents output.old) (W.contents output.new) (λ written. (script : List ℕ) → R.remaining input.old ≡ Some script → PrintsAhead reader.old.stage reader.old.line.items script written)) }
+    ensures fault { IfErr result (λ e. (script : List ℕ) → R.remaining input.old ≡ Some script → IsFaultOf (told_ahead (head_of reader.old.stage) reader.old.ended reader.old.line.items script) e) }
 {
     let mut block = [0u8; BLOCK];
     for _ in 0..READS {
         match input.read(&mut block) {
-            Ok(0) => return player.finish(output),
-            Ok(count) => player.feed(&block[..count], output)?,
+            Ok(0) => return reader.finish(output),
+            Ok(count) => reader.feed(&block[..count], output)?,
             Err(error) if error.kind() == ErrorKind::Interrupted => {}
             Err(_) => return Err(PlayFault::ReadFailed),
         }
@@ -127,35 +81,23 @@ fn play_lines<R: Read, W: Write>(
     Err(PlayFault::ReadFailed)
 }
 
-/// Plays a script on a new server with these limits.
+/// Plays a script on a new server.
 #[tactic(auto, using(crate::proofs::Known::if_known, crate::proofs::Known::start))]
-pub(crate) fn play_with<R: Read, W: Write>(
+pub fn play<R: Read, W: Write>(
     alloc: Global,
-    limits: Limits,
     input: &mut R,
     output: &mut W,
 ) -> Result<(), PlayFault>
-    ensures good { OnOk result (IfSome (R.remaining input.old) (λ script. bad_line_of script ≡ None)) }
-    ensures fault { IfErr result (λ fault. IfSome (R.remaining input.old) (λ script. IsFaultAt (bad_line_of script) fault)) }
+    ensures good { OnOk result (IfSome (R.remaining input.old) (λ script. IsGood (told_of script))) }
+    ensures printed { OnOk result (Writes (W.contents output.old) (W.contents output.new) (λ written. IfSome (R.remaining input.old) (λ script. IsPrinted script written))) }
+    ensures fault { IfErr result (λ fault. IfSome (R.remaining input.old) (λ script. IsFaultOf (told_of script) fault)) }
 {
-    let mut player = new_player(alloc, limits)?;
-    let played = play_lines(&mut player, input, output);
+    let mut reader = Reader::new(alloc);
+    let played = play_lines(&mut reader, input, output);
     let flushed = output.flush();
     played?;
     match flushed {
         Ok(()) => Ok(()),
         Err(_) => Err(PlayFault::WriteFailed),
     }
-}
-
-/// Plays a script on a new server.
-pub fn play<R: Read, W: Write>(
-    alloc: Global,
-    input: &mut R,
-    output: &mut W,
-) -> Result<(), PlayFault>
-    ensures good { OnOk result (IfSome (R.remaining input.old) (λ script. bad_line_of script ≡ None)) }
-    ensures fault { IfErr result (λ fault. IfSome (R.remaining input.old) (λ script. IsFaultAt (bad_line_of script) fault)) }
-{
-    play_with(alloc, LIMITS, input, output)
 }

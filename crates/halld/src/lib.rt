@@ -1,25 +1,54 @@
 //! Plays a script of steps on the server's sessions and writes what each step gave.
 //!
-//! A script is this project's own form: a line for each step, parted by LF. An empty line is no step.
+//! A script is this project's own form: a line for each header and each step, parted by LF. An empty line says nothing. Words are
+//! parted by one space, and numbers are decimal digits.
 //!
-//! - `connect HOST MS` opens a session, and the note is `session S`;
-//! - `feed S "TEXT"` gives octets to a session, and the note is `read N`, with the number of lines that they end. In TEXT `\r`, `\n`, `\\`, `\"` and `\xHH` are escapes;
-//! - `do S MS` carries out the session's next line, and the notes are `record N` and `missed S` for each session that missed it;
-//! - `take S` takes what is next due to a session, and the notes are `S> LINE` for each line of it, or `empty`;
+//! Headers stand before the first step. Of one that stands twice the last counts:
+//!
+//! - `limit N`: how many records the journal may have, 1 to 10,000,000; 1,000,000 where no header says it;
+//! - `sendq N`: how many items may wait for a session, 1 to 4,096; 256 where no header says it;
+//! - `workers N`: how many workers there are, 1 to 64; 2 where no header says it;
+//! - `sessions N`: how many sessions may be open, 1 to 1,024; 1,024 where no header says it.
+//!
+//! The server is set up when the first step comes, or at the end where there is none. What can't be set up is a fault.
+//!
+//! These steps are an event each. S is a session's number, W a worker's, and MS a moment, in milliseconds since
+//! 1970-01-01T00:00:00Z:
+//!
+//! - `connect HOST MS` opens a session: `session S`;
+//! - `feed S "TEXT"` gives octets to a session: `read N`, with the number of lines that they end. In TEXT `\r`, `\n`, `\\`, `\"` and `\xHH` are escapes;
+//! - `pick W S` hands the session's next line to a worker: `picked`;
+//! - `begin W MS` accepts the line in the worker's hand, who holds the lock from then on: `record N`;
+//! - `put W` puts the next delivery of the record: `put S`, or `missed S` where the session's outbox was full;
+//! - `end W` gives the lock and the session back: `done N`;
+//! - `back W` gives back a line that wasn't begun: `back`;
+//! - `take S` takes what is next due to a session: `S> LINE` for each line of it, or `empty`;
+//! - `hang W S WORD MS` ends a session, for the reason `quit`, `sendq`, `ended`, `readfail`, `writefail`, `memory` or `shutdown`: `hung N`, or `hung N missed` where its outbox was full;
+//! - `sweep W MS` accepts that a session that was shut is gone, and the worker holds the lock: `sweep N`, or `sweep none`;
+//! - `reap S` gives up a session that is gone: `left N`, with the number of items that nobody took.
+//!
+//! And these are several:
+//!
+//! - `do S MS` has worker 1 pick, begin, put all and end: `record N`, and `missed S` for each session that missed it. A line that isn't begun is given back;
+//! - `tidy MS` has worker 1 sweep, put all and end: `sweep N` and the same, or `sweep none`;
 //! - `drain S` takes until there is nothing more.
 //!
-//! Words are parted by one space. S is a session's number, and MS a moment, in milliseconds since 1970-01-01T00:00:00Z; both are decimal digits.
-//! In a LINE each octet but a backslash and those from 32 to 126 stands as `\xhh`. A step that is refused has the note `refused NAME`.
+//! A step that is refused has the note `refused NAME`. In a LINE each octet but a backslash and those from 32 to 126 stands as `\xhh`.
 #![tactic(auto)]
 
+mod alone;
 mod entry;
 mod escape;
+mod header;
 mod notes;
 mod number;
 mod player;
+mod reader;
+mod refusals;
 mod script;
 mod split;
 #[cfg(test)]
 mod tests;
+mod words;
 
 pub use entry::{PlayFault, play};

@@ -2,51 +2,21 @@
 ghost use Rattle.std.specs.Prelude.{◌≡◌, ◌++◌, ◌∷◌, [], List, ℕ, OnOk, IfOk};
 ghost use Rattle.outbox.specs.Text.{item_text};
 ghost use Rattle.halld.specs.Escapes.{printed};
-ghost use Rattle.halld.specs.Notes.{numbered, done_text, line_text, lines_after, note_text, open_refusal_name, line_refusal_name, refusal_name, answer_text};
+ghost use Rattle.halld.specs.Notes.{worded, numbered, done_text, hung_text, swept_text, line_text, lines_after, note_text, refused_text, answer_text, whole_text};
 
 use crate::escape::print_octet;
-use interleave::{BookRefusal, Done, Item, LineRefusal, Note, OpenRefusal, SessionId, StepRefusal};
+use crate::refusals::refusal_name;
+use interleave::{Done, Hung, Item, Note, RecordNumber, SessionId, StepRefusal};
 use outbox::write_out;
 use std::alloc::{AllocError, Global};
 
-/// The name of a refusal to open a session.
-fn open_refusal_name(refusal: OpenRefusal) -> &'static str
-    ensures { result.now ≡ open_refusal_name refusal }
+/// Adds a word as a line.
+fn write_word(out: &mut Vec<u8>, word: &str) -> Result<(), AllocError>
+    ensures { OnOk result (out.new.items ≡ out.old.items ++ worded word.now) }
 {
-    match refusal {
-        OpenRefusal::Busy => "Busy",
-        OpenRefusal::TooManySessions => "TooManySessions",
-        OpenRefusal::JournalFull => "JournalFull",
-        OpenRefusal::BadMoment => "BadMoment",
-        OpenRefusal::Memory => "Memory",
-    }
-}
-
-/// The name of a refusal of a line.
-fn line_refusal_name(refusal: LineRefusal) -> &'static str
-    ensures { result.now ≡ line_refusal_name refusal }
-{
-    match refusal {
-        LineRefusal::Busy => "Busy",
-        LineRefusal::WrongTurn => "WrongTurn",
-        LineRefusal::Shut => "Shut",
-        LineRefusal::JournalFull => "JournalFull",
-        LineRefusal::BadMoment => "BadMoment",
-        LineRefusal::Memory => "Memory",
-    }
-}
-
-/// The name of a refusal, which a note says after `refused`.
-fn refusal_name(refusal: StepRefusal) -> &'static str
-    ensures { result.now ≡ refusal_name refusal }
-{
-    match refusal {
-        StepRefusal::NoSession => "NoSession",
-        StepRefusal::NothingRead => "NothingRead",
-        StepRefusal::Book(BookRefusal::Open(refusal)) => open_refusal_name(refusal),
-        StepRefusal::Book(BookRefusal::Line(refusal)) => line_refusal_name(refusal),
-        StepRefusal::Memory => "Memory",
-    }
+    out.extend_from_slice(word.as_bytes())?;
+    out.push(b'\n')?;
+    Ok(())
 }
 
 /// Adds `LABEL NUMBER` as a line.
@@ -64,15 +34,43 @@ fn write_number(
     Ok(())
 }
 
-/// Adds `record N`, and `missed S` for each session that missed the record.
-fn write_done(alloc: Global, out: &mut Vec<u8>, done: &Done) -> Result<(), AllocError>
-    ensures { OnOk result (out.new.items ≡ out.old.items ++ done_text done.now) }
+/// Adds a label and the number of a record, and `missed S` for each session that missed the record.
+fn write_done(alloc: Global, out: &mut Vec<u8>, label: &str, done: &Done) -> Result<(), AllocError>
+    ensures { OnOk result (out.new.items ≡ out.old.items ++ done_text label.now done.now) }
 {
-    write_number(alloc, out, "record", done.number.number())?;
+    write_number(alloc, out, label, done.number.number())?;
     for session in done.missed.as_slice() {
         write_number(alloc, out, "missed", session.number())?;
     }
     Ok(())
+}
+
+/// Adds `hung N`, and `missed` where the session missed its last item.
+fn write_hung(alloc: Global, out: &mut Vec<u8>, hung: Hung) -> Result<(), AllocError>
+    ensures { OnOk result (out.new.items ≡ out.old.items ++ hung_text hung) }
+{
+    let number = hung.number.number();
+    let text = format!(in alloc; "hung {number}")?;
+    out.extend_from_slice(text.as_bytes())?;
+    if hung.missed {
+        out.extend_from_slice(b" missed")?;
+    }
+    out.push(b'\n')?;
+    Ok(())
+}
+
+/// Adds `sweep N`, or `sweep none`.
+fn write_swept(
+    alloc: Global,
+    out: &mut Vec<u8>,
+    number: Option<RecordNumber>,
+) -> Result<(), AllocError>
+    ensures { OnOk result (out.new.items ≡ out.old.items ++ swept_text number) }
+{
+    match number {
+        Some(number) => write_number(alloc, out, "sweep", number.number()),
+        None => write_word(out, "sweep none"),
+    }
 }
 
 /// Adds octets as a note prints them.
@@ -170,13 +168,29 @@ fn write_note(
     match note {
         Note::Session(opened) => write_number(alloc, out, "session", opened.number()),
         Note::Read(count) => write_number(alloc, out, "read", *count as u64),
-        Note::Done(done) => write_done(alloc, out, done),
+        Note::Picked => write_word(out, "picked"),
+        Note::Record(number) => write_number(alloc, out, "record", number.number()),
+        Note::Put(put) => write_number(alloc, out, "put", put.number()),
+        Note::Missed(missed) => write_number(alloc, out, "missed", missed.number()),
+        Note::Done(done) => write_number(alloc, out, "done", done.number.number()),
+        Note::Back => write_word(out, "back"),
         Note::Item(item) => write_item(alloc, out, session, host, item),
-        Note::Empty => out.extend_from_slice(b"empty\n"),
+        Note::Empty => write_word(out, "empty"),
+        Note::Hung(hung) => write_hung(alloc, out, *hung),
+        Note::Swept(number) => write_swept(alloc, out, *number),
+        Note::Left(count) => write_number(alloc, out, "left", *count as u64),
     }
 }
 
-/// The notes of a step, each a line that ends in LF. `session` is the one whose step it was, and `host` its host; a connect has none yet, and its notes name none but the new one.
+/// Adds why a step was refused.
+fn write_refused(out: &mut Vec<u8>, refusal: StepRefusal) -> Result<(), AllocError>
+    ensures { OnOk result (out.new.items ≡ out.old.items ++ refused_text refusal) }
+{
+    out.extend_from_slice(b"refused ")?;
+    write_word(out, refusal_name(refusal))
+}
+
+/// The notes of a step, each a line that ends in LF. `session` is the one that the step names, and `host` its host.
 pub(crate) fn notes_of(
     alloc: Global,
     session: SessionId,
@@ -188,11 +202,23 @@ pub(crate) fn notes_of(
     let mut out = Vec::new(alloc);
     match answer {
         Ok(note) => write_note(alloc, &mut out, session, host, note)?,
-        Err(refusal) => {
-            out.extend_from_slice(b"refused ")?;
-            out.extend_from_slice(refusal_name(*refusal).as_bytes())?;
-            out.push(b'\n')?;
-        }
+        Err(refusal) => write_refused(&mut out, *refusal)?,
     }
+    Ok(out)
+}
+
+/// The notes of what worker 1 came to alone, of which a record has this label.
+pub(crate) fn whole_notes(
+    alloc: Global,
+    label: &str,
+    answer: &Result<Note, StepRefusal>,
+) -> Result<Vec<u8>, AllocError>
+    ensures { IfOk result (λ notes. notes.items ≡ whole_text label.now answer.now) }
+{
+    let Ok(Note::Done(done)) = answer else {
+        return notes_of(alloc, SessionId::new(0), &[], answer);
+    };
+    let mut out = Vec::new(alloc);
+    write_done(alloc, &mut out, label, done)?;
     Ok(out)
 }

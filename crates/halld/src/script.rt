@@ -1,24 +1,30 @@
 //! A step as a line of a script.
 ghost use Rattle.std.specs.Prelude.{◌≡◌, None, Some, IfOk, IfSome, IsErrOf};
 ghost use Rattle.std.specs.Option.{option_map};
-ghost use Rattle.halld.specs.Script.{verb_of, session_of, unquoted, step_with, step_of, NamesHost};
+ghost use Rattle.line_grammar.specs.Lines.{before_space, after_space};
+ghost use Rattle.halld.specs.Numbers.{moment_of};
+ghost use Rattle.halld.specs.Script.{both, plain_of, verb_of, worker_of, plain_step, step_with, step_of, NamesHost};
 ghost use Rattle.halld.specs.declared.script.StepFault.TheVariants.{Memory};
 
 use crate::escape::unescape;
-use crate::number::{moment, number};
+use crate::number::moment;
 use crate::split::split_at_space;
+use crate::words::{session, unquoted, why, worker};
 use casemapping::is_host;
-use interleave::{Moment, SessionId};
+use interleave::{Event, Moment, SessionId, WorkerId};
 use line_grammar::Octets;
 use std::alloc::{AllocError, AllocFailed, Global};
 
 /// A step of a script.
 #[derive(Debug, Drop)]
 pub(crate) enum Step {
-    Connect { host: Octets, moment: Moment },
-    Feed { session: SessionId, octets: Octets },
+    /// One event.
+    One(Event),
+    /// Worker 1 carries out a session's next line.
     Do { session: SessionId, moment: Moment },
-    Take { session: SessionId },
+    /// Worker 1 sweeps.
+    Tidy { moment: Moment },
+    /// What is due to a session is taken until there is nothing more.
     Drain { session: SessionId },
 }
 
@@ -47,14 +53,62 @@ impl<T: Drop> From<AllocFailed<T>> for StepFault {
     }
 }
 
+/// The word at the front of a step that takes no memory.
+#[derive(Clone, Copy)]
+enum Plain {
+    Pick,
+    Begin,
+    Put,
+    End,
+    Back,
+    Take,
+    Hang,
+    Sweep,
+    Reap,
+    Do,
+    Tidy,
+    Drain,
+}
+
 /// The word at a step's front.
 #[derive(Clone, Copy)]
 enum Verb {
     Connect,
     Feed,
-    Do,
-    Take,
-    Drain,
+    Plain(Plain),
+}
+
+/// The step that a line's first word asks for, where it takes no memory.
+fn plain_of(word: &[u8]) -> Option<Plain>
+    ensures { result ≡ plain_of word.now }
+{
+    if word == b"pick".as_slice() {
+        Some(Plain::Pick)
+    } else if word == b"begin".as_slice() {
+        Some(Plain::Begin)
+    } else if word == b"put".as_slice() {
+        Some(Plain::Put)
+    } else if word == b"end".as_slice() {
+        Some(Plain::End)
+    } else if word == b"back".as_slice() {
+        Some(Plain::Back)
+    } else if word == b"take".as_slice() {
+        Some(Plain::Take)
+    } else if word == b"hang".as_slice() {
+        Some(Plain::Hang)
+    } else if word == b"sweep".as_slice() {
+        Some(Plain::Sweep)
+    } else if word == b"reap".as_slice() {
+        Some(Plain::Reap)
+    } else if word == b"do".as_slice() {
+        Some(Plain::Do)
+    } else if word == b"tidy".as_slice() {
+        Some(Plain::Tidy)
+    } else if word == b"drain".as_slice() {
+        Some(Plain::Drain)
+    } else {
+        None
+    }
 }
 
 /// The step that a line's first word asks for.
@@ -65,34 +119,8 @@ fn verb_of(word: &[u8]) -> Option<Verb>
         Some(Verb::Connect)
     } else if word == b"feed".as_slice() {
         Some(Verb::Feed)
-    } else if word == b"do".as_slice() {
-        Some(Verb::Do)
-    } else if word == b"take".as_slice() {
-        Some(Verb::Take)
-    } else if word == b"drain".as_slice() {
-        Some(Verb::Drain)
     } else {
-        None
-    }
-}
-
-/// The session that a word names.
-fn session(word: &[u8]) -> Option<SessionId>
-    ensures { result ≡ session_of word.now }
-{
-    Some(SessionId::new(number(word)?))
-}
-
-/// What stands between a quote at the front and a quote at the end.
-fn unquoted(text: &[u8]) -> Option<&[u8]>
-    ensures { option_map (λ inner. inner.now) result ≡ unquoted text.now }
-{
-    let (first, more) = text.split_first()?;
-    let (last, inner) = more.split_last()?;
-    if *first == b'"' && *last == b'"' {
-        Some(inner)
-    } else {
-        None
+        Some(Verb::Plain(plain_of(word)?))
     }
 }
 
@@ -110,7 +138,7 @@ fn parse_connect(alloc: Global, words: &[u8]) -> Result<Step, StepFault>
         return Err(StepFault::Bad);
     };
     let host = Octets::copied(alloc, host)?;
-    Ok(Step::Connect { host, moment })
+    Ok(Step::One(Event::Connect { host, moment }))
 }
 
 /// `S "TEXT"`.
@@ -127,13 +155,49 @@ fn parse_feed(alloc: Global, words: &[u8]) -> Result<Step, StepFault>
         return Err(StepFault::Bad);
     };
     let octets = Octets::from_vec(unescape(alloc, text)?);
-    Ok(Step::Feed { session, octets })
+    Ok(Step::One(Event::Feed { session, octets }))
+}
+
+/// `W S`.
+fn parse_pick(words: &[u8]) -> Option<Event>
+    ensures { option_map (λ e. Step.One e) result ≡ plain_step Plain.Pick words.now }
+{
+    let (worker_name, session_name) = split_at_space(words);
+    let worker = worker(worker_name)?;
+    let session = session(session_name)?;
+    Some(Event::Pick { worker, session })
+}
+
+/// `W MS`.
+fn worker_and_moment(words: &[u8]) -> Option<(WorkerId, Moment)>
+    ensures { result ≡ both (λ w ms. (w, ms)) (worker_of (before_space words.now)) (moment_of (after_space words.now)) }
+{
+    let (name, milliseconds) = split_at_space(words);
+    Some((worker(name)?, moment(milliseconds)?))
+}
+
+/// `W S WORD MS`.
+fn parse_hang(words: &[u8]) -> Option<Event>
+    ensures { option_map (λ e. Step.One e) result ≡ plain_step Plain.Hang words.now }
+{
+    let (worker_name, more) = split_at_space(words);
+    let (session_name, last) = split_at_space(more);
+    let (reason, milliseconds) = split_at_space(last);
+    let worker = worker(worker_name)?;
+    let session = session(session_name)?;
+    let why = why(reason)?;
+    let moment = moment(milliseconds)?;
+    Some(Event::Hang {
+        worker,
+        session,
+        why,
+        moment,
+    })
 }
 
 /// `S MS`.
 fn parse_do(words: &[u8]) -> Option<Step>
-    ensures value { result ≡ step_with Verb.Do words.now }
-    ensures host { IfSome result NamesHost }
+    ensures { result ≡ plain_step Plain.Do words.now }
 {
     let (name, milliseconds) = split_at_space(words);
     let session = session(name)?;
@@ -141,25 +205,46 @@ fn parse_do(words: &[u8]) -> Option<Step>
     Some(Step::Do { session, moment })
 }
 
-/// The step of a line, after its first word.
-fn parse_with(alloc: Global, verb: Verb, words: &[u8]) -> Result<Step, StepFault>
-    ensures ok { IfOk result (λ step. step_with verb words.now ≡ Some step) }
-    ensures bad { IsErrOf result StepFault.Bad → step_with verb words.now ≡ None }
-    ensures host { IfOk result NamesHost }
+/// The step of a line, after a first word that takes no memory.
+fn parse_plain(plain: Plain, words: &[u8]) -> Option<Step>
+    ensures value { result ≡ plain_step plain words.now }
+    ensures host { IfSome result NamesHost }
 {
-    match verb {
-        Verb::Connect => parse_connect(alloc, words),
-        Verb::Feed => parse_feed(alloc, words),
-        Verb::Do => parse_do(words).ok_or(StepFault::Bad),
-        Verb::Take => match session(words) {
-            Some(session) => Ok(Step::Take { session }),
-            None => Err(StepFault::Bad),
+    let event = match plain {
+        Plain::Pick => parse_pick(words)?,
+        Plain::Begin => {
+            let (worker, moment) = worker_and_moment(words)?;
+            Event::Begin { worker, moment }
+        }
+        Plain::Put => Event::Put {
+            worker: worker(words)?,
         },
-        Verb::Drain => match session(words) {
-            Some(session) => Ok(Step::Drain { session }),
-            None => Err(StepFault::Bad),
+        Plain::End => Event::End {
+            worker: worker(words)?,
         },
-    }
+        Plain::Back => Event::Back {
+            worker: worker(words)?,
+        },
+        Plain::Take => Event::Take {
+            session: session(words)?,
+        },
+        Plain::Hang => parse_hang(words)?,
+        Plain::Sweep => {
+            let (worker, moment) = worker_and_moment(words)?;
+            Event::Sweep { worker, moment }
+        }
+        Plain::Reap => Event::Reap {
+            session: session(words)?,
+        },
+        Plain::Do => return parse_do(words),
+        Plain::Tidy => return Some(Step::Tidy {
+            moment: moment(words)?,
+        }),
+        Plain::Drain => return Some(Step::Drain {
+            session: session(words)?,
+        }),
+    };
+    Some(Step::One(event))
 }
 
 /// The step that a line of a script, without its LF, writes.
@@ -170,7 +255,9 @@ pub(crate) fn parse_step(alloc: Global, line: &[u8]) -> Result<Step, StepFault>
 {
     let (first, words) = split_at_space(line);
     match verb_of(first) {
-        Some(verb) => parse_with(alloc, verb, words),
+        Some(Verb::Connect) => parse_connect(alloc, words),
+        Some(Verb::Feed) => parse_feed(alloc, words),
+        Some(Verb::Plain(plain)) => parse_plain(plain, words).ok_or(StepFault::Bad),
         None => Err(StepFault::Bad),
     }
 }

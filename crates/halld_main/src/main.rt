@@ -16,11 +16,34 @@ const FAULT: u8 = 1;
 /// The status after a command line that was refused.
 const REFUSED: u8 = 2;
 
+/// What the lines of a script are.
+const SCRIPT: &str = "Headers, before the first step:
+  limit N             records of the journal, 1 to 10000000 (1000000)
+  sendq N             items that wait for a session, 1 to 4096 (256)
+  workers N           workers, 1 to 64 (2)
+  sessions N          open sessions, 1 to 1024 (1024)
+
+Steps of a session S, a worker W and a moment MS:
+  connect HOST MS     open a session
+  feed S \"TEXT\"       give octets to a session
+  pick W S            hand a session's next line to a worker
+  begin W MS          accept the worker's line, and take the lock
+  put W               put the next delivery
+  end W               give the lock and the session back
+  back W              give back a line that wasn't begun
+  take S              take what is next due to a session
+  hang W S WORD MS    end a session: quit, sendq, ended, readfail, writefail, memory or shutdown
+  sweep W MS          say that a session that was shut is gone, and take the lock
+  reap S              give up a session that is gone
+  do S MS             worker 1: pick, begin, put all, end
+  tidy MS             worker 1: sweep, put all, end
+  drain S             take until nothing is left";
+
 /// Reads a command line, whose first word is the program's own name.
 fn parse<'a>(alloc: Global, words: &'a [String]) -> Result<ArgMatches<'a>, Error> {
-    let play = Command::new(alloc, "play").about(
-        "Play a script of steps from standard input and print what each step gave",
-    );
+    let play = Command::new(alloc, "play")
+        .about("Play a script of steps from standard input and print what each step gave")
+        .after_help(SCRIPT);
     let command = Command::new(alloc, "halld")
         .about("An IRC server whose core is proved")
         .subcommand_required(true)

@@ -1,5 +1,6 @@
 -- Deliveries are owed in the order of their records.
-use Rattle.std.proofs.Common.{◌≡◌, ℕ, ◌+◌, ◌<◌, ◌≤◌, Bool, true, false, ◌||◌, cond, List, [], ◌∷◌, ◌++◌, length, arith, sym, ap, ◌∙◌, subst, append-nil}
+use Rattle.std.proofs.Common.{◌≡◌, ℕ, ◌+◌, ◌<◌, ◌≤◌, Bool, true, false, ◌||◌, cond, List, [], ◌∷◌, ◌++◌, length, Option, Some, None, arith, refl, sym, ap, ◌∙◌, subst, append-nil, append_assoc, take-append-drop}
+use Rattle.std.specs.Option.{is_some}
 use Rattle.chronicle.specs.declared.why.Why.{Why}
 use Rattle.chronicle.specs.History.{Rec, misses, ends, shut}
 use Rattle.outbox.specs.declared.item.Item.{Item}
@@ -7,10 +8,17 @@ use Rattle.outbox.specs.declared.item.Item.TheVariants.{Lines, Last}
 use Rattle.deeds.specs.Deeds.{facts}
 use Rattle.deeds.specs.Lines as told
 use Rattle.book.specs.Owed.{item, reason, delivery, owed}
-use Rattle.book.specs.Book.{planned}
-use Rattle.interleave.specs.State.{State, IsSound, ForEach, inbox_at, taken_of, queue_of}
+use Rattle.line_grammar.specs.declared.splitter.Piece.{Piece}
+use Rattle.line_grammar.specs.Lines.{lines}
+use Rattle.chronicle.specs.History.{accepted}
+use Rattle.outbox.specs.Ring.{Waiting}
+use Rattle.book.specs.Book.{box_of}
+use Rattle.interleave.specs.declared.worker.Place.{Place}
+use Rattle.interleave.specs.declared.worker.Place.TheVariants.{Home, Hand, Begun}
+use Rattle.interleave.specs.State.{Seen, State, IsSound, IsBoxOf, ForEach, hand, behind, waits, box_at, inbox_at, in_hand, unread, taken_of, queue_of, planned_for}
+use Rattle.interleave.proofs.Carried.{shut_more, owed_by as owed_nothing, away_before, none_planned}
 use Rattle.interleave.specs.Order.{IsPrefix, number_of, AreAfter, IsRising}
-use Rattle.interleave.specs.Laws.{OnceInOrder, TakenInOrder, AcceptedIsPrefixOfSent}
+use Rattle.interleave.specs.Laws.{OnceInOrder, TakenInOrder, AcceptedIsPrefixOfSent, ErrorAtMostAfterTheClose, IsErrorAtMost}
 
 -- each number is at most n
 abbrev AtMost : ℕ → List Item → Type 0
@@ -80,15 +88,56 @@ rising_front (x ∷ xs) ys r = (after_front (number_of x) xs ys r.0, rising_fron
 pub prefix_rises : (h : List Rec) (t : ℕ) (xs : List Item) → IsPrefix xs (owed h t) → IsRising xs
 prefix_rises h t xs p = rising_front xs p.0 (subst IsRising (sym p.1) (once_in_order h t))
 
--- what was taken and what waits is owed
-pub sound_owed : (m : State) → IsSound m → ForEach m (λ t. taken_of m t ++ queue_of m t ≡ owed m.book.history t)
+-- what was taken, what waits and what a plan still has is owed
+owed_by : (o : Option Waiting) (b : Seen) (sendq : ℕ) (ps xs : List Item) → IsBoxOf o b sendq xs → (is_some o ≡ false → ps ≡ []) → (is_some o ≡ true → (box_of o).taken ++ (box_of o).queue ++ ps ≡ xs) → b.taken ++ waits o b.left ++ ps ≡ xs
+owed_by None b sendq ps xs i none here = ap (λ qs. b.taken ++ b.left ++ qs) (none refl) ∙ append-nil (b.taken ++ b.left) ∙ i.0
+owed_by (Some w) b sendq ps xs i none here = ap (λ qs. qs ++ w.queue ++ ps) (sym i.0) ∙ here refl
+
+pub sound_owed : (m : State) → IsSound m → ForEach m (λ t. taken_of m t ++ queue_of m t ++ planned_for m t ≡ owed m.book.history t)
 sound_owed m i t from to =
-    sym (append-nil (taken_of m t ++ queue_of m t)) ∙ ap (λ ps. (taken_of m t ++ queue_of m t) ++ planned ps t) (sym (i.book.idle i.idle)) ∙ i.book.owed t from to (i.here t from to)
+    let same = i.inboxes in let within : t ≤ length m.book.outboxes = omega arith in
+    owed_by (box_at m t) (inbox_at m t) m.sendq (planned_for m t) (owed m.book.history t) (i.each t from to).box
+    (λ away. none_planned m.book m.book.plan t (away_before m.book t i.book from within away) i.book.plan) (i.book.owed t from within)
+
+pub taken_is_prefix : (m : State) → IsSound m → ForEach m (λ t. IsPrefix (taken_of m t) (owed m.book.history t))
+taken_is_prefix m i t from to = (queue_of m t ++ planned_for m t, sym (append_assoc (taken_of m t) (queue_of m t) (planned_for m t)) ∙ sound_owed m i t from to)
 
 pub taken_in_order : TakenInOrder
-taken_in_order m i t from to =
-    let all : IsPrefix (taken_of m t) (owed m.book.history t) = (queue_of m t, sound_owed m i t from to) in
-    (prefix_rises m.book.history t (taken_of m t) all, all)
+taken_in_order m i t from to = (prefix_rises m.book.history t (taken_of m t) (taken_is_prefix m i t from to), taken_is_prefix m i t from to)
+
+-- ---- lines
+
+-- the line in a worker's hand and those behind it are all that no worker has begun
+hand_behind : (place : Place) (ps : List Piece) → hand place ps ++ behind place ps ≡ ps
+hand_behind Home ps = refl
+hand_behind (Hand w) ps = take-append-drop 1 ps
+hand_behind (Begun w) ps = refl
+
+pub sound_accepted : (m : State) → IsSound m → ForEach m (λ t. accepted m.book.history t ++ in_hand m t ++ unread m t ≡ lines (inbox_at m t).fed)
+sound_accepted m i t from to = append_assoc (accepted m.book.history t) (in_hand m t) (unread m t) ∙ ap (λ ps. accepted m.book.history t ++ ps) (hand_behind (inbox_at m t).place (inbox_at m t).pending) ∙ (i.each t from to).accepted
 
 pub accepted_is_prefix_of_sent : AcceptedIsPrefixOfSent
-accepted_is_prefix_of_sent m i t from to = ((inbox_at m t).unread, i.accepted t from to)
+accepted_is_prefix_of_sent m i t from to = ((inbox_at m t).pending, (i.each t from to).accepted)
+
+-- ---- after the close
+
+shut_stays : (later : List Rec) (h : List Rec) (t : ℕ) → shut h t ≡ true → (shut (later ++ h) t ≡ true) × (owed (later ++ h) t ≡ owed h t)
+shut_stays [] h t e = (e, refl)
+shut_stays (r ∷ later) h t e =
+    let before = shut_stays later h t e in (
+      shut_more (misses r t) (ends r.kind t) (shut (later ++ h) t) before.0,
+      owed_nothing (owed (later ++ h) t) (delivery (later ++ h) r.kind t) (misses r t) (shut (later ++ h) t) before.0 ∙ before.1,
+    )
+
+-- what the record owes that shuts a session
+closing : (r : Rec) (h : List Rec) (t : ℕ) (b c d : Bool) → ends r.kind t ≡ c → (b || c || d) ≡ true → (end : List Item) × IsErrorAtMost end × (owed h t ++ cond (b || d) [] (cond c (Last (length h + 1) (reason r.kind) ∷ []) (item (length h + 1) (told.lines (facts h) r.kind t))) ≡ owed h t ++ end)
+closing r h t true c d is e = ([], tt, refl)
+closing r h t false true true is e = ([], tt, refl)
+closing r h t false true false is e = (Last (length h + 1) (reason r.kind) ∷ [], tt, refl)
+closing r h t false false true is e = ([], tt, refl)
+closing r h t false false false is e = absurd (let f : false ≡ true = e in cc)
+
+pub error_at_most : ErrorAtMostAfterTheClose
+error_at_most later r h t e =
+    let one = closing r h t (misses r t) (ends r.kind t) (shut h t) refl e in
+    (one.0, one.1, (shut_stays later (r ∷ h) t e).1 ∙ one.2)

@@ -1,45 +1,61 @@
--- What a session's inbox holds, and how reading and accepting change it: this project's own choice.
-use Rattle.std.specs.Prelude.{◌≡◌, ◌≢◌, ℕ, ℤ, ◌+◌, List, [], ◌∷◌, ◌++◌, length}
+-- What a session's inbox holds, and how reading changes it: this project's own choice.
+use Rattle.std.specs.Prelude.{◌≡◌, ℕ, ℤ, ◌+◌, ◌-◌, List, ◌∷◌, ◌++◌, length, slice_index_or, slice_set, Option, Some, None}
 use Rattle.line_grammar.specs.declared.splitter.Piece.{Piece}
 use Rattle.line_grammar.specs.Lines.{lines}
 use Rattle.chronicle.specs.declared.record.Kind.TheVariants.{Said}
-use Rattle.chronicle.specs.History.{shut}
-use Rattle.book.specs.declared.out.Done.{Done}
-use Rattle.book.specs.declared.refusals.LineRefusal.TheVariants as accepting
-use Rattle.book.specs.Book.{Shown, Turn, MayBegin, IsLineRefusal, done, newest_missed}
-use Rattle.interleave.specs.declared.event.BookRefusal.TheVariants.{Open, Line}
-use Rattle.interleave.specs.declared.event.StepRefusal.{StepRefusal}
-use Rattle.interleave.specs.declared.event.StepRefusal.TheVariants.{NoSession, NothingRead, Book, Memory}
+use Rattle.outbox.specs.declared.item.Item.{Item}
+use Rattle.interleave.specs.declared.worker.Place.{Place}
+use Rattle.interleave.specs.declared.worker.Place.TheVariants.{Home}
+use Rattle.book.specs.Book.{Shown, Turn, Out, IsOut, MayBegin, begun}
+use Rattle.interleave.specs.State.{Seen, nothing_fed}
+use Rattle.interleave.specs.Steps.{moved, with_left, with_fed, with_begun}
 
--- all octets that were ever fed, the lines of them that aren't accepted yet, and the baton
+-- what clauses see of it, and the session's baton until that is given up
 pub record Held : Type 0 where
-  pub fed : List ℕ
-  pub unread : List Piece
-  pub turn : Turn
+  pub seen : Seen
+  pub turn : Option Turn
+
+abbrev pub with_seen : Held → Seen → Held
+with_seen b seen = record { seen = seen; turn = b.turn }
+
+-- the baton went elsewhere
+abbrev pub moved_to : Held → Place → Held
+moved_to b place = with_seen b (moved b.seen place)
+
+-- a line ended: the baton is at home and goes on
+abbrev pub ended_at : Held → Turn → Held
+ended_at b turn = record { seen = moved b.seen Home; turn = Some (record { session = turn.session; next = turn.next + 1 }) }
+
+-- the session was given up with its baton, and so much was left
+abbrev pub reaped_at : Held → List Item → Held
+reaped_at b items = record { seen = with_left b.seen items; turn = None }
+
+abbrev pub no_inbox : Held
+no_inbox = record { seen = nothing_fed; turn = None }
+
+-- of session t
+abbrev pub held_at : List Held → ℕ → Held
+held_at boxes t = slice_index_or boxes (t - 1) no_inbox
+
+abbrev pub with_held : List Held → ℕ → Held → List Held
+with_held boxes t b = slice_set boxes (t - 1) b
 
 -- octets were read, and n lines ended in them
 pub record IsRead (b : Held) (octets : List ℕ) (n : ℕ) (c : Held) : Type 0 where
   pub added : List Piece
-  pub adds : lines (b.fed ++ octets) ≡ lines b.fed ++ added
+  pub adds : lines (b.seen.fed ++ octets) ≡ lines b.seen.fed ++ added
   pub number : n ≡ length added
-  pub after : c ≡ record { fed = b.fed ++ octets; unread = b.unread ++ added; turn = b.turn }
+  pub after : c ≡ with_seen b (with_fed b.seen octets added)
 
--- the book m accepted the first unread line and is k
-pub record IsAccepted (b : Held) (m : Shown) (moment : ℤ) (d : Done) (c : Held) (k : Shown) : Type 0 where
+-- the book m began the line in a worker's hand, and is k
+pub record IsBegun (b : Held) (m : Shown) (w : ℕ) (moment : ℤ) (p : Out) (c : Held) (k : Shown) : Type 0 where
+  pub turn : Turn
   pub piece : Piece
   pub rest : List Piece
-  pub next : b.unread ≡ piece ∷ rest
-  pub may : MayBegin m b.turn moment
-  pub number : d.number ≡ length m.history + 1
-  pub missed : d.missed ≡ newest_missed k.history
-  pub is_shut : d.shut ≡ shut k.history b.turn.session
-  pub book : k ≡ done m (Said b.turn.session b.turn.next piece) moment
-  pub inbox : c ≡ record { fed = b.fed; unread = rest; turn = record { session = b.turn.session; next = b.turn.next + 1 } }
-
--- why the first unread line wasn't accepted
-abbrev pub IsLineRefused : Held → Shown → ℤ → StepRefusal → Type 0
-IsLineRefused b m moment NothingRead = b.unread ≡ []
-IsLineRefused b m moment (Book (Line e)) = (b.unread ≢ []) × (e ≢ accepting.Memory) × IsLineRefusal m b.turn moment e
-IsLineRefused b m moment Memory = (b.unread ≢ []) × MayBegin m b.turn moment
-IsLineRefused b m moment (Book (Open e)) = ⊥
-IsLineRefused b m moment NoSession = ⊥
+  pub baton : b.turn ≡ Some turn
+  pub next : b.seen.pending ≡ piece ∷ rest
+  pub may : MayBegin m turn moment
+  pub out : IsOut k p
+  pub line : (p.session ≡ turn.session) × (p.next ≡ Some (turn.next + 1))
+  pub book : k ≡ begun m (Said turn.session turn.next piece) moment
+  pub inbox : c ≡ with_seen b (with_begun b.seen w rest)

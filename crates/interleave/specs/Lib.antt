@@ -1,9 +1,9 @@
 pub mod Limits
-pub mod Refusals
-pub mod Inbox
 pub mod State
-pub mod Kept
+pub mod Refusals
 pub mod Steps
+pub mod Inbox
+pub mod Kept
 pub mod Runs
 pub mod Order
 pub mod Laws

@@ -1,5 +1,5 @@
 -- Runs of a play, and what is read off events and answers: this project's own promise.
-use Rattle.std.specs.Prelude.{◌≡◌, ℕ, ◌==◌, cond, List, [], ◌∷◌, ◌++◌, Result, Ok}
+use Rattle.std.specs.Prelude.{◌≡◌, ℕ, ◌==◌, cond, List, [], ◌∷◌, ◌++◌, Result, Ok, Err}
 use Rattle.outbox.specs.declared.item.Item.{Item}
 use Rattle.interleave.specs.declared.event.Event.{Event}
 use Rattle.interleave.specs.declared.event.Event.TheVariants.{Feed, Take}
@@ -16,19 +16,33 @@ IsRun m (e ∷ es) (r ∷ rs) k = (l : State) × IsStep m e r l × IsSound l × 
 IsRun m es rs k = ⊥
 
 -- the octets of an event that were read of session t
+abbrev pub fed_by : ℕ → Event → List ℕ
+fed_by t (Feed s octets) = cond (s == t) octets []
+fed_by t e = []
+
+-- none where it was refused
 abbrev pub sent_by : ℕ → Event → Result Note StepRefusal → List ℕ
-sent_by t (Feed s octets) (Ok (note.Read n)) = cond (s == t) octets []
-sent_by t e r = []
+sent_by t e (Err r) = []
+sent_by t e (Ok n) = fed_by t e
 
 -- in order
 abbrev pub sent : ℕ → List Event → List (Result Note StepRefusal) → List ℕ
 sent t (e ∷ es) (r ∷ rs) = sent_by t e r ++ sent t es rs
 sent t es rs = []
 
--- the item of session t that an event's answer hands out
+-- the item that an answer hands out
+abbrev pub item_of : Note → List Item
+item_of (note.Item x) = x ∷ []
+item_of n = []
+
+-- where the event takes it of session t
+abbrev pub handed_by : ℕ → Event → Note → List Item
+handed_by t (Take s) n = cond (s == t) (item_of n) []
+handed_by t e n = []
+
 abbrev pub took_by : ℕ → Event → Result Note StepRefusal → List Item
-took_by t (Take s) (Ok (note.Item x)) = cond (s == t) (x ∷ []) []
-took_by t e r = []
+took_by t e (Err r) = []
+took_by t e (Ok n) = handed_by t e n
 
 -- in order
 abbrev pub took : ℕ → List Event → List (Result Note StepRefusal) → List Item

@@ -1,48 +1,137 @@
 -- What clauses see of a play, and what holds of every one: this project's own promise.
-use Rattle.std.specs.Prelude.{◌≡◌, ℕ, ◌-◌, ◌<◌, ◌≤◌, true, false, List, [], ◌++◌, length, slice_index_or}
+use Rattle.std.specs.Prelude.{◌≡◌, ◌≢◌, ℕ, ◌+◌, ◌-◌, ◌<◌, ◌≤◌, ◌==◌, ◌&&◌, Bool, true, false, cond, nat_le, List, [], ◌++◌, length, take, drop, replicate, slice_index_or, Option, Some, None}
+use Rattle.std.specs.Option.{is_some}
 use Rattle.line_grammar.specs.declared.splitter.Piece.{Piece}
 use Rattle.line_grammar.specs.Lines.{lines}
-use Rattle.chronicle.specs.History.{accepted}
+use Rattle.chronicle.specs.History.{Rec, accepted}
 use Rattle.outbox.specs.declared.item.Item.{Item}
-use Rattle.book.specs.Book.{is_here}
+use Rattle.outbox.specs.Ring.{Waiting}
+use Rattle.book.specs.Owed.{owed}
+use Rattle.book.specs.Book.{is_here, planned}
 use Rattle.book.specs.Book as book
+use Rattle.interleave.specs.declared.worker.Place.{Place}
+use Rattle.interleave.specs.declared.worker.Place.TheVariants.{Home, Hand, Begun}
 
--- all octets that were ever fed to a session, which the program doesn't keep, and the lines of them that aren't accepted yet
+-- of a session that was ever opened: all octets that were fed to it, and all items that were taken of it, which the program
+-- doesn't keep; the lines of the octets that no worker has begun; where its baton is; and what was left in its outbox when the
+-- session was given up
 pub record Seen : Type 0 where
   pub fed : List ℕ
-  pub unread : List Piece
+  pub pending : List Piece
+  pub place : Place
+  pub taken : List Item
+  pub left : List Item
 
--- the book, how many items an outbox has room for, and what is seen of each session
+-- the book, how many items an outbox has room for, what is seen of each session, the session whose line each worker has, and
+-- the worker who holds the lock
 pub record State : Type 0 where
   pub book : book.Shown
   pub sendq : ℕ
   pub inboxes : List Seen
+  pub jobs : List (Option ℕ)
+  pub holder : Option ℕ
 
 abbrev pub nothing_fed : Seen
-nothing_fed = record { fed = []; unread = [] }
+nothing_fed = record { fed = []; pending = []; place = Home; taken = []; left = [] }
+
+-- ---- sessions
 
 -- of session t
 abbrev pub inbox_at : State → ℕ → Seen
 inbox_at m t = slice_index_or m.inboxes (t - 1) nothing_fed
 
--- what was ever taken of session t, and what waits for it
+abbrev pub box_at : State → ℕ → Option Waiting
+box_at m t = slice_index_or m.book.outboxes (t - 1) None
+
+-- a session is known from when it is opened until it is given up
+abbrev pub is_known : State → ℕ → Bool
+is_known m s = nat_le 1 s && (nat_le s (length m.inboxes) && is_here m.book.outboxes s)
+
+-- the line in a worker's hand, if there is one
+abbrev pub hand : Place → List Piece → List Piece
+hand Home ps = []
+hand (Hand w) ps = take 1 ps
+hand (Begun w) ps = []
+
+abbrev pub behind : Place → List Piece → List Piece
+behind Home ps = ps
+behind (Hand w) ps = drop 1 ps
+behind (Begun w) ps = ps
+
+abbrev pub in_hand : State → ℕ → List Piece
+in_hand m t = hand (inbox_at m t).place (inbox_at m t).pending
+
+-- the lines that no worker has
+abbrev pub unread : State → ℕ → List Piece
+unread m t = behind (inbox_at m t).place (inbox_at m t).pending
+
+-- what was ever taken of session t
 abbrev pub taken_of : State → ℕ → List Item
-taken_of m t = (book.outbox_at m.book.outboxes t).taken
+taken_of m t = (inbox_at m t).taken
 
+-- what waits in an outbox, or what was left where there is none
+abbrev pub waits : Option Waiting → List Item → List Item
+waits None left = left
+waits (Some b) left = b.queue
+
+-- what waits for session t, or was left for it
 abbrev pub queue_of : State → ℕ → List Item
-queue_of m t = (book.outbox_at m.book.outboxes t).queue
+queue_of m t = waits (box_at m t) (inbox_at m t).left
 
-abbrev pub empty_state : ℕ → ℕ → ℕ → State
-empty_state limit most sendq = record { book = book.empty_book limit most; sendq = sendq; inboxes = [] }
+-- what the plan that is out still has for session t
+abbrev pub planned_for : State → ℕ → List Item
+planned_for m t = planned m.book.plan t
 
--- the promise: the book's own, that no session is reaped, and that the accepted lines of a session and its unread ones are the lines of what was fed
+-- ---- workers
+
+abbrev pub is_worker : State → ℕ → Bool
+is_worker m w = nat_le 1 w && nat_le w (length m.jobs)
+
+-- the session whose line a worker has
+abbrev pub job_of : State → ℕ → Option ℕ
+job_of m w = slice_index_or m.jobs (w - 1) None
+
+abbrev pub holds : Option ℕ → ℕ → Bool
+holds None w = false
+holds (Some v) w = v == w
+
+-- where the baton is of the session whose line a worker has
+abbrev pub place_with : Option ℕ → ℕ → Place
+place_with holder w = cond (holds holder w) (Begun w) (Hand w)
+
+abbrev pub is_home : Place → Bool
+is_home Home = true
+is_home (Hand w) = false
+is_home (Begun w) = false
+
+-- ---- the promise
+
+-- with no sessions, and so many workers who have nothing to do
+abbrev pub empty_state : ℕ → ℕ → ℕ → ℕ → State
+empty_state limit most sendq workers = record { book = book.empty_book limit most; sendq = sendq; inboxes = []; jobs = replicate workers None; holder = None }
+
+-- an outbox has room for sendq items, and what was taken of the session was taken of it; where it was given up, what was taken
+-- and what was left is what the history owes, and no worker has the baton
+abbrev pub IsBoxOf : Option Waiting → Seen → ℕ → List Item → Type 0
+IsBoxOf None b sendq owes = (b.taken ++ b.left ≡ owes) × (b.place ≡ Home)
+IsBoxOf (Some w) b sendq owes = (w.taken ≡ b.taken) × (w.cap ≡ sendq)
+
+-- of session t with this outbox: the accepted lines and those that no worker has begun are the lines of what was fed
+pub record IsSoundAt (h : List Rec) (o : Option Waiting) (b : Seen) (sendq t : ℕ) : Type 0 where
+  pub accepted : accepted h t ++ b.pending ≡ lines b.fed
+  pub box : IsBoxOf o b sendq (owed h t)
+  pub hand : (w : ℕ) → b.place ≡ Hand w → b.pending ≢ []
+
+-- the book's own promise, and each session's; a worker who has a session's line has its baton; the lock is held where a plan is
+-- out
 pub record IsSound (m : State) : Type 0 where
   pub book : book.IsSound m.book
-  pub idle : m.book.busy ≡ false
-  pub here : (t : ℕ) → 0 < t → t ≤ length m.book.outboxes → is_here m.book.outboxes t ≡ true
   pub inboxes : length m.inboxes ≡ length m.book.outboxes
-  pub accepted : (t : ℕ) → 0 < t → t ≤ length m.book.outboxes → accepted m.book.history t ++ (inbox_at m t).unread ≡ lines (inbox_at m t).fed
+  pub each : (t : ℕ) → 0 < t → t ≤ length m.inboxes → IsSoundAt m.book.history (box_at m t) (inbox_at m t) m.sendq t
+  pub jobs : (i s : ℕ) → slice_index_or m.jobs i None ≡ Some s → (0 < s) × (s ≤ length m.inboxes) × ((inbox_at m s).place ≡ place_with m.holder (i + 1))
+  pub lock : m.book.busy ≡ is_some m.holder
+  pub holder : (w : ℕ) → m.holder ≡ Some w → (0 < w) × (w ≤ length m.jobs)
 
--- for each session that was opened
+-- for each session that was ever opened
 abbrev pub ForEach : State → (ℕ → Type 0) → Type 0
-ForEach m P = (t : ℕ) → 0 < t → t ≤ length m.book.outboxes → P t
+ForEach m P = (t : ℕ) → 0 < t → t ≤ length m.inboxes → P t

@@ -1,80 +1,180 @@
 -- The steps of a play: a relation of the state, an event, its answer and the state after it. This project's own promise.
-use Rattle.std.specs.Prelude.{◌≡◌, ◌≢◌, ℕ, ℤ, ◌+◌, ◌-◌, true, List, [], ◌∷◌, ◌++◌, length, slice_get, slice_set, Some, None, Result, Ok, Err}
+use Rattle.std.specs.Prelude.{◌≡◌, ℕ, ℤ, ◌+◌, ◌-◌, ◌==◌, true, List, [], ◌∷◌, ◌++◌, length, slice_get, slice_set, Option, Some, None, Result, Ok, Err}
+use Rattle.std.specs.List.{list_any}
 use Rattle.line_grammar.specs.declared.splitter.Piece.{Piece}
 use Rattle.line_grammar.specs.Lines.{lines}
 use Rattle.casemapping.specs.Names.{host_shape}
-use Rattle.chronicle.specs.declared.record.Kind.TheVariants.{Said}
+use Rattle.chronicle.specs.declared.record.Kind.TheVariants as kind
+use Rattle.chronicle.specs.declared.why.Why.{Why}
 use Rattle.chronicle.specs.History.{sessions, accepted, shut}
-use Rattle.book.specs.declared.out.Done.{Done}
-use Rattle.book.specs.declared.refusals.OpenRefusal.TheVariants as opening
-use Rattle.book.specs.declared.refusals.LineRefusal.TheVariants as accepting
+use Rattle.outbox.specs.declared.item.Item.{Item}
 use Rattle.outbox.specs.Ring.{empty_ring}
-use Rattle.book.specs.Book.{MayOpen, MayBegin, IsOpenRefusal, IsLineRefusal, IsKnown, opened, done, taken, newest_missed}
+use Rattle.book.specs.declared.out.Done.{Done}
+use Rattle.book.specs.declared.out.Hung.{Hung}
+use Rattle.book.specs.declared.out.Step.{Step}
+use Rattle.book.specs.declared.out.Step.TheVariants as step
+use Rattle.book.specs.Book.{MayOpen, MayBegin, MayHang, MaySweep, MayReap, newest_missed, newest_actor, to_sweep}
+use Rattle.book.specs.Book as book
+use Rattle.book.specs.Told.{told_of}
+use Rattle.interleave.specs.declared.worker.Place.{Place}
+use Rattle.interleave.specs.declared.worker.Place.TheVariants.{Home, Hand, Begun}
 use Rattle.interleave.specs.declared.event.Event.{Event}
-use Rattle.interleave.specs.declared.event.Event.TheVariants.{Connect, Feed, Line, Take}
+use Rattle.interleave.specs.declared.event.Event.TheVariants.{Connect, Feed, Pick, Begin, Put, End, Back, Take, Hang, Sweep, Reap}
 use Rattle.interleave.specs.declared.event.Note.{Note}
 use Rattle.interleave.specs.declared.event.Note.TheVariants as note
-use Rattle.interleave.specs.declared.event.BookRefusal.TheVariants as by_book
 use Rattle.interleave.specs.declared.event.StepRefusal.{StepRefusal}
-use Rattle.interleave.specs.declared.event.StepRefusal.TheVariants.{NoSession, NothingRead, Book, Memory}
-use Rattle.interleave.specs.State.{State, nothing_fed, inbox_at, queue_of}
-use Rattle.interleave.specs.Kept.{turn_of}
+use Rattle.interleave.specs.State.{Seen, State, nothing_fed, inbox_at, job_of, queue_of}
+use Rattle.interleave.specs.Refusals.{turn_of, own_refusal, IsRefused}
 
 -- a client's host has the shape of one
 abbrev pub IsWellShaped : Event → Type 0
 IsWellShaped (Connect host moment) = host_shape host ≡ true
 IsWellShaped (Feed s octets) = Unit {0}
-IsWellShaped (Line s moment) = Unit {0}
+IsWellShaped (Pick w s) = Unit {0}
+IsWellShaped (Begin w moment) = Unit {0}
+IsWellShaped (Put w) = Unit {0}
+IsWellShaped (End w) = Unit {0}
+IsWellShaped (Back w) = Unit {0}
 IsWellShaped (Take s) = Unit {0}
+IsWellShaped (Hang w s why moment) = Unit {0}
+IsWellShaped (Sweep w moment) = Unit {0}
+IsWellShaped (Reap s) = Unit {0}
+
+-- ---- the states after steps
+
+abbrev pub with_inbox : State → ℕ → Seen → List Seen
+with_inbox m s b = slice_set m.inboxes (s - 1) b
+
+abbrev pub with_job : State → ℕ → Option ℕ → List (Option ℕ)
+with_job m w j = slice_set m.jobs (w - 1) j
+
+-- a session's baton went elsewhere
+abbrev pub moved : Seen → Place → Seen
+moved b place = record { fed = b.fed; pending = b.pending; place = place; taken = b.taken; left = b.left }
+
+-- one more item was taken of a session
+abbrev pub with_taken : Seen → Item → Seen
+with_taken b x = record { fed = b.fed; pending = b.pending; place = b.place; taken = b.taken ++ x ∷ []; left = b.left }
+
+-- what waited for it was set aside
+abbrev pub with_left : Seen → List Item → Seen
+with_left b xs = record { fed = b.fed; pending = b.pending; place = b.place; taken = b.taken; left = xs }
+
+-- a worker began its first line
+abbrev pub with_begun : Seen → ℕ → List Piece → Seen
+with_begun b w rest = record { fed = b.fed; pending = rest; place = Begun w; taken = b.taken; left = b.left }
+
+-- octets, and the lines that ended in them
+abbrev pub with_fed : Seen → List ℕ → List Piece → Seen
+with_fed b octets added = record { fed = b.fed ++ octets; pending = b.pending ++ added; place = b.place; taken = b.taken; left = b.left }
 
 -- one more session, of which nothing was read
 abbrev pub connected : State → List ℕ → ℤ → State
-connected m host moment = record { book = opened m.book host moment (empty_ring m.sendq); sendq = m.sendq; inboxes = m.inboxes ++ nothing_fed ∷ [] }
+connected m host moment = record { book = book.opened m.book host moment (empty_ring m.sendq); sendq = m.sendq; inboxes = m.inboxes ++ nothing_fed ∷ []; jobs = m.jobs; holder = m.holder }
 
--- octets were fed to session s, and lines ended in them
+-- octets were fed to a session, and lines ended in them
 abbrev pub fed : State → ℕ → List ℕ → List Piece → State
-fed m s octets added = record { book = m.book; sendq = m.sendq; inboxes = slice_set m.inboxes (s - 1) (record { fed = (inbox_at m s).fed ++ octets; unread = (inbox_at m s).unread ++ added }) }
+fed m s octets added = record { book = m.book; sendq = m.sendq; inboxes = with_inbox m s (with_fed (inbox_at m s) octets added); jobs = m.jobs; holder = m.holder }
 
--- a line of session s was accepted, and the rest is unread
-abbrev pub said : State → ℕ → Piece → List Piece → ℤ → State
-said m s piece rest moment = record { book = done m.book (Said s (length (accepted m.book.history s)) piece) moment; sendq = m.sendq; inboxes = slice_set m.inboxes (s - 1) (record { fed = (inbox_at m s).fed; unread = rest }) }
+-- a worker has a session's baton and its first unread line
+abbrev pub picked : State → ℕ → ℕ → State
+picked m w s = record { book = m.book; sendq = m.sendq; inboxes = with_inbox m s (moved (inbox_at m s) (Hand w)); jobs = with_job m w (Some s); holder = m.holder }
 
--- what waited longest for session s was taken
-abbrev pub took : State → ℕ → State
-took m s = record { book = taken m.book s; sendq = m.sendq; inboxes = m.inboxes }
+-- a line is accepted, its deliveries are planned, and its worker holds the lock
+abbrev pub begun : State → ℕ → ℕ → Piece → List Piece → ℤ → State
+begun m w s piece rest moment =
+    record {
+      book = book.begun m.book (kind.Said s (length (accepted m.book.history s)) piece) moment;
+      sendq = m.sendq;
+      inboxes = with_inbox m s (with_begun (inbox_at m s) w rest);
+      jobs = m.jobs;
+      holder = Some w;
+    }
 
-pub record IsFeed (m : State) (s : ℕ) (octets : List ℕ) (n : ℕ) (k : State) : Type 0 where
-  pub known : IsKnown m.book s
-  pub added : List Piece
-  pub adds : lines ((inbox_at m s).fed ++ octets) ≡ lines (inbox_at m s).fed ++ added
-  pub number : n ≡ length added
-  pub after : k ≡ fed m s octets added
+-- the plan's first delivery was put, or missed where its outbox was full
+abbrev pub put : State → State
+put m = record { book = book.put_next m.book m.book.plan; sendq = m.sendq; inboxes = m.inboxes; jobs = m.jobs; holder = m.holder }
 
-pub record IsLine (m : State) (s : ℕ) (moment : ℤ) (d : Done) (k : State) : Type 0 where
-  pub known : IsKnown m.book s
-  pub piece : Piece
-  pub rest : List Piece
-  pub next : (inbox_at m s).unread ≡ piece ∷ rest
-  pub may : MayBegin m.book (turn_of m.book s) moment
-  pub number : d.number ≡ length m.book.history + 1
-  pub missed : d.missed ≡ newest_missed k.book.history
-  pub is_shut : d.shut ≡ shut k.book.history s
-  pub after : k ≡ said m s piece rest moment
+-- the lock is free, and the baton is back where the plan was a line's
+abbrev pub ended : State → ℕ → Option ℕ → State
+ended m w None = record { book = book.finished m.book; sendq = m.sendq; inboxes = m.inboxes; jobs = m.jobs; holder = None }
+ended m w (Some s) = record { book = book.finished m.book; sendq = m.sendq; inboxes = with_inbox m s (moved (inbox_at m s) Home); jobs = with_job m w None; holder = None }
+
+-- the line in the worker's hand is unread again, and the baton is back
+abbrev pub back : State → ℕ → ℕ → State
+back m w s = record { book = m.book; sendq = m.sendq; inboxes = with_inbox m s (moved (inbox_at m s) Home); jobs = with_job m w None; holder = m.holder }
+
+-- what waited longest for a session was taken
+abbrev pub took : State → ℕ → Item → State
+took m s x = record { book = book.taken m.book s; sendq = m.sendq; inboxes = with_inbox m s (with_taken (inbox_at m s) x); jobs = m.jobs; holder = m.holder }
+
+-- a session was ended, and its last item was put or missed at once
+abbrev pub hung : State → ℕ → Why → ℤ → State
+hung m s why moment = record { book = book.done m.book (kind.Hung s why) moment; sendq = m.sendq; inboxes = m.inboxes; jobs = m.jobs; holder = m.holder }
+
+-- a session is gone, its deliveries are planned, and a worker holds the lock
+abbrev pub swept : State → ℕ → ℕ → ℤ → State
+swept m w s moment = record { book = book.begun m.book (kind.Gone s) moment; sendq = m.sendq; inboxes = m.inboxes; jobs = m.jobs; holder = Some w }
+
+-- a session was given up, and what waited for it was set aside
+abbrev pub reaped : State → ℕ → State
+reaped m s = record { book = book.reaped m.book s; sendq = m.sendq; inboxes = with_inbox m s (with_left (inbox_at m s) (queue_of m s)); jobs = m.jobs; holder = m.holder }
+
+-- ---- what a step that isn't refused does
+
+abbrev pub IsFeed : State → ℕ → List ℕ → Note → State → Type 0
+IsFeed m s octets n k = (added : List Piece) × (lines ((inbox_at m s).fed ++ octets) ≡ lines (inbox_at m s).fed ++ added) × (n ≡ note.Read (length added)) × (k ≡ fed m s octets added)
+
+-- of the session whose line the worker has
+abbrev pub IsBegin : State → ℕ → Option ℕ → ℤ → Note → State → Type 0
+IsBegin m w None moment n k = ⊥
+IsBegin m w (Some s) moment n k =
+    (piece : Piece) × (rest : List Piece) × ((inbox_at m s).pending ≡ piece ∷ rest) × MayBegin m.book (turn_of m.book s) moment × (n ≡ note.Record (length m.book.history + 1)) × (k ≡ begun m w s piece rest moment)
+
+abbrev pub noted : Step → Note
+noted (step.Put s) = note.Put s
+noted (step.Missed s) = note.Missed s
+
+abbrev pub IsPut : State → Note → State → Type 0
+IsPut m n k = (s : Step) × (told_of m.book m.book.plan ≡ Some s) × (n ≡ noted s) × (k ≡ put m)
+
+-- the number and the missed of the record, and whether its session is shut
+abbrev pub IsEnd : State → ℕ → Note → State → Type 0
+IsEnd m w n k =
+    (d : Done) × (n ≡ note.Done d) × (d.number ≡ length m.book.history) × (d.missed ≡ newest_missed m.book.history) × (d.shut ≡ shut m.book.history (newest_actor m.book.history)) × (k ≡ ended m w (job_of m w))
+
+abbrev pub IsBack : State → ℕ → Option ℕ → Note → State → Type 0
+IsBack m w None n k = ⊥
+IsBack m w (Some s) n k = (n ≡ note.Back) × (k ≡ back m w s)
+
+-- of what waits longest
+abbrev pub IsTake : State → ℕ → Option Item → Note → State → Type 0
+IsTake m s None n k = (n ≡ note.Empty) × (k ≡ m)
+IsTake m s (Some x) n k = (n ≡ note.Item x) × (k ≡ took m s x)
+
+abbrev pub IsHang : State → ℕ → Why → ℤ → Note → State → Type 0
+IsHang m s why moment n k =
+    (d : Hung) × (n ≡ note.Hung d) × MayHang m.book s moment × (d.number ≡ length m.book.history + 1) × (d.missed ≡ list_any (λ u. u == s) (newest_missed k.book.history)) × (k ≡ hung m s why moment)
+
+-- of the session that is to be swept
+abbrev pub IsSweep : State → ℕ → Option ℕ → ℤ → Note → State → Type 0
+IsSweep m w None moment n k = (n ≡ note.Swept None) × (k ≡ m)
+IsSweep m w (Some s) moment n k = (n ≡ note.Swept (Some (length m.book.history + 1))) × (k ≡ swept m w s moment)
+
+abbrev pub IsDone : State → Event → Note → State → Type 0
+IsDone m (Connect host moment) n k = MayOpen m.book moment × (n ≡ note.Session (sessions m.book.history + 1)) × (k ≡ connected m host moment)
+IsDone m (Feed s octets) n k = IsFeed m s octets n k
+IsDone m (Pick w s) n k = (n ≡ note.Picked) × (k ≡ picked m w s)
+IsDone m (Begin w moment) n k = IsBegin m w (job_of m w) moment n k
+IsDone m (Put w) n k = IsPut m n k
+IsDone m (End w) n k = IsEnd m w n k
+IsDone m (Back w) n k = IsBack m w (job_of m w) n k
+IsDone m (Take s) n k = IsTake m s (slice_get (queue_of m s) 0) n k
+IsDone m (Hang w s why moment) n k = IsHang m s why moment n k
+IsDone m (Sweep w moment) n k = MaySweep m.book moment × IsSweep m w (to_sweep m.book.history) moment n k
+IsDone m (Reap s) n k = MayReap m.book s × (n ≡ note.Left (length (queue_of m s))) × (k ≡ reaped m s)
 
 -- one event, its answer, and the state after it. A refusal changes nothing
 abbrev pub IsStep : State → Event → Result Note StepRefusal → State → Type 0
-IsStep m (Connect host moment) (Ok (note.Session s)) k = MayOpen m.book moment × (s ≡ sessions m.book.history + 1) × (k ≡ connected m host moment)
-IsStep m (Connect host moment) (Err (Book (by_book.Open e))) k = IsOpenRefusal m.book moment e × (e ≢ opening.Memory) × (k ≡ m)
-IsStep m (Connect host moment) (Err Memory) k = k ≡ m
-IsStep m (Feed s octets) (Ok (note.Read n)) k = IsFeed m s octets n k
-IsStep m (Feed s octets) (Err NoSession) k = (IsKnown m.book s → ⊥) × (k ≡ m)
-IsStep m (Feed s octets) (Err Memory) k = IsKnown m.book s × (k ≡ m)
-IsStep m (Line s moment) (Ok (note.Done d)) k = IsLine m s moment d k
-IsStep m (Line s moment) (Err NoSession) k = (IsKnown m.book s → ⊥) × (k ≡ m)
-IsStep m (Line s moment) (Err NothingRead) k = IsKnown m.book s × ((inbox_at m s).unread ≡ []) × (k ≡ m)
-IsStep m (Line s moment) (Err (Book (by_book.Line e))) k = IsKnown m.book s × ((inbox_at m s).unread ≢ []) × IsLineRefusal m.book (turn_of m.book s) moment e × (e ≢ accepting.Memory) × (k ≡ m)
-IsStep m (Line s moment) (Err Memory) k = IsKnown m.book s × ((inbox_at m s).unread ≢ []) × MayBegin m.book (turn_of m.book s) moment × (k ≡ m)
-IsStep m (Take s) (Ok (note.Item x)) k = IsKnown m.book s × (slice_get (queue_of m s) 0 ≡ Some x) × (k ≡ took m s)
-IsStep m (Take s) (Ok note.Empty) k = IsKnown m.book s × (slice_get (queue_of m s) 0 ≡ None) × (k ≡ m)
-IsStep m (Take s) (Err NoSession) k = (IsKnown m.book s → ⊥) × (k ≡ m)
-IsStep m e r k = ⊥
+IsStep m e (Ok n) k = (own_refusal m e ≡ None) × IsDone m e n k
+IsStep m e (Err r) k = IsRefused m e (own_refusal m e) r × (k ≡ m)

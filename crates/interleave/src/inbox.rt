@@ -1,22 +1,33 @@
 //! What is read of a session and not accepted yet.
-ghost use Rattle.std.specs.Prelude.{◌≡◌, [], IfOk, IfErr, OnErr};
+ghost use Rattle.std.specs.Prelude.{◌≡◌, ◌≢◌, ◌+◌, ◌<◌, ◌≤◌, [], length, Some, None, IfOk, IfErr, IfSome, IsSome, OnErr, OnOk};
+ghost use Rattle.std.specs.Option.{is_some};
+ghost use Rattle.chronicle.specs.History.{shut};
+ghost use Rattle.book.specs.Book.{IsOut, MayReap, IsReapRefusal, finished, newest_missed, outbox_at, reaped};
+ghost use Rattle.interleave.specs.Refusals.{IsLineRefused};
+ghost use Rattle.interleave.specs.Steps.{with_taken};
+ghost use Rattle.interleave.specs.Inbox.{Held, IsRead, IsBegun, held_at, with_held, with_seen, moved_to, ended_at, reaped_at};
 
 use crate::event::{StepRefusal, of_line};
-use book::{Baton, Book, Done};
-use chronicle::Moment;
-use ghosts::{Snapshot, append_all, blank};
+use crate::worker::{Place, WorkerId};
+use book::{Baton, Book, Done, Item, Plan, ReapRefusal};
+use chronicle::{Moment, SessionId};
+use ghosts::{Change, Snapshot, append, append_all, apply, blank, copied};
 use line_grammar::{Piece, Splitter};
 use std::alloc::{AllocError, Global};
 use std::collections::LinkedList;
 use std::marker::Model;
 
-/// A session's unread lines and its baton. A clause sees all octets that were ever fed, which aren't kept.
+/// A session's lines that no worker has begun, and its baton. The first of them is in a worker's hand where the baton is. A
+/// clause sees all octets that were ever fed, all items that were ever taken, and those that were left, which aren't kept.
 #[derive(Drop)]
 pub(crate) struct Inbox {
     splitter: Splitter,
-    unread: Vec<Piece>,
-    baton: Baton,
+    pending: Vec<Piece>,
+    place: Place,
+    baton: Option<Baton>,
     fed: Snapshot<LinkedList<u8>>,
+    taken: Snapshot<LinkedList<Item>>,
+    left: Snapshot<LinkedList<Item>>,
 }
 
 impl Model for Inbox {
@@ -26,23 +37,36 @@ impl Model for Inbox {
 
     ghost Value = { Held };
 
-    ghost view = { λ a. record { fed = a.fed.value; unread = a.unread.items; turn = a.baton } };
+    ghost view = { λ a. record { seen = record { fed = a.fed.value; pending = a.pending.items; place = a.place; taken = a.taken.value; left = a.left.value }; turn = a.baton } };
 
     ghost invariant = { λ a. a.splitter ≡ left_by a.fed.value };
 }
 
+// What waits in the outbox of a session.
+struct LeftIn;
+
+impl<'a> Change<LinkedList<Item>, (&'a Book, SessionId)> for LeftIn {
+    ghost use Rattle.book.specs.Book.{outbox_at};
+
+    ghost changed = { λ xs by. (outbox_at by.0.now.outboxes by.1).queue };
+}
+
 impl Inbox {
-    ghost use Rattle.interleave.specs.Inbox.{IsRead, IsAccepted, IsLineRefused};
+    ghost use Rattle.interleave.specs.State.{nothing_fed};
+    ghost use Rattle.interleave.specs.Refusals.{is_empty};
 
     /// An inbox at the start of a session's stream.
     pub(crate) fn new(alloc: Global, baton: Baton) -> Inbox
-        ensures { result ≡ record { fed = []; unread = []; turn = baton } }
+        ensures { result ≡ record { seen = nothing_fed; turn = Some baton } }
     {
         Inbox {
             splitter: Splitter::new(alloc),
-            unread: Vec::new(alloc),
-            baton,
+            pending: Vec::new(alloc),
+            place: Place::Home,
+            baton: Some(baton),
             fed: blank(alloc),
+            taken: blank(alloc),
+            left: blank(alloc),
         }
     }
 
@@ -51,28 +75,211 @@ impl Inbox {
         ensures ok { IfOk result (λ n. IsRead self.old octets.now n self.new) }
         ensures err { OnErr result (self.new ≡ self.old) }
     {
-        let before = self.unread.len();
-        self.splitter.feed(octets, &mut self.unread)?;
+        let before = self.pending.len();
+        self.splitter.feed(octets, &mut self.pending)?;
         append_all(&mut self.fed, octets);
-        Ok(self.unread.len() - before)
+        Ok(self.pending.len() - before)
     }
 
-    /// Has the book accept the first unread line.
-    pub(crate) fn accept(&mut self, book: &mut Book, moment: Moment) -> Result<Done, StepRefusal>
-        ensures ok { IfOk result (λ d. IsAccepted self.old book.old moment d self.new book.new) }
-        ensures refusal { IfErr result (λ e. IsLineRefused self.old book.old moment e) }
+    /// Where the baton is.
+    pub(crate) fn place(&self) -> Place
+        ensures { result ≡ self.now.seen.place }
+    {
+        self.place
+    }
+
+    /// Whether the session isn't given up.
+    pub(crate) fn has_baton(&self) -> bool
+        ensures { result ≡ is_some self.now.turn }
+    {
+        self.baton.is_some()
+    }
+
+    /// Whether no line is left that isn't begun.
+    pub(crate) fn is_empty(&self) -> bool
+        ensures { result ≡ is_empty self.now.seen.pending }
+    {
+        self.pending.is_empty()
+    }
+
+    /// Brings the baton elsewhere.
+    pub(crate) fn move_to(&mut self, place: Place)
+        ensures { self.new ≡ moved_to self.old place }
+    {
+        self.place = place;
+    }
+
+    /// Tells clauses of an item that was taken of the session.
+    pub(crate) fn tell_taken(&mut self, item: &Item)
+        ensures { self.new ≡ with_seen self.old (with_taken self.old.seen item.now) }
+    {
+        append(&mut self.taken, item);
+    }
+
+    /// Has the book begin the line in a worker's hand.
+    pub(crate) fn begin(
+        &mut self,
+        book: &mut Book,
+        worker: WorkerId,
+        moment: Moment,
+    ) -> Result<Plan, StepRefusal>
+        requires baton { IsSome self.old.turn }
+        requires hand { self.old.seen.pending ≢ [] }
+        ensures ok { IfOk result (λ p. IsBegun self.old book.old worker moment p self.new book.new) }
+        ensures refusal { IfErr result (λ e. IfSome self.old.turn (λ turn. IsLineRefused book.old turn moment e)) }
         ensures inbox { OnErr result (self.new ≡ self.old) }
         ensures book { OnErr result (book.new ≡ book.old) }
     {
-        let Some(piece) = self.unread.first() else {
-            return Err(StepRefusal::NothingRead);
+        let Some(baton) = &self.baton else {
+            unreachable!();
         };
-        match book.line(&mut self.baton, piece, moment) {
-            Ok(done) => {
-                let _ = self.unread.remove(0);
-                Ok(done)
+        let Some(piece) = self.pending.first() else {
+            unreachable!();
+        };
+        match book.begin(baton, piece, moment) {
+            Ok(plan) => {
+                let _ = self.pending.remove(0);
+                self.place = Place::Begun(worker);
+                Ok(plan)
             }
             Err(refusal) => Err(of_line(refusal)),
         }
     }
+
+    /// Gives the plan of its line back, and the baton home.
+    pub(crate) fn end(&mut self, book: &mut Book, plan: Plan) -> Done
+        requires out { IsOut book.old plan }
+        requires none { book.old.plan ≡ [] }
+        requires baton { IsSome self.old.turn }
+        requires line { IfSome self.old.turn (λ turn. (plan.session ≡ turn.session) × (plan.next ≡ Some (turn.next + 1))) }
+        ensures inbox { IfSome self.old.turn (λ turn. self.new ≡ ended_at self.old turn) }
+        ensures book { book.new ≡ finished book.old }
+        ensures number { result.number ≡ length book.old.history }
+        ensures missed { result.missed ≡ newest_missed book.old.history }
+        ensures shut { IfSome self.old.turn (λ turn. result.shut ≡ shut book.old.history turn.session) }
+    {
+        self.place = Place::Home;
+        let Some(baton) = &mut self.baton else {
+            unreachable!();
+        };
+        book.finish(plan, baton)
+    }
+
+    /// Gives the session up, and tells clauses of what was left for it. It answers how many items that were.
+    pub(crate) fn reap(&mut self, book: &mut Book) -> Result<usize, ReapRefusal>
+        requires baton { IsSome self.old.turn }
+        ensures ok { IfSome self.old.turn (λ turn. OnOk result (self.new ≡ reaped_at self.old (outbox_at book.old.outboxes turn.session).queue)) }
+        ensures book { IfSome self.old.turn (λ turn. OnOk result (book.new ≡ reaped book.old turn.session)) }
+        ensures left { IfSome self.old.turn (λ turn. IfOk result (λ n. n ≡ length (outbox_at book.old.outboxes turn.session).queue)) }
+        ensures may { IfSome self.old.turn (λ turn. OnOk result (MayReap book.old turn.session)) }
+        ensures refusal { IfSome self.old.turn (λ turn. IfErr result (λ e. IsReapRefusal book.old turn.session e)) }
+        ensures same { OnErr result ((self.new ≡ self.old) × (book.new ≡ book.old)) }
+    {
+        let Some(baton) = self.baton.take() else {
+            unreachable!();
+        };
+        let mut left = copied(&self.left);
+        let session = baton.session();
+        apply::<LeftIn, LinkedList<Item>, (&Book, SessionId)>(&mut left, &(&*book, session));
+        match book.reap(baton) {
+            Ok(given_up) => {
+                self.left = left;
+                Ok(given_up.count)
+            }
+            Err((refusal, baton)) => {
+                self.baton = Some(baton);
+                Err(refusal)
+            }
+        }
+    }
+}
+
+// ---- the inboxes of all sessions, by their numbers
+
+/// Reads octets of a session, and answers how many lines ended in them.
+pub(crate) fn feed(
+    inboxes: &mut Vec<Inbox>,
+    session: SessionId,
+    octets: &[u8],
+) -> Result<usize, AllocError>
+    requires from_1 { 0 < session }
+    requires opened { session ≤ length inboxes.old.items }
+    ensures ok { IfOk result (λ n. (c : Held) × IsRead (held_at inboxes.old.items session) octets.now n c × (inboxes.new.items ≡ with_held inboxes.old.items session c)) }
+    ensures err { OnErr result (inboxes.new.items ≡ inboxes.old.items) }
+{
+    inboxes[session.number() as usize - 1].feed(octets)
+}
+
+/// Brings the baton of a session elsewhere.
+pub(crate) fn move_to(inboxes: &mut Vec<Inbox>, session: SessionId, place: Place)
+    requires from_1 { 0 < session }
+    requires opened { session ≤ length inboxes.old.items }
+    ensures { inboxes.new.items ≡ with_held inboxes.old.items session (moved_to (held_at inboxes.old.items session) place) }
+{
+    inboxes[session.number() as usize - 1].move_to(place);
+}
+
+/// Tells clauses of an item that was taken of a session.
+pub(crate) fn tell_taken(inboxes: &mut Vec<Inbox>, session: SessionId, item: &Item)
+    requires from_1 { 0 < session }
+    requires opened { session ≤ length inboxes.old.items }
+    ensures { inboxes.new.items ≡ with_held inboxes.old.items session (with_seen (held_at inboxes.old.items session) (with_taken (held_at inboxes.old.items session).seen item.now)) }
+{
+    inboxes[session.number() as usize - 1].tell_taken(item);
+}
+
+/// Has the book begin the line of a session that is in a worker's hand.
+pub(crate) fn begin(
+    inboxes: &mut Vec<Inbox>,
+    book: &mut Book,
+    session: SessionId,
+    worker: WorkerId,
+    moment: Moment,
+) -> Result<Plan, StepRefusal>
+    requires from_1 { 0 < session }
+    requires opened { session ≤ length inboxes.old.items }
+    requires baton { IsSome (held_at inboxes.old.items session).turn }
+    requires hand { (held_at inboxes.old.items session).seen.pending ≢ [] }
+    ensures ok { IfOk result (λ p. (c : Held) × IsBegun (held_at inboxes.old.items session) book.old worker moment p c book.new × (inboxes.new.items ≡ with_held inboxes.old.items session c)) }
+    ensures refusal { IfErr result (λ e. IfSome (held_at inboxes.old.items session).turn (λ turn. IsLineRefused book.old turn moment e)) }
+    ensures inboxes { OnErr result (inboxes.new.items ≡ inboxes.old.items) }
+    ensures book { OnErr result (book.new ≡ book.old) }
+{
+    inboxes[session.number() as usize - 1].begin(book, worker, moment)
+}
+
+/// Gives the plan of a session's line back, and the baton home.
+pub(crate) fn end(inboxes: &mut Vec<Inbox>, book: &mut Book, session: SessionId, plan: Plan) -> Done
+    requires from_1 { 0 < session }
+    requires opened { session ≤ length inboxes.old.items }
+    requires out { IsOut book.old plan }
+    requires none { book.old.plan ≡ [] }
+    requires baton { IsSome (held_at inboxes.old.items session).turn }
+    requires line { IfSome (held_at inboxes.old.items session).turn (λ turn. (plan.session ≡ turn.session) × (plan.next ≡ Some (turn.next + 1))) }
+    ensures inboxes { IfSome (held_at inboxes.old.items session).turn (λ turn. inboxes.new.items ≡ with_held inboxes.old.items session (ended_at (held_at inboxes.old.items session) turn)) }
+    ensures book { book.new ≡ finished book.old }
+    ensures number { result.number ≡ length book.old.history }
+    ensures missed { result.missed ≡ newest_missed book.old.history }
+    ensures shut { IfSome (held_at inboxes.old.items session).turn (λ turn. result.shut ≡ shut book.old.history turn.session) }
+{
+    inboxes[session.number() as usize - 1].end(book, plan)
+}
+
+/// Gives a session up, and answers how many items were left for it.
+pub(crate) fn reap(
+    inboxes: &mut Vec<Inbox>,
+    book: &mut Book,
+    session: SessionId,
+) -> Result<usize, ReapRefusal>
+    requires from_1 { 0 < session }
+    requires opened { session ≤ length inboxes.old.items }
+    requires baton { IsSome (held_at inboxes.old.items session).turn }
+    ensures ok { IfSome (held_at inboxes.old.items session).turn (λ turn. OnOk result (inboxes.new.items ≡ with_held inboxes.old.items session (reaped_at (held_at inboxes.old.items session) (outbox_at book.old.outboxes turn.session).queue))) }
+    ensures book { IfSome (held_at inboxes.old.items session).turn (λ turn. OnOk result (book.new ≡ reaped book.old turn.session)) }
+    ensures left { IfSome (held_at inboxes.old.items session).turn (λ turn. IfOk result (λ n. n ≡ length (outbox_at book.old.outboxes turn.session).queue)) }
+    ensures may { IfSome (held_at inboxes.old.items session).turn (λ turn. OnOk result (MayReap book.old turn.session)) }
+    ensures refusal { IfSome (held_at inboxes.old.items session).turn (λ turn. IfErr result (λ e. IsReapRefusal book.old turn.session e)) }
+    ensures same { OnErr result ((inboxes.new.items ≡ inboxes.old.items) × (book.new ≡ book.old)) }
+{
+    inboxes[session.number() as usize - 1].reap(book)
 }

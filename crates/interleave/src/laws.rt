@@ -1,5 +1,5 @@
 //! What follows for a user. These functions do nothing: each states a law.
-ghost use Rattle.interleave.specs.Laws.{OnceInOrder, TakenInOrder, AcceptedIsPrefixOfSent};
+ghost use Rattle.interleave.specs.Laws.{OnceInOrder, TakenInOrder, AcceptedIsPrefixOfSent, ErrorAtMostAfterTheClose};
 
 /// A history owes a session at most one delivery of each record, and the deliveries stand in the order of the records.
 pub fn once_in_order()
@@ -15,4 +15,9 @@ pub fn taken_in_order()
 /// The accepted lines of a session are the first of the lines of all octets that were ever read of it.
 pub fn accepted_is_prefix_of_sent()
     ensures { AcceptedIsPrefixOfSent }
+{}
+
+/// The record after which a session is shut owes it the ERROR line at most, and no later record owes it anything.
+pub fn error_at_most_after_the_close()
+    ensures { ErrorAtMostAfterTheClose }
 {}

@@ -7,10 +7,17 @@ mod laws;
 mod play;
 #[cfg(test)]
 mod tests;
+mod worker;
 
-pub use book::{Done, Item, LineRefusal, OpenRefusal, Sessions, Settings};
-pub use chronicle::{Moment, RecordNumber, SessionId};
+pub use book::{
+    Done, HangRefusal, Hung, Item, LineRefusal, OpenRefusal, ReapRefusal, Sessions, Settings,
+    SweepRefusal,
+};
+pub use chronicle::{Moment, RecordNumber, SessionId, Why};
 pub use event::{BookRefusal, Event, Note, PlayRefusal, StepRefusal};
-pub use laws::{accepted_is_prefix_of_sent, once_in_order, taken_in_order};
+pub use laws::{
+    accepted_is_prefix_of_sent, error_at_most_after_the_close, once_in_order, taken_in_order,
+};
 pub use line_grammar::{Octets, Piece};
 pub use play::Play;
+pub use worker::WorkerId;

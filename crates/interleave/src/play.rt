@@ -1,17 +1,19 @@
 //! Steps, and whole runs.
-ghost use Rattle.std.specs.Prelude.{◌≡◌, ◌<◌, ◌≤◌, ◌+◌, ◌++◌, ◌∷◌, [], ℕ, true, false, length, None, IfOk, IfErr, IfSome, OnErr, All, nat_le, ◌&&◌};
+ghost use Rattle.std.specs.Prelude.{◌≡◌, ◌<◌, ◌≤◌, ◌+◌, ◌-◌, ◌++◌, ◌∷◌, [], ℕ, true, false, length, replicate, slice_set, Some, None, IfOk, IfErr, IfSome, OnErr, All, nat_le, ◌&&◌, ◌||◌};
+ghost use Rattle.std.specs.Option.{is_some};
 ghost use Rattle.chronicle.specs.History.{accepted};
 ghost use Rattle.line_grammar.specs.Lines.{lines};
 ghost use Rattle.book.specs.Legal.{IsLegal};
 ghost use Rattle.book.specs.Owed.{owed};
-ghost use Rattle.book.specs.Book.{IsKnown};
 ghost use Rattle.casemapping.specs.Names.{host_shape};
 ghost use Rattle.interleave.specs.Limits.{is_well_set};
 
-use crate::event::{Event, Note, PlayRefusal, StepRefusal, of_open};
-use crate::inbox::Inbox;
-use book::{Book, BookFault, Ring, Settings, TakeRefusal};
-use chronicle::{Moment, SessionId};
+use crate::event::{BookRefusal, Event, Note, PlayRefusal, StepRefusal, of_open, of_put, of_sweep};
+use crate::inbox;
+use crate::inbox::{Inbox, move_to, tell_taken};
+use crate::worker::{Place, WorkerId};
+use book::{Book, BookFault, Plan, Ring, Settings, TakeRefusal};
+use chronicle::{Moment, SessionId, Why};
 use line_grammar::Octets;
 use std::alloc::{AllocError, Global};
 use std::marker::Model;
@@ -22,13 +24,22 @@ const MAX_WORKERS: usize = 64;
 /// Items that an outbox may have room for, at most.
 const MAX_SENDQ: usize = 4096;
 
-/// A book with what was read of each session.
+/// Who holds the lock, with the plan that is out.
+#[derive(Drop)]
+struct Holder {
+    worker: WorkerId,
+    plan: Plan,
+}
+
+/// A book with what was read of each session, and what each worker does.
 #[derive(Drop)]
 pub struct Play {
     alloc: Global,
     book: Book,
     sendq: usize,
     inboxes: Vec<Inbox>,
+    jobs: Vec<Option<SessionId>>,
+    holder: Option<Holder>,
 }
 
 impl Model for Play {
@@ -37,9 +48,9 @@ impl Model for Play {
 
     ghost Value = { State };
 
-    ghost view = { λ a. state_of a.book a.sendq a.inboxes.items };
+    ghost view = { λ a. state_of a.book a.sendq a.inboxes.items a.jobs.items a.holder };
 
-    ghost invariant = { λ a. IsKept a.book a.inboxes.items };
+    ghost invariant = { λ a. IsKept a.book a.sendq a.inboxes.items a.jobs.items a.holder };
 }
 
 /// Whether so many workers and items are within their limits.
@@ -49,10 +60,27 @@ fn are_well_set(workers: usize, sendq: usize) -> bool
     1 <= workers && workers <= MAX_WORKERS && 1 <= sendq && sendq <= MAX_SENDQ
 }
 
+/// So many workers without a line.
+fn idle(alloc: Global, workers: usize) -> Result<Vec<Option<SessionId>>, AllocError>
+    ensures { IfOk result (λ jobs. jobs.items ≡ replicate workers None) }
+{
+    vec![in alloc; None; workers]
+}
+
+/// Gives a worker a session's line, or none.
+fn set_job(jobs: &mut Vec<Option<SessionId>>, worker: WorkerId, job: Option<SessionId>)
+    requires from_1 { 0 < worker }
+    requires there { worker ≤ length jobs.old.items }
+    ensures { jobs.new.items ≡ slice_set jobs.old.items (worker - 1) job }
+{
+    jobs[worker.number() as usize - 1] = job;
+}
+
 impl Play {
     ghost use Rattle.interleave.specs.declared.event.Event.TheVariants as event;
-    ghost use Rattle.interleave.specs.State.{IsSound, ForEach, empty_state, inbox_at, taken_of, queue_of};
-    ghost use Rattle.interleave.specs.Steps.{IsWellShaped, IsStep};
+    ghost use Rattle.interleave.specs.State.{IsSound, ForEach, empty_state, inbox_at, in_hand, unread, taken_of, queue_of, planned_for, is_known, is_worker, job_of, holds, is_home};
+    ghost use Rattle.interleave.specs.Refusals.{own_refusal, no_session, no_worker, locked, not_holding, has_job, no_job, in_flight, nothing_left, puts_left, holds_lock};
+    ghost use Rattle.interleave.specs.Steps.{IsWellShaped, IsStep, IsDone};
     ghost use Rattle.interleave.specs.Runs.{IsRun, sent, took};
     ghost use Rattle.interleave.specs.Order.{IsPrefix, IsRising};
 
@@ -64,56 +92,246 @@ impl Play {
         workers: usize,
         sendq: usize,
     ) -> Result<Play, PlayRefusal>
-        ensures ok { IfOk result (λ p. (p ≡ empty_state limit settings.sessions sendq) × (is_well_set settings limit workers sendq ≡ true)) }
+        ensures ok { IfOk result (λ p. (p ≡ empty_state limit settings.sessions sendq workers) × (is_well_set settings limit workers sendq ≡ true)) }
         ensures bad { IfErr result (λ e. e ≡ PlayRefusal.BadSettings → is_well_set settings limit workers sendq ≡ false) }
         ensures memory { IfErr result (λ e. e ≡ PlayRefusal.Memory → is_well_set settings limit workers sendq ≡ true) }
     {
         if !are_well_set(workers, sendq) {
             return Err(PlayRefusal::BadSettings);
         }
-        match Book::new(alloc, settings, limit) {
-            Ok(book) => Ok(Play {
-                alloc,
-                book,
-                sendq,
-                inboxes: Vec::new(alloc),
-            }),
-            Err(BookFault::BadSettings) => Err(PlayRefusal::BadSettings),
-            Err(BookFault::Memory) => Err(PlayRefusal::Memory),
-        }
+        let book = match Book::new(alloc, settings, limit) {
+            Ok(book) => book,
+            Err(BookFault::BadSettings) => return Err(PlayRefusal::BadSettings),
+            Err(BookFault::Memory) => return Err(PlayRefusal::Memory),
+        };
+        let Ok(jobs) = idle(alloc, workers) else {
+            return Err(PlayRefusal::Memory);
+        };
+        Ok(Play {
+            alloc,
+            book,
+            sendq,
+            inboxes: Vec::new(alloc),
+            jobs,
+            holder: None,
+        })
     }
 
-    /// What holds of every play: the book's promise, and that the accepted lines of each session, with its unread ones, are
-    /// the lines of what was fed.
+    /// What holds of every play: what was taken of a session, what waits for it and what a plan still has for it is what the
+    /// history owes it; the accepted lines, with those that aren't begun, are the lines of what was fed; a worker who has a
+    /// line has the baton of its session.
     pub fn sound(&self)
         ensures { IsSound self.now }
     {
-        self.book.sound();
+        let _ = &self.book;
     }
 
-    /// The place of a session that was opened.
-    fn place(&self, session: SessionId) -> Option<usize>
-        ensures known { IfSome result (λ place. (place + 1 ≡ session) × (place < length self.now.inboxes) × IsKnown self.now.book session) }
-        ensures unknown { result ≡ None → IsKnown self.now.book session → ⊥ }
+    // ---- why a step is refused
+
+    fn is_known(&self, session: SessionId) -> bool
+        ensures { result ≡ is_known self.now session }
     {
-        self.book.sound();
         let number = session.number();
-        if number == 0 || self.inboxes.len() < number as usize {
-            return None;
-        }
-        Some(number as usize - 1)
+        1 <= number
+            && number <= self.inboxes.len() as u64
+            && self.inboxes[number as usize - 1].has_baton()
     }
+
+    fn is_worker(&self, worker: WorkerId) -> bool
+        ensures { result ≡ is_worker self.now worker }
+    {
+        let number = worker.number();
+        1 <= number && number <= self.jobs.len() as u64
+    }
+
+    fn holds(&self, worker: WorkerId) -> bool
+        ensures { result ≡ holds self.now.holder worker }
+    {
+        match &self.holder {
+            Some(holder) => holder.worker == worker,
+            None => false,
+        }
+    }
+
+    /// The session whose line a worker has.
+    fn job(&self, worker: WorkerId) -> Option<SessionId>
+        requires { is_worker self.now worker ≡ true }
+        ensures { result ≡ job_of self.now worker }
+    {
+        self.jobs[worker.number() as usize - 1]
+    }
+
+    fn inbox(&self, session: SessionId) -> &Inbox
+        requires { is_known self.now session ≡ true }
+        ensures { result.now.seen ≡ inbox_at self.now session }
+    {
+        &self.inboxes[session.number() as usize - 1]
+    }
+
+    fn is_home(&self, session: SessionId) -> bool
+        requires { is_known self.now session ≡ true }
+        ensures { result ≡ is_home (inbox_at self.now session).place }
+    {
+        self.inbox(session).place() == Place::Home
+    }
+
+    fn refuses_pick(&self, worker: WorkerId, session: SessionId) -> Option<StepRefusal>
+        ensures { result ≡ own_refusal self.now (event.Pick worker session) }
+    {
+        if !self.is_worker(worker) {
+            return Some(StepRefusal::NoWorker);
+        }
+        if !self.is_known(session) {
+            return Some(StepRefusal::NoSession);
+        }
+        if self.job(worker).is_some() || self.holds(worker) {
+            return Some(StepRefusal::HasJob);
+        }
+        if !self.is_home(session) {
+            return Some(StepRefusal::InFlight);
+        }
+        if self.inbox(session).is_empty() {
+            return Some(StepRefusal::NothingRead);
+        }
+        None
+    }
+
+    fn refuses_begin(&self, worker: WorkerId) -> Option<StepRefusal>
+        ensures { result ≡ no_worker self.now worker (locked self.now (no_job self.now worker None)) }
+    {
+        if !self.is_worker(worker) {
+            return Some(StepRefusal::NoWorker);
+        }
+        if self.holder.is_some() {
+            return Some(StepRefusal::Locked);
+        }
+        if self.job(worker).is_none() {
+            return Some(StepRefusal::NoJob);
+        }
+        None
+    }
+
+    fn refuses_put(&self, worker: WorkerId) -> Option<StepRefusal>
+        ensures { result ≡ no_worker self.now worker (not_holding self.now worker (nothing_left self.now)) }
+    {
+        if !self.is_worker(worker) {
+            return Some(StepRefusal::NoWorker);
+        }
+        if !self.holds(worker) {
+            return Some(StepRefusal::NotHolding);
+        }
+        if self.book.puts_left() == 0 {
+            return Some(StepRefusal::NothingLeft);
+        }
+        None
+    }
+
+    fn refuses_end(&self, worker: WorkerId) -> Option<StepRefusal>
+        ensures { result ≡ no_worker self.now worker (not_holding self.now worker (puts_left self.now)) }
+    {
+        if !self.is_worker(worker) {
+            return Some(StepRefusal::NoWorker);
+        }
+        if !self.holds(worker) {
+            return Some(StepRefusal::NotHolding);
+        }
+        if self.book.puts_left() != 0 {
+            return Some(StepRefusal::PutsLeft);
+        }
+        None
+    }
+
+    fn refuses_back(&self, worker: WorkerId) -> Option<StepRefusal>
+        ensures { result ≡ no_worker self.now worker (no_job self.now worker (holds_lock self.now worker)) }
+    {
+        if !self.is_worker(worker) {
+            return Some(StepRefusal::NoWorker);
+        }
+        if self.job(worker).is_none() {
+            return Some(StepRefusal::NoJob);
+        }
+        if self.holds(worker) {
+            return Some(StepRefusal::Locked);
+        }
+        None
+    }
+
+    fn refuses_hang(&self, worker: WorkerId) -> Option<StepRefusal>
+        ensures { result ≡ no_worker self.now worker (locked self.now None) }
+    {
+        if !self.is_worker(worker) {
+            return Some(StepRefusal::NoWorker);
+        }
+        if self.holder.is_some() {
+            return Some(StepRefusal::Locked);
+        }
+        None
+    }
+
+    fn refuses_sweep(&self, worker: WorkerId) -> Option<StepRefusal>
+        ensures { result ≡ no_worker self.now worker (locked self.now (has_job self.now worker None)) }
+    {
+        if !self.is_worker(worker) {
+            return Some(StepRefusal::NoWorker);
+        }
+        if self.holder.is_some() {
+            return Some(StepRefusal::Locked);
+        }
+        if self.job(worker).is_some() {
+            return Some(StepRefusal::HasJob);
+        }
+        None
+    }
+
+    fn refuses_reap(&self, session: SessionId) -> Option<StepRefusal>
+        ensures { result ≡ no_session self.now session (locked self.now (in_flight self.now session None)) }
+    {
+        if !self.is_known(session) {
+            return Some(StepRefusal::NoSession);
+        }
+        if self.holder.is_some() {
+            return Some(StepRefusal::Locked);
+        }
+        if !self.is_home(session) {
+            return Some(StepRefusal::InFlight);
+        }
+        None
+    }
+
+    /// Why a step is refused, before the book is asked.
+    fn refuses(&self, event: &Event) -> Option<StepRefusal>
+        ensures { result ≡ own_refusal self.now event.now }
+    {
+        match event {
+            Event::Connect { .. } if self.holder.is_some() => Some(StepRefusal::Locked),
+            Event::Connect { .. } => None,
+            Event::Feed { session, .. } | Event::Take { session } if self.is_known(*session) =>
+                None,
+            Event::Feed { .. } | Event::Take { .. } => Some(StepRefusal::NoSession),
+            Event::Pick { worker, session } => self.refuses_pick(*worker, *session),
+            Event::Begin { worker, .. } => self.refuses_begin(*worker),
+            Event::Put { worker } => self.refuses_put(*worker),
+            Event::End { worker } => self.refuses_end(*worker),
+            Event::Back { worker } => self.refuses_back(*worker),
+            Event::Hang { worker, .. } => self.refuses_hang(*worker),
+            Event::Sweep { worker, .. } => self.refuses_sweep(*worker),
+            Event::Reap { session } => self.refuses_reap(*session),
+        }
+    }
+
+    // ---- steps that nothing of this refuses
 
     fn connect(&mut self, host: &Octets, moment: Moment) -> Result<Note, StepRefusal>
-        requires { host_shape host.now ≡ true }
+        requires shape { host_shape host.now ≡ true }
+        requires free { own_refusal self.old (event.Connect host.now moment) ≡ None }
         ensures { IsStep self.old (event.Connect host.now moment) result self.new }
     {
-        self.book.sound();
         let outbox = Ring::new(self.alloc, self.sendq)?;
         let host = host.clone()?;
         self.inboxes.reserve(1)?;
-        let answer = self.book.open(host, moment, outbox);
-        match answer {
+        let opened = self.book.open(host, moment, outbox);
+        self.book.sound();
+        match opened {
             Ok((session, baton)) => {
                 let inbox = Inbox::new(self.alloc, baton);
                 self.inboxes.push_reserved(inbox);
@@ -124,48 +342,191 @@ impl Play {
     }
 
     fn feed(&mut self, session: SessionId, octets: &Octets) -> Result<Note, StepRefusal>
+        requires free { own_refusal self.old (event.Feed session octets.now) ≡ None }
         ensures { IsStep self.old (event.Feed session octets.now) result self.new }
     {
-        let Some(place) = self.place(session) else {
-            return Err(StepRefusal::NoSession);
-        };
-        let inbox = &mut self.inboxes[place];
-        let read = inbox.feed(octets.as_slice())?;
+        let read = inbox::feed(&mut self.inboxes, session, octets.as_slice())?;
         Ok(Note::Read(read))
     }
 
-    fn line(&mut self, session: SessionId, moment: Moment) -> Result<Note, StepRefusal>
-        ensures { IsStep self.old (event.Line session moment) result self.new }
+    fn pick(&mut self, worker: WorkerId, session: SessionId) -> Result<Note, StepRefusal>
+        requires free { own_refusal self.old (event.Pick worker session) ≡ None }
+        ensures { IsStep self.old (event.Pick worker session) result self.new }
     {
-        let Some(place) = self.place(session) else {
-            return Err(StepRefusal::NoSession);
-        };
-        let inbox = &mut self.inboxes[place];
-        let done = inbox.accept(&mut self.book, moment)?;
-        Ok(Note::Done(done))
+        move_to(&mut self.inboxes, session, Place::Hand(worker));
+        set_job(&mut self.jobs, worker, Some(session));
+        Ok(Note::Picked)
     }
 
-    fn take(&mut self, session: SessionId) -> Result<Note, StepRefusal>
-        ensures { IsStep self.old (event.Take session) result self.new }
+    fn begin(&mut self, worker: WorkerId, moment: Moment) -> Result<Note, StepRefusal>
+        requires free { own_refusal self.old (event.Begin worker moment) ≡ None }
+        ensures { IsStep self.old (event.Begin worker moment) result self.new }
     {
-        match self.book.take(session) {
-            Ok(item) => Ok(Note::Item(item)),
-            Err(TakeRefusal::NoSession) => Err(StepRefusal::NoSession),
-            Err(TakeRefusal::Empty) => Ok(Note::Empty),
+        let Some(session) = self.job(worker) else {
+            unreachable!();
+        };
+        let plan = inbox::begin(&mut self.inboxes, &mut self.book, session, worker, moment)?;
+        self.book.sound();
+        let number = plan.number();
+        self.holder = Some(Holder { worker, plan });
+        Ok(Note::Record(number))
+    }
+
+    fn put(&mut self, worker: WorkerId) -> Result<Note, StepRefusal>
+        requires free { own_refusal self.old (event.Put worker) ≡ None }
+        ensures { IsStep self.old (event.Put worker) result self.new }
+    {
+        let Some(
+            Holder {
+                worker: _,
+                mut plan,
+            },
+        ) = self.holder.take()
+        else {
+            unreachable!();
+        };
+        let step = self.book.put_next(&mut plan);
+        self.book.sound();
+        self.holder = Some(Holder { worker, plan });
+        match step {
+            Some(step) => Ok(of_put(step)),
+            None => unreachable!(),
         }
     }
 
-    /// Takes one event. A refusal changes nothing.
+    fn end(&mut self, worker: WorkerId) -> Result<Note, StepRefusal>
+        requires free { own_refusal self.old (event.End worker) ≡ None }
+        ensures { IsStep self.old (event.End worker) result self.new }
+    {
+        let job = self.job(worker);
+        let Some(Holder { worker: _, plan }) = self.holder.take() else {
+            unreachable!();
+        };
+        let Some(session) = job else {
+            let done = self.book.finish_sweep(plan);
+            self.book.sound();
+            return Ok(Note::Done(done));
+        };
+        set_job(&mut self.jobs, worker, None);
+        let done = inbox::end(&mut self.inboxes, &mut self.book, session, plan);
+        self.book.sound();
+        Ok(Note::Done(done))
+    }
+
+    fn back(&mut self, worker: WorkerId) -> Result<Note, StepRefusal>
+        requires free { own_refusal self.old (event.Back worker) ≡ None }
+        ensures { IsStep self.old (event.Back worker) result self.new }
+    {
+        let Some(session) = self.job(worker) else {
+            unreachable!();
+        };
+        move_to(&mut self.inboxes, session, Place::Home);
+        set_job(&mut self.jobs, worker, None);
+        Ok(Note::Back)
+    }
+
+    fn take(&mut self, session: SessionId) -> Result<Note, StepRefusal>
+        requires free { own_refusal self.old (event.Take session) ≡ None }
+        ensures { IsStep self.old (event.Take session) result self.new }
+    {
+        let taken = self.book.take(session);
+        self.book.sound();
+        match taken {
+            Ok(item) => {
+                tell_taken(&mut self.inboxes, session, &item);
+                Ok(Note::Item(item))
+            }
+            Err(TakeRefusal::Empty) => Ok(Note::Empty),
+            Err(TakeRefusal::NoSession) => Err(StepRefusal::NoSession),
+        }
+    }
+
+    fn hang(
+        &mut self,
+        worker: WorkerId,
+        session: SessionId,
+        why: Why,
+        moment: Moment,
+    ) -> Result<Note, StepRefusal>
+        requires free { own_refusal self.old (event.Hang worker session why moment) ≡ None }
+        ensures { IsStep self.old (event.Hang worker session why moment) result self.new }
+    {
+        let hung = self.book.hang(session, why, moment);
+        self.book.sound();
+        match hung {
+            Ok(hung) => Ok(Note::Hung(hung)),
+            Err(refusal) => Err(StepRefusal::Book(BookRefusal::Hang(refusal))),
+        }
+    }
+
+    fn sweep(&mut self, worker: WorkerId, moment: Moment) -> Result<Note, StepRefusal>
+        requires free { own_refusal self.old (event.Sweep worker moment) ≡ None }
+        ensures { IsStep self.old (event.Sweep worker moment) result self.new }
+    {
+        let begun = self.book.begin_sweep(moment);
+        self.book.sound();
+        match begun {
+            Ok(Some(plan)) => {
+                let number = plan.number();
+                self.holder = Some(Holder { worker, plan });
+                Ok(Note::Swept(Some(number)))
+            }
+            Ok(None) => Ok(Note::Swept(None)),
+            Err(refusal) => Err(of_sweep(refusal)),
+        }
+    }
+
+    fn reap(&mut self, session: SessionId) -> Result<Note, StepRefusal>
+        requires free { own_refusal self.old (event.Reap session) ≡ None }
+        ensures { IsStep self.old (event.Reap session) result self.new }
+    {
+        let reaped = inbox::reap(&mut self.inboxes, &mut self.book, session);
+        self.book.sound();
+        match reaped {
+            Ok(count) => Ok(Note::Left(count)),
+            Err(refusal) => Err(StepRefusal::Book(BookRefusal::Reap(refusal))),
+        }
+    }
+
+    fn perform(&mut self, event: &Event) -> Result<Note, StepRefusal>
+        requires shape { IsWellShaped event.now }
+        requires free { own_refusal self.old event.now ≡ None }
+        ensures { IsStep self.old event.now result self.new }
+    {
+        match event {
+            Event::Connect { host, moment } => self.connect(host, *moment),
+            Event::Feed { session, octets } => self.feed(*session, octets),
+            Event::Pick { worker, session } => self.pick(*worker, *session),
+            Event::Begin { worker, moment } => self.begin(*worker, *moment),
+            Event::Put { worker } => self.put(*worker),
+            Event::End { worker } => self.end(*worker),
+            Event::Back { worker } => self.back(*worker),
+            Event::Take { session } => self.take(*session),
+            Event::Hang {
+                worker,
+                session,
+                why,
+                moment,
+            } => self.hang(*worker, *session, *why, *moment),
+            Event::Sweep { worker, moment } => self.sweep(*worker, *moment),
+            Event::Reap { session } => self.reap(*session),
+        }
+    }
+
+    /// Takes one event. A refusal changes nothing. After each: what was taken of a session, then what waits for it or was left,
+    /// then what the plan still has for it, is what the history owes it; the accepted lines, then the line in a worker's hand,
+    /// then the unread ones, are the lines of what was fed.
     pub fn step(&mut self, event: &Event) -> Result<Note, StepRefusal>
         requires { IsWellShaped event.now }
         ensures step { IsStep self.old event.now result self.new }
         ensures sound { IsSound self.new }
+        ensures legal { IsLegal self.new.book.history }
+        ensures taken_is_owed { ForEach self.new (λ t. taken_of self.new t ++ queue_of self.new t ++ planned_for self.new t ≡ owed self.new.book.history t) }
+        ensures accepted_is_sent { ForEach self.new (λ t. accepted self.new.book.history t ++ in_hand self.new t ++ unread self.new t ≡ lines (inbox_at self.new t).fed) }
     {
-        let answer = match event {
-            Event::Connect { host, moment } => self.connect(host, *moment),
-            Event::Feed { session, octets } => self.feed(*session, octets),
-            Event::Line { session, moment } => self.line(*session, *moment),
-            Event::Take { session } => self.take(*session),
+        let answer = match self.refuses(event) {
+            Some(refusal) => Err(refusal),
+            None => self.perform(event),
         };
         self.sound();
         answer
@@ -179,8 +540,8 @@ impl Play {
         ensures err { OnErr result (self.new ≡ self.old) }
         ensures sound { IsSound self.new }
         ensures legal { IsLegal self.new.book.history }
-        ensures taken_is_owed { IfOk result (λ notes. ForEach self.new (λ t. (taken_of self.old t ++ took t events.now notes.items) ++ queue_of self.new t ≡ owed self.new.book.history t)) }
-        ensures accepted_is_sent { IfOk result (λ notes. ForEach self.new (λ t. accepted self.new.book.history t ++ (inbox_at self.new t).unread ≡ lines ((inbox_at self.old t).fed ++ sent t events.now notes.items))) }
+        ensures taken_is_owed { IfOk result (λ notes. ForEach self.new (λ t. (taken_of self.old t ++ took t events.now notes.items) ++ queue_of self.new t ++ planned_for self.new t ≡ owed self.new.book.history t)) }
+        ensures accepted_is_sent { IfOk result (λ notes. ForEach self.new (λ t. accepted self.new.book.history t ++ in_hand self.new t ++ unread self.new t ≡ lines ((inbox_at self.old t).fed ++ sent t events.now notes.items))) }
         ensures taken_is_prefix { IfOk result (λ notes. ForEach self.new (λ t. IsPrefix (taken_of self.old t ++ took t events.now notes.items) (owed self.new.book.history t))) }
         ensures accepted_is_prefix { IfOk result (λ notes. ForEach self.new (λ t. IsPrefix (accepted self.new.book.history t) (lines ((inbox_at self.old t).fed ++ sent t events.now notes.items)))) }
         ensures in_order { IfOk result (λ notes. ForEach self.new (λ t. IsRising (taken_of self.old t ++ took t events.now notes.items))) }
@@ -194,5 +555,13 @@ impl Play {
         }
         self.sound();
         Ok(notes)
+    }
+}
+
+#[cfg(test)]
+impl Play {
+    /// The book, for tests to look into.
+    pub(crate) fn book(&self) -> &Book {
+        &self.book
     }
 }

@@ -1,61 +1,16 @@
 //! What no clause says: that calls succeed, and what two people see.
-ghost use Rattle.interleave.specs.Steps.{IsWellShaped};
+mod acts;
+mod order;
+mod slow;
+mod thousand;
 
 use crate::{
-    BookRefusal, Event, Item, Moment, Note, Octets, OpenRefusal, Play, PlayRefusal, RecordNumber,
-    SessionId, Settings, StepRefusal,
+    BookRefusal, Event, Item, Note, OpenRefusal, Play, PlayRefusal, SessionId, StepRefusal,
 };
-use casemapping::is_host;
-use std::alloc::{AllocError, Global};
+use acts::{Act, Told, brief, connect, play, settings, take_step};
+use std::alloc::Global;
 use std::process::Abort;
 use std::test::Fail;
-
-/// A copy, once more where a growth was refused.
-fn copied(alloc: Global, octets: &[u8]) -> Result<Octets, AllocError> {
-    match Octets::copied(alloc, octets) {
-        Ok(copy) => Ok(copy),
-        Err(_) => Octets::copied(alloc, octets),
-    }
-}
-
-fn settings(alloc: Global, sessions: usize) -> Result<Settings, AllocError> {
-    Ok(Settings {
-        server: copied(alloc, b"irc.example")?,
-        sessions,
-    })
-}
-
-fn play(alloc: Global) -> Result<Play, Fail> {
-    let play = match Play::new(alloc, settings(alloc, 4)?, 100, 2, 8) {
-        Err(PlayRefusal::Memory) => Play::new(alloc, settings(alloc, 4)?, 100, 2, 8),
-        answer => answer,
-    };
-    Ok(play.ok().ok_or("a play")?)
-}
-
-/// Takes a step, once more where there was no memory: one growth is refused at most.
-fn step(play: &mut Play, event: &Event) -> Result<Note, StepRefusal>
-    requires { IsWellShaped event.now }
-{
-    match play.step(event) {
-        Err(StepRefusal::Memory) => play.step(event),
-        answer => answer,
-    }
-}
-
-/// Connects a client.
-fn connect(
-    rt: &impl Abort,
-    alloc: Global,
-    play: &mut Play,
-    host: &[u8],
-    moment: i64,
-) -> Result<Result<Note, StepRefusal>, AllocError> {
-    let host = copied(alloc, host)?;
-    assert!(rt; is_host(host.as_slice()));
-    let moment = Moment::new(moment);
-    Ok(step(play, &Event::Connect { host, moment }))
-}
 
 #[test]
 fn settings_within_their_limits_make_a_play(rt: HostRuntime) -> Result<(), Fail> {
@@ -83,9 +38,9 @@ fn settings_within_their_limits_make_a_play(rt: HostRuntime) -> Result<(), Fail>
 
 #[test]
 fn steps_answer(rt: HostRuntime) -> Result<(), Fail> {
-    let mut play = play(rt.alloc())?;
+    let mut play = play(rt.alloc(), 100, 2, 8)?;
     let first = connect(&rt, rt.alloc(), &mut play, b"one.example", 1000)?;
-    assert!(rt; matches!(&first, Ok(Note::Session(session)) if session.number() == 1));
+    assert_eq!(rt; brief(&first), Told::Session(1));
     let early = connect(&rt, rt.alloc(), &mut play, b"two.example", 999)?;
     let bad = StepRefusal::Book(BookRefusal::Open(OpenRefusal::BadMoment));
     assert_eq!(rt; early.err(), Some(bad));
@@ -93,48 +48,66 @@ fn steps_answer(rt: HostRuntime) -> Result<(), Fail> {
     Ok(())
 }
 
+/// Has worker 1 accept the next line of a session, with all that it owes.
+fn accept(rt: &impl Abort, alloc: Global, play: &mut Play, session: u64) -> Result<(), Fail> {
+    let picked = take_step(rt, alloc, play, Act::Pick(1, session), 2000)?;
+    assert_eq!(rt; brief(&picked), Told::Picked);
+    let begun = take_step(rt, alloc, play, Act::Begin(1), 2000)?;
+    assert!(rt; begun.is_ok());
+    for _ in 0..play.book().puts_left() {
+        let put = take_step(rt, alloc, play, Act::Put(1), 2000)?;
+        assert!(rt; put.is_ok());
+    }
+    let none = take_step(rt, alloc, play, Act::Put(1), 2000)?;
+    assert_eq!(rt; brief(&none), Told::Refused(StepRefusal::NothingLeft));
+    let ended = take_step(rt, alloc, play, Act::End(1), 2000)?;
+    assert!(rt; ended.is_ok());
+    Ok(())
+}
+
 /// Reads octets of a session, and accepts all lines that ended in them.
-fn say(play: &mut Play, alloc: Global, session: SessionId, octets: &[u8]) -> Result<usize, Fail> {
-    let octets = copied(alloc, octets)?;
-    let Ok(Note::Read(lines)) = step(play, &Event::Feed { session, octets }) else {
+fn say(
+    rt: &impl Abort,
+    alloc: Global,
+    play: &mut Play,
+    session: u64,
+    text: &'static str,
+) -> Result<usize, Fail> {
+    let read = take_step(rt, alloc, play, Act::Feed(session, text), 2000)?;
+    let Told::Read(lines) = brief(&read) else {
         return Err("read".into());
     };
     for _ in 0..lines {
-        let moment = Moment::new(2000);
-        let done = step(play, &Event::Line { session, moment });
-        if !matches!(done, Ok(Note::Done(_))) {
-            return Err("a line".into());
-        }
+        accept(rt, alloc, play, session)?;
     }
     Ok(lines)
 }
 
 #[test]
 fn two_people_talk(rt: HostRuntime) -> Result<(), Fail> {
-    let mut play = play(rt.alloc())?;
+    let alloc = rt.alloc();
+    let mut play = play(alloc, 100, 2, 8)?;
     for (host, moment) in [(b"one.example", 1000), (b"two.example", 1001)] {
-        let noted = connect(&rt, rt.alloc(), &mut play, host, moment)?;
+        let noted = connect(&rt, alloc, &mut play, host, moment)?;
         assert!(rt; matches!(noted, Ok(Note::Session(_))), "at {moment}");
     }
-    let anna = SessionId::new(1);
-    let bob = SessionId::new(2);
-    let first = b"NICK anna\r\nUSER a 0 * :Anna\r\nJOIN #room\r\n";
-    let lines = say(&mut play, rt.alloc(), anna, first)?;
-    assert_eq!(rt; lines, 3);
-    let second = b"NICK bob\r\nUSER b 0 * :Bob\r\nJOIN #room\r\n";
-    say(&mut play, rt.alloc(), bob, second)?;
-    say(&mut play, rt.alloc(), anna, b"PRIVMSG #room :h")?;
-    say(&mut play, rt.alloc(), anna, b"i\r\n")?;
-    let cases: [(SessionId, u64, &[u8]); 6] = [
-        (anna, 5, b":anna!a@one.example JOIN #room\r\n"),
-        (anna, 8, b":bob!b@two.example JOIN #room\r\n"),
-        (anna, 0, b""),
-        (bob, 8, b":bob!b@two.example JOIN #room\r\n"),
-        (bob, 9, b":anna!a@one.example PRIVMSG #room :hi\r\n"),
-        (bob, 0, b""),
+    let first = "NICK anna\r\nUSER a 0 * :Anna\r\nJOIN #room\r\n";
+    assert_eq!(rt; say(&rt, alloc, &mut play, 1, first)?, 3);
+    let second = "NICK bob\r\nUSER b 0 * :Bob\r\nJOIN #room\r\n";
+    assert_eq!(rt; say(&rt, alloc, &mut play, 2, second)?, 3);
+    assert_eq!(rt; say(&rt, alloc, &mut play, 1, "PRIVMSG #room :h")?, 0);
+    assert_eq!(rt; say(&rt, alloc, &mut play, 1, "i\r\n")?, 1);
+    let cases: [(u64, u64, &[u8]); 6] = [
+        (1, 5, b":anna!a@one.example JOIN #room\r\n"),
+        (1, 8, b":bob!b@two.example JOIN #room\r\n"),
+        (1, 0, b""),
+        (2, 8, b":bob!b@two.example JOIN #room\r\n"),
+        (2, 9, b":anna!a@one.example PRIVMSG #room :hi\r\n"),
+        (2, 0, b""),
     ];
     for (session, record, line) in &cases {
-        let events = [Event::Take { session: *session }];
+        let session = SessionId::new(*session);
+        let events = [Event::Take { session }];
         let notes = match play.run(&events) {
             Ok(notes) => notes,
             Err(_) => play.run(&events)?,

@@ -1,4 +1,4 @@
-use Rattle.std.proofs.Common.{arith, ◌≡◌, ◌+◌, ◌-◌, length, []}
+use Rattle.std.proofs.Common.{arith, ◌≡◌, ◌+◌, ◌-◌, length}
 use Rattle.std.proofs.lemmas.Grind.{common_steps}
 use Rattle.book.proofs.Plans.{begins, goes_on, ends}
 use Rattle.book.proofs.plan.plan_for.Goals as goal

@@ -1,4 +1,4 @@
-use Rattle.std.proofs.Common.{◌≡◌, length, sym, subst}
+use Rattle.std.proofs.Common.{length, sym, subst}
 use Rattle.deeds.specs.declared.verdict.Verdict.{Verdict}
 use Rattle.deeds.specs.Stands.{IsCommittable}
 use Rattle.book.proofs.plan.prepare_line.Goals as goal

@@ -1,6 +1,6 @@
 use Rattle.std.proofs.lemmas.Grind.{common_steps}
 use Rattle.std.proofs.Common.{◌≡◌, ◌<◌, length, get_or, ◌+◌, arith, sym, ◌∙◌}
-use Rattle.halld.proofs.Words.{after_at, whole}
+use Rattle.halld.proofs.Spaces.{after_at, whole}
 use Rattle.halld.proofs.split.split_at_space.Goals as goal
 
 pub returns-then-text-i-eq32-clause-after : goal.returns-then-text-i-eq32-clause-after

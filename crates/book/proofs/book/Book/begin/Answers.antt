@@ -1,4 +1,4 @@
-use Rattle.std.proofs.Common.{arith, ◌≡◌, ◌+◌, ◌-◌, ◌<◌, ◌≤◌, ◌∷◌, length, vec_len, vec_capacity, slice_index_or, ℕ, List, refl, ap, sym, ◌∙◌, subst}
+use Rattle.std.proofs.Common.{arith, ◌≡◌, ◌+◌, ◌<◌, ◌≤◌, ◌∷◌, length, vec_len, List, ap, sym, ◌∙◌, subst}
 use Rattle.std.proofs.lemmas.Grind.{common_steps}
 use Rattle.line_grammar.specs.declared.splitter.Piece.{Piece}
 use Rattle.chronicle.specs.declared.record.Kind.TheVariants.{Said}
@@ -6,7 +6,6 @@ use Rattle.chronicle.specs.History.{accepted}
 use Rattle.chronicle.specs.Journal.{fresh_record}
 use Rattle.deeds.specs.Tables.{changed_people, changed_channels}
 use Rattle.book.specs.declared.seat.Seat.{Seat}
-use Rattle.book.specs.Seats.{seat_at}
 use Rattle.book.specs.Book.{Turn, MayBegin, plan_of, begun, held}
 use Rattle.book.proofs.KeptSteps.{shown}
 use Rattle.book.proofs.Opened.{accepted_le}

@@ -1,5 +1,5 @@
-use Rattle.std.proofs.Common.{arith, ◌≡◌, ◌+◌, ◌<◌, ◌≤◌, length, sum_by, sym, ap, subst}
-use Rattle.book.specs.Book.{here_by, held}
+use Rattle.std.proofs.Common.{arith, ◌<◌, sum_by, sym, subst}
+use Rattle.book.specs.Book.{here_by}
 use Rattle.book.proofs.Count.{count_small}
 use Rattle.book.proofs.Opened.{sessions_le}
 use Rattle.book.proofs.book.Book.check_open.Goals as goal

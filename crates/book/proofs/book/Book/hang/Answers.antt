@@ -1,7 +1,6 @@
-use Rattle.std.proofs.Common.{arith, ◌≡◌, ◌+◌, ◌-◌, ◌<◌, ◌≤◌, ◌∷◌, [], true, false, length, Some, slice_set, ℕ, List, refl, ap, sym, ◌∙◌, subst}
+use Rattle.std.proofs.Common.{arith, ◌≡◌, ◌+◌, ◌-◌, ◌≤◌, ◌∷◌, [], true, false, length, Some, slice_set, ℕ, ap, sym, ◌∙◌, subst}
 use Rattle.std.proofs.lemmas.Grind.{common_steps}
 use Rattle.chronicle.specs.declared.record.Kind.TheVariants.{Hung}
-use Rattle.chronicle.specs.Journal.{fresh_record, Misses}
 use Rattle.outbox.specs.Ring.{has_room, with_put}
 use Rattle.outbox.specs.declared.item.Item.TheVariants.{Last}
 use Rattle.deeds.specs.declared.deed.Deed.TheVariants.{Ended}

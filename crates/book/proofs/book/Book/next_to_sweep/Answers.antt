@@ -1,5 +1,4 @@
-use Rattle.std.proofs.Common.{arith, ◌≡◌, ◌+◌, ◌-◌, ◌<◌, ◌&&◌, true, false, not, ℕ, List, length, slice_index_or, Some, sym, ap, ◌∙◌, subst}
-use Rattle.std.proofs.lemmas.Grind.{common_steps}
+use Rattle.std.proofs.Common.{arith, ◌≡◌, ◌+◌, ◌<◌, ◌&&◌, not, List, length, slice_index_or, sym, ap, ◌∙◌}
 use Rattle.chronicle.specs.History.{sessions}
 use Rattle.book.specs.declared.seat.Seat.{Seat}
 use Rattle.book.specs.Seats.{no_seat}

@@ -1,15 +1,11 @@
-use Rattle.std.proofs.Common.{arith, ◌≡◌, ◌-◌, ◌<◌, ◌≤◌, ◌∷◌, [], ◌++◌, ℕ, Bool, true, false, cond, List, Some, None, length, slice_set, refl, ap, sym, ◌∙◌, subst}
+use Rattle.std.proofs.Common.{arith, ◌≡◌, ◌-◌, ◌<◌, ◌∷◌, true, length, slice_set, sym, ◌∙◌, subst}
 use Rattle.std.proofs.lemmas.Grind.{common_steps}
-use Rattle.outbox.specs.Ring.{has_room, with_put}
-use Rattle.book.specs.declared.out.Step.TheVariants.{Put, Missed}
-use Rattle.book.specs.declared.plan.Planned.{Planned}
-use Rattle.book.specs.Book.{Shown, outbox_at, put_next, IsOut}
+use Rattle.outbox.specs.Ring.{has_room}
+use Rattle.book.specs.Book.{outbox_at}
 use Rattle.book.specs.Kept.{IsKept}
-use Rattle.book.specs.Told.{told_of}
 use Rattle.book.specs.Seats.{seat_at}
-use Rattle.book.proofs.KeptSteps.{shown, delivered_kept, dropped_kept}
-use Rattle.book.proofs.Puts.{seat_is, put_is, seats_shut, miss_is}
-use Rattle.book.proofs.Outs.{out_next}
+use Rattle.book.proofs.KeptSteps.{delivered_kept, dropped_kept}
+use Rattle.book.proofs.Puts.{seat_is, seats_shut}
 use Rattle.book.proofs.book.Book.put_next.Goals as goal
 
 pub invariant_of-self-then-offer : goal.invariant_of-self-then-offer

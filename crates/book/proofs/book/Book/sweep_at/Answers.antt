@@ -1,4 +1,4 @@
-use Rattle.std.proofs.Common.{arith, ◌≡◌, ◌+◌, ◌-◌, ◌<◌, ◌≤◌, ◌∷◌, true, false, length, vec_len, vec_capacity, Some, slice_set, ℕ, List, [], zero-add, refl, ap, sym, ◌∙◌, subst}
+use Rattle.std.proofs.Common.{arith, ◌≡◌, ◌+◌, ◌<◌, ◌≤◌, ◌∷◌, false, length, vec_len, Some, ℕ, List, [], zero-add, refl, ap, sym, ◌∙◌, subst}
 use Rattle.std.proofs.lemmas.Grind.{common_steps}
 use Rattle.chronicle.specs.declared.record.Kind.TheVariants.{Gone}
 use Rattle.chronicle.specs.Journal.{fresh_record}

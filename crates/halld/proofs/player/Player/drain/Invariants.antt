@@ -1,5 +1,13 @@
-use Rattle.std.proofs.Common.{◌≡◌}
+use Rattle.std.proofs.Common.{◌≡◌, List, ℕ}
+use Rattle.std.specs.Io.KnownBytes.{Appends}
+use Rattle.halld.specs.Notes.{host_of}
+use Rattle.halld.specs.Steps.{AreTaken}
 use Rattle.halld.proofs.player.Player.drain.Given as goal
 
+-- so many items so far
 abbrev pub invariant-loop : goal.invariant-loop
-invariant-loop g l = (l.self.line ≡ l.fn.self.line) × (l.self.ended ≡ l.fn.self.ended)
+invariant-loop g l =
+    record {
+      taken : (text : List ℕ) × AreTaken l.counter l.session (host_of l.fn.self.hosts.items l.session) l.fn.self.play text l.self.play × Appends (g.W.Write.contents l.fn.output) (g.W.Write.contents l.output) text;
+      hosts : l.self.hosts.items ≡ l.fn.self.hosts.items;
+    }

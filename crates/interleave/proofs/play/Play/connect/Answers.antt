@@ -1,16 +1,25 @@
-use Rattle.std.proofs.Common.{arith, ◌≡◌, ◌∷◌, [], ◌++◌, ◌+◌, sym, subst}
+use Rattle.std.proofs.Common.{arith, ◌≡◌, ◌∷◌, [], ◌++◌, ◌+◌, List, Some, None, sym, subst}
 use Rattle.std.proofs.lemmas.Grind.{common_steps}
+use Rattle.interleave.specs.declared.event.Event.TheVariants as event
+use Rattle.interleave.specs.Refusals.{own_refusal}
+use Rattle.interleave.specs.Inbox.{Held}
+use Rattle.interleave.specs.Kept.{state_of, IsKept}
+use Rattle.interleave.specs.State.{State}
 use Rattle.chronicle.specs.History.{sessions}
-use Rattle.book.specs.Book.{opened}
-use Rattle.interleave.specs.Kept.{IsKept}
-use Rattle.interleave.proofs.Kept.{connect_kept}
+use Rattle.outbox.specs.Ring.{empty_ring}
+use Rattle.book.specs.Book as book
+use Rattle.interleave.specs.State.{nothing_fed}
+use Rattle.interleave.proofs.Kept.{connected_kept}
+use Rattle.interleave.proofs.Does.{connects}
 use Rattle.interleave.proofs.play.Play.connect.Goals as goal
 
 pub invariant_of-self-in-Ok : goal.invariant_of-self-in-Ok
 invariant_of-self-in-Ok c =
-    let a = c.self.inside in
-    let boxes : c.push_reserved.new.self.items ≡ a.inboxes.items ++ c.new-inbox.result ∷ [] = grind (arith, common_steps) in
-    let fresh : c.new-inbox.result ≡ record { fed = []; unread = []; turn = record { session = sessions a.book.history + 1; next = 0 } } = grind (arith, common_steps) in
-    let book : c.open-answer.new.self ≡ opened a.book c.in_ok-host.host c.args.moment c.in_ok-outbox.outbox = grind (arith, common_steps) in
-    subst (λ m. IsKept m c.push_reserved.new.self.items) (sym book) (subst (IsKept (opened a.book c.in_ok-host.host c.args.moment c.in_ok-outbox.outbox)) (sym boxes)
-    (connect_kept a.book a.inboxes.items c.new-inbox.result c.in_ok-host.host c.args.moment c.in_ok-outbox.outbox c.sound.ensures c.self.invariant fresh))
+    let a = c.self.inside in let m = a.book in let boxes = a.inboxes.items in let jobs = a.jobs.items in
+    let free : own_refusal (state_of m a.sendq boxes jobs a.holder) (event.Connect c.args.host.now c.args.moment) ≡ None = subst (λ (x : State). own_refusal x (event.Connect c.args.host.now c.args.moment) ≡ None) (sym c.self.view_is) c.requires.free in
+    let b = c.new-inbox.result in
+    let all : c.push_reserved.new.self.items ≡ boxes ++ b ∷ [] = grind (arith, common_steps) in
+    let fresh : b ≡ record { seen = nothing_fed; turn = Some (record { session = sessions m.history + 1; next = 0 }) } = grind (arith, common_steps) in
+    let is : c.open-opened.new.self ≡ book.opened m c.in_ok-host.host c.args.moment (empty_ring a.sendq) = grind (arith, common_steps) in
+    subst (λ (bs : List Held). IsKept c.open-opened.new.self a.sendq bs jobs a.holder) (sym all)
+    (connected_kept m c.open-opened.new.self a.sendq boxes jobs a.holder b c.in_ok-host.host c.args.moment c.self.invariant (connects m a.sendq boxes jobs a.holder c.args.host.now c.args.moment free) fresh is c.sound.ensures).1

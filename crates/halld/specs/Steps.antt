@@ -1,0 +1,80 @@
+-- What a step of a script asks of the play, and what it prints: this project's own promise.
+use Rattle.std.specs.Prelude.{◌≡◌, ◌⊎◌, ℕ, ℤ, zero, suc, ◌-◌, ◌^◌, Bool, false, true, List, [], ◌++◌, Some, Result, Ok, Err, codes}
+use Rattle.outbox.specs.declared.item.Item.{Item}
+use Rattle.interleave.specs.declared.event.Event.TheVariants as event
+use Rattle.interleave.specs.declared.event.Note.{Note}
+use Rattle.interleave.specs.declared.event.Note.TheVariants as note
+use Rattle.interleave.specs.declared.event.StepRefusal.{StepRefusal}
+use Rattle.interleave.specs.State.{State}
+use Rattle.interleave.specs.Steps.{IsStep}
+use Rattle.halld.specs.declared.script.Step.{Step}
+use Rattle.halld.specs.declared.script.Step.TheVariants as step
+use Rattle.halld.specs.Notes.{named_by, host_of, opened_by, answer_text, whole_text}
+
+abbrev pub Answer : Type 0
+Answer = Result Note StepRefusal
+
+-- ---- what worker 1 does alone, and the answer that is told
+
+-- it puts so many deliveries
+abbrev pub ArePut : ℕ → State → State → Type 0
+ArePut zero m k = k ≡ m
+ArePut (suc n) m k = (l : State) × (note : Note) × ArePut n m l × IsStep l (event.Put 1) (Ok note) k
+
+-- it puts until it is refused, but no more than 2 ^ 64 - 1 times
+abbrev pub IsPutOut : State → State → Type 0
+IsPutOut m k = (n : ℕ) × (((l : State) × (refusal : StepRefusal) × ArePut n m l × IsStep l (event.Put 1) (Err refusal) k) ⊎ ((n ≡ 2 ^ 64 - 1) × ArePut n m k))
+
+abbrev pub IsEnded : State → Answer → State → Type 0
+IsEnded m a k = (l : State) × IsPutOut m l × IsStep l (event.End 1) a k
+
+-- it goes on with the line that it began, or gives back the line that it couldn't begin
+abbrev pub IsAfterBegin : Answer → State → Answer → State → Type 0
+IsAfterBegin (Ok note) m a k = IsEnded m a k
+IsAfterBegin (Err refusal) m a k = (back : Answer) × IsStep m (event.Back 1) back k × (a ≡ Err refusal)
+
+abbrev pub IsBegun : ℤ → State → Answer → State → Type 0
+IsBegun moment m a k = (begin : Answer) × (l : State) × IsStep m (event.Begin 1 moment) begin l × IsAfterBegin begin l a k
+
+abbrev pub IsAfterPick : ℤ → Answer → State → Answer → State → Type 0
+IsAfterPick moment (Ok note) m a k = IsBegun moment m a k
+IsAfterPick moment (Err refusal) m a k = (a ≡ Err refusal) × (k ≡ m)
+
+-- it picks a line, begins it, puts and ends
+abbrev pub IsDoing : ℕ → ℤ → State → Answer → State → Type 0
+IsDoing session moment m a k = (pick : Answer) × (l : State) × IsStep m (event.Pick 1 session) pick l × IsAfterPick moment pick l a k
+
+abbrev pub IsAfterSweep : Answer → State → Answer → State → Type 0
+IsAfterSweep (Ok (note.Swept (Some number))) m a k = IsEnded m a k
+IsAfterSweep sweep m a k = (a ≡ sweep) × (k ≡ m)
+
+-- it sweeps, and where there was one to sweep it puts and ends
+abbrev pub IsTidying : ℤ → State → Answer → State → Type 0
+IsTidying moment m a k = (sweep : Answer) × (l : State) × IsStep m (event.Sweep 1 moment) sweep l × IsAfterSweep sweep l a k
+
+-- ---- takes
+
+-- so many items are taken of a session that has this host, and printed
+abbrev pub AreTaken : ℕ → ℕ → List ℕ → State → List ℕ → State → Type 0
+AreTaken zero session host m text k = (text ≡ []) × (k ≡ m)
+AreTaken (suc n) session host m text k =
+    (l : State) × (item : Item) × (before : List ℕ) × AreTaken n session host m before l × IsStep l (event.Take session) (Ok (note.Item item)) k × (text ≡ before ++ answer_text session host (Ok (note.Item item)))
+
+abbrev pub is_item : Answer → Bool
+is_item (Ok (note.Item item)) = true
+is_item a = false
+
+-- items are taken until there is none, but no more than 2 ^ 64 - 1, and the last answer is printed, too
+abbrev pub IsDrained : ℕ → List ℕ → State → List ℕ → State → Type 0
+IsDrained session host m text k =
+    (n : ℕ) × (((l : State) × (a : Answer) × (before : List ℕ) × AreTaken n session host m before l × IsStep l (event.Take session) a k × (is_item a ≡ false) × (text ≡ before ++ answer_text session host a)) ⊎ ((n ≡ 2 ^ 64 - 1) × AreTaken n session host m text k))
+
+-- ---- steps
+
+-- the state with the hosts of all sessions that were opened, the step's text, and both after it
+abbrev pub IsPerformed : Step → List (List ℕ) → State → List ℕ → List (List ℕ) → State → Type 0
+IsPerformed (step.One e) hosts m text hosts' k =
+    (a : Answer) × IsStep m e a k × (hosts' ≡ hosts ++ opened_by e a) × (text ≡ answer_text (named_by e) (host_of hosts (named_by e)) a)
+IsPerformed (step.Do session moment) hosts m text hosts' k = (a : Answer) × IsDoing session moment m a k × (hosts' ≡ hosts) × (text ≡ whole_text (codes "record") a)
+IsPerformed (step.Tidy moment) hosts m text hosts' k = (a : Answer) × IsTidying moment m a k × (hosts' ≡ hosts) × (text ≡ whole_text (codes "sweep") a)
+IsPerformed (step.Drain session) hosts m text hosts' k = IsDrained session (host_of hosts session) m text k × (hosts' ≡ hosts)

@@ -1,0 +1,66 @@
+//! What worker 1 does alone for one step of a script.
+ghost use Rattle.halld.specs.Steps.{IsPutOut, IsEnded, IsBegun, IsDoing, IsTidying};
+
+use interleave::{Event, Moment, Note, Play, SessionId, StepRefusal, WorkerId};
+
+/// The number of the worker.
+const ALONE: u64 = 1;
+
+/// Puts until a put is refused.
+fn put_all(play: &mut Play)
+    ensures { IsPutOut play.old play.new }
+{
+    let worker = WorkerId::new(ALONE);
+    for _ in 0..u64::MAX {
+        if play.step(&Event::Put { worker }).is_err() {
+            break;
+        }
+    }
+}
+
+/// Puts what is to be put, and ends.
+fn end(play: &mut Play) -> Result<Note, StepRefusal>
+    ensures { IsEnded play.old result play.new }
+{
+    put_all(play);
+    let worker = WorkerId::new(ALONE);
+    play.step(&Event::End { worker })
+}
+
+/// Begins the line in the worker's hand and carries it out, or gives it back.
+fn begin(play: &mut Play, moment: Moment) -> Result<Note, StepRefusal>
+    ensures { IsBegun moment play.old result play.new }
+{
+    let worker = WorkerId::new(ALONE);
+    match play.step(&Event::Begin { worker, moment }) {
+        Ok(_) => end(play),
+        Err(refusal) => {
+            let _ = play.step(&Event::Back { worker });
+            Err(refusal)
+        }
+    }
+}
+
+/// Carries out a session's next line. A line that was begun answers with its `Done`.
+pub(crate) fn do_line(
+    play: &mut Play,
+    session: SessionId,
+    moment: Moment,
+) -> Result<Note, StepRefusal>
+    ensures { IsDoing session moment play.old result play.new }
+{
+    let worker = WorkerId::new(ALONE);
+    play.step(&Event::Pick { worker, session })?;
+    begin(play, moment)
+}
+
+/// Sweeps. Where there was a session to be swept, the answer is the `Done` of the record.
+pub(crate) fn tidy(play: &mut Play, moment: Moment) -> Result<Note, StepRefusal>
+    ensures { IsTidying moment play.old result play.new }
+{
+    let worker = WorkerId::new(ALONE);
+    match play.step(&Event::Sweep { worker, moment }) {
+        Ok(Note::Swept(Some(_))) => end(play),
+        answer => answer,
+    }
+}

@@ -1,0 +1,199 @@
+//! The lines of a script as they come.
+ghost use Rattle.std.specs.Prelude.{◌≡◌, ◌+◌, ◌<◌, ◌≤◌, ◌^◌, ◌++◌, ◌∷◌, [], List, ℕ, None, Some, true, length, OnOk, IfOk, IfErr};
+ghost use Rattle.std.specs.Io.KnownBytes.{Appends};
+ghost use Rattle.halld.specs.Headers.{default_limits, are_good};
+ghost use Rattle.halld.specs.Script.{step_of, NamesHost};
+ghost use Rattle.halld.specs.Lines.{told_after, told_ahead, is_set_after};
+ghost use Rattle.halld.specs.Faults.{IsFaultOf, IsGood, IsOutside};
+ghost use Rattle.halld.specs.Stages.{head_of};
+ghost use Rattle.halld.specs.Steps.{IsPerformed};
+ghost use Rattle.halld.specs.Printed.{start_of, hosts_of, server_of, Prints, PrintsAhead, Writes, GoesOn};
+
+use crate::entry::PlayFault;
+use crate::header::{Limits, parse_header};
+use crate::player::Player;
+use crate::script::{Step, StepFault, parse_step};
+use interleave::{Play, PlayRefusal, Settings};
+use line_grammar::Octets;
+use std::alloc::Global;
+use std::io::Write;
+
+/// The server's name in a script.
+const SERVER: &[u8; 11] = b"irc.example";
+
+/// How far a script has come.
+#[derive(Drop)]
+pub(crate) enum Stage {
+    /// No step has come, and the headers have set these limits.
+    Head(Limits),
+    /// A step has come.
+    Steps(Player),
+}
+
+/// The part of a script that has come.
+#[derive(Drop)]
+pub(crate) struct Reader {
+    alloc: Global,
+    stage: Stage,
+    line: Vec<u8>,
+    ended: u64,
+}
+
+/// A player of a server with these limits.
+fn new_player(alloc: Global, limits: Limits) -> Result<Player, PlayFault>
+    ensures ok { IfOk result (λ player. are_good limits ≡ true) }
+    ensures play { IfOk result (λ player. player.play ≡ start_of limits) }
+    ensures hosts { IfOk result (λ player. player.hosts.items ≡ []) }
+    ensures fault { IfErr result (IsFaultOf (told_after (Some limits) 1 [])) }
+{
+    let settings = Settings {
+        server: Octets::copied(alloc, SERVER)?,
+        sessions: limits.sessions,
+    };
+    match Play::new(
+        alloc,
+        settings,
+        limits.records,
+        limits.workers,
+        limits.sendq,
+    ) {
+        Ok(play) => Ok(Player::new(alloc, play)),
+        Err(PlayRefusal::BadSettings) => Err(PlayFault::BadSettings),
+        Err(PlayRefusal::Memory) => Err(PlayFault::Memory),
+    }
+}
+
+impl Reader {
+    /// A reader at the start of a script.
+    pub(crate) fn new(alloc: Global) -> Reader
+        ensures head { head_of result.stage ≡ Some default_limits }
+        ensures line { result.line.items ≡ [] }
+        ensures ended { result.ended ≡ 0 }
+    {
+        Reader {
+            alloc,
+            stage: Stage::Head(Limits::new()),
+            line: Vec::new(alloc),
+            ended: 0,
+        }
+    }
+
+    /// Does what a step asks for. The first one sets the server up.
+    #[tactic(auto, using(crate::proofs::Faults::from_outside))]
+    fn step<W: Write>(&mut self, step: Step, output: &mut W) -> Result<(), PlayFault>
+        requires { NamesHost step }
+        ensures head { OnOk result (head_of self.new.stage ≡ None) }
+        ensures set { OnOk result (is_set_after (head_of self.old.stage) [] ≡ true) }
+        ensures line { self.new.line ≡ self.old.line }
+        ensures ended { self.new.ended ≡ self.old.ended }
+        ensures performed { OnOk result ((text : List ℕ) × IsPerformed step (hosts_of self.old.stage) (server_of self.old.stage []) text (hosts_of self.new.stage) (server_of self.new.stage []) × Appends (W.contents output.old) (W.contents output.new) text) }
+        ensures fault { IfErr result (IsFaultOf (told_after (head_of self.old.stage) 1 [])) }
+    {
+        match &mut self.stage {
+            Stage::Steps(player) => player.perform(step, output),
+            Stage::Head(limits) => {
+                let mut player = new_player(self.alloc, *limits)?;
+                player.perform(step, output)?;
+                self.stage = Stage::Steps(player);
+                Ok(())
+            }
+        }
+    }
+
+    /// Takes the script's present line, which is no step, as a header.
+    #[tactic(auto, using(crate::proofs::Ahead::header_line, crate::proofs::Ahead::bad_after, crate::proofs::Ahead::bad_before, crate::proofs::Printing::header_prints))]
+    fn header(&mut self) -> Result<(), PlayFault>
+        requires some { 0 < length self.old.line.items }
+        requires none { step_of self.old.line.items ≡ None }
+        ensures line { OnOk result (self.new.line.items ≡ []) }
+        ensures ended { self.new.ended ≡ self.old.ended }
+        ensures ahead { OnOk result ((more : List (List ℕ)) → told_after (head_of self.new.stage) (self.new.ended + 1) more ≡ told_after (head_of self.old.stage) self.old.ended (self.old.line.items ∷ more)) }
+        ensures printed { OnOk result ((more : List (List ℕ)) (text : List ℕ) → Prints self.new.stage more text → Prints self.old.stage (self.old.line.items ∷ more) text) }
+        ensures fault { IfErr result (λ e. (more : List (List ℕ)) → IsFaultOf (told_after (head_of self.old.stage) self.old.ended (self.old.line.items ∷ more)) e) }
+    {
+        let Stage::Head(limits) = &mut self.stage else {
+            return Err(PlayFault::BadLine(self.ended));
+        };
+        let Some(header) = parse_header(&self.line) else {
+            return Err(PlayFault::BadLine(self.ended));
+        };
+        *limits = limits.with(header);
+        self.line.clear();
+        Ok(())
+    }
+
+    /// Ends the script's present line.
+    #[tactic(auto, using(crate::proofs::Ahead::empty_line))]
+    fn end_line<W: Write>(&mut self, output: &mut W) -> Result<(), PlayFault>
+        requires { self.old.ended + 1 < 2 ^ 64 }
+        ensures line { OnOk result (self.new.line.items ≡ []) }
+        ensures ended { OnOk result (self.new.ended ≡ self.old.ended + 1) }
+        ensures ahead { OnOk result ((more : List (List ℕ)) → told_after (head_of self.new.stage) (self.new.ended + 1) more ≡ told_after (head_of self.old.stage) (self.old.ended + 1) (self.old.line.items ∷ more)) }
+        ensures printed { OnOk result (Writes (W.contents output.old) (W.contents output.new) (λ written. (more : List (List ℕ)) (text : List ℕ) → Prints self.new.stage more text → Prints self.old.stage (self.old.line.items ∷ more) (written ++ text))) }
+        ensures fault { IfErr result (λ e. (more : List (List ℕ)) → IsFaultOf (told_after (head_of self.old.stage) (self.old.ended + 1) (self.old.line.items ∷ more)) e) }
+    {
+        self.ended += 1;
+        if self.line.is_empty() {
+            return Ok(());
+        }
+        let step = match parse_step(self.alloc, &self.line) {
+            Ok(step) => step,
+            Err(StepFault::Bad) => return self.header(),
+            Err(StepFault::Memory) => return Err(PlayFault::Memory),
+        };
+        self.line.clear();
+        self.step(step, output)
+    }
+
+    /// Takes the script's next octet.
+    #[tactic(auto, using(crate::proofs::Ahead::line_ends, crate::proofs::Ahead::line_goes_on, crate::proofs::Printing::in_line))]
+    fn take_octet<W: Write>(&mut self, octet: u8, output: &mut W) -> Result<(), PlayFault>
+        requires { self.old.ended + 1 < 2 ^ 64 }
+        ensures ended { OnOk result (self.new.ended ≤ self.old.ended + 1) }
+        ensures ahead { OnOk result ((rest : List ℕ) → told_ahead (head_of self.new.stage) self.new.ended self.new.line.items rest ≡ told_ahead (head_of self.old.stage) self.old.ended self.old.line.items (octet ∷ rest)) }
+        ensures printed { OnOk result (Writes (W.contents output.old) (W.contents output.new) (GoesOn self.old.stage self.old.line.items self.new.stage self.new.line.items (octet ∷ []))) }
+        ensures fault { IfErr result (λ e. (rest : List ℕ) → IsFaultOf (told_ahead (head_of self.old.stage) self.old.ended self.old.line.items (octet ∷ rest)) e) }
+    {
+        if octet == b'\n' {
+            return self.end_line(output);
+        }
+        self.line.push(octet)?;
+        Ok(())
+    }
+
+    /// Takes what comes next of the script.
+    pub(crate) fn feed<W: Write>(&mut self, block: &[u8], output: &mut W) -> Result<(), PlayFault>
+        requires { self.old.ended + length block.now < 2 ^ 64 }
+        ensures ended { OnOk result (self.new.ended ≤ self.old.ended + length block.now) }
+        ensures ahead { OnOk result ((rest : List ℕ) → told_ahead (head_of self.new.stage) self.new.ended self.new.line.items rest ≡ told_ahead (head_of self.old.stage) self.old.ended self.old.line.items (block.now ++ rest)) }
+        ensures printed { OnOk result (Writes (W.contents output.old) (W.contents output.new) (GoesOn self.old.stage self.old.line.items self.new.stage self.new.line.items block.now)) }
+        ensures fault { IfErr result (λ e. (rest : List ℕ) → IsFaultOf (told_ahead (head_of self.old.stage) self.old.ended self.old.line.items (block.now ++ rest)) e) }
+    {
+        for octet in block {
+            self.take_octet(*octet, output)?;
+        }
+        Ok(())
+    }
+
+    /// Whether the server can be set up, where no step came.
+    fn set_up(&self) -> Result<(), PlayFault>
+        ensures good { OnOk result (is_set_after (head_of self.now.stage) [] ≡ true) }
+        ensures fault { IfErr result (IsFaultOf (told_after (head_of self.now.stage) 1 [])) }
+    {
+        if let Stage::Head(limits) = &self.stage {
+            new_player(self.alloc, *limits)?;
+        }
+        Ok(())
+    }
+
+    /// Ends the script.
+    pub(crate) fn finish<W: Write>(&mut self, output: &mut W) -> Result<(), PlayFault>
+        requires { self.old.ended + 1 < 2 ^ 64 }
+        ensures good { OnOk result (IsGood (told_ahead (head_of self.old.stage) self.old.ended self.old.line.items [])) }
+        ensures printed { OnOk result (Writes (W.contents output.old) (W.contents output.new) (PrintsAhead self.old.stage self.old.line.items [])) }
+        ensures fault { IfErr result (IsFaultOf (told_ahead (head_of self.old.stage) self.old.ended self.old.line.items [])) }
+    {
+        self.end_line(output)?;
+        self.set_up()
+    }
+}

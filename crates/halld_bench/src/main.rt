@@ -1,0 +1,187 @@
+//! How fast steps are. Without a word on the command line it does nothing; `run` measures, for some minutes.
+#![tactic(auto)]
+
+ghost use Rattle.interleave.specs.Steps.{IsWellShaped};
+
+use casemapping::is_host;
+use interleave::{Event, Moment, Note, Octets, Play, SessionId, Settings, WorkerId};
+use std::alloc::Global;
+use std::process::ExitCode;
+use std::rt::{Clock, Files};
+use std::time::Instant;
+use std::{env, fs};
+
+/// The file in which Linux tells how much memory a process ever had.
+const STATUS: &str = "/proc/self/status";
+
+/// A step that isn't refused.
+fn take(play: &mut Play, event: &Event) -> Option<Note>
+    requires { IsWellShaped event.now }
+{
+    play.step(event).ok()
+}
+
+fn connect(alloc: Global, play: &mut Play) -> Option<Note> {
+    let host = Octets::copied(alloc, b"host.example").ok()?;
+    if !is_host(host.as_slice()) {
+        return None;
+    }
+    let moment = Moment::new(0);
+    take(play, &Event::Connect { host, moment })
+}
+
+/// Reads one line of a session, and has worker 1 accept it, with all that it owes. It answers how many deliveries those were.
+fn say(alloc: Global, play: &mut Play, session: SessionId, line: &[u8]) -> Option<u64> {
+    let worker = WorkerId::new(1);
+    let moment = Moment::new(0);
+    let octets = Octets::copied(alloc, line).ok()?;
+    take(play, &Event::Feed { session, octets })?;
+    take(play, &Event::Pick { worker, session })?;
+    take(play, &Event::Begin { worker, moment })?;
+    let mut puts = 0u64;
+    for _ in 0..u64::MAX {
+        match take(play, &Event::Put { worker }) {
+            Some(Note::Put(_)) => puts = puts.checked_add(1)?,
+            Some(_) => return None,
+            None => break,
+        }
+    }
+    take(play, &Event::End { worker })?;
+    Some(puts)
+}
+
+/// Takes so many items, one of each session but the first.
+fn take_items(play: &mut Play, members: u64) -> Option<()> {
+    for other in 1..members {
+        let session = SessionId::new(other + 1);
+        match take(play, &Event::Take { session })? {
+            Note::Item(_) => {}
+            _ => return None,
+        }
+    }
+    Some(())
+}
+
+/// Takes all that waits for the first sessions.
+fn empty(play: &mut Play, members: u64) -> Option<()> {
+    for place in 0..members {
+        let session = SessionId::new(place + 1);
+        for _ in 0..members {
+            let _ = take(play, &Event::Take { session })?;
+        }
+    }
+    Some(())
+}
+
+/// A play in which so many sessions are on one channel.
+fn room(alloc: Global, members: u64, limit: usize) -> Option<Play> {
+    let server = Octets::copied(alloc, b"irc.example").ok()?;
+    let settings = Settings {
+        server,
+        sessions: 100,
+    };
+    let mut play = Play::new(alloc, settings, limit, 1, 200).ok()?;
+    for place in 0..members {
+        connect(alloc, &mut play)?;
+        let session = SessionId::new(place + 1);
+        let nick = format!(in alloc; "NICK n{place}\r\n").ok()?;
+        let _ = say(alloc, &mut play, session, nick.as_bytes())?;
+        let _ = say(alloc, &mut play, session, b"USER u 0 * :Some One\r\n")?;
+        let _ = say(alloc, &mut play, session, b"JOIN #room\r\n")?;
+    }
+    empty(&mut play, members)?;
+    Some(play)
+}
+
+/// Has the first session say so many lines, each of which all others are told. It answers how many steps that took.
+fn talk(alloc: Global, play: &mut Play, members: u64, lines: u64) -> Option<u64> {
+    let mut steps = 0u64;
+    for _ in 0..lines {
+        let puts = say(
+            alloc,
+            play,
+            SessionId::new(1),
+            b"PRIVMSG #room :hello, all\r\n",
+        )?;
+        if puts.checked_add(1)? != members {
+            return None;
+        }
+        take_items(play, members)?;
+        // Feed, Pick, Begin, a Put that finds nothing left, End, and a Put and a Take of each other.
+        steps = steps.checked_add(puts.checked_mul(2)?)?.checked_add(5)?;
+    }
+    Some(steps)
+}
+
+/// Microseconds that so many lines took, and how many steps they were.
+fn timed<R: Clock>(
+    rt: &R,
+    alloc: Global,
+    play: &mut Play,
+    members: u64,
+    lines: u64,
+) -> Option<(u64, u64)> {
+    let start = Instant::now(rt).ok()?;
+    let steps = talk(alloc, play, members, lines)?;
+    let took = start.elapsed(rt).ok()?;
+    let seconds = took.as_secs().checked_mul(1_000_000)?;
+    let micros = seconds.checked_add(took.subsec_micros() as u64)?;
+    Some((micros.max(1), steps))
+}
+
+/// Tells how long steps took.
+fn tell(rt: &impl Print, what: &str, micros: u64, steps: u64) -> Option<()> {
+    let rate = steps.checked_mul(1_000_000)? / micros.max(1);
+    let nanos = micros.checked_mul(1000)? / steps.max(1);
+    println!(rt;
+        "{what}: {steps} steps in {micros} us, {rate} steps a second, {nanos} ns a step"
+    ).ok()
+}
+
+/// Tells the most memory that the process ever had.
+fn tell_memory(rt: &(impl Print + Files + Alloc)) -> Option<()> {
+    let status = fs::read_to_string(rt, STATUS).ok()?;
+    for line in status.as_str().lines() {
+        if line.starts_with("VmHWM") {
+            println!(rt; "{line}").ok()?;
+        }
+    }
+    Some(())
+}
+
+/// A million steps in a channel of 100 sessions.
+fn fan_out(rt: &HostRuntime) -> Option<()> {
+    let alloc = rt.alloc();
+    let mut play = room(alloc, 100, 10_000)?;
+    let (micros, steps) = timed(rt, alloc, &mut play, 100, 4_927)?;
+    tell(rt, "100 sessions", micros, steps)?;
+    tell_memory(rt)
+}
+
+/// 100,000 steps after 10,000 records and after 1,000,000, in a channel of two sessions.
+fn many_records(rt: &HostRuntime) -> Option<()> {
+    let alloc = rt.alloc();
+    let mut play = room(alloc, 2, 10_000_000)?;
+    for (what, before) in [
+        ("after 10,000 records", 10_000),
+        ("after 1,000,000 records", 975_712),
+    ] {
+        talk(alloc, &mut play, 2, before)?;
+        let (micros, steps) = timed(rt, alloc, &mut play, 2, 14_286)?;
+        tell(rt, what, micros, steps)?;
+    }
+    tell_memory(rt)
+}
+
+fn main(rt: HostRuntime) -> ExitCode {
+    let Ok(args) = env::args(&rt) else {
+        return ExitCode::FAILURE;
+    };
+    if args.count() < 2 {
+        return ExitCode::SUCCESS;
+    }
+    if fan_out(&rt).is_none() || many_records(&rt).is_none() {
+        return ExitCode::FAILURE;
+    }
+    ExitCode::SUCCESS
+}
