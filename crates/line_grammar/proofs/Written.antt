@@ -7,7 +7,7 @@ use Rattle.std.proofs.lemmas.Bool.{and_from, and_parts, eqb-false, ne_eqb, not-t
 use Rattle.line_grammar.specs.declared.message.Message.{Message}
 use Rattle.line_grammar.specs.Grammar.{IsFreeOf, IsGap, IsLetter, IsDigit, IsCommand, SpellsTags, SpellsSource, IsMiddle, SpellsParameters, none, middle, trailing, fifteenth, Reads}
 use Rattle.line_grammar.proofs.Readings.{is_a_command}
-use Rattle.line_grammar.specs.Spelling.{is_text_octet, is_word_octet, plain_count, plain_parameters, needs_colon, IsWritable, spelled_tags, spelled_source, spelled_params, spelling}
+use Rattle.line_grammar.specs.Spelling.{is_text_octet, is_word_octet, plain_count, plain_parameters, needs_colon, IsWritable, spelled_tags, spelled_source, spelled_params, spelling, untagged}
 
 -- ---- text
 
@@ -94,11 +94,11 @@ source_is_free None e = e
 source_is_free (Some s) e = word_free s e
 
 pub spelling_text : (m : Message) → IsWritable m → IsText (spelling m)
-unfolding spelling
+unfolding spelling untagged
 spelling_text m w =
     let params = are_text m.params w.params in
-    let plain = each_text (32 ∷ []) (plain_parameters m) (text_at 32 (omega arith), tt) (all-take (plain_count m) m.params params) in
-    let last = each_text (32 ∷ 58 ∷ []) (drop (plain_count m) m.params) (text_at 32 (omega arith), (text_at 58 (omega arith), tt)) (all-drop (plain_count m) m.params params) in
+    let plain = each_text (32 ∷ []) (plain_parameters m.params m.colon) (text_at 32 (omega arith), tt) (all-take (plain_count m.params m.colon) m.params params) in
+    let last = each_text (32 ∷ 58 ∷ []) (drop (plain_count m.params m.colon) m.params) (text_at 32 (omega arith), (text_at 58 (omega arith), tt)) (all-drop (plain_count m.params m.colon) m.params params) in
     text-append (spelled_tags m.tags) _ (tags_text m.tags (word_text m.tags w.tags))
     (text-append (spelled_source m.source) _ (source_text m.source (source_is_text m.source w.source))
     (text-append m.command _ (command_text m.command (is_a_command m.command w.command)) (text-append _ _ plain last)))
@@ -185,14 +185,14 @@ source_again : (source : Option (List ℕ)) → IfSome source (λ s. IsFreeOf 32
 source_again None f = refl
 source_again (Some s) f = (f, (32 ∷ [], one_space, refl))
 
-pub written_reads : (m : Message) → IsWritable m → list_any needs_colon (plain_parameters m) ≡ false → Reads (spelling m) m
-unfolding spelling
+pub written_reads : (m : Message) → IsWritable m → list_any needs_colon (plain_parameters m.params m.colon) ≡ false → Reads (spelling m) m
+unfolding spelling untagged
 written_reads m w plain =
     record {
       tags_part = spelled_tags m.tags;
       spaces = [];
       source_part = spelled_source m.source;
-      params_part = spelled_params m;
+      params_part = spelled_params m.params m.colon;
       whole = refl;
       tags = tags_again m.tags (word_free m.tags w.tags);
       are_spaces = tt;
@@ -206,7 +206,7 @@ pub joined_parts : (tags source command plain last : List ℕ) → ((tags ++ (so
 joined_parts tags source command plain last = simp append_assoc
 
 -- the test that was made is of the plain parameters
-pub plain_found : (m : Message) (all front : List (List ℕ)) (count : ℕ) (answer : Bool) → answer ≡ list_any needs_colon front → front ≡ take count all → all ≡ m.params → count ≡ plain_count m
-    → answer ≡ false → list_any needs_colon (plain_parameters m) ≡ false
+pub plain_found : (m : Message) (all front : List (List ℕ)) (count : ℕ) (answer : Bool) → answer ≡ list_any needs_colon front → front ≡ take count all → all ≡ m.params → count ≡ plain_count all m.colon
+    → answer ≡ false → list_any needs_colon (plain_parameters m.params m.colon) ≡ false
 plain_found m all front count answer test taken is counted fails =
-    ap (λ ps. list_any needs_colon (take (plain_count m) ps)) (sym is) ∙ ap (λ (n : ℕ). list_any needs_colon (take n all)) (sym counted) ∙ ap (list_any needs_colon) (sym taken) ∙ sym test ∙ fails
+    ap (λ ps. list_any needs_colon (plain_parameters ps m.colon)) (sym is) ∙ ap (λ (n : ℕ). list_any needs_colon (take n all)) (sym counted) ∙ ap (list_any needs_colon) (sym taken) ∙ sym test ∙ fails

@@ -5,11 +5,11 @@ use Rattle.line_grammar.specs.declared.message.Message.{Message}
 use Rattle.line_grammar.specs.Reading.{is_command}
 
 -- the parameters that are spelled without a colon: all, or all but the last
-abbrev pub plain_count : Message → ℕ
-plain_count m = cond m.colon (length m.params - 1) (length m.params)
+abbrev pub plain_count : List (List ℕ) → Bool → ℕ
+plain_count params colon = cond colon (length params - 1) (length params)
 
-abbrev pub plain_parameters : Message → List (List ℕ)
-plain_parameters m = take (plain_count m) m.params
+abbrev pub plain_parameters : List (List ℕ) → Bool → List (List ℕ)
+plain_parameters params colon = take (plain_count params colon) params
 
 -- what can only be spelled after a colon: nothing, a space in it, or a colon first
 abbrev pub needs_colon : List ℕ → Bool
@@ -40,8 +40,12 @@ abbrev pub spelled_source : Option (List ℕ) → List ℕ
 spelled_source None = []
 spelled_source (Some source) = 58 ∷ (source ++ 32 ∷ [])
 
-abbrev pub spelled_params : Message → List ℕ
-spelled_params m = flat_map (λ p. 32 ∷ p) (plain_parameters m) ++ flat_map (λ p. 32 ∷ 58 ∷ p) (drop (plain_count m) m.params)
+abbrev pub spelled_params : List (List ℕ) → Bool → List ℕ
+spelled_params params colon = flat_map (λ p. 32 ∷ p) (plain_parameters params colon) ++ flat_map (λ p. 32 ∷ 58 ∷ p) (drop (plain_count params colon) params)
+
+-- a line of these parts, without tags
+unfoldable pub untagged : Option (List ℕ) → List ℕ → List (List ℕ) → Bool → List ℕ
+untagged source command params colon = spelled_source source ++ (command ++ spelled_params params colon)
 
 unfoldable pub spelling : Message → List ℕ
-spelling m = spelled_tags m.tags ++ (spelled_source m.source ++ (m.command ++ spelled_params m))
+spelling m = spelled_tags m.tags ++ untagged m.source m.command m.params m.colon

@@ -3,7 +3,7 @@ ghost use Rattle.std.specs.Prelude.{◌≡◌, ◌↔◌, ◌==◌, ◌∷◌, �
 ghost use Rattle.std.specs.List.{flat_map, list_all, list_any};
 ghost use Rattle.line_grammar.specs.Grammar.{Reads};
 ghost use Rattle.line_grammar.specs.Reading.{reading};
-ghost use Rattle.line_grammar.specs.Spelling.{IsWritable, is_text_octet, is_word_octet, needs_colon, plain_count, plain_parameters, spelled_source, spelled_tags, spelling};
+ghost use Rattle.line_grammar.specs.Spelling.{IsWritable, is_text_octet, is_word_octet, needs_colon, plain_count, plain_parameters, spelled_source, spelled_tags, spelling, untagged};
 ghost use Rattle.line_grammar.specs.declared.spelling.WriteFault.TheVariants.{Memory};
 
 use crate::grammar::{MAX_PARAMETERS, is_command};
@@ -81,44 +81,62 @@ pub fn write(alloc: Global, message: &Message) -> Result<Octets, WriteFault>
     ensures is_read { IfOk result (λ line. reading line ≡ Some message.now) }
     ensures spells { IfOk result (λ line. Reads line message.now) }
     ensures text { IfOk result (λ line. list_all is_text_octet line ≡ true) }
-    ensures cannot { IsErrOf result WriteFault.CannotSpell ↔ (list_any needs_colon (plain_parameters message.now) ≡ true) }
+    ensures cannot { IsErrOf result WriteFault.CannotSpell ↔ (list_any needs_colon (plain_parameters message.now.params message.now.colon) ≡ true) }
 {
-    let (plain, trailing) = message.params.as_slice().split_at(count_plain(message));
+    let params = message.params.as_slice();
+    let (plain, _) = params.split_at(count_plain(params, message.colon));
     if any_needs_colon(plain) {
         return Err(WriteFault::CannotSpell);
     }
-    let line = spell(alloc, message, plain, trailing)?;
+    let line = spell(alloc, message)?;
     Ok(line)
 }
 
-/// Writes the message, whose parameters come in two parts: those without a colon, and one with it.
+/// Writes a message whose parameters can be spelled.
 #[tactic(auto, unfolding(crate::specs::Spelling::spelling))]
-fn spell(
-    alloc: Global,
-    message: &Message,
-    plain: &[Octets],
-    trailing: &[Octets],
-) -> Result<Octets, AllocError>
-    requires plain { plain.now ≡ plain_parameters message.now }
-    requires trailing { trailing.now ≡ drop (plain_count message.now) message.now.params }
+fn spell(alloc: Global, message: &Message) -> Result<Octets, AllocError>
     ensures { IfOk result (λ line. line ≡ spelling message.now) }
 {
     let mut line = Vec::new(alloc);
-    push_front(&mut line, message)?;
-    push_each(&mut line, b" ", plain)?;
-    push_each(&mut line, b" :", trailing)?;
+    push_tags(&mut line, message.tags.as_slice())?;
+    push_untagged(
+        &mut line,
+        &message.source,
+        message.command.as_slice(),
+        message.params.as_slice(),
+        message.colon,
+    )?;
     Ok(Octets::from_vec(line))
 }
 
-/// How many parameters stand without a colon.
-fn count_plain(message: &Message) -> usize
-    ensures { result ≡ plain_count message.now }
+/// Adds a line of these parts without tags, and without what ends it (RFC 2812, section 2.3.1). With `colon`
+/// the last parameter is spelled with one. Nothing is checked: that the line reads as these parts is the caller's
+/// to see. Where a growth is refused, some of it may have been added.
+#[tactic(auto, unfolding(crate::specs::Spelling::untagged))]
+pub fn push_untagged(
+    line: &mut Vec<u8>,
+    source: &Option<Octets>,
+    command: &[u8],
+    params: &[Octets],
+    colon: bool,
+) -> Result<(), AllocError>
+    ensures { OnOk result (line.new.items ≡ line.old.items ++ untagged source.now command.now params.now colon) }
 {
-    let count = message.params.as_slice().len();
-    if message.colon {
-        count.saturating_sub(1)
+    let (plain, trailing) = params.split_at(count_plain(params, colon));
+    push_source(line, source)?;
+    line.extend_from_slice(command)?;
+    push_each(line, b" ", plain)?;
+    push_each(line, b" :", trailing)
+}
+
+/// How many parameters stand without a colon.
+fn count_plain(params: &[Octets], colon: bool) -> usize
+    ensures { result ≡ plain_count params.now colon }
+{
+    if colon {
+        params.len().saturating_sub(1)
     } else {
-        count
+        params.len()
     }
 }
 
@@ -136,17 +154,23 @@ fn needs_colon(parameter: &[u8]) -> bool
     matches!(parameter, [] | [b':', ..]) || parameter.contains(&b' ')
 }
 
-/// Adds the tags, the source and the command.
-fn push_front(line: &mut Vec<u8>, message: &Message) -> Result<(), AllocError>
-    ensures { OnOk result (line.new.items ≡ line.old.items ++ (spelled_tags message.now.tags ++ (spelled_source message.now.source ++ message.now.command))) }
+/// Adds the tags, where there are some.
+fn push_tags(line: &mut Vec<u8>, tags: &[u8]) -> Result<(), AllocError>
+    ensures { OnOk result (line.new.items ≡ line.old.items ++ spelled_tags tags.now) }
 {
-    if !message.tags.is_empty() {
-        push_enclosed(line, b"@", message.tags.as_slice())?;
+    if !tags.is_empty() {
+        push_enclosed(line, b"@", tags)?;
     }
-    if let Some(source) = &message.source {
+    Ok(())
+}
+
+/// Adds the source, where there is one.
+fn push_source(line: &mut Vec<u8>, source: &Option<Octets>) -> Result<(), AllocError>
+    ensures { OnOk result (line.new.items ≡ line.old.items ++ spelled_source source.now) }
+{
+    if let Some(source) = source {
         push_enclosed(line, b":", source.as_slice())?;
     }
-    line.extend_from_slice(message.command.as_slice())?;
     Ok(())
 }
 

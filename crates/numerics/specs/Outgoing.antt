@@ -1,0 +1,12 @@
+-- An outgoing line: RFC 2812, section 2.3 (with its CR LF a line has at most 512 octets).
+use Rattle.std.specs.Prelude.{ℕ, Bool, List, [], ◌∷◌, ◌++◌, take, Some}
+use Rattle.line_grammar.specs.Spelling.{untagged}
+use Rattle.numerics.specs.declared.outgoing.Out.{Out}
+
+-- a line of these parts, without a client's tags
+abbrev pub line : List ℕ → List ℕ → List (List ℕ) → Bool → Out
+line source command params colon = record { tags = []; source = Some source; command = command; params = params; colon = colon }
+
+-- what goes out of a line without tags: its first 510 octets, then CR LF
+unfoldable pub octets : Out → List ℕ
+octets o = take 510 (untagged o.source o.command o.params o.colon) ++ 13 ∷ 10 ∷ []
