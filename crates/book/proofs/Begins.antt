@@ -1,59 +1,59 @@
 -- What the code has in hand when a record is appended is the next state.
-use Rattle.std.proofs.Common.{◌≡◌, ◌≢◌, inl, inr, ℕ, ℤ, zero, suc, ◌+◌, ◌-◌, ◌<◌, ◌≤◌, Bool, true, false, ◌&&◌, ◌==◌, cond, List, [], ◌∷◌, ◌++◌, length, slice_set, Option, Some, None, arith, refl, sym, ap, ◌∙◌, lit<}
-use Rattle.std.proofs.lemmas.Bool.Decides.{eqb_tells}
-use Rattle.std.specs.List.{list_any}
+use Rattle.std.proofs.Common.{◌≡◌, ◌≢◌, inl, inr, ℕ, ℤ, zero, suc, ◌+◌, ◌-◌, ◌<◌, ◌≤◌, Bool, true, false, ◌==◌, nat_le, cond, List, [], ◌∷◌, ◌++◌, length, take, slice_set, Option, Some, None, arith, refl, sym, ap, ◌∙◌, lit<}
+use Rattle.std.proofs.lemmas.Bool.Decides.{eqb_tells, nat_tests}
 use Rattle.chronicle.specs.declared.record.Kind.{Kind}
 use Rattle.chronicle.specs.declared.record.Kind.TheVariants.{Hung}
 use Rattle.chronicle.specs.declared.why.Why.{Why}
 use Rattle.chronicle.specs.declared.why.Why.TheVariants.{Quit}
-use Rattle.chronicle.specs.History.{Rec, actor, ends, shut}
+use Rattle.chronicle.specs.History.{Rec, actor, sessions, ends, shut}
 use Rattle.chronicle.specs.Journal.{fresh_record, miss}
 use Rattle.chronicle.specs.Journal as journal
 use Rattle.outbox.specs.declared.item.Item.{Item}
 use Rattle.outbox.specs.declared.item.Item.TheVariants.{Lines, Last}
 use Rattle.outbox.specs.Ring.{Waiting, has_room, with_put}
-use Rattle.deeds.specs.declared.verdict.Verdict.{Verdict}
-use Rattle.deeds.specs.Deeds.{facts}
-use Rattle.deeds.specs.Lines.{lines, text_of}
-use Rattle.deeds.specs.Tables.{heard}
+use Rattle.line_grammar.specs.Spelling.{untagged}
+use Rattle.numerics.specs.declared.outgoing.Out.{Out}
+use Rattle.numerics.specs.Outgoing.{octets}
+use Rattle.deeds.specs.Effects.{lines_to}
+use Rattle.deeds.specs.Deeds.{effects, facts, lines, text}
 use Rattle.book.specs.declared.plan.Planned.{Planned}
 use Rattle.book.specs.declared.seat.Seat.{Seat}
-use Rattle.book.specs.Owed.{item, reason}
-use Rattle.book.specs.Seats.{IsSeat, seat_at, told, told_to, told_actor}
+use Rattle.book.specs.Owed.{item, told, reason}
+use Rattle.book.specs.Seats.{IsSeat, seat_at, text_item, told as tells, told_to, told_own, planned_from}
 use Rattle.book.specs.Book.{Shown, due, puts, others, plan_by, plan_of, begun, outbox_at, delivered, dropped, put_next, put_all, finished, done}
 use Rattle.book.proofs.Begun.{plan_hung}
 use Rattle.book.proofs.KeptSteps.{shown, shown_with}
-use Rattle.book.proofs.Plans.{planned_from}
 
 -- ---- the plan is that of the record
 
--- the item of a text, where there is one
-abbrev item_of : ℕ → Option (List ℕ) → List Item
-item_of n None = []
-item_of n (Some x) = Lines n x ∷ []
+text_some : (l : Out) (ls : List Out) → (b : ℕ) × (bs : List ℕ) × (text (l ∷ ls) ≡ b ∷ bs)
+unfolding octets
+text_some l ls = ended_some (take 510 (untagged l.source l.command l.params l.colon)) (text ls)
+  where
+    ended_some : (xs ys : List ℕ) → (b : ℕ) × (bs : List ℕ) × ((xs ++ 13 ∷ 10 ∷ []) ++ ys ≡ b ∷ bs)
+    ended_some [] ys = (13, 10 ∷ ys, refl)
+    ended_some (x ∷ xs) ys = (x, (xs ++ 13 ∷ 10 ∷ []) ++ ys, refl)
 
-item_is : (n : ℕ) (ls : List (List ℕ)) → item n ls ≡ item_of n (text_of ls)
+-- where there is a line there is a text
+item_is : (n : ℕ) (ls : List Out) → item n ls ≡ text_item n (text ls)
 item_is n [] = refl
-item_is n (l ∷ ls) = refl
+item_is n (l ∷ ls) = let some = text_some l ls in ap (λ xs. Lines n xs ∷ []) some.2 ∙ sym (ap (text_item n) some.2)
 
-heard_is : (n : ℕ) (v : Verdict) (t : ℕ) (b : Bool) → cond b [] (item_of n (heard v t)) ≡ told b n v t
-heard_is n v t true = refl
-heard_is n v t false = elim (list_any (λ u. u == t) v.hearers) as (λ c. item_of n (cond c (Some v.text) None) ≡ cond (true && c) (Lines n v.text ∷ []) []) [ true ↦ refl | false ↦ refl ]
-
--- what a session is due that the record doesn't end
-due_told : (h : List Rec) (k : Kind) (v : Verdict) (t : ℕ) → ends k t ≡ false → text_of (lines (facts h) k t) ≡ heard v t → due h k t ≡ told (shut h t) (length h + 1) v t
-due_told h k v t e tells =
-    ap (λ b. cond (shut h t) [] (cond b (Last (length h + 1) (reason k) ∷ []) (item (length h + 1) (lines (facts h) k t)))) e
-    ∙ ap (λ xs. cond (shut h t) [] xs) (item_is (length h + 1) (lines (facts h) k t) ∙ ap (item_of (length h + 1)) tells) ∙ heard_is (length h + 1) v t (shut h t)
+-- what a session is due that was opened before the record, which doesn't end it
+due_told : (h : List Rec) (k : Kind) (t : ℕ) → t ≤ sessions h → ends k t ≡ false → due h k t ≡ tells (shut h t) (length h + 1) (text (lines (facts h) k t))
+due_told h k t known e =
+    let before : nat_le t (sessions h) ≡ true = grind (arith, nat_tests) in
+    ap (λ b. cond (shut h t) [] (cond b (Last (length h + 1) (reason k) ∷ []) (item (length h + 1) (told h k t)))) e
+    ∙ ap (λ b. cond (shut h t) [] (item (length h + 1) (cond b (lines (facts h) k t) []))) before
+    ∙ ap (λ xs. cond (shut h t) [] xs) (item_is (length h + 1) (lines (facts h) k t))
 
 -- what the record's own session is due
-due_own : (h : List Rec) (k : Kind) (v : Verdict) (quits : Bool) (t : ℕ) → ends k t ≡ quits → reason k ≡ Quit → text_of (lines (facts h) k t) ≡ heard v t
-    → due h k t ≡ cond quits (cond (shut h t) [] (Last (length h + 1) Quit ∷ [])) (told (shut h t) (length h + 1) v t)
-due_own h k v true t e why tells =
-    ap (λ b. cond (shut h t) [] (cond b (Last (length h + 1) (reason k) ∷ []) (item (length h + 1) (lines (facts h) k t)))) e ∙ ap (λ w. cond (shut h t) [] (Last (length h + 1) w ∷ [])) why
-due_own h k v false t e why tells = due_told h k v t e tells
+due_own : (h : List Rec) (k : Kind) (quits : Bool) (t : ℕ) → t ≤ sessions h → ends k t ≡ quits → reason k ≡ Quit → due h k t ≡ told_own (shut h t) (length h + 1) (text (lines (facts h) k t)) quits
+due_own h k true t known e why =
+    ap (λ b. cond (shut h t) [] (cond b (Last (length h + 1) (reason k) ∷ []) (item (length h + 1) (told h k t)))) e ∙ ap (λ w. cond (shut h t) [] (Last (length h + 1) w ∷ [])) why
+due_own h k false t known e why = due_told h k t known e
 
-others_same : (f g : ℕ → List Item) (s t n m : ℕ) → 0 < t → t + n ≤ m + 1 → ((u : ℕ) → 0 < u → u ≤ m → s ≢ u → f u ≡ g u) → others f s t n ≡ others g s t n
+pub others_same : (f g : ℕ → List Item) (s t n m : ℕ) → 0 < t → t + n ≤ m + 1 → ((u : ℕ) → 0 < u → u ≤ m → s ≢ u → f u ≡ g u) → others f s t n ≡ others g s t n
 others_same f g s t zero m from to h = refl
 others_same f g s t (suc n) m from to h =
     rw (others_same f g s (t + 1) n m (omega arith) (omega arith) h) (elim (eqb_tells t s) [
@@ -61,18 +61,17 @@ others_same f g s t (suc n) m from to h =
       | inr other ↦ rw (h t from (omega arith) (λ e. other.1 (sym e))) refl
     ])
 
-pub plan_right : (h : List Rec) (seats : List Seat) (k : Kind) (v : Verdict) (quits : Bool) (number n : ℕ) → ((t : ℕ) → 0 < t → t ≤ length seats → IsSeat (seat_at seats t) h t) → number ≡ length h + 1 → length seats ≡ n
-    → 0 < actor k → actor k ≤ length seats → ends k (actor k) ≡ quits → reason k ≡ Quit → ((t : ℕ) → actor k ≢ t → ends k t ≡ false) → ((t : ℕ) → text_of (lines (facts h) k t) ≡ heard v t)
-    → planned_from seats number v quits (actor k) 1 (length seats) ≡ plan_of h k n
-plan_right h seats k v quits number n seat en el from to own why others_ tells =
-    let s = actor k in
-    let mine : told_actor seats number v quits s ≡ due h k s =
-    ap (λ b. cond quits (cond b [] (Last number Quit ∷ [])) (told b number v s)) (seat s from to).shut ∙ ap (λ (m : ℕ). cond quits (cond (shut h s) [] (Last m Quit ∷ [])) (told (shut h s) m v s)) en
-    ∙ sym (due_own h k v quits s own why (tells s)) in
-    let each : (u : ℕ) → 0 < u → u ≤ length seats → s ≢ u → told_to seats number v u ≡ due h k u = λ u above below ne.
-    ap (λ b. told b number v u) (seat u above below).shut ∙ ap (λ (m : ℕ). told (shut h u) m v u) en ∙ sym (due_told h k v u (others_ u ne) (tells u)) in
-    ap (λ xs. puts s xs ++ others (told_to seats number v) s 1 (length seats)) mine
-    ∙ ap (λ ps. puts s (due h k s) ++ ps) (others_same (told_to seats number v) (due h k) s 1 (length seats) (length seats) (lit< tt) (omega arith) each)
+pub plan_right : (h : List Rec) (seats : List Seat) (k : Kind) (quits : Bool) (number n : ℕ) → ((t : ℕ) → 0 < t → t ≤ length seats → IsSeat (seat_at seats t) h t) → number ≡ length h + 1 → length seats ≡ n → length seats ≡ sessions h
+    → 0 < actor k → actor k ≤ length seats → ends k (actor k) ≡ quits → reason k ≡ Quit → ((t : ℕ) → actor k ≢ t → ends k t ≡ false)
+    → planned_from seats (actor k) number (effects (facts h) k) quits ≡ plan_of h k n
+plan_right h seats k quits number n seat en el all from to own why others_ =
+    let s = actor k in let es = effects (facts h) k in
+    let mine : told_own (seat_at seats s).shut number (text (lines_to s es s)) quits ≡ due h k s =
+    ap (λ b. told_own b number (text (lines_to s es s)) quits) (seat s from to).shut ∙ ap (λ (m : ℕ). told_own (shut h s) m (text (lines_to s es s)) quits) en ∙ sym (due_own h k quits s (omega arith) own why) in
+    let each : (u : ℕ) → 0 < u → u ≤ length seats → s ≢ u → told_to seats number s es u ≡ due h k u = λ u above below ne.
+    ap (λ b. tells b number (text (lines_to s es u))) (seat u above below).shut ∙ ap (λ (m : ℕ). tells (shut h u) m (text (lines_to s es u))) en ∙ sym (due_told h k u (omega arith) (others_ u ne)) in
+    ap (λ xs. puts s xs ++ others (told_to seats number s es) s 1 (length seats)) mine
+    ∙ ap (λ ps. puts s (due h k s) ++ ps) (others_same (told_to seats number s es) (due h k) s 1 (length seats) (length seats) (lit< tt) (omega arith) each)
     ∙ ap (λ (m : ℕ). plan_by (due h k) s m) el
 
 -- ---- the state

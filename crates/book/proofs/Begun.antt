@@ -1,6 +1,6 @@
 -- A book stays sound where a record is appended whose deliveries are planned.
 use Rattle.std.proofs.lemmas.Bool.Decides.{eqb_tells}
-use Rattle.std.proofs.Common.{◌≡◌, ◌≢◌, ◌⊎◌, inl, inr, ℕ, zero, suc, ◌+◌, ◌<◌, ◌≤◌, Bool, true, false, ◌||◌, ◌==◌, cond, List, [], ◌∷◌, ◌++◌, length, sum_by, arith, refl, sym, ap, ◌∙◌, subst, append-nil, eq-eqb, ne_eqb, zero-add, lit<, lit≤}
+use Rattle.std.proofs.Common.{◌≡◌, ◌≢◌, ◌⊎◌, inl, inr, ℕ, zero, suc, ◌+◌, ◌<◌, ◌≤◌, Bool, true, false, ◌||◌, ◌==◌, nat_le, cond, List, [], ◌∷◌, ◌++◌, length, sum_by, arith, refl, sym, ap, ◌∙◌, subst, append-nil, eq-eqb, ne_eqb, zero-add, lit<, lit≤}
 use Rattle.std.proofs.lemmas.List.Sums.{sum_by-cons}
 use Rattle.chronicle.specs.declared.why.Why.{Why}
 use Rattle.chronicle.specs.declared.record.Kind.{Kind}
@@ -10,11 +10,10 @@ use Rattle.chronicle.specs.Journal.{fresh_record}
 use Rattle.outbox.specs.declared.item.Item.{Item}
 use Rattle.book.specs.declared.plan.Planned.{Planned}
 use Rattle.outbox.specs.declared.item.Item.TheVariants.{Last}
-use Rattle.book.specs.Owed.{item, reason, delivery}
+use Rattle.numerics.specs.declared.outgoing.Out.{Out}
+use Rattle.book.specs.Owed.{told, item, reason, delivery}
 use Rattle.book.specs.Legal.{IsKind}
-use Rattle.deeds.specs.Stands.{numbers}
-use Rattle.deeds.specs.Lines.{lines}
-use Rattle.deeds.specs.Deeds.{facts}
+use Rattle.roster.specs.LookBack.{numbers}
 use Rattle.book.specs.Book.{Shown, outbox_at, kept_for, held, due, puts, others, plan_by, plan_of, planned, begun, IsPlan, IsSound}
 use Rattle.book.proofs.Sound.{sum_le, kept_less}
 
@@ -73,9 +72,9 @@ due_cases h k t =
     let L = Last (length h + 1) (reason k) in
     elim (shut h t) as (λ b. (cond b [] (delivery h k t) ≡ []) ⊎ ((x : Item) × (cond b [] (delivery h k t) ≡ x ∷ []) × (delivery h k t ≡ x ∷ []) × (b ≡ false))) [
       | true ↦ inl refl
-      | false ↦ elim (ends k t) as (λ e. (cond e (L ∷ []) (item (length h + 1) (lines (facts h) k t)) ≡ []) ⊎ ((x : Item) × (cond e (L ∷ []) (item (length h + 1) (lines (facts h) k t)) ≡ x ∷ []) × (cond e (L ∷ []) (item (length h + 1) (lines (facts h) k t)) ≡ x ∷ []) × (false ≡ false))) [
+      | false ↦ elim (ends k t) as (λ e. (cond e (L ∷ []) (item (length h + 1) (told h k t)) ≡ []) ⊎ ((x : Item) × (cond e (L ∷ []) (item (length h + 1) (told h k t)) ≡ x ∷ []) × (cond e (L ∷ []) (item (length h + 1) (told h k t)) ≡ x ∷ []) × (false ≡ false))) [
         | true ↦ inr (_, refl, refl, refl)
-        | false ↦ elim (lines (facts h) k t) as (λ ls. (item (length h + 1) ls ≡ []) ⊎ ((x : Item) × (item (length h + 1) ls ≡ x ∷ []) × (item (length h + 1) ls ≡ x ∷ []) × (false ≡ false))) [
+        | false ↦ elim (told h k t) as (λ ls. (item (length h + 1) ls ≡ []) ⊎ ((x : Item) × (item (length h + 1) ls ≡ x ∷ []) × (item (length h + 1) ls ≡ x ∷ []) × (false ≡ false))) [
           | [] ↦ inl refl
           | l ∷ ls ↦ inr (_, refl, refl, refl)
         ]
@@ -169,14 +168,15 @@ others_none f s k (suc n) none =
       | inr other ↦ rw other.0 (rw (none k (λ e. other.1 (sym e))) refl)
     ])
 
-nothing_due : (b : Bool) → (let E : List Item = [] in cond b E E) ≡ []
-nothing_due true = refl
-nothing_due false = refl
+nothing_due : (n : ℕ) (b c : Bool) → (let E : List Item = [] in cond b E (item n (let N : List Out = [] in cond c N N))) ≡ []
+nothing_due n true c = refl
+nothing_due n false true = refl
+nothing_due n false false = refl
 
 pub plan_hung : (h : List Rec) (s : ℕ) (w : Why) (n : ℕ) → shut h s ≡ false → plan_of h (Hung s w) n ≡ record { session = s; item = Last (length h + 1) w } ∷ []
 plan_hung h s w n open_ =
     let mine : due h (Hung s w) s ≡ Last (length h + 1) w ∷ [] = rw open_ (rw (eq-eqb s s refl) refl) in
-    let rest : others (due h (Hung s w)) s 1 n ≡ [] = others_none (due h (Hung s w)) s 1 n (λ t ne. rw (ne_eqb s t ne) (nothing_due (shut h t))) in
+    let rest : others (due h (Hung s w)) s 1 n ≡ [] = others_none (due h (Hung s w)) s 1 n (λ t ne. rw (ne_eqb s t ne) (nothing_due (length h + 1) (shut h t) (nat_le t (sessions h)))) in
     ap (λ xs. puts s xs ++ others (due h (Hung s w)) s 1 n) mine ∙ ap (λ ps. record { session = s; item = Last (length h + 1) w } ∷ ps) rest
 
 -- a plan is no longer than the list of sessions

@@ -7,14 +7,14 @@ use Rattle.chronicle.specs.declared.record.Kind.TheVariants.{Opened, Said, Hung,
 use Rattle.chronicle.specs.History.{Rec, actor, opened_by, sessions, said_by, accepted, ends, leaves, shut, gone, last_moment, IsMomentAfter}
 use Rattle.chronicle.specs.Journal.{fresh_record, Appends, Misses, miss}
 use Rattle.chronicle.specs.Journal as journal
-use Rattle.deeds.specs.declared.tables.Person.{Person}
-use Rattle.deeds.specs.declared.tables.Channel.{Channel}
+use Rattle.roster.specs.declared.deed.Deed.{Deed}
 use Rattle.book.specs.declared.seat.Seat.{Seat}
 use Rattle.book.specs.declared.plan.Planned.{Planned}
 use Rattle.outbox.specs.Ring.{Waiting, has_room, with_put, with_taken}
-use Rattle.deeds.specs.Deeds.{after, deeds, facts}
-use Rattle.deeds.specs.declared.deed.Deed.TheVariants as deed
-use Rattle.deeds.specs.Stands.{Stands}
+use Rattle.deeds.specs.Deeds.{deeds, facts}
+use Rattle.roster.specs.LookBack.{after}
+use Rattle.roster.specs.LookBack as told_of
+use Rattle.roster.specs.declared.deed.Deed.TheVariants as deed
 use Rattle.book.specs.Legal.{IsKind}
 use Rattle.book.specs.Kept.{IsKept}
 use Rattle.book.specs.Seats.{IsSeat, no_seat, seat_at}
@@ -36,14 +36,14 @@ shown_with j k h most boxes plan busy eh el =
 
 -- ---- a session is opened
 
-opened_history : (j k : journal.Shown) (most : ℕ) (ps qs : List Person) (ks ls : List Channel) (seats : List Seat) (boxes : List (Option Waiting)) (plan : List Planned) (busy : Bool) (host : List ℕ) (moment : ℤ) (box : Waiting)
-    → IsKept j most ps ks seats boxes plan busy → MayOpen (shown j most boxes plan busy) moment → (box.queue ≡ []) × (box.taken ≡ [])
+opened_history : (j k : journal.Shown) (most : ℕ) (known more_known : List Deed) (seats : List Seat) (boxes : List (Option Waiting)) (plan : List Planned) (busy : Bool) (host : List ℕ) (moment : ℤ) (box : Waiting)
+    → IsKept j most known seats boxes plan busy → MayOpen (shown j most boxes plan busy) moment → (box.queue ≡ []) × (box.taken ≡ [])
     → k.history ≡ fresh_record j.history moment (Opened (sessions j.history + 1) host) ∷ j.history → k.limit ≡ j.limit → held j.history + 2 ≤ k.room
-    → length qs ≡ length ps + 1 → Stands qs ls (deed.Opened (length ps + 1) host ∷ facts j.history)
-    → IsKept k most qs ls (seats ++ no_seat ∷ []) (boxes ++ Some box ∷ []) plan busy
-opened_history j k most ps qs ks ls seats boxes plan busy host moment box i may fresh eh el free longer stands =
+    → more_known ≡ deed.Opened (sessions j.history + 1) host ∷ known
+    → IsKept k most more_known (seats ++ no_seat ∷ []) (boxes ++ Some box ∷ []) plan busy
+opened_history j k most known more_known seats boxes plan busy host moment box i may fresh eh el free ek =
     let h = j.history in let n = sessions h + 1 in let r = fresh_record h moment (Opened n host) in let all = boxes ++ Some box ∷ [] in
-    let count : length ps + 1 ≡ n = let a = i.sound.sessions in let b = i.people in omega arith in
+    let one_more : length (told_of.opened known ++ n ∷ []) ≡ length (told_of.opened known) + 1 = length-append (told_of.opened known) (n ∷ []) in
     let more : length (seats ++ no_seat ∷ []) ≡ length seats + 1 = length-append seats (no_seat ∷ []) in
     let new : IsSound (shown k most all plan busy) =
     subst IsSound (sym (shown_with j k (r ∷ h) most all plan busy eh el)) (opened_sound (shown j most boxes plan busy) host moment box i.sound may fresh) in
@@ -63,40 +63,40 @@ opened_history j k most ps qs ks ls seats boxes plan busy host moment box i may 
     ] in
     record {
       sound = new;
-      stands = subst (λ (x : List Rec). Stands qs ls (facts x)) (sym eh) (subst (λ (m : ℕ). Stands qs ls (deed.Opened m host ∷ facts h)) count stands);
+      facts = ek ∙ ap (λ (fs : List Deed). deed.Opened n host ∷ fs) i.facts ∙ sym (ap facts eh);
       each_seat = λ t from to. subst (λ (x : List Rec). IsSeat (seat_at (seats ++ no_seat ∷ []) t) x t) (sym eh) (seat t from to);
-      people = longer ∙ ap (λ (m : ℕ). m + 1) i.people ∙ sym (length-append boxes (Some box ∷ []));
+      opened = ap (λ (fs : List Deed). length (told_of.opened fs)) ek ∙ one_more ∙ ap (λ (m : ℕ). m + 1) i.opened ∙ sym (length-append boxes (Some box ∷ []));
       places = more ∙ ap (λ (m : ℕ). m + 1) i.places ∙ sym (length-append boxes (Some box ∷ []));
       left = let e = i.sound.idle may.idle in let z : length plan ≡ 0 = ap length e in let goal : length plan ≤ k.left = omega arith in goal;
       room = let two = opened_held h n host moment in rw eh (let goal : held (r ∷ h) ≤ k.room = omega arith in goal);
     }
 
-pub opened_kept : (j k : journal.Shown) (most : ℕ) (ps qs : List Person) (ks ls : List Channel) (seats places : List Seat) (boxes more : List (Option Waiting)) (plan : List Planned) (busy : Bool) (host told : List ℕ) (moment : ℤ) (session : ℕ) (box : Waiting)
-    → IsKept j most ps ks seats boxes plan busy → MayOpen (shown j most boxes plan busy) moment → (box.queue ≡ []) × (box.taken ≡ [])
+pub opened_kept : (j k : journal.Shown) (most : ℕ) (known more_known : List Deed) (seats places : List Seat) (boxes more : List (Option Waiting)) (plan : List Planned) (busy : Bool) (host told : List ℕ) (moment : ℤ) (session : ℕ) (box : Waiting)
+    → IsKept j most known seats boxes plan busy → MayOpen (shown j most boxes plan busy) moment → (box.queue ≡ []) × (box.taken ≡ [])
     → session ≡ length seats + 1 → told ≡ host → k.history ≡ fresh_record j.history moment (Opened session told) ∷ j.history → k.limit ≡ j.limit → held j.history + 2 ≤ k.room
-    → length qs ≡ length ps + 1 → Stands qs ls (deed.Opened (length ps + 1) host ∷ facts j.history) → places ≡ seats ++ no_seat ∷ [] → more ≡ boxes ++ Some box ∷ []
-    → IsKept k most qs ls places more plan busy
-opened_kept j k most ps qs ks ls seats places boxes more plan busy host told moment session box i may fresh es et eh0 el free longer stands ex eb =
+    → more_known ≡ deed.Opened session host ∷ known → places ≡ seats ++ no_seat ∷ [] → more ≡ boxes ++ Some box ∷ []
+    → IsKept k most more_known places more plan busy
+opened_kept j k most known more_known seats places boxes more plan busy host told moment session box i may fresh es et eh0 el free ek ex eb =
     let n : session ≡ sessions j.history + 1 = let a = i.sound.sessions in let b = i.places in omega arith in
     let eh : k.history ≡ fresh_record j.history moment (Opened (sessions j.history + 1) host) ∷ j.history =
     eh0 ∙ ap (λ (s : ℕ). fresh_record j.history moment (Opened s told) ∷ j.history) n ∙ ap (λ (x : List ℕ). fresh_record j.history moment (Opened (sessions j.history + 1) x) ∷ j.history) et in
-    subst (λ (x : List Seat). IsKept k most qs ls x more plan busy) (sym ex)
-    (subst (λ (x : List (Option Waiting)). IsKept k most qs ls (seats ++ no_seat ∷ []) x plan busy) (sym eb)
-    (opened_history j k most ps qs ks ls seats boxes plan busy host moment box i may fresh eh el free longer stands))
+    subst (λ (x : List Seat). IsKept k most more_known x more plan busy) (sym ex)
+    (subst (λ (x : List (Option Waiting)). IsKept k most more_known (seats ++ no_seat ∷ []) x plan busy) (sym eb)
+    (opened_history j k most known more_known seats boxes plan busy host moment box i may fresh eh el free (ek ∙ ap (λ (m : ℕ). deed.Opened m host ∷ known) n)))
 
 -- ---- a delivery is put, or missed
 
-pub delivered_kept : (j : journal.Shown) (most : ℕ) (ps : List Person) (ks : List Channel) (seats : List Seat) (boxes more : List (Option Waiting)) (plan qs : List Planned) (busy : Bool) (p : Planned)
-    → IsKept j most ps ks seats boxes plan busy → plan ≡ p ∷ qs → has_room (outbox_at boxes p.session) ≡ true → more ≡ slice_set boxes (p.session - 1) (Some (with_put (outbox_at boxes p.session) p.item)) → IsKept j most ps ks seats more qs busy
-delivered_kept j most ps ks seats boxes more plan qs busy p i e room_ em =
+pub delivered_kept : (j : journal.Shown) (most : ℕ) (known : List Deed) (seats : List Seat) (boxes more : List (Option Waiting)) (plan qs : List Planned) (busy : Bool) (p : Planned)
+    → IsKept j most known seats boxes plan busy → plan ≡ p ∷ qs → has_room (outbox_at boxes p.session) ≡ true → more ≡ slice_set boxes (p.session - 1) (Some (with_put (outbox_at boxes p.session) p.item)) → IsKept j most known seats more qs busy
+delivered_kept j most known seats boxes more plan qs busy p i e room_ em =
     let new = slice_set boxes (p.session - 1) (Some (with_put (outbox_at boxes p.session) p.item)) in
     let len : length new ≡ length boxes = simp length-set in let longer : length plan ≡ length (p ∷ qs) = ap length e in let was = i.left in
-    subst (λ (x : List (Option Waiting)). IsKept j most ps ks seats x qs busy) (sym em)
+    subst (λ (x : List (Option Waiting)). IsKept j most known seats x qs busy) (sym em)
     (record {
       sound = delivered_sound (shown j most boxes plan busy) p qs e room_ i.sound;
-      stands = i.stands;
+      facts = i.facts;
       each_seat = i.each_seat;
-      people = i.people ∙ sym len;
+      opened = i.opened ∙ sym len;
       places = i.places ∙ sym len;
       left = omega arith;
       room = i.room;
@@ -126,10 +126,10 @@ shut-miss_same : (h : List Rec) (s n : ℕ) (p : Planned) (qs : List Planned) �
 shut-miss_same [] s n p qs i e = absurd i.3
 shut-miss_same (r ∷ h) s n p qs i e = ap (λ b. b || ends r.kind s || shut h s) (misses_same r s)
 
-pub dropped_kept : (j k : journal.Shown) (most : ℕ) (ps : List Person) (ks : List Channel) (seats places : List Seat) (boxes : List (Option Waiting)) (plan qs : List Planned) (busy : Bool) (p : Planned)
-    → IsKept j most ps ks seats boxes plan busy → plan ≡ p ∷ qs
-    → places ≡ slice_set seats (p.session - 1) (record { shut = true; gone = (seat_at seats p.session).gone; accepted = (seat_at seats p.session).accepted }) → Misses j k p.session → IsKept k most ps ks places boxes qs busy
-dropped_kept j k most ps ks seats places boxes plan qs busy p i e ep miss_ =
+pub dropped_kept : (j k : journal.Shown) (most : ℕ) (known : List Deed) (seats places : List Seat) (boxes : List (Option Waiting)) (plan qs : List Planned) (busy : Bool) (p : Planned)
+    → IsKept j most known seats boxes plan busy → plan ≡ p ∷ qs
+    → places ≡ slice_set seats (p.session - 1) (record { shut = true; gone = (seat_at seats p.session).gone; accepted = (seat_at seats p.session).accepted }) → Misses j k p.session → IsKept k most known places boxes qs busy
+dropped_kept j k most known seats places boxes plan qs busy p i e ep miss_ =
     let h = j.history in let s = p.session in let v : Seat = record { shut = true; gone = (seat_at seats s).gone; accepted = (seat_at seats s).accepted } in
     let planned_ : IsPlan h (length boxes) (p ∷ qs) = subst (IsPlan h (length boxes)) e i.sound.plan in
     let longer : length plan ≡ length (p ∷ qs) = ap length e in let was = i.left in let less = miss_.left in
@@ -149,12 +149,12 @@ dropped_kept j k most ps ks seats places boxes plan qs busy p i e ep miss_ =
           subst (λ (x : Seat). IsSeat x (miss h s) t) (sym (get_or-set_other seats (s - 1) (t - 1) v no_seat apart))
           (record { shut = was.shut ∙ sym (shut-miss_other h s t other.1); gone = was.gone ∙ sym (gone-miss h s t); accepted = was.accepted ∙ ap length (sym (accepted-miss h s t)) })
     ] in
-    subst (λ (x : List Seat). IsKept k most ps ks x boxes qs busy) (sym ep)
+    subst (λ (x : List Seat). IsKept k most known x boxes qs busy) (sym ep)
     (record {
       sound = sound;
-      stands = subst (Stands ps ks) (sym (ap facts miss_.history ∙ facts-miss h s)) i.stands;
+      facts = i.facts ∙ sym (ap facts miss_.history ∙ facts-miss h s);
       each_seat = λ t above below. subst (λ (x : List Rec). IsSeat (seat_at (slice_set seats (s - 1) v) t) x t) (sym miss_.history) (seat t above (let q = len in omega arith));
-      people = i.people;
+      opened = i.opened;
       places = len ∙ i.places;
       left = omega arith;
       room = let less = held-miss h s in let same = miss_.room in let was = i.room in rw miss_.history (let goal : held (miss h s) ≤ k.room = omega arith in goal);
@@ -162,23 +162,23 @@ dropped_kept j k most ps ks seats places boxes plan qs busy p i e ep miss_ =
 
 -- ---- the plan is given back
 
-pub finished_kept : (j : journal.Shown) (most : ℕ) (ps : List Person) (ks : List Channel) (seats : List Seat) (boxes : List (Option Waiting)) (plan : List Planned) (busy : Bool)
-    → IsKept j most ps ks seats boxes plan busy → plan ≡ [] → IsKept j most ps ks seats boxes plan false
-finished_kept j most ps ks seats boxes plan busy i none =
-    record { sound = finished_sound (shown j most boxes plan busy) none i.sound; stands = i.stands; each_seat = i.each_seat; people = i.people; places = i.places; left = i.left; room = i.room }
+pub finished_kept : (j : journal.Shown) (most : ℕ) (known : List Deed) (seats : List Seat) (boxes : List (Option Waiting)) (plan : List Planned) (busy : Bool)
+    → IsKept j most known seats boxes plan busy → plan ≡ [] → IsKept j most known seats boxes plan false
+finished_kept j most known seats boxes plan busy i none =
+    record { sound = finished_sound (shown j most boxes plan busy) none i.sound; facts = i.facts; each_seat = i.each_seat; opened = i.opened; places = i.places; left = i.left; room = i.room }
 
 -- ---- an item is taken
 
-pub taken_kept : (j : journal.Shown) (most : ℕ) (ps : List Person) (ks : List Channel) (seats : List Seat) (boxes more : List (Option Waiting)) (plan : List Planned) (busy : Bool) (s : ℕ)
-    → IsKept j most ps ks seats boxes plan busy → 0 < s → s ≤ length boxes → is_here boxes s ≡ true → more ≡ slice_set boxes (s - 1) (Some (with_taken (outbox_at boxes s))) → IsKept j most ps ks seats more plan busy
-taken_kept j most ps ks seats boxes more plan busy s i from to here em =
+pub taken_kept : (j : journal.Shown) (most : ℕ) (known : List Deed) (seats : List Seat) (boxes more : List (Option Waiting)) (plan : List Planned) (busy : Bool) (s : ℕ)
+    → IsKept j most known seats boxes plan busy → 0 < s → s ≤ length boxes → is_here boxes s ≡ true → more ≡ slice_set boxes (s - 1) (Some (with_taken (outbox_at boxes s))) → IsKept j most known seats more plan busy
+taken_kept j most known seats boxes more plan busy s i from to here em =
     let new = slice_set boxes (s - 1) (Some (with_taken (outbox_at boxes s))) in let len : length new ≡ length boxes = simp length-set in
-    subst (λ (x : List (Option Waiting)). IsKept j most ps ks seats x plan busy) (sym em)
+    subst (λ (x : List (Option Waiting)). IsKept j most known seats x plan busy) (sym em)
     (record {
       sound = taken_sound (shown j most boxes plan busy) s from to here i.sound;
-      stands = i.stands;
+      facts = i.facts;
       each_seat = i.each_seat;
-      people = i.people ∙ sym len;
+      opened = i.opened ∙ sym len;
       places = i.places ∙ sym len;
       left = i.left;
       room = i.room;
@@ -186,16 +186,16 @@ taken_kept j most ps ks seats boxes more plan busy s i from to here em =
 
 -- ---- a session is given up
 
-pub reaped_kept : (j : journal.Shown) (most : ℕ) (ps : List Person) (ks : List Channel) (seats : List Seat) (boxes more : List (Option Waiting)) (plan : List Planned) (busy : Bool) (s : ℕ)
-    → IsKept j most ps ks seats boxes plan busy → 0 < s → s ≤ length boxes → gone j.history s ≡ true → more ≡ slice_set boxes (s - 1) None → IsKept j most ps ks seats more plan busy
-reaped_kept j most ps ks seats boxes more plan busy s i from to left_ em =
+pub reaped_kept : (j : journal.Shown) (most : ℕ) (known : List Deed) (seats : List Seat) (boxes more : List (Option Waiting)) (plan : List Planned) (busy : Bool) (s : ℕ)
+    → IsKept j most known seats boxes plan busy → 0 < s → s ≤ length boxes → gone j.history s ≡ true → more ≡ slice_set boxes (s - 1) None → IsKept j most known seats more plan busy
+reaped_kept j most known seats boxes more plan busy s i from to left_ em =
     let new = slice_set boxes (s - 1) None in let len : length new ≡ length boxes = simp length-set in
-    subst (λ (x : List (Option Waiting)). IsKept j most ps ks seats x plan busy) (sym em)
+    subst (λ (x : List (Option Waiting)). IsKept j most known seats x plan busy) (sym em)
     (record {
       sound = reaped_sound (shown j most boxes plan busy) s from to left_ i.sound;
-      stands = i.stands;
+      facts = i.facts;
       each_seat = i.each_seat;
-      people = i.people ∙ sym len;
+      opened = i.opened ∙ sym len;
       places = i.places ∙ sym len;
       left = i.left;
       room = i.room;
@@ -213,15 +213,15 @@ quiet (Said s n piece) t e ne = (rw (ne_eqb s t ne) refl, refl, rw (ne_eqb s t n
 quiet (Hung s w) t e ne = (ne_eqb s t ne, refl, refl)
 quiet (Gone s) t e ne = (refl, ne_eqb s t ne, refl)
 
-pub begun_kept : (j k : journal.Shown) (most : ℕ) (ps qs : List Person) (ks ls : List Channel) (seats places : List Seat) (boxes : List (Option Waiting)) (none plan : List Planned) (kind : Kind) (moment : ℤ) (v : Seat)
-    → IsKept j most ps ks seats boxes none false → opened_by kind ≡ 0 → 0 < actor kind → actor kind ≤ length seats → IsKind j.history kind → IsMomentAfter (last_moment j.history) moment
+pub begun_kept : (j k : journal.Shown) (most : ℕ) (known more_known : List Deed) (seats places : List Seat) (boxes : List (Option Waiting)) (none plan : List Planned) (kind : Kind) (moment : ℤ) (v : Seat)
+    → IsKept j most known seats boxes none false → opened_by kind ≡ 0 → 0 < actor kind → actor kind ≤ length seats → IsKind j.history kind → IsMomentAfter (last_moment j.history) moment
     → length j.history + 1 + held (fresh_record j.history moment kind ∷ j.history) ≤ j.limit
     → k.history ≡ fresh_record j.history moment kind ∷ j.history → k.limit ≡ j.limit → length plan ≤ k.left → held (fresh_record j.history moment kind ∷ j.history) ≤ k.room
-    → Stands qs ls (after (facts j.history) (deeds (facts j.history) kind)) → length qs ≡ length ps
+    → more_known ≡ after known (deeds known kind) → told_of.opened more_known ≡ told_of.opened known
     → places ≡ slice_set seats (actor kind - 1) v → IsSeat v (fresh_record j.history moment kind ∷ j.history) (actor kind)
     → plan ≡ plan_of j.history kind (length boxes)
-    → IsKept k most qs ls places boxes plan true
-begun_kept j k most ps qs ks ls seats places boxes none plan kind moment v i opens from to is in_time limit_ eh el room_ free stands same ep iv eplan =
+    → IsKept k most more_known places boxes plan true
+begun_kept j k most known more_known seats places boxes none plan kind moment v i opens from to is in_time limit_ eh el room_ free ek same ep iv eplan =
     let h = j.history in let s = actor kind in let r = fresh_record h moment kind in
     let to' : s ≤ length boxes = let a = i.places in omega arith in
     let sound : IsSound (shown k most boxes plan true) =
@@ -243,12 +243,12 @@ begun_kept j k most ps qs ks ls seats places boxes none plan kind moment v i ope
             accepted = was.accepted ∙ sym (ap (λ xs. length (accepted h t ++ xs)) q.2 ∙ ap length (append-nil (accepted h t)));
           })
     ] in
-    subst (λ (x : List Seat). IsKept k most qs ls x boxes plan true) (sym ep)
+    subst (λ (x : List Seat). IsKept k most more_known x boxes plan true) (sym ep)
     (record {
       sound = sound;
-      stands = subst (λ (x : List Rec). Stands qs ls (facts x)) (sym eh) stands;
+      facts = ek ∙ ap (λ (fs : List Deed). after fs (deeds fs kind)) i.facts ∙ sym (ap facts eh);
       each_seat = λ t above below. subst (λ (x : List Rec). IsSeat (seat_at (slice_set seats (s - 1) v) t) x t) (sym eh) (seat t above (let q = len in omega arith));
-      people = same ∙ i.people;
+      opened = ap length same ∙ i.opened;
       places = len ∙ i.places;
       left = room_;
       room = rw eh free;

@@ -14,7 +14,7 @@ use Rattle.book.specs.declared.plan.Planned.{Planned}
 use Rattle.outbox.specs.Ring.{Waiting, has_room, with_put, with_taken}
 use Rattle.book.specs.Owed.{delivery, owed}
 use Rattle.book.specs.Legal.{AreMissed}
-use Rattle.deeds.specs.Stands.{numbers}
+use Rattle.roster.specs.LookBack.{numbers}
 use Rattle.book.specs.Book.{Shown, box_of, outbox_at, is_here, held, planned, delivered, dropped, finished, taken, reaped, IsOwed, IsPlan, IsSound}
 
 -- ---- the newest record is missed by one more session

@@ -1,7 +1,7 @@
 -- Who is to be swept.
 use Rattle.std.proofs.Common.{◌≡◌, ℕ, zero, suc, ◌+◌, ◌-◌, ◌<◌, ◌≤◌, Bool, true, false, not, ◌&&◌, cond, List, length, slice_index_or, Option, Some, None, arith, refl, sym, ap, ◌∙◌}
 use Rattle.chronicle.specs.History.{Rec, sessions, shut, gone}
-use Rattle.deeds.specs.Stands.{numbers}
+use Rattle.roster.specs.LookBack.{numbers}
 use Rattle.book.specs.declared.seat.Seat.{Seat}
 use Rattle.book.specs.Seats.{IsSeat, no_seat, seat_at}
 use Rattle.book.specs.Book.{first, is_to_sweep, to_sweep}

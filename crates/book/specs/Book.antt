@@ -20,7 +20,7 @@ use Rattle.book.specs.declared.refusals.ReapRefusal.TheVariants as reaping
 use Rattle.outbox.specs.Ring.{Waiting, empty_ring, has_room, with_put, with_taken}
 use Rattle.book.specs.Owed.{delivery, owed}
 use Rattle.book.specs.Legal.{IsLegal}
-use Rattle.deeds.specs.Stands.{numbers}
+use Rattle.roster.specs.LookBack.{numbers}
 
 -- the history, how many records and how many sessions there may be, each session's outbox until it is reaped, the deliveries
 -- of the newest record that aren't put yet, and whether a plan is out

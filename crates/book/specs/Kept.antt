@@ -1,22 +1,22 @@
 -- How what a book keeps stands for its history.
 use Rattle.std.specs.Prelude.{◌≡◌, ℕ, ◌<◌, ◌≤◌, Bool, List, length, Option}
 use Rattle.chronicle.specs.Journal as journal
-use Rattle.deeds.specs.declared.tables.Person.{Person}
-use Rattle.deeds.specs.declared.tables.Channel.{Channel}
+use Rattle.roster.specs.declared.deed.Deed.{Deed}
+use Rattle.roster.specs.LookBack.{opened}
 use Rattle.book.specs.declared.seat.Seat.{Seat}
 use Rattle.book.specs.declared.plan.Planned.{Planned}
 use Rattle.outbox.specs.Ring.{Waiting}
 use Rattle.deeds.specs.Deeds.{facts}
-use Rattle.deeds.specs.Stands.{Stands}
 use Rattle.book.specs.Seats.{IsSeat, seat_at}
 use Rattle.book.specs.Book.{held, IsSound}
 
--- all that a book keeps stands for its history, and there is room for the records that are kept free
-pub record IsKept (j : journal.Shown) (most : ℕ) (ps : List Person) (ks : List Channel) (seats : List Seat) (boxes : List (Option Waiting)) (plan : List Planned) (busy : Bool) : Type 0 where
+-- all that a book keeps stands for its history, the facts that its roster knows are those of the history, and there is room
+-- for the records that are kept free
+pub record IsKept (j : journal.Shown) (most : ℕ) (known : List Deed) (seats : List Seat) (boxes : List (Option Waiting)) (plan : List Planned) (busy : Bool) : Type 0 where
   pub sound : IsSound (record { history = j.history; limit = j.limit; most = most; outboxes = boxes; plan = plan; busy = busy })
-  pub stands : Stands ps ks (facts j.history)
+  pub facts : known ≡ facts j.history
   pub each_seat : (t : ℕ) → 0 < t → t ≤ length seats → IsSeat (seat_at seats t) j.history t
-  pub people : length ps ≡ length boxes
+  pub opened : length (opened known) ≡ length boxes
   pub places : length seats ≡ length boxes
   pub left : length plan ≤ j.left
   pub room : held j.history ≤ j.room

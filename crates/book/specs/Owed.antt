@@ -1,17 +1,17 @@
 -- What a history owes a session: this project's own promise. Each record owes a session at most one delivery.
-use Rattle.std.specs.Prelude.{ℕ, ◌+◌, ◌||◌, cond, List, [], ◌∷◌, ◌++◌, length}
+use Rattle.std.specs.Prelude.{ℕ, ◌+◌, ◌||◌, nat_le, cond, List, [], ◌∷◌, ◌++◌, length}
 use Rattle.chronicle.specs.declared.record.Kind.{Kind}
 use Rattle.chronicle.specs.declared.record.Kind.TheVariants as kind
 use Rattle.chronicle.specs.declared.why.Why.{Why}
 use Rattle.chronicle.specs.declared.why.Why.TheVariants.{Quit}
-use Rattle.chronicle.specs.History.{Rec, misses, ends, shut}
+use Rattle.chronicle.specs.History.{Rec, sessions, misses, ends, shut}
 use Rattle.outbox.specs.declared.item.Item.{Item}
 use Rattle.outbox.specs.declared.item.Item.TheVariants.{Lines, Last}
-use Rattle.deeds.specs.Deeds.{facts}
-use Rattle.deeds.specs.Lines.{lines, text}
+use Rattle.deeds.specs.Deeds.{facts, lines, text}
+use Rattle.numerics.specs.declared.outgoing.Out.{Out}
 
 -- none where there is no line
-abbrev pub item : ℕ → List (List ℕ) → List Item
+abbrev pub item : ℕ → List Out → List Item
 item n [] = []
 item n (l ∷ ls) = Lines n (text (l ∷ ls)) ∷ []
 
@@ -20,9 +20,13 @@ abbrev pub reason : Kind → Why
 reason (kind.Hung s why) = why
 reason k = Quit
 
+-- the lines of a record of this kind after h to t, which was opened before it
+abbrev pub told : List Rec → Kind → ℕ → List Out
+told h k t = cond (nat_le t (sessions h)) (lines (facts h) k t) []
+
 -- the delivery of a record of this kind after h to t: the last one to a session that it ends
 abbrev pub delivery : List Rec → Kind → ℕ → List Item
-delivery h k t = cond (ends k t) (Last (length h + 1) (reason k) ∷ []) (item (length h + 1) (lines (facts h) k t))
+delivery h k t = cond (ends k t) (Last (length h + 1) (reason k) ∷ []) (item (length h + 1) (told h k t))
 
 -- the deliveries to t in order, but for each record that misses t and each after t was shut
 abbrev pub owed : List Rec → ℕ → List Item

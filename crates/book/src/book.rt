@@ -5,7 +5,7 @@ ghost use Rattle.casemapping.specs.Names.{host_shape};
 ghost use Rattle.chronicle.specs.declared.record.Kind.TheVariants as kind;
 ghost use Rattle.chronicle.specs.History.{sessions, last_moment, shut, gone, misses};
 ghost use Rattle.chronicle.specs.Journal.{IsRoomier, numbered, record_at};
-ghost use Rattle.deeds.specs.LookBack.{nick, on};
+ghost use Rattle.roster.specs.LookBack.{nick, on};
 ghost use Rattle.deeds.specs.Deeds.{facts};
 ghost use Rattle.outbox.specs.Ring.{has_room, with_put, with_taken};
 ghost use Rattle.book.specs.Settings.{is_well_set};
@@ -13,19 +13,20 @@ ghost use Rattle.book.specs.Book.{outbox_at, is_here, here_by};
 
 use crate::baton::Baton;
 use crate::out::{Done, Hung, Left, Plan, Step};
-use crate::plan::{Planned, Prepared, prepare_gone, prepare_line};
+use crate::plan::{Planned, Prepared, commit, prepare_gone, prepare_line};
 use crate::refusals::{
     BookFault, HangRefusal, LineRefusal, OpenRefusal, ReapRefusal, SweepRefusal, TakeRefusal,
 };
 use crate::seat::{Seat, held, is_to_sweep};
 use crate::settings::{Settings, is_well_set};
 use chronicle::{Journal, Kind, Moment, Record, RecordNumber, SessionId, Why};
-use deeds::{Sessions, Tables, Verdict, commit, prepare};
 use line_grammar::{Octets, Piece};
 use outbox::{Item, Outbox, Ring};
+use roster::{Deed, Roster, Sessions};
 use std::alloc::{AllocError, Global};
 use std::collections::VecDeque;
 use std::marker::Model;
+use std::slice;
 
 /// The journal, what is known at its end, and the sessions' outboxes.
 #[derive(Drop)]
@@ -33,7 +34,7 @@ pub struct Book {
     alloc: Global,
     journal: Journal,
     most: usize,
-    tables: Tables,
+    roster: Roster,
     seats: Vec<Seat>,
     outboxes: Vec<Option<Ring>>,
     plan: VecDeque<Planned>,
@@ -48,7 +49,7 @@ impl Model for Book {
 
     ghost view = { λ a. record { history = a.journal.history; limit = a.journal.limit; most = a.most; outboxes = a.outboxes.items; plan = a.plan.items; busy = a.busy } };
 
-    ghost invariant = { λ a. IsKept a.journal a.most a.tables.people.items a.tables.channels.items a.seats.items a.outboxes.items a.plan.items a.busy };
+    ghost invariant = { λ a. IsKept a.journal a.most a.roster.facts a.seats.items a.outboxes.items a.plan.items a.busy };
 }
 
 /// One where there is an outbox.
@@ -132,7 +133,7 @@ impl Book {
             alloc,
             journal,
             most: settings.sessions,
-            tables: Tables::new(alloc),
+            roster: Roster::new(alloc),
             seats: Vec::new(alloc),
             outboxes: Vec::new(alloc),
             plan: VecDeque::new(alloc),
@@ -217,14 +218,15 @@ impl Book {
             return Err((OpenRefusal::Memory, outbox));
         };
         let room = self.held() + 3;
-        if self.tables.reserve_person().is_err()
+        let session = SessionId::new(self.seats.len() as u64 + 1);
+        let deed = Deed::Opened { session, host };
+        if self.roster.prepare(slice::from_ref(&deed)).is_err()
             || self.seats.reserve(1).is_err()
             || self.outboxes.reserve(1).is_err()
             || reserve(&mut self.journal, room, 0).is_err()
         {
             return Err((OpenRefusal::Memory, outbox));
         }
-        let session = SessionId::new(self.seats.len() as u64 + 1);
         self.journal.append(
             moment,
             Kind::Opened {
@@ -232,7 +234,7 @@ impl Book {
                 host: told,
             },
         );
-        self.tables.open(self.alloc, host);
+        self.roster.apply(deed);
         self.seats.push_reserved(Seat {
             shut: false,
             gone: false,
@@ -291,23 +293,19 @@ impl Book {
         let told = piece.copy()?;
         let (prepared, quits) = prepare_line(
             self.alloc,
-            &self.tables,
+            &self.roster,
             &self.seats,
             place,
             number,
             piece,
+            moment,
         )?;
         let Prepared {
-            verdict,
+            deeds,
             plan,
             missed,
         } = prepared;
-        let Verdict {
-            change,
-            text: _,
-            hearers,
-        } = verdict;
-        prepare(&mut self.tables)?;
+        self.roster.prepare(&deeds)?;
         let room = self.held() + 1;
         reserve(&mut self.journal, room, plan.len()).map_err(|_| LineRefusal::Memory)?;
         self.journal.append(
@@ -318,7 +316,7 @@ impl Book {
                 piece: told,
             },
         );
-        commit(&mut self.tables, place, change, hearers);
+        commit(&mut self.roster, deeds);
         let seat = &mut self.seats[place];
         seat.accepted += 1;
         seat.shut = quits;
@@ -482,7 +480,7 @@ impl Book {
     {
         let place = self.check_hang(session, moment)?;
         let number = self.journal.append(moment, Kind::Hung { session, why });
-        self.tables.end(session, place, why);
+        self.roster.end(session, why);
         let seat = &mut self.seats[place];
         seat.shut = true;
         let item = Item::Last { number, why };
@@ -546,21 +544,16 @@ impl Book {
         let room = self.held();
         let session = SessionId::new(place as u64 + 1);
         let number = RecordNumber::new(self.journal.len() as u64 + 1);
-        let prepared = prepare_gone(self.alloc, &self.tables, &self.seats, place, number)?;
+        let prepared = prepare_gone(self.alloc, &self.roster, &self.seats, place, number)?;
         let Prepared {
-            verdict,
+            deeds,
             plan,
             missed,
         } = prepared;
-        let Verdict {
-            change,
-            text: _,
-            hearers,
-        } = verdict;
-        prepare(&mut self.tables)?;
+        self.roster.prepare(&deeds)?;
         reserve(&mut self.journal, room, plan.len())?;
         self.journal.append(moment, Kind::Gone { session });
-        commit(&mut self.tables, place, change, hearers);
+        commit(&mut self.roster, deeds);
         let seat = &mut self.seats[place];
         seat.gone = true;
         self.plan = plan;
@@ -689,14 +682,14 @@ impl Book {
         ensures opened { 0 < session → session ≤ sessions self.now.history → option_copied result ≡ nick (facts self.now.history) session }
         ensures none { (0 < session → session ≤ sessions self.now.history → ⊥) → result ≡ None }
     {
-        self.tables.nick_of(session)
+        self.roster.nick_of(session)
     }
 
     /// Whether a session is on a channel by the history.
     pub fn is_on(&self, session: SessionId, channel: &Octets) -> bool
         ensures { result ≡ on (facts self.now.history) session channel.now }
     {
-        self.tables.is_on(session, channel.as_slice())
+        self.roster.is_on(session, channel.as_slice())
     }
 
     /// Whether a session that was opened is shut.

@@ -11,13 +11,10 @@ mod settings;
 
 pub use baton::Baton;
 pub use book::Book;
-pub use deeds::{Command, Deed, Sessions};
 pub use out::{Done, Hung, Left, Plan, Step};
 pub use outbox::{Item, Outbox, PutFault, Ring};
 pub use refusals::{
     BookFault, HangRefusal, LineRefusal, OpenRefusal, ReapRefusal, SweepRefusal, TakeRefusal,
 };
+pub use roster::Sessions;
 pub use settings::{MAX_RECORDS, MAX_SESSIONS, Settings};
-
-#[cfg(test)]
-mod tests;

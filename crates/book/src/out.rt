@@ -2,7 +2,7 @@
 ghost use Rattle.std.specs.Prelude.{◌≡◌, ◌+◌, ◌<◌, ◌∷◌, ◌++◌, []};
 
 use chronicle::{RecordNumber, SessionId};
-use deeds::Sessions;
+use roster::Sessions;
 use std::marker::Model;
 
 /// One delivery of a plan.

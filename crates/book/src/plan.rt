@@ -1,18 +1,23 @@
 //! The deliveries of a record, before they are put.
-ghost use Rattle.std.specs.Prelude.{◌≡◌, ◌<◌, ◌≤◌, ◌+◌, ◌++◌, ◌∷◌, ◌==◌, [], Bool, true, cond, IsTrue, length, vec_len, vec_capacity, OnOk, IfOk};
-ghost use Rattle.chronicle.specs.declared.why.Why.TheVariants.{Quit};
+ghost use Rattle.std.specs.Prelude.{◌≡◌, ℕ, ◌<◌, ◌≤◌, ◌+◌, ◌-◌, ◌++◌, ◌==◌, [], false, cond, length, replicate, slice_index_or, vec_capacity, OnOk, IfOk};
 ghost use Rattle.chronicle.specs.History.{is_quit};
+ghost use Rattle.roster.specs.LookBack.{after, opened};
+ghost use Rattle.roster.specs.Legal.{IsOpened, AreNext};
 ghost use Rattle.deeds.specs.Commands.{command_of};
-ghost use Rattle.deeds.specs.Stands.{IsRight, IsGoneRight, IsCommittable};
-ghost use Rattle.outbox.specs.declared.item.Item.TheVariants.{Last};
+ghost use Rattle.deeds.specs.Effects.{deeds_of, heard};
+ghost use Rattle.deeds.specs.Departure.{departs};
+ghost use Rattle.deeds.specs.Rows.{of_command};
+ghost use Rattle.deeds.specs.Deeds.{text};
 ghost use Rattle.book.specs.Book.{puts, others};
-ghost use Rattle.book.specs.Seats.{told, told_to, told_actor};
+ghost use Rattle.book.specs.Seats.{told, told_own, heard_text, repeated, planned_for, planned_for_verdict, planned_from};
 
 use crate::seat::Seat;
-use chronicle::{RecordNumber, SessionId, Why};
-use deeds::{Tables, Verdict, decide, decide_gone, is_among, read};
-use line_grammar::Piece;
+use chronicle::{Moment, RecordNumber, SessionId, Why};
+use deeds::{Shown, Verdict, decide, decide_gone, read};
+use line_grammar::{Octets, Piece};
+use numerics::Out;
 use outbox::Item;
+use roster::{Deed, Roster};
 use std::alloc::{AllocError, Global};
 use std::collections::VecDeque;
 
@@ -23,81 +28,163 @@ pub(crate) struct Planned {
     pub(crate) item: Item,
 }
 
-/// What a record changes, and its deliveries, with room for those who miss it.
+/// The facts that a record establishes and its deliveries, with room for those who miss it.
 #[derive(Drop)]
 pub(crate) struct Prepared {
-    pub(crate) verdict: Verdict,
+    pub(crate) deeds: Vec<Deed>,
     pub(crate) plan: VecDeque<Planned>,
     pub(crate) missed: Vec<SessionId>,
 }
 
-/// Plans the delivery to one session, where it hears of the record.
+// ---- what each session hears
+
+/// So many texts, each of them empty.
+fn blank_texts(alloc: Global, count: usize) -> Result<Vec<Octets>, AllocError>
+    ensures { IfOk result (λ v. v.items ≡ replicate count []) }
+{
+    let mut texts = Vec::with_capacity(alloc, count)?;
+    for index in 0..count {
+        texts.push(Octets::from_vec(Vec::new(alloc)))?;
+    }
+    Ok(texts)
+}
+
+/// Adds octets to what a session hears, where it has a text.
+fn tell_one(texts: &mut [Octets], session: SessionId, line: &[u8]) -> Result<(), AllocError>
+    ensures { OnOk result ((i : ℕ) → i < length texts.old → slice_index_or texts.new i [] ≡ slice_index_or texts.old i [] ++ cond (session == i + 1) line.now []) }
+{
+    let number = session.number() as usize;
+    if number == 0 || texts.len() < number {
+        return Ok(());
+    }
+    let text = &mut texts[number - 1];
+    text.extend_from_slice(line)
+}
+
+/// Adds octets to what each of some sessions hears.
+fn tell_each(
+    texts: &mut [Octets],
+    hearers: &[SessionId],
+    line: &[u8],
+) -> Result<(), AllocError>
+    ensures { OnOk result ((i : ℕ) → i < length texts.old → slice_index_or texts.new i [] ≡ slice_index_or texts.old i [] ++ repeated hearers.now line.now (i + 1)) }
+{
+    for hearer in hearers {
+        tell_one(texts, *hearer, line)?;
+    }
+    Ok(())
+}
+
+/// Adds a line to what its hearers hear.
+fn tell_line(alloc: Global, texts: &mut [Octets], shown: &Shown) -> Result<(), AllocError>
+    ensures { OnOk result ((i : ℕ) → i < length texts.old → slice_index_or texts.new i [] ≡ slice_index_or texts.old i [] ++ text (heard shown.now.hearers shown.now.line (i + 1))) }
+{
+    let line = shown.line.octets(alloc)?;
+    tell_each(texts, shown.hearers.as_slice(), line.as_slice())?;
+    Ok(())
+}
+
+/// Adds lines to what their hearers hear, each of which is spelled once.
+fn tell(alloc: Global, texts: &mut [Octets], shown: &[Shown]) -> Result<(), AllocError>
+    ensures { OnOk result ((i : ℕ) → i < length texts.old → slice_index_or texts.new i [] ≡ slice_index_or texts.old i [] ++ heard_text shown.now (i + 1)) }
+{
+    for one in shown {
+        tell_line(alloc, texts, one)?;
+    }
+    Ok(())
+}
+
+/// What each of so many sessions hears of lines that are shown.
+fn heard_texts(alloc: Global, count: usize, shown: &[Shown]) -> Result<Vec<Octets>, AllocError>
+    ensures count { IfOk result (λ v. length v.items ≡ count) }
+    ensures texts { IfOk result (λ v. (i : ℕ) → i < count → slice_index_or v.items i [] ≡ heard_text shown.now (i + 1)) }
+{
+    let mut texts = blank_texts(alloc, count)?;
+    tell(alloc, &mut texts, shown)?;
+    Ok(texts)
+}
+
+/// Adds what goes out of lines.
+fn push_lines(alloc: Global, octets: &mut Octets, lines: &[Out]) -> Result<(), AllocError>
+    ensures { OnOk result (octets.new ≡ octets.old ++ text lines.now) }
+{
+    for line in lines {
+        octets.extend_from_slice(line.octets(alloc)?.as_slice())?;
+    }
+    Ok(())
+}
+
+// ---- the plan, from its end to its front
+
+/// Plans, before all others, the delivery of a text to a session that isn't the actor.
 fn plan_one(
     plan: &mut VecDeque<Planned>,
     seat: &Seat,
     session: SessionId,
+    actor: SessionId,
     number: RecordNumber,
-    verdict: &Verdict,
+    text: Octets,
 ) -> Result<(), AllocError>
-    ensures { OnOk result (plan.new.items ≡ plan.old.items ++ puts session (told seat.now.shut number verdict.now session)) }
+    ensures { OnOk result (plan.new.items ≡ cond (session == actor) [] (puts session (told seat.now.shut number text)) ++ plan.old.items) }
 {
-    if seat.shut || !is_among(verdict.hearers.as_slice(), session) {
+    if session == actor || seat.shut || text.is_empty() {
         return Ok(());
     }
-    let text = verdict.text.clone()?;
-    plan.push_back(Planned {
+    plan.push_front(Planned {
         session,
         item: Item::Lines { number, text },
     })?;
     Ok(())
 }
 
-/// The same for the actor, who is told only of its end where it quits.
-fn plan_actor(
+/// Plans, before all others, what the actor is told: where it quits by the record, its last item.
+fn plan_own(
     plan: &mut VecDeque<Planned>,
     seat: &Seat,
     session: SessionId,
     number: RecordNumber,
-    verdict: &Verdict,
+    text: Octets,
     quits: bool,
 ) -> Result<(), AllocError>
-    ensures { OnOk result (plan.new.items ≡ plan.old.items ++ puts session (cond quits (cond seat.now.shut [] (Last number Quit ∷ [])) (told seat.now.shut number verdict.now session))) }
+    ensures { OnOk result (plan.new.items ≡ puts session (told_own seat.now.shut number text quits) ++ plan.old.items) }
 {
-    if !quits {
-        return plan_one(plan, seat, session, number, verdict);
-    }
-    if seat.shut {
+    if seat.shut || (!quits && text.is_empty()) {
         return Ok(());
     }
-    plan.push_back(Planned {
-        session,
-        item: Item::Last {
+    let item = if quits {
+        Item::Last {
             number,
             why: Why::Quit,
-        },
-    })?;
+        }
+    } else {
+        Item::Lines { number, text }
+    };
+    plan.push_front(Planned { session, item })?;
     Ok(())
 }
 
-/// The same for a session that isn't the actor, whose delivery stands first.
-fn plan_other(
-    plan: &mut VecDeque<Planned>,
-    seat: &Seat,
-    session: SessionId,
+/// The deliveries of texts, one a seat, by session number, but for the actor's.
+fn plan_others(
+    alloc: Global,
+    seats: &[Seat],
+    mut texts: Vec<Octets>,
     actor: SessionId,
     number: RecordNumber,
-    verdict: &Verdict,
-) -> Result<(), AllocError>
-    ensures { OnOk result (plan.new.items ≡ plan.old.items ++ cond (session == actor) [] (puts session (told seat.now.shut number verdict.now session))) }
+) -> Result<VecDeque<Planned>, AllocError>
+    requires { length texts.items ≡ length seats.now }
+    ensures { IfOk result (λ plan. plan.items ≡ others (planned_for seats.now number texts.items) actor 1 (length seats.now)) }
 {
-    if session == actor {
-        return Ok(());
+    let mut plan = VecDeque::new(alloc);
+    'back: while let Some(text) = texts.pop() {
+        let place = texts.len();
+        let session = SessionId::new(place as u64 + 1);
+        plan_one(&mut plan, &seats[place], session, actor, number, text)?;
     }
-    plan_one(plan, seat, session, number, verdict)
+    Ok(plan)
 }
 
-/// The deliveries of a record: the actor's first, then by session number.
-pub(crate) fn plan_for(
+/// The deliveries of a verdict: the actor's first, then by session number.
+fn plan_for(
     alloc: Global,
     seats: &[Seat],
     place: usize,
@@ -106,15 +193,15 @@ pub(crate) fn plan_for(
     quits: bool,
 ) -> Result<VecDeque<Planned>, AllocError>
     requires { place < length seats.now }
-    ensures { IfOk result (λ plan. plan.items ≡ puts (place + 1) (told_actor seats.now number verdict.now quits (place + 1)) ++ others (told_to seats.now number verdict.now) (place + 1) 1 (length seats.now)) }
+    ensures { IfOk result (λ plan. plan.items ≡ planned_for_verdict seats.now (place + 1) number verdict.now quits) }
 {
-    let mut plan = VecDeque::new(alloc);
     let actor = SessionId::new(place as u64 + 1);
-    plan_actor(&mut plan, &seats[place], actor, number, verdict, quits)?;
-    for (other, seat) in seats.iter().enumerate() {
-        let session = SessionId::new(other as u64 + 1);
-        plan_other(&mut plan, seat, session, actor, number, verdict)?;
-    }
+    let texts = heard_texts(alloc, seats.len(), &verdict.others)?;
+    let mut plan = plan_others(alloc, seats, texts, actor, number)?;
+    let mut own = Octets::from_vec(Vec::new(alloc));
+    push_lines(alloc, &mut own, &verdict.reply)?;
+    push_lines(alloc, &mut own, &verdict.copies)?;
+    plan_own(&mut plan, &seats[place], actor, number, own, quits)?;
     Ok(plan)
 }
 
@@ -128,14 +215,14 @@ fn with_room(
     quits: bool,
 ) -> Result<Prepared, AllocError>
     requires { place < length seats.now }
-    ensures verdict { IfOk result (λ p. p.verdict ≡ verdict) }
-    ensures plan { IfOk result (λ p. p.plan.items ≡ puts (place + 1) (told_actor seats.now number p.verdict quits (place + 1)) ++ others (told_to seats.now number p.verdict) (place + 1) 1 (length seats.now)) }
+    ensures deeds { IfOk result (λ p. p.deeds.items ≡ verdict.deeds.items) }
+    ensures plan { IfOk result (λ p. p.plan.items ≡ planned_for_verdict seats.now (place + 1) number verdict quits) }
     ensures missed { IfOk result (λ p. (p.missed.items ≡ []) × (length p.plan.items ≤ vec_capacity p.missed)) }
 {
     let plan = plan_for(alloc, seats, place, number, &verdict, quits)?;
     let missed = Vec::with_capacity(alloc, plan.len())?;
     Ok(Prepared {
-        verdict,
+        deeds: verdict.deeds,
         plan,
         missed,
     })
@@ -144,44 +231,57 @@ fn with_room(
 /// Decides what a line of the session at a place does, and plans its deliveries.
 pub(crate) fn prepare_line(
     alloc: Global,
-    tables: &Tables,
+    roster: &Roster,
     seats: &[Seat],
     place: usize,
     number: RecordNumber,
     piece: &Piece,
+    moment: Moment,
 ) -> Result<(Prepared, bool), AllocError>
     requires seated { place < length seats.now }
-    requires known { place < vec_len tables.now.people }
-    ensures right { IfOk result (λ p. IsRight tables.now.people.items tables.now.channels.items (place + 1) (command_of piece.now) p.0.verdict) }
-    ensures committable { IfOk result (λ p. IsCommittable (length tables.now.channels.items) p.0.verdict) }
+    requires known { IsOpened roster.now.facts (place + 1) }
+    ensures deeds { IfOk result (λ p. p.0.deeds.items ≡ deeds_of (of_command roster.now.facts (place + 1) (command_of piece.now))) }
+    ensures next { IfOk result (λ p. AreNext roster.now.facts p.0.deeds.items) }
+    ensures opened { IfOk result (λ p. opened (after roster.now.facts p.0.deeds.items) ≡ opened roster.now.facts) }
     ensures quits { IfOk result (λ p. p.1 ≡ is_quit piece.now) }
-    ensures plan { IfOk result (λ p. p.0.plan.items ≡ puts (place + 1) (told_actor seats.now number p.0.verdict p.1 (place + 1)) ++ others (told_to seats.now number p.0.verdict) (place + 1) 1 (length seats.now)) }
+    ensures plan { IfOk result (λ p. p.0.plan.items ≡ planned_from seats.now (place + 1) number (of_command roster.now.facts (place + 1) (command_of piece.now)) p.1) }
     ensures missed { IfOk result (λ p. (p.0.missed.items ≡ []) × (length p.0.plan.items ≤ vec_capacity p.0.missed)) }
 {
     let command = read(alloc, piece)?;
     let quits = command.is_quit();
     let session = SessionId::new(place as u64 + 1);
-    let verdict = decide(alloc, tables, session, place, command)?;
+    let verdict = decide(alloc, roster, session, &command, moment)?;
     let prepared = with_room(alloc, seats, place, number, verdict, quits)?;
     Ok((prepared, quits))
 }
 
-/// Decides what it changes that the session at a place is gone, and plans who is told.
+/// Decides what it does that the session at a place is gone, and plans who is told.
 pub(crate) fn prepare_gone(
     alloc: Global,
-    tables: &Tables,
+    roster: &Roster,
     seats: &[Seat],
     place: usize,
     number: RecordNumber,
 ) -> Result<Prepared, AllocError>
     requires seated { place < length seats.now }
-    requires known { place < vec_len tables.now.people }
-    ensures right { IfOk result (λ p. IsGoneRight tables.now.people.items tables.now.channels.items (place + 1) p.verdict) }
-    ensures committable { IfOk result (λ p. IsCommittable (length tables.now.channels.items) p.verdict) }
-    ensures plan { IfOk result (λ p. p.plan.items ≡ puts (place + 1) (told_to seats.now number p.verdict (place + 1)) ++ others (told_to seats.now number p.verdict) (place + 1) 1 (length seats.now)) }
+    requires known { IsOpened roster.now.facts (place + 1) }
+    ensures deeds { IfOk result (λ p. p.deeds.items ≡ deeds_of (departs roster.now.facts (place + 1))) }
+    ensures next { IfOk result (λ p. AreNext roster.now.facts p.deeds.items) }
+    ensures opened { IfOk result (λ p. opened (after roster.now.facts p.deeds.items) ≡ opened roster.now.facts) }
+    ensures plan { IfOk result (λ p. p.plan.items ≡ planned_from seats.now (place + 1) number (departs roster.now.facts (place + 1)) false) }
     ensures missed { IfOk result (λ p. (p.missed.items ≡ []) × (length p.plan.items ≤ vec_capacity p.missed)) }
 {
     let session = SessionId::new(place as u64 + 1);
-    let verdict = decide_gone(alloc, tables, session, place)?;
+    let verdict = decide_gone(alloc, roster, session)?;
     with_room(alloc, seats, place, number, verdict, false)
+}
+
+/// Establishes the facts of a record, for which room was made. It takes no memory.
+pub(crate) fn commit(roster: &mut Roster, deeds: Vec<Deed>)
+    requires { roster.old.ready ≡ deeds.items }
+    ensures { roster.new.facts ≡ after roster.old.facts deeds.items }
+{
+    for deed in deeds {
+        roster.apply(deed);
+    }
 }

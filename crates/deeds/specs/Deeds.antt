@@ -1,49 +1,41 @@
--- The elementary facts that a record establishes, each decided from those before it: RFC 2812, sections 3.1 (registration, QUIT) and 3.2.1 (JOIN).
-use Rattle.std.specs.Prelude.{ℕ, Bool, not, ◌&&◌, cond, List, [], ◌∷◌, ◌++◌}
-use Rattle.std.specs.Option.{is_some}
+-- What each kind of record does, and so the facts of a history and the lines of a record: RFC 2812, section 3.1 (registration, QUIT).
+use Rattle.std.specs.Prelude.{ℕ, List, [], ◌∷◌, ◌++◌}
+use Rattle.std.specs.List.{flat_map}
 use Rattle.chronicle.specs.declared.record.Kind.{Kind}
 use Rattle.chronicle.specs.declared.record.Kind.TheVariants as kind
-use Rattle.chronicle.specs.declared.why.Why.TheVariants as why
-use Rattle.chronicle.specs.History.{Rec}
-use Rattle.deeds.specs.declared.deed.Deed.{Deed}
-use Rattle.deeds.specs.declared.deed.Deed.TheVariants.{Opened, NickSet, UserSet, Enrolled, ChannelMade, Joined, Ended, Gone}
-use Rattle.deeds.specs.declared.command.Command.{Command}
-use Rattle.deeds.specs.declared.command.Command.TheVariants.{Nick, User, Quit, Join, Privmsg, Other}
+use Rattle.chronicle.specs.History.{Rec, actor}
+use Rattle.numerics.specs.declared.outgoing.Out.{Out}
+use Rattle.numerics.specs.Outgoing.{octets}
+use Rattle.roster.specs.declared.deed.Deed.{Deed}
+use Rattle.roster.specs.declared.deed.Deed.TheVariants.{Opened, Ended}
+use Rattle.roster.specs.LookBack.{after}
+use Rattle.deeds.specs.declared.effect.Effect.{Effect}
+use Rattle.deeds.specs.declared.effect.Effect.TheVariants.{Establish}
 use Rattle.deeds.specs.Commands.{command_of}
-use Rattle.deeds.specs.LookBack.{nick, user, registered, is_held, on, has_member, name}
+use Rattle.deeds.specs.Effects.{deeds_of, lines_to}
+use Rattle.deeds.specs.Departure.{departs}
+use Rattle.deeds.specs.Rows.{of_command}
 
-abbrev pub when : Bool → List Deed → List Deed
-when b ds = cond b ds []
+-- what a record does
+abbrev pub effects : List Deed → Kind → List Effect
+effects fs (kind.Opened s h) = Establish (Opened s h) ∷ []
+effects fs (kind.Said s i piece) = of_command fs s (command_of piece)
+effects fs (kind.Hung s w) = Establish (Ended s w []) ∷ []
+effects fs (kind.Gone s) = departs fs s
 
--- what a command of a session establishes by itself
-abbrev pub asked : List Deed → ℕ → Command → List Deed
-asked fs s (Nick n) = when (not (is_some (nick fs s)) && not (is_held fs n)) (NickSet s n ∷ [])
-asked fs s (User u r) = when (not (is_some (user fs s))) (UserSet s u r ∷ [])
-asked fs s (Quit text) = Ended s why.Quit text ∷ []
-asked fs s (Join c) = when (registered fs s && not (on fs s c)) (cond (has_member fs c) (Joined s (name fs c) ∷ []) (ChannelMade c ∷ Joined s c ∷ []))
-asked fs s (Privmsg c text) = []
-asked fs s Other = []
-
--- a session that has a nickname and a user name and isn't registered yet is registered
-abbrev pub completed : List Deed → ℕ → List Deed
-completed fs s = when (is_some (nick fs s) && is_some (user fs s) && not (registered fs s)) (Enrolled s ∷ [])
-
--- facts after more of them, which stand in the order in which they were established
-abbrev pub after : List Deed → List Deed → List Deed
-after fs [] = fs
-after fs (d ∷ ds) = after (d ∷ fs) ds
-
-abbrev pub of_command : List Deed → ℕ → Command → List Deed
-of_command fs s k = asked fs s k ++ completed (after fs (asked fs s k)) s
-
--- what a record establishes, in order
+-- the facts that it establishes, in order
 abbrev pub deeds : List Deed → Kind → List Deed
-deeds fs (kind.Opened s h) = Opened s h ∷ []
-deeds fs (kind.Said s i piece) = of_command fs s (command_of piece)
-deeds fs (kind.Hung s w) = Ended s w [] ∷ []
-deeds fs (kind.Gone s) = Gone s ∷ []
+deeds fs k = deeds_of (effects fs k)
 
 -- all facts of a history, the newest first
 abbrev pub facts : List Rec → List Deed
 facts [] = []
 facts (r ∷ h) = after (facts h) (deeds (facts h) r.kind)
+
+-- all lines of a record to t, its own session or another
+abbrev pub lines : List Deed → Kind → ℕ → List Out
+lines fs k t = lines_to (actor k) (effects fs k) t
+
+-- what goes out of lines
+abbrev pub text : List Out → List ℕ
+text ls = flat_map octets ls

@@ -1,6 +1,12 @@
 pub mod Commands
-pub mod LookBack
-pub mod Deeds
+pub mod Effects
 pub mod Lines
-pub mod Tables
-pub mod Stands
+pub mod Registration
+pub mod Channels
+pub mod Talking
+pub mod Departure
+pub mod Rows
+pub mod Deeds
+pub mod Verdicts
+pub mod Drafted
+pub mod Tells

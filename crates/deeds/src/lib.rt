@@ -1,21 +1,19 @@
-//! What commands establish, and whom they are shown to.
+//! What a record does: facts that it establishes, and lines that it shows.
 #![tactic(auto)]
 
+mod channels;
 mod command;
-mod deed;
-mod gone;
+mod departure;
+mod draft;
+mod effect;
 mod lines;
-mod names;
-mod sessions;
-mod tables;
+mod registration;
+mod rows;
+mod talking;
 mod verdict;
 
 pub use command::{Command, read};
-pub use deed::Deed;
-pub use gone::decide_gone;
-pub use sessions::Sessions;
-pub use tables::{Channel, Person, Tables, commit, is_among, prepare};
-pub use verdict::{Change, Verdict, decide};
-
-#[cfg(test)]
-mod tests;
+pub use departure::decide_gone;
+pub use effect::Effect;
+pub use rows::decide;
+pub use verdict::{Shown, Verdict};

@@ -1,93 +1,70 @@
-//! The lines that are sent (RFC 2812, sections 2.3, 3.1.7, 3.2.1 and 3.3.1).
-ghost use Rattle.std.specs.Prelude.{◌≡◌, ◌++◌, OnOk, IfOk};
-ghost use Rattle.deeds.specs.LookBack.{farewell};
-ghost use Rattle.deeds.specs.Lines.{join_line, privmsg_line, quit_line, sent};
-ghost use Rattle.deeds.specs.Tables.{source_of};
+//! The lines that are shown (RFC 2812, sections 2.3.1, 3.1.7, 3.2.1 and 3.3.1).
+ghost use Rattle.std.specs.Prelude.{◌≡◌, ◌++◌, [], unwrap_or, option_copied, OnOk, IfOk};
+ghost use Rattle.deeds.specs.Lines.{prefix, join_line, privmsg_line, quit_line};
 
-use crate::tables::Person;
+use chronicle::SessionId;
 use line_grammar::Octets;
+use numerics::Out;
+use roster::Roster;
 use std::alloc::{AllocError, Global};
 
-/// Octets of an outgoing line without its CR LF.
-const MAX_LINE: usize = 510;
-
-/// Adds `nick!user@host`.
-fn push_source(line: &mut Vec<u8>, person: &Person) -> Result<(), AllocError>
-    ensures { OnOk result (line.new.items ≡ line.old.items ++ source_of person.now) }
+/// Adds a name, where there is one.
+fn push_name(text: &mut Vec<u8>, name: Option<&Octets>) -> Result<(), AllocError>
+    ensures { OnOk result (text.new.items ≡ text.old.items ++ unwrap_or (option_copied name.entry) []) }
 {
-    if let Some(nick) = &person.nick {
-        line.extend_from_slice(nick.as_slice())?;
+    match name {
+        Some(name) => text.extend_from_slice(name.as_slice()),
+        None => Ok(()),
     }
-    line.extend_from_slice(b"!")?;
-    if let Some(user) = &person.user {
-        line.extend_from_slice(user.as_slice())?;
-    }
-    line.extend_from_slice(b"@")?;
-    line.extend_from_slice(person.host.as_slice())
 }
 
-/// Cuts a line to what may be sent of it, and ends it.
-fn ended(mut line: Vec<u8>) -> Result<Octets, AllocError>
-    ensures { IfOk result (λ text. text ≡ sent line.items) }
+/// Whom the lines of a session come from: `nick!user@host`.
+#[tactic(auto, unfolding(crate::specs::Lines::prefix))]
+pub(crate) fn prefix_of(
+    alloc: Global,
+    roster: &Roster,
+    session: SessionId,
+) -> Result<Octets, AllocError>
+    ensures { IfOk result (λ p. p ≡ prefix roster.now.facts session) }
 {
-    line.truncate(MAX_LINE);
-    line.extend_from_slice(b"\r\n")?;
-    Ok(Octets::from_vec(line))
+    let mut text = Vec::new(alloc);
+    push_name(&mut text, roster.nick_of(session))?;
+    text.extend_from_slice(b"!")?;
+    push_name(&mut text, roster.user_of(session))?;
+    text.extend_from_slice(b"@")?;
+    text.extend_from_slice(roster.host_of(session))?;
+    Ok(Octets::from_vec(text))
 }
 
 /// The line that shows a join.
-pub(crate) fn join_text(
-    alloc: Global,
-    person: &Person,
-    channel: &[u8],
-) -> Result<Octets, AllocError>
-    ensures { IfOk result (λ text. text ≡ sent (join_line (source_of person.now) channel.now)) }
+pub(crate) fn join_line(alloc: Global, from: &[u8], channel: &[u8]) -> Result<Out, AllocError>
+    ensures { IfOk result (λ l. l ≡ join_line from.now channel.now) }
 {
-    let mut line = Vec::new(alloc);
-    line.extend_from_slice(b":")?;
-    push_source(&mut line, person)?;
-    line.extend_from_slice(b" JOIN ")?;
-    line.extend_from_slice(channel)?;
-    ended(line)
+    let mut params = Vec::new(alloc);
+    params.push(Octets::copied(alloc, channel)?)?;
+    Out::new(alloc, from, b"JOIN", params, false)
 }
 
 /// The line that carries a text to a channel.
-pub(crate) fn privmsg_text(
+pub(crate) fn privmsg_line(
     alloc: Global,
-    person: &Person,
-    channel: &[u8],
+    from: &[u8],
+    target: &[u8],
     text: &[u8],
-) -> Result<Octets, AllocError>
-    ensures { IfOk result (λ t. t ≡ sent (privmsg_line (source_of person.now) channel.now text.now)) }
+) -> Result<Out, AllocError>
+    ensures { IfOk result (λ l. l ≡ privmsg_line from.now target.now text.now) }
 {
-    let mut line = Vec::new(alloc);
-    line.extend_from_slice(b":")?;
-    push_source(&mut line, person)?;
-    line.extend_from_slice(b" PRIVMSG ")?;
-    line.extend_from_slice(channel)?;
-    line.extend_from_slice(b" :")?;
-    line.extend_from_slice(text)?;
-    ended(line)
-}
-
-/// What others are told of a session's end: the text that its client gave, or the reason's own.
-fn farewell(person: &Person) -> &[u8]
-    ensures { result.now ≡ farewell person.now.why person.now.parting }
-{
-    if person.parting.is_empty() {
-        return person.why.text().as_bytes();
-    }
-    person.parting.as_slice()
+    let mut params = Vec::new(alloc);
+    params.push(Octets::copied(alloc, target)?)?;
+    params.push(Octets::copied(alloc, text)?)?;
+    Out::new(alloc, from, b"PRIVMSG", params, true)
 }
 
 /// The line that shows that a session is gone.
-pub(crate) fn quit_text(alloc: Global, person: &Person) -> Result<Octets, AllocError>
-    ensures { IfOk result (λ t. t ≡ sent (quit_line (source_of person.now) (farewell person.now.why person.now.parting))) }
+pub(crate) fn quit_line(alloc: Global, from: &[u8], text: &[u8]) -> Result<Out, AllocError>
+    ensures { IfOk result (λ l. l ≡ quit_line from.now text.now) }
 {
-    let mut line = Vec::new(alloc);
-    line.extend_from_slice(b":")?;
-    push_source(&mut line, person)?;
-    line.extend_from_slice(b" QUIT :")?;
-    line.extend_from_slice(farewell(person))?;
-    ended(line)
+    let mut params = Vec::new(alloc);
+    params.push(Octets::copied(alloc, text)?)?;
+    Out::new(alloc, from, b"QUIT", params, true)
 }

@@ -1,212 +1,99 @@
-//! What a command changes and whom it is shown to.
-ghost use Rattle.std.specs.Prelude.{◌≡◌, ℕ, ◌+◌, ◌<◌, ◌≤◌, ◌∷◌, ◌++◌, [], length, vec_len, IfOk, None};
-ghost use Rattle.deeds.specs.Stands.{IsRight, IsCommittable};
-ghost use Rattle.deeds.specs.Tables.{person_at, channel_place, channel_name, members_at, nothing, decided_nick, decided_enter, decided_join, decided_send, decided_privmsg, decided};
+//! What comes of a record's effects.
+ghost use Rattle.std.specs.Prelude.{◌≡◌, ◌==◌, ◌++◌, ◌∷◌, [], cond, IfOk, OnOk};
+ghost use Rattle.deeds.specs.Effects.{deeds_of, heard, replied, copied};
+ghost use Rattle.deeds.specs.Verdicts.{shown, IsVerdict};
 
-use crate::command::Command;
-use crate::lines::{join_text, privmsg_text};
-use crate::sessions::Sessions;
-use crate::tables::{
-    Channel, Person, Tables, find_channel, is_among, is_enrolled, is_held, others,
-};
-use chronicle::{SessionId, Why};
-use line_grammar::Octets;
+use crate::effect::Effect;
+use chronicle::SessionId;
+use numerics::Out;
+use roster::{Deed, Sessions};
 use std::alloc::{AllocError, Global};
 
-/// A change of the tables.
+/// A line, and the sessions that it is shown to.
 #[derive(Debug, Drop)]
-pub enum Change {
-    Nothing,
-    SetNick { nick: Octets },
-    SetUser { user: Octets, real: Octets },
-    Make { channel: Octets },
-    Enter { place: usize },
-    End { why: Why, text: Octets },
-    Leave { session: SessionId },
+pub struct Shown {
+    pub hearers: Sessions,
+    pub line: Out,
 }
 
-/// A change, and the text that some sessions are shown.
+/// What comes of a record.
 #[derive(Debug, Drop)]
 pub struct Verdict {
-    pub change: Change,
-    pub text: Octets,
-    pub hearers: Sessions,
+    /// The facts that it establishes, in order.
+    pub deeds: Vec<Deed>,
+    /// The lines to its own session.
+    pub reply: Vec<Out>,
+    /// What its session sent to itself, which it is given besides.
+    pub copies: Vec<Out>,
+    /// The lines that others are shown, in order. Its own session may be among their hearers.
+    pub others: Vec<Shown>,
 }
 
-/// Nothing is changed or shown.
-fn silent(alloc: Global, change: Change) -> Verdict
-    ensures { result ≡ record { change = change; text = []; hearers = [] } }
-{
-    Verdict {
-        change,
-        text: Octets::from_vec(Vec::new(alloc)),
-        hearers: Sessions::from_vec(Vec::new(alloc)),
-    }
-}
-
-fn decide_nick(alloc: Global, people: &[Person], person: &Person, nick: Octets) -> Verdict
-    ensures { result ≡ decided_nick people.now person.now nick }
-{
-    if person.nick.is_some() || is_held(people, nick.as_slice()) {
-        return silent(alloc, Change::Nothing);
-    }
-    silent(alloc, Change::SetNick { nick })
-}
-
-/// A session that isn't on a channel enters it.
-fn decide_enter(
-    alloc: Global,
-    person: &Person,
+/// Adds a line where a hearer is this session.
+fn push_for(
+    lines: &mut Vec<Out>,
+    hearer: SessionId,
+    line: &Out,
     session: SessionId,
-    place: usize,
-    channel: &Channel,
-) -> Result<Verdict, AllocError>
-    ensures { IfOk result (λ v. v ≡ decided_enter person.now session place channel.now.name channel.now.members) }
+) -> Result<(), AllocError>
+    ensures { OnOk result (lines.new.items ≡ lines.old.items ++ cond (hearer == session) (line.now ∷ []) []) }
 {
-    if is_among(channel.members.as_slice(), session) {
-        return Ok(silent(alloc, Change::Nothing));
+    if hearer == session {
+        lines.push(line.clone()?)?;
     }
-    let text = join_text(alloc, person, channel.name.as_slice())?;
-    let hearers = channel.members.with(alloc, session)?;
-    Ok(Verdict {
-        change: Change::Enter { place },
-        text,
-        hearers,
-    })
+    Ok(())
 }
 
-/// A channel is made by who joins it first.
-fn decide_make(
-    alloc: Global,
-    person: &Person,
+/// Adds a line as often as a session is among its hearers.
+fn push_heard(
+    lines: &mut Vec<Out>,
+    hearers: &[SessionId],
+    line: &Out,
     session: SessionId,
-    channel: Octets,
-) -> Result<Verdict, AllocError>
-    ensures { IfOk result (λ v. v ≡ decided_join person.now session channel [] None) }
+) -> Result<(), AllocError>
+    ensures { OnOk result (lines.new.items ≡ lines.old.items ++ heard hearers.now line.now session) }
 {
-    let text = join_text(alloc, person, channel.as_slice())?;
-    let mut hearers = Vec::new(alloc);
-    hearers.push(session)?;
-    Ok(Verdict {
-        change: Change::Make { channel },
-        text,
-        hearers: Sessions::from_vec(hearers),
-    })
-}
-
-fn decide_join(
-    alloc: Global,
-    channels: &[Channel],
-    person: &Person,
-    session: SessionId,
-    channel: Octets,
-) -> Result<Verdict, AllocError>
-    ensures { IfOk result (λ v. v ≡ decided_join person.now session channel channels.now (channel_place channels.now channel)) }
-{
-    match find_channel(channels, channel.as_slice()) {
-        Some(place) => decide_enter(alloc, person, session, place, &channels[place]),
-        None => decide_make(alloc, person, session, channel),
+    for hearer in hearers {
+        push_for(lines, *hearer, line, session)?;
     }
+    Ok(())
 }
 
-/// A member of a channel sends a text to the others.
-fn decide_send(
-    alloc: Global,
-    person: &Person,
-    session: SessionId,
-    channel: &Channel,
-    text: &[u8],
-) -> Result<Verdict, AllocError>
-    ensures { IfOk result (λ v. v ≡ decided_send person.now session text.now channel.now.name channel.now.members) }
+/// Adds an effect of a session's record.
+fn sort(verdict: &mut Verdict, effect: Effect, session: SessionId) -> Result<(), AllocError>
+    ensures deeds { OnOk result (verdict.new.deeds.items ≡ verdict.old.deeds.items ++ deeds_of (effect ∷ [])) }
+    ensures reply { OnOk result (verdict.new.reply.items ≡ verdict.old.reply.items ++ replied session effect) }
+    ensures copies { OnOk result (verdict.new.copies.items ≡ verdict.old.copies.items ++ copied effect) }
+    ensures others { OnOk result (verdict.new.others.items ≡ verdict.old.others.items ++ shown (effect ∷ [])) }
 {
-    if !is_among(channel.members.as_slice(), session) {
-        return Ok(silent(alloc, Change::Nothing));
-    }
-    let text = privmsg_text(alloc, person, channel.name.as_slice(), text)?;
-    let hearers = others(alloc, channel.members.as_slice(), session)?;
-    Ok(Verdict {
-        change: Change::Nothing,
-        text,
-        hearers: Sessions::from_vec(hearers),
-    })
-}
-
-fn decide_privmsg(
-    alloc: Global,
-    channels: &[Channel],
-    person: &Person,
-    session: SessionId,
-    channel: &[u8],
-    text: &[u8],
-) -> Result<Verdict, AllocError>
-    ensures { IfOk result (λ v. v ≡ decided_privmsg person.now session text.now channels.now (channel_place channels.now channel.now)) }
-{
-    match find_channel(channels, channel) {
-        Some(place) => decide_send(alloc, person, session, &channels[place], text),
-        None => Ok(silent(alloc, Change::Nothing)),
-    }
-}
-
-/// What a command of a session does, as the tables tell it.
-fn decide_command(
-    alloc: Global,
-    tables: &Tables,
-    session: SessionId,
-    place: usize,
-    command: Command,
-) -> Result<Verdict, AllocError>
-    requires at { place + 1 ≡ session }
-    requires known { place < vec_len tables.now.people }
-    ensures { IfOk result (λ v. v ≡ decided tables.now.people.items tables.now.channels.items session command) }
-{
-    let person = &tables.people[place];
-    match command {
-        Command::Nick { nick } => Ok(decide_nick(alloc, &tables.people, person, nick)),
-        Command::User { user, real } => {
-            if person.user.is_some() {
-                return Ok(silent(alloc, Change::Nothing));
-            }
-            Ok(silent(alloc, Change::SetUser { user, real }))
+    match effect {
+        Effect::Establish { deed } => verdict.deeds.push(deed)?,
+        Effect::Answer { line } => verdict.reply.push(line)?,
+        Effect::Copy { line } => verdict.copies.push(line)?,
+        Effect::Show { hearers, line } => {
+            push_heard(&mut verdict.reply, hearers.as_slice(), &line, session)?;
+            verdict.others.push(Shown { hearers, line })?;
         }
-        Command::Quit { text } => Ok(silent(
-            alloc,
-            Change::End {
-                why: Why::Quit,
-                text,
-            },
-        )),
-        Command::Join { channel } => {
-            if !is_enrolled(person) {
-                return Ok(silent(alloc, Change::Nothing));
-            }
-            decide_join(alloc, &tables.channels, person, session, channel)
-        }
-        Command::Privmsg { channel, text } => decide_privmsg(
-            alloc,
-            &tables.channels,
-            person,
-            session,
-            channel.as_slice(),
-            text.as_slice(),
-        ),
-        Command::Other => Ok(silent(alloc, Change::Nothing)),
     }
+    Ok(())
 }
 
-/// What a command of a session changes, and whom it is shown to. For all facts that the tables stand for, the tables stand
-/// for the facts after the command once the change is committed, and just those are shown a text to whom the command shows
-/// lines.
-pub fn decide(
+/// What comes of the effects of a session's record.
+pub(crate) fn verdict_of(
     alloc: Global,
-    tables: &Tables,
+    effects: Vec<Effect>,
     session: SessionId,
-    place: usize,
-    command: Command,
 ) -> Result<Verdict, AllocError>
-    requires at { place + 1 ≡ session }
-    requires known { place < vec_len tables.now.people }
-    ensures right { IfOk result (λ v. IsRight tables.now.people.items tables.now.channels.items session command v) }
-    ensures committable { IfOk result (λ v. IsCommittable (length tables.now.channels.items) v) }
+    ensures { IfOk result (λ v. IsVerdict v session effects.items) }
 {
-    decide_command(alloc, tables, session, place, command)
+    let mut verdict = Verdict {
+        deeds: Vec::new(alloc),
+        reply: Vec::new(alloc),
+        copies: Vec::new(alloc),
+        others: Vec::new(alloc),
+    };
+    for effect in effects {
+        sort(&mut verdict, effect, session)?;
+    }
+    Ok(verdict)
 }

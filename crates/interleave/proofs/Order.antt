@@ -5,9 +5,9 @@ use Rattle.chronicle.specs.declared.why.Why.{Why}
 use Rattle.chronicle.specs.History.{Rec, misses, ends, shut}
 use Rattle.outbox.specs.declared.item.Item.{Item}
 use Rattle.outbox.specs.declared.item.Item.TheVariants.{Lines, Last}
-use Rattle.deeds.specs.Deeds.{facts}
-use Rattle.deeds.specs.Lines as told
-use Rattle.book.specs.Owed.{item, reason, delivery, owed}
+use Rattle.numerics.specs.declared.outgoing.Out.{Out}
+use Rattle.deeds.specs.Deeds.{text}
+use Rattle.book.specs.Owed.{item, told, reason, delivery, owed}
 use Rattle.line_grammar.specs.declared.splitter.Piece.{Piece}
 use Rattle.line_grammar.specs.Lines.{lines}
 use Rattle.chronicle.specs.History.{accepted}
@@ -51,10 +51,10 @@ last_up n xs why u =
     let y : Item = Last (n + 1) why in
     record { rises = rising_push n y xs u.rises u.most (omega arith); most = most_push n (n + 1) y xs (omega arith) u.most (omega arith) }
 
-item_up : (n : ℕ) (xs : List Item) (ls : List (List ℕ)) → IsUpTo n xs → IsUpTo (n + 1) (xs ++ item (n + 1) ls)
+item_up : (n : ℕ) (xs : List Item) (ls : List Out) → IsUpTo n xs → IsUpTo (n + 1) (xs ++ item (n + 1) ls)
 item_up n xs [] u = subst (IsUpTo (n + 1)) (sym (append-nil xs)) (record { rises = u.rises; most = most_more n (n + 1) xs (omega arith) u.most })
 item_up n xs (l ∷ ls) u =
-    let y : Item = Lines (n + 1) (told.text (l ∷ ls)) in
+    let y : Item = Lines (n + 1) (text (l ∷ ls)) in
     record { rises = rising_push n y xs u.rises u.most (omega arith); most = most_push n (n + 1) y xs (omega arith) u.most (omega arith) }
 
 owed_up : (h : List Rec) (t : ℕ) → IsUpTo (length h) (owed h t)
@@ -65,9 +65,9 @@ owed_up (r ∷ h) t =
     (elim (misses r t || shut h t) as (λ (b : Bool). IsUpTo (length h + 1) (owed h t ++ cond b [] (delivery h r.kind t))) [
       | true ↦ item_up (length h) (owed h t) [] (owed_up h t)
       | false ↦
-          elim (ends r.kind t) as (λ (b : Bool). IsUpTo (length h + 1) (owed h t ++ cond b (Last (length h + 1) (reason r.kind) ∷ []) (item (length h + 1) (told.lines (facts h) r.kind t)))) [
+          elim (ends r.kind t) as (λ (b : Bool). IsUpTo (length h + 1) (owed h t ++ cond b (Last (length h + 1) (reason r.kind) ∷ []) (item (length h + 1) (told h r.kind t)))) [
             | true ↦ last_up (length h) (owed h t) (reason r.kind) (owed_up h t)
-            | false ↦ item_up (length h) (owed h t) (told.lines (facts h) r.kind t) (owed_up h t)
+            | false ↦ item_up (length h) (owed h t) (told h r.kind t) (owed_up h t)
           ]
     ])
 
@@ -130,7 +130,7 @@ shut_stays (r ∷ later) h t e =
     )
 
 -- what the record owes that shuts a session
-closing : (r : Rec) (h : List Rec) (t : ℕ) (b c d : Bool) → ends r.kind t ≡ c → (b || c || d) ≡ true → (end : List Item) × IsErrorAtMost end × (owed h t ++ cond (b || d) [] (cond c (Last (length h + 1) (reason r.kind) ∷ []) (item (length h + 1) (told.lines (facts h) r.kind t))) ≡ owed h t ++ end)
+closing : (r : Rec) (h : List Rec) (t : ℕ) (b c d : Bool) → ends r.kind t ≡ c → (b || c || d) ≡ true → (end : List Item) × IsErrorAtMost end × (owed h t ++ cond (b || d) [] (cond c (Last (length h + 1) (reason r.kind) ∷ []) (item (length h + 1) (told h r.kind t))) ≡ owed h t ++ end)
 closing r h t true c d is e = ([], tt, refl)
 closing r h t false true true is e = ([], tt, refl)
 closing r h t false true false is e = (Last (length h + 1) (reason r.kind) ∷ [], tt, refl)

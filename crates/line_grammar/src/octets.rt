@@ -1,5 +1,5 @@
 //! Octets that a clause sees as a list.
-ghost use Rattle.std.specs.Prelude.{◌≡◌, ◌↔◌, [], length, IfOk, IsTrue};
+ghost use Rattle.std.specs.Prelude.{◌≡◌, ◌↔◌, ◌++◌, [], length, IfOk, OnOk, OnErr, IsTrue};
 ghost use Rattle.std.proofs.Common.{rules};
 
 use std::alloc::{AllocError, Global};
@@ -34,6 +34,14 @@ impl Octets {
         Ok(Octets {
             octets: Vec::from_slice(alloc, octets)?,
         })
+    }
+
+    /// Adds octets at the end. A growth that was refused changes nothing.
+    pub fn extend_from_slice(&mut self, more: &[u8]) -> Result<(), AllocError>
+        ensures ok { OnOk result (self.new ≡ self.old ++ more.now) }
+        ensures err { OnErr result (self.new ≡ self.old) }
+    {
+        self.octets.extend_from_slice(more)
     }
 
     /// How many octets there are.

@@ -4,23 +4,22 @@ use Rattle.line_grammar.specs.declared.splitter.Piece.{Piece}
 use Rattle.chronicle.specs.declared.record.Kind.TheVariants.{Said}
 use Rattle.chronicle.specs.History.{accepted}
 use Rattle.chronicle.specs.Journal.{fresh_record}
-use Rattle.deeds.specs.Tables.{changed_people, changed_channels}
+use Rattle.roster.specs.declared.deed.Deed.{Deed}
+use Rattle.roster.specs.LookBack.{after, opened}
+use Rattle.deeds.specs.Effects.{deeds_of}
+use Rattle.deeds.specs.Commands.{command_of}
+use Rattle.deeds.specs.Rows.{of_command}
+use Rattle.book.specs.Seats.{planned_from}
 use Rattle.book.specs.declared.seat.Seat.{Seat}
 use Rattle.book.specs.Book.{Turn, MayBegin, plan_of, begun, held}
 use Rattle.book.proofs.KeptSteps.{shown}
 use Rattle.book.proofs.Opened.{accepted_le}
-use Rattle.book.proofs.Plans.{planned_from}
 use Rattle.book.proofs.Begins.{begun_is}
 use Rattle.book.proofs.Appends.{seat_there, said_plan, said_kept}
 use Rattle.book.proofs.book.Book.begin.Goals as goal
 
-pub commit-requires-clause-ready : goal.commit-requires-clause-ready
-commit-requires-clause-ready c =
-    let e : vec_len c.prepare.new.tables.channels ≡ length c.self.inside.tables.channels.items = grind (arith, common_steps) in
-    c.in_ok-prepared.ensures.committable c.prepare.new.tables.channels e (grind (arith, common_steps))
-
 -- where a line may be accepted
-may : (c : goal.After-drop-verdict-2) → MayBegin (shown c.self.inside.journal c.self.inside.most c.self.inside.outboxes.items c.self.inside.plan.items c.self.inside.busy) c.args.baton.now c.args.moment
+may : (c : goal.After-result-1) → MayBegin (shown c.self.inside.journal c.self.inside.most c.self.inside.outboxes.items c.self.inside.plan.items c.self.inside.busy) c.args.baton.now c.args.moment
 may c = subst (λ m. MayBegin m c.args.baton.now c.args.moment) (sym c.self.view_is) c.in_ok-place.ensures.ok
 
 pub overflow_add-seat : goal.overflow_add-seat
@@ -45,7 +44,7 @@ overflow_add-result c =
     let next : c.baton.inside.next ≡ length (accepted h s) = ap (λ b. b.next) c.baton.view_is ∙ may.turn.next in
     omega arith
 
-history : (c : goal.After-drop-verdict-2) → c.append.new.self.history ≡ fresh_record c.self.inside.journal.history c.args.moment (Said c.args.baton.now.session c.args.baton.now.next c.args.piece.now) ∷ c.self.inside.journal.history
+history : (c : goal.After-result-1) → c.append.new.self.history ≡ fresh_record c.self.inside.journal.history c.args.moment (Said c.args.baton.now.session c.args.baton.now.next c.args.piece.now) ∷ c.self.inside.journal.history
 history c =
     let a = c.self.inside in let same = c.reserve.ensures.same in let app = c.append.ensures.appended in
     let said : c.in_ok-told.told ≡ c.args.piece.now = c.in_ok-told.ensures in
@@ -54,31 +53,32 @@ history c =
     ∙ ap (λ (x : Turn). fresh_record a.journal.history c.args.moment (Said x.session x.next c.in_ok-told.told) ∷ a.journal.history) b
     ∙ ap (λ (x : Piece). fresh_record a.journal.history c.args.moment (Said c.args.baton.now.session c.args.baton.now.next x) ∷ a.journal.history) said
 
-limit : (c : goal.After-drop-verdict-2) → c.append.new.self.limit ≡ c.self.inside.journal.limit
+limit : (c : goal.After-result-1) → c.append.new.self.limit ≡ c.self.inside.journal.limit
 limit c = c.append.ensures.appended.limit ∙ c.reserve.ensures.same.limit
 
-plan : (c : goal.After-drop-verdict-2) → c.in_ok-prepared.prepared.plan.items ≡ plan_of c.self.inside.journal.history (Said c.args.baton.now.session c.args.baton.now.next c.args.piece.now) (length c.self.inside.outboxes.items)
+plan : (c : goal.After-result-1) → c.in_ok-prepared.prepared.plan.items ≡ plan_of c.self.inside.journal.history (Said c.args.baton.now.session c.args.baton.now.next c.args.piece.now) (length c.self.inside.outboxes.items)
 plan c =
-    let a = c.self.inside in let v = c.in_ok-prepared.prepared.verdict in let q = c.in_ok-prepared.quits in
+    let a = c.self.inside in let q = c.in_ok-prepared.quits in let es = of_command a.roster.facts (c.in_ok-place.place + 1) (command_of c.args.piece.now) in
     let number : c.new-number.result ≡ length a.journal.history + 1 = grind (arith, common_steps) in
     let seats : c.deref.result.now ≡ a.seats.items = c.deref.ensures.value in
-    let made : c.in_ok-prepared.prepared.plan.items ≡ planned_from a.seats.items c.new-number.result v q (c.in_ok-place.place + 1) 1 (length a.seats.items) =
-    c.in_ok-prepared.ensures.plan ∙ ap (λ (xs : List Seat). planned_from xs c.new-number.result v q (c.in_ok-place.place + 1) 1 (length xs)) seats in
-    said_plan a.journal a.most a.tables.people.items a.tables.channels.items a.seats.items a.outboxes.items a.plan.items a.busy c.self.invariant c.args.baton.now c.args.piece.now c.args.moment c.in_ok-place.place
-    c.new-number.result v q c.in_ok-prepared.prepared.plan.items (may c) c.in_ok-place.ensures.place number c.in_ok-prepared.ensures.quits c.in_ok-prepared.ensures.right made
+    let made : c.in_ok-prepared.prepared.plan.items ≡ planned_from a.seats.items (c.in_ok-place.place + 1) c.new-number.result es q =
+    c.in_ok-prepared.ensures.plan ∙ ap (λ (xs : List Seat). planned_from xs (c.in_ok-place.place + 1) c.new-number.result es q) seats in
+    said_plan a.journal a.most a.roster.facts a.seats.items a.outboxes.items a.plan.items a.busy c.self.invariant c.args.baton.now c.args.piece.now c.args.moment c.in_ok-place.place
+    c.new-number.result q c.in_ok-prepared.prepared.plan.items (may c) c.in_ok-place.ensures.place number c.in_ok-prepared.ensures.quits made
 
 pub invariant_of-self-3 : goal.invariant_of-self-3
 invariant_of-self-3 c =
-    let a = c.self.inside in let v = c.in_ok-prepared.prepared.verdict in
+    let a = c.self.inside in let es = of_command a.roster.facts (c.in_ok-place.place + 1) (command_of c.args.piece.now) in
     let room : length c.in_ok-prepared.prepared.plan.items ≤ c.append.new.self.left = grind (arith, common_steps) in
     let kept : c.held-room.result ≡ held a.journal.history = c.held-room.ensures.kept in
     let ok = c.reserve.ensures.ok in let more = c.append.ensures.appended.room in
     let free : held a.journal.history ≤ c.append.new.self.room = grind (arith, common_steps) in
-    let people : c.commit.new.tables.people.items ≡ changed_people a.tables.people.items (c.in_ok-place.place + 1) v.change = grind (arith, common_steps) in
-    let channels : c.commit.new.tables.channels.items ≡ changed_channels a.tables.channels.items v.change v.hearers = grind (arith, common_steps) in
-    said_kept a.journal a.most a.tables.people.items a.tables.channels.items a.seats.items a.outboxes.items a.plan.items a.busy c.self.invariant c.append.new.self c.commit.new.tables.people.items
-    c.commit.new.tables.channels.items c.in_ok-prepared.prepared.plan.items c.args.baton.now c.args.piece.now c.args.moment c.in_ok-place.place v c.in_ok-prepared.quits c.index_mut-seat.result.now
-    (may c) c.in_ok-place.ensures.place c.in_ok-prepared.ensures.quits c.in_ok-prepared.ensures.right (plan c) (history c) (limit c) room free people channels c.index_mut-seat.ensures.value
+    let more : c.commit.new.roster.facts ≡ after a.roster.facts c.in_ok-prepared.prepared.deeds.items = c.commit.ensures ∙ ap (λ (fs : List Deed). after fs c.in_ok-prepared.prepared.deeds.items) c.prepare.ensures.facts in
+    let known : c.commit.new.roster.facts ≡ after a.roster.facts (deeds_of es) = more ∙ ap (after a.roster.facts) c.in_ok-prepared.ensures.deeds in
+    let same : opened c.commit.new.roster.facts ≡ opened a.roster.facts = ap opened more ∙ c.in_ok-prepared.ensures.opened in
+    said_kept a.journal a.most a.roster.facts a.seats.items a.outboxes.items a.plan.items a.busy c.self.invariant c.append.new.self c.commit.new.roster.facts
+    c.in_ok-prepared.prepared.plan.items c.args.baton.now c.args.piece.now c.args.moment c.in_ok-place.place c.in_ok-prepared.quits c.index_mut-seat.result.now
+    (may c) c.in_ok-place.ensures.place c.in_ok-prepared.ensures.quits (plan c) (history c) (limit c) room free known same c.index_mut-seat.ensures.value
 
 pub returns-clause-ok : goal.returns-clause-ok
 returns-clause-ok c =

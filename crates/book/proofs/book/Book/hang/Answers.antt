@@ -3,9 +3,7 @@ use Rattle.std.proofs.lemmas.Grind.{common_steps}
 use Rattle.chronicle.specs.declared.record.Kind.TheVariants.{Hung}
 use Rattle.outbox.specs.Ring.{has_room, with_put}
 use Rattle.outbox.specs.declared.item.Item.TheVariants.{Last}
-use Rattle.deeds.specs.declared.deed.Deed.TheVariants.{Ended}
-use Rattle.deeds.specs.Deeds.{facts}
-use Rattle.deeds.specs.Stands.{Stands}
+use Rattle.roster.specs.declared.deed.Deed.TheVariants.{Ended}
 use Rattle.book.specs.Kept.{IsKept}
 use Rattle.book.specs.Book.{MayHang, outbox_at, done}
 use Rattle.book.proofs.KeptSteps.{shown}
@@ -16,7 +14,7 @@ use Rattle.book.proofs.book.Book.hang.Goals as goal
 pub append-number-requires : goal.append-number-requires
 append-number-requires c =
     let a = c.self.inside in let may = subst (λ m. MayHang m c.args.session c.args.moment) (sym c.self.view_is) c.in_ok-place.ensures.ok in
-    hang_room a.journal a.most a.tables.people.items a.tables.channels.items a.seats.items a.outboxes.items a.plan.items a.busy c.self.invariant c.args.session c.args.why c.args.moment may
+    hang_room a.journal a.most a.roster.facts a.seats.items a.outboxes.items a.plan.items a.busy c.self.invariant c.args.session c.args.why c.args.moment may
 
 pub invariant_of-self : goal.invariant_of-self
 invariant_of-self c =
@@ -24,13 +22,12 @@ invariant_of-self c =
     let may : MayHang (shown a.journal a.most a.outboxes.items a.plan.items a.busy) s c.args.moment = subst (λ m. MayHang m s c.args.moment) (sym c.self.view_is) c.in_ok-place.ensures.ok in
     let app = c.append-number.ensures.appended in
     let left : 1 ≤ c.append-number.new.self.left = c.append-number.ensures.one in
-    let people : length c.end.new.self.people.items ≡ length a.tables.people.items = grind (arith, common_steps) in
-    let stands : Stands c.end.new.self.people.items c.end.new.self.channels.items (Ended s w [] ∷ facts h) = c.end.ensures.stands (facts h) c.self.invariant.stands in
+    let known : c.end.new.self.facts ≡ Ended s w [] ∷ a.roster.facts = c.end.ensures.facts in
     let has : has_room (outbox_at a.outboxes.items s) ≡ true = sym c.offer.ensures.room ∙ c.if-offer.true in
     let put : c.offer.new.outboxes.items ≡ slice_set a.outboxes.items (s - 1) (Some (with_put (outbox_at a.outboxes.items s) (Last (length h + 1) w))) =
     c.offer.ensures.put c.if-offer.true ∙ ap (λ (n : ℕ). slice_set a.outboxes.items (s - 1) (Some (with_put (outbox_at a.outboxes.items s) (Last n w)))) c.append-number.ensures.number in
-    hung_put a.journal a.most a.tables.people.items a.tables.channels.items a.seats.items a.outboxes.items a.plan.items a.busy c.self.invariant c.append-number.new.self c.end.new.self.people.items
-    c.end.new.self.channels.items c.offer.new.outboxes.items s w c.args.moment c.in_ok-place.place c.index_mut-seat.result.now may c.in_ok-place.ensures.place app.history app.limit left app.room people stands
+    hung_put a.journal a.most a.roster.facts a.seats.items a.outboxes.items a.plan.items a.busy c.self.invariant c.append-number.new.self c.end.new.self.facts
+    c.offer.new.outboxes.items s w c.args.moment c.in_ok-place.place c.index_mut-seat.result.now may c.in_ok-place.ensures.place app.history app.limit left app.room known
     c.index_mut-seat.ensures.value has put
 
 pub returns-then-offer-clause-ok : goal.returns-then-offer-clause-ok
@@ -50,12 +47,11 @@ invariant_of-self-2 c =
     let may : MayHang (shown a.journal a.most a.outboxes.items a.plan.items a.busy) s c.args.moment = subst (λ m. MayHang m s c.args.moment) (sym c.self.view_is) c.in_ok-place.ensures.ok in
     let app = c.append-number.ensures.appended in
     let left : 1 ≤ c.append-number.new.self.left = c.append-number.ensures.one in
-    let people : length c.end.new.self.people.items ≡ length a.tables.people.items = grind (arith, common_steps) in
-    let stands : Stands c.end.new.self.people.items c.end.new.self.channels.items (Ended s w [] ∷ facts h) = c.end.ensures.stands (facts h) c.self.invariant.stands in
-    let kept = hung_missed a.journal a.most a.tables.people.items a.tables.channels.items a.seats.items a.outboxes.items a.plan.items a.busy c.self.invariant c.append-number.new.self c.miss.new.self c.end.new.self.people.items
-    c.end.new.self.channels.items s w c.args.moment c.in_ok-place.place c.index_mut-seat.result.now may c.in_ok-place.ensures.place app.history app.limit left app.room people stands c.index_mut-seat.ensures.value c.miss.ensures in
+    let known : c.end.new.self.facts ≡ Ended s w [] ∷ a.roster.facts = c.end.ensures.facts in
+    let kept = hung_missed a.journal a.most a.roster.facts a.seats.items a.outboxes.items a.plan.items a.busy c.self.invariant c.append-number.new.self c.miss.new.self c.end.new.self.facts
+    s w c.args.moment c.in_ok-place.place c.index_mut-seat.result.now may c.in_ok-place.ensures.place app.history app.limit left app.room known c.index_mut-seat.ensures.value c.miss.ensures in
     let places = slice_set a.seats.items c.in_ok-place.place (record { shut = true; gone = c.index_mut-seat.result.now.gone; accepted = c.index_mut-seat.result.now.accepted }) in
-    subst (λ xs. IsKept c.miss.new.self a.most c.end.new.self.people.items c.end.new.self.channels.items places xs a.plan.items a.busy) (sym (c.offer.ensures.full c.if-offer.false)) kept
+    subst (λ xs. IsKept c.miss.new.self a.most c.end.new.self.facts places xs a.plan.items a.busy) (sym (c.offer.ensures.full c.if-offer.false)) kept
 
 pub returns-clause-ok : goal.returns-clause-ok
 returns-clause-ok c =

@@ -1,6 +1,6 @@
 use Rattle.std.proofs.Common.{◌≡◌, ◌+◌, ◌-◌}
 use Rattle.chronicle.specs.History.{sessions}
-use Rattle.deeds.specs.Stands.{numbers}
+use Rattle.roster.specs.LookBack.{numbers}
 use Rattle.book.specs.Book.{first, is_to_sweep, to_sweep}
 use Rattle.book.proofs.book.Book.next_to_sweep.Given as goal
 

@@ -1,10 +1,9 @@
-use Rattle.std.proofs.Common.{arith, ◌≡◌, ◌+◌, ◌≤◌, ◌∷◌, [], ◌++◌, length, Some, sym, ap, ◌∙◌, subst}
+use Rattle.std.proofs.Common.{arith, ◌≡◌, ◌+◌, ◌≤◌, ◌∷◌, [], ◌++◌, List, length, Some, sym, ap, ◌∙◌, subst}
 use Rattle.std.proofs.lemmas.Grind.{common_steps}
 use Rattle.chronicle.specs.declared.record.Kind.TheVariants.{Opened}
 use Rattle.chronicle.specs.Journal.{fresh_record}
-use Rattle.deeds.specs.declared.deed.Deed.TheVariants as deed
-use Rattle.deeds.specs.Deeds.{facts}
-use Rattle.deeds.specs.Stands.{newcomer, Stands}
+use Rattle.roster.specs.declared.deed.Deed.{Deed}
+use Rattle.roster.specs.declared.deed.Deed.TheVariants as deed
 use Rattle.book.specs.Seats.{no_seat}
 use Rattle.book.specs.Book.{MayOpen, held}
 use Rattle.book.proofs.KeptSteps.{shown, opened_kept}
@@ -16,8 +15,6 @@ invariant_of-self-2 c =
     let may : MayOpen (shown a.journal a.most a.outboxes.items a.plan.items a.busy) c.args.moment = subst (λ m. MayOpen m c.args.moment) (sym c.self.view_is) (c.in-Ok.ensures.ok) in
     let session : c.new-session.result ≡ length a.seats.items + 1 = grind (arith, common_steps) in
     let told : c.in-Ok-clone.told ≡ c.args.host = grind (arith, common_steps) in
-    let same_people : c.reserve_person.new.self.people.items ≡ a.tables.people.items = c.reserve_person.ensures.people in
-    let people : c.open.new.self.people.items ≡ a.tables.people.items ++ newcomer c.args.host ∷ [] = grind (arith, common_steps) in
     let seats : c.push_reserved.new.self.items ≡ a.seats.items ++ no_seat ∷ [] = grind (arith, common_steps) in
     let boxes : c.push_reserved-2.new.self.items ≡ a.outboxes.items ++ Some c.args.outbox ∷ [] = grind (arith, common_steps) in
     let same = c.reserve-else-is_err-3.ensures.same in let app = c.append.ensures.appended in
@@ -26,9 +23,6 @@ invariant_of-self-2 c =
     let limit : c.append.new.self.limit ≡ a.journal.limit = app.limit ∙ same.limit in
     let kept : c.held-room.result ≡ held a.journal.history = c.held-room.ensures.kept ∙ ap (λ m. held m.history) (sym c.self.view_is) in
     let free : held a.journal.history + 2 ≤ c.append.new.self.room = let ok = c.reserve-else-is_err-3.ensures.ok in let more = app.room in grind (arith, common_steps) in
-    let longer : length c.open.new.self.people.items ≡ length a.tables.people.items + 1 = grind (arith, common_steps) in
-    let before : Stands c.reserve_person.new.self.people.items c.reserve_person.new.self.channels.items (facts a.journal.history) =
-    subst (λ ps. Stands ps c.reserve_person.new.self.channels.items (facts a.journal.history)) (sym same_people) (subst (λ V. Stands a.tables.people.items V.items (facts a.journal.history)) (sym c.reserve_person.ensures.channels) c.self.invariant.stands) in
-    let stands = subst (λ ps. Stands c.open.new.self.people.items c.open.new.self.channels.items (deed.Opened (length ps + 1) c.args.host ∷ facts a.journal.history)) same_people (c.open.ensures.stands (facts a.journal.history) before) in
-    opened_kept a.journal c.append.new.self a.most a.tables.people.items c.open.new.self.people.items a.tables.channels.items c.open.new.self.channels.items a.seats.items c.push_reserved.new.self.items
-    a.outboxes.items c.push_reserved-2.new.self.items a.plan.items a.busy c.args.host c.in-Ok-clone.told c.args.moment c.new-session.result c.args.outbox c.self.invariant may c.requires.fresh session told history limit free longer stands seats boxes
+    let known : c.apply.new.self.facts ≡ deed.Opened c.new-session.result c.args.host ∷ a.roster.facts = c.apply.ensures.facts ∙ ap (λ (fs : List Deed). deed.Opened c.new-session.result c.args.host ∷ fs) c.prepare.ensures.facts in
+    opened_kept a.journal c.append.new.self a.most a.roster.facts c.apply.new.self.facts a.seats.items c.push_reserved.new.self.items
+    a.outboxes.items c.push_reserved-2.new.self.items a.plan.items a.busy c.args.host c.in-Ok-clone.told c.args.moment c.new-session.result c.args.outbox c.self.invariant may c.requires.fresh session told history limit free known seats boxes

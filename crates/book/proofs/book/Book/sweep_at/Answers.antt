@@ -2,13 +2,16 @@ use Rattle.std.proofs.Common.{arith, ◌≡◌, ◌+◌, ◌<◌, ◌≤◌, ◌
 use Rattle.std.proofs.lemmas.Grind.{common_steps}
 use Rattle.chronicle.specs.declared.record.Kind.TheVariants.{Gone}
 use Rattle.chronicle.specs.Journal.{fresh_record}
-use Rattle.deeds.specs.Tables.{changed_people, changed_channels}
+use Rattle.roster.specs.declared.deed.Deed.{Deed}
+use Rattle.roster.specs.LookBack.{after, opened}
+use Rattle.deeds.specs.Effects.{deeds_of}
+use Rattle.deeds.specs.Departure.{departs}
+use Rattle.book.specs.Seats.{planned_from}
 use Rattle.book.specs.declared.seat.Seat.{Seat}
 use Rattle.chronicle.specs.History.{sessions}
 use Rattle.book.specs.Book.{MaySweep, to_sweep, plan_of, begun, held, newest_actor, newest_next, newest_missed}
 use Rattle.book.proofs.Sweeps.{swept_is}
 use Rattle.book.proofs.KeptSteps.{shown}
-use Rattle.book.proofs.Plans.{planned_from}
 use Rattle.book.proofs.Begins.{begun_is}
 use Rattle.book.proofs.Appends.{sweep_room, gone_plan, gone_kept}
 use Rattle.book.proofs.book.Book.sweep_at.Goals as goal
@@ -17,88 +20,76 @@ pub overflow_add-place : goal.overflow_add-place
 overflow_add-place c =
     let a = c.self.inside in let next = subst (λ m. to_sweep m.history ≡ Some (c.args.place + 1)) (sym c.self.view_is) c.requires.next in
     let limit : a.journal.limit < 18446744073709551616 = subst (λ m. m.limit < 18446744073709551616) (sym c.self.view_is) c.held-room.ensures.fits in
-    let few = sweep_room a.journal a.most a.tables.people.items a.tables.channels.items a.seats.items a.outboxes.items a.plan.items a.busy c.self.invariant (c.args.place + 1) c.args.moment next in let some = few.0 in let seated = few.1 in let known = few.2 in let room = few.3 in
+    let few = sweep_room a.journal a.most a.roster.facts a.seats.items a.outboxes.items a.plan.items a.busy c.self.invariant (c.args.place + 1) c.args.moment next in let some = few.0 in let seated = few.1 in let known = few.2 in let room = few.3 in
     omega arith
 
 pub overflow_add-len : goal.overflow_add-len
 overflow_add-len c =
     let a = c.self.inside in let next = subst (λ m. to_sweep m.history ≡ Some (c.args.place + 1)) (sym c.self.view_is) c.requires.next in
     let limit : a.journal.limit < 18446744073709551616 = subst (λ m. m.limit < 18446744073709551616) (sym c.self.view_is) c.held-room.ensures.fits in
-    let few = sweep_room a.journal a.most a.tables.people.items a.tables.channels.items a.seats.items a.outboxes.items a.plan.items a.busy c.self.invariant (c.args.place + 1) c.args.moment next in let some = few.0 in let seated = few.1 in let known = few.2 in let room = few.3 in
+    let few = sweep_room a.journal a.most a.roster.facts a.seats.items a.outboxes.items a.plan.items a.busy c.self.invariant (c.args.place + 1) c.args.moment next in let some = few.0 in let seated = few.1 in let known = few.2 in let room = few.3 in
     let len : c.len.result ≡ length a.journal.history = c.len.ensures in omega arith
 
 pub prepare_gone-requires-clause-seated : goal.prepare_gone-requires-clause-seated
 prepare_gone-requires-clause-seated c =
     let a = c.self.inside in let next = subst (λ m. to_sweep m.history ≡ Some (c.args.place + 1)) (sym c.self.view_is) c.requires.next in
     let limit : a.journal.limit < 18446744073709551616 = subst (λ m. m.limit < 18446744073709551616) (sym c.self.view_is) c.held-room.ensures.fits in
-    let few = sweep_room a.journal a.most a.tables.people.items a.tables.channels.items a.seats.items a.outboxes.items a.plan.items a.busy c.self.invariant (c.args.place + 1) c.args.moment next in let some = few.0 in let seated = few.1 in let known = few.2 in let room = few.3 in
+    let few = sweep_room a.journal a.most a.roster.facts a.seats.items a.outboxes.items a.plan.items a.busy c.self.invariant (c.args.place + 1) c.args.moment next in let some = few.0 in let seated = few.1 in let known = few.2 in let room = few.3 in
     let len : length c.deref.result.now ≡ length a.seats.items = ap length c.deref.ensures.value in omega arith
 
 pub prepare_gone-requires-clause-known : goal.prepare_gone-requires-clause-known
 prepare_gone-requires-clause-known c =
     let a = c.self.inside in let next = subst (λ m. to_sweep m.history ≡ Some (c.args.place + 1)) (sym c.self.view_is) c.requires.next in
     let limit : a.journal.limit < 18446744073709551616 = subst (λ m. m.limit < 18446744073709551616) (sym c.self.view_is) c.held-room.ensures.fits in
-    let few = sweep_room a.journal a.most a.tables.people.items a.tables.channels.items a.seats.items a.outboxes.items a.plan.items a.busy c.self.invariant (c.args.place + 1) c.args.moment next in let some = few.0 in let seated = few.1 in let known = few.2 in let room = few.3 in
-    let len : vec_len a.tables.people ≡ length a.tables.people.items = grind (arith, common_steps) in omega arith
+    let few = sweep_room a.journal a.most a.roster.facts a.seats.items a.outboxes.items a.plan.items a.busy c.self.invariant (c.args.place + 1) c.args.moment next in let some = few.0 in let seated = few.1 in let known = few.2 in let room = few.3 in
+    known
 
 pub append-requires : goal.append-requires
 append-requires c =
     let a = c.self.inside in let next = subst (λ m. to_sweep m.history ≡ Some (c.args.place + 1)) (sym c.self.view_is) c.requires.next in
     let limit : a.journal.limit < 18446744073709551616 = subst (λ m. m.limit < 18446744073709551616) (sym c.self.view_is) c.held-room.ensures.fits in
-    let few = sweep_room a.journal a.most a.tables.people.items a.tables.channels.items a.seats.items a.outboxes.items a.plan.items a.busy c.self.invariant (c.args.place + 1) c.args.moment next in let some = few.0 in let seated = few.1 in let known = few.2 in let room = few.3 in
+    let few = sweep_room a.journal a.most a.roster.facts a.seats.items a.outboxes.items a.plan.items a.busy c.self.invariant (c.args.place + 1) c.args.moment next in let some = few.0 in let seated = few.1 in let known = few.2 in let room = few.3 in
     let kept : c.held-room.result ≡ held a.journal.history = c.held-room.ensures.kept ∙ ap (λ m. held m.history) (sym c.self.view_is) in let ok = c.reserve.ensures.ok in grind (arith, common_steps)
-
-pub commit-requires-clause-known : goal.commit-requires-clause-known
-commit-requires-clause-known c =
-    let a = c.self.inside in let next = subst (λ m. to_sweep m.history ≡ Some (c.args.place + 1)) (sym c.self.view_is) c.requires.next in
-    let limit : a.journal.limit < 18446744073709551616 = subst (λ m. m.limit < 18446744073709551616) (sym c.self.view_is) c.held-room.ensures.fits in
-    let few = sweep_room a.journal a.most a.tables.people.items a.tables.channels.items a.seats.items a.outboxes.items a.plan.items a.busy c.self.invariant (c.args.place + 1) c.args.moment next in let some = few.0 in let seated = few.1 in let known = few.2 in let room = few.3 in
-    let len : vec_len c.prepare.new.tables.people ≡ length a.tables.people.items = grind (arith, common_steps) in omega arith
-
-pub commit-requires-clause-ready : goal.commit-requires-clause-ready
-commit-requires-clause-ready c =
-    let e : vec_len c.prepare.new.tables.channels ≡ length c.self.inside.tables.channels.items = grind (arith, common_steps) in
-    c.in_ok-prepared.ensures.committable c.prepare.new.tables.channels e (grind (arith, common_steps))
 
 pub index_mut-seat-requires : goal.index_mut-seat-requires
 index_mut-seat-requires c =
     let a = c.self.inside in let next = subst (λ m. to_sweep m.history ≡ Some (c.args.place + 1)) (sym c.self.view_is) c.requires.next in
     let limit : a.journal.limit < 18446744073709551616 = subst (λ m. m.limit < 18446744073709551616) (sym c.self.view_is) c.held-room.ensures.fits in
-    let few = sweep_room a.journal a.most a.tables.people.items a.tables.channels.items a.seats.items a.outboxes.items a.plan.items a.busy c.self.invariant (c.args.place + 1) c.args.moment next in let some = few.0 in let seated = few.1 in let known = few.2 in let room = few.3 in
+    let few = sweep_room a.journal a.most a.roster.facts a.seats.items a.outboxes.items a.plan.items a.busy c.self.invariant (c.args.place + 1) c.args.moment next in let some = few.0 in let seated = few.1 in let known = few.2 in let room = few.3 in
     let len : vec_len a.seats ≡ length a.seats.items = grind (arith, common_steps) in omega arith
 
 -- the record that was appended, and the plan of its deliveries
-history : (c : goal.After-drop-verdict-2) → c.append.new.self.history ≡ fresh_record c.self.inside.journal.history c.args.moment (Gone (c.args.place + 1)) ∷ c.self.inside.journal.history
+history : (c : goal.After-self-2-1) → c.append.new.self.history ≡ fresh_record c.self.inside.journal.history c.args.moment (Gone (c.args.place + 1)) ∷ c.self.inside.journal.history
 history c =
     let app = c.append.ensures.appended in let session : c.new-session.result ≡ c.args.place + 1 = c.new-session.ensures in
     app.history ∙ ap (λ h. fresh_record h c.args.moment (Gone c.new-session.result) ∷ h) c.reserve.ensures.same.history ∙ ap (λ (s : ℕ). fresh_record c.self.inside.journal.history c.args.moment (Gone s) ∷ c.self.inside.journal.history) session
 
-limit : (c : goal.After-drop-verdict-2) → c.append.new.self.limit ≡ c.self.inside.journal.limit
+limit : (c : goal.After-self-2-1) → c.append.new.self.limit ≡ c.self.inside.journal.limit
 limit c = c.append.ensures.appended.limit ∙ c.reserve.ensures.same.limit
 
-plan : (c : goal.After-drop-verdict-2) → c.in_ok-prepared.prepared.plan.items ≡ plan_of c.self.inside.journal.history (Gone (c.args.place + 1)) (length c.self.inside.outboxes.items)
+plan : (c : goal.After-self-2-1) → c.in_ok-prepared.prepared.plan.items ≡ plan_of c.self.inside.journal.history (Gone (c.args.place + 1)) (length c.self.inside.outboxes.items)
 plan c =
-    let a = c.self.inside in let v = c.in_ok-prepared.prepared.verdict in let next = subst (λ m. to_sweep m.history ≡ Some (c.args.place + 1)) (sym c.self.view_is) c.requires.next in
+    let a = c.self.inside in let es = departs a.roster.facts (c.args.place + 1) in let next = subst (λ m. to_sweep m.history ≡ Some (c.args.place + 1)) (sym c.self.view_is) c.requires.next in
     let number : c.new-number.result ≡ length a.journal.history + 1 = grind (arith, common_steps) in
     let seats : c.deref.result.now ≡ a.seats.items = c.deref.ensures.value in
-    let made : c.in_ok-prepared.prepared.plan.items ≡ planned_from a.seats.items c.new-number.result v false (c.args.place + 1) 1 (length a.seats.items) =
-    c.in_ok-prepared.ensures.plan ∙ ap (λ (xs : List Seat). planned_from xs c.new-number.result v false (c.args.place + 1) 1 (length xs)) seats in
-    gone_plan a.journal a.most a.tables.people.items a.tables.channels.items a.seats.items a.outboxes.items a.plan.items a.busy c.self.invariant c.args.place c.new-number.result v c.in_ok-prepared.prepared.plan.items
-    next number c.in_ok-prepared.ensures.right made
+    let made : c.in_ok-prepared.prepared.plan.items ≡ planned_from a.seats.items (c.args.place + 1) c.new-number.result es false =
+    c.in_ok-prepared.ensures.plan ∙ ap (λ (xs : List Seat). planned_from xs (c.args.place + 1) c.new-number.result es false) seats in
+    gone_plan a.journal a.most a.roster.facts a.seats.items a.outboxes.items a.plan.items a.busy c.self.invariant c.args.place c.new-number.result c.in_ok-prepared.prepared.plan.items
+    next number made
 
 pub invariant_of-self-2 : goal.invariant_of-self-2
 invariant_of-self-2 c =
-    let a = c.self.inside in let v = c.in_ok-prepared.prepared.verdict in let next = subst (λ m. to_sweep m.history ≡ Some (c.args.place + 1)) (sym c.self.view_is) c.requires.next in
+    let a = c.self.inside in let es = departs a.roster.facts (c.args.place + 1) in let next = subst (λ m. to_sweep m.history ≡ Some (c.args.place + 1)) (sym c.self.view_is) c.requires.next in
     let may : MaySweep (shown a.journal a.most a.outboxes.items a.plan.items a.busy) c.args.moment = subst (λ m. MaySweep m c.args.moment) (sym c.self.view_is) c.requires.may in
     let room : length c.in_ok-prepared.prepared.plan.items ≤ c.append.new.self.left = grind (arith, common_steps) in
     let kept : c.held-room.result ≡ held a.journal.history = c.held-room.ensures.kept ∙ ap (λ m. held m.history) (sym c.self.view_is) in
     let ok = c.reserve.ensures.ok in let more = c.append.ensures.appended.room in
     let free : held a.journal.history ≤ c.append.new.self.room + 1 = grind (arith, common_steps) in
-    let people : c.commit.new.tables.people.items ≡ changed_people a.tables.people.items (c.args.place + 1) v.change = grind (arith, common_steps) in
-    let channels : c.commit.new.tables.channels.items ≡ changed_channels a.tables.channels.items v.change v.hearers = grind (arith, common_steps) in
-    gone_kept a.journal a.most a.tables.people.items a.tables.channels.items a.seats.items a.outboxes.items a.plan.items a.busy c.self.invariant c.append.new.self c.commit.new.tables.people.items
-    c.commit.new.tables.channels.items c.in_ok-prepared.prepared.plan.items c.args.moment c.args.place v c.index_mut-seat.result.now may next c.in_ok-prepared.ensures.right (plan c) (history c) (limit c) room free people channels
-    c.index_mut-seat.ensures.value
+    let more_known : c.commit.new.roster.facts ≡ after a.roster.facts c.in_ok-prepared.prepared.deeds.items = c.commit.ensures ∙ ap (λ (fs : List Deed). after fs c.in_ok-prepared.prepared.deeds.items) c.prepare.ensures.facts in
+    let known : c.commit.new.roster.facts ≡ after a.roster.facts (deeds_of es) = more_known ∙ ap (after a.roster.facts) c.in_ok-prepared.ensures.deeds in
+    let same : opened c.commit.new.roster.facts ≡ opened a.roster.facts = ap opened more_known ∙ c.in_ok-prepared.ensures.opened in
+    gone_kept a.journal a.most a.roster.facts a.seats.items a.outboxes.items a.plan.items a.busy c.self.invariant c.append.new.self c.commit.new.roster.facts
+    c.in_ok-prepared.prepared.plan.items c.args.moment c.args.place c.index_mut-seat.result.now may next (plan c) (history c) (limit c) room free known same c.index_mut-seat.ensures.value
 
 pub returns-clause-ok : goal.returns-clause-ok
 returns-clause-ok c =

@@ -1,0 +1,14 @@
+use Rattle.std.proofs.Common.{arith, ◌≡◌, ◌+◌, ℕ, List, false, ap, ◌∙◌, subst}
+use Rattle.std.specs.Result.{IfOk}
+use Rattle.deeds.specs.Departure.{departs}
+use Rattle.deeds.specs.Verdicts.{IsVerdict}
+use Rattle.book.specs.declared.plan.Planned.{Planned}
+use Rattle.book.proofs.Plans.{planned_same}
+use Rattle.book.proofs.plan.prepare_gone.Goals as goal
+
+pub returns-clause-plan : goal.returns-clause-plan
+returns-clause-plan c =
+    let s = c.args.place + 1 in let v = c.in_ok-verdict.verdict in let fs = c.args.roster.now.facts in
+    let session : c.new-session.result ≡ s = let e = c.new-session.ensures in omega arith in
+    let is : IsVerdict v s (departs fs s) = subst (λ (j : ℕ). IsVerdict v j (departs fs j)) session c.in_ok-verdict.ensures.verdict in
+    subst (λ (ps : List Planned). IfOk c.with_room.result (λ p. p.plan.items ≡ ps)) (planned_same c.args.seats.now s c.args.number v (departs fs s) false is) c.with_room.ensures.plan

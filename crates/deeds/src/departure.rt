@@ -1,0 +1,56 @@
+//! What comes of a session being gone (RFC 2812, section 3.1.7).
+ghost use Rattle.std.specs.Prelude.{◌≡◌, IfOk, OnOk};
+ghost use Rattle.roster.specs.LookBack.{after, opened};
+ghost use Rattle.roster.specs.Legal.{IsOpened, AreNext};
+ghost use Rattle.deeds.specs.Departure.{farewell, departs};
+ghost use Rattle.deeds.specs.Drafted.{grown};
+ghost use Rattle.deeds.specs.Verdicts.{IsVerdict};
+
+use crate::draft::Draft;
+use crate::lines::{prefix_of, quit_line};
+use crate::verdict::{Verdict, verdict_of};
+use chronicle::{SessionId, Why};
+use roster::{Deed, Roster};
+use std::alloc::{AllocError, Global};
+
+/// What others are told of a session's end: the text that its client gave, or the reason's own.
+fn farewell<'a>(why: Why, parting: &'a [u8]) -> &'a [u8]
+    ensures { result.now ≡ farewell why parting.now }
+{
+    if parting.is_empty() {
+        return why.text().as_bytes();
+    }
+    parting
+}
+
+/// A session leaves its channels, which each that shares one with it is shown, and gives its nickname back.
+#[tactic(auto, using(crate::proofs::Replay::grown_grown))]
+fn depart(draft: &mut Draft, session: SessionId) -> Result<(), AllocError>
+    requires opened { IsOpened draft.old.facts session }
+    requires first { draft.old.facts ≡ draft.old.base }
+    ensures { OnOk result (draft.new ≡ grown draft.old (departs draft.old.facts session)) }
+{
+    let before = draft.before();
+    let from = prefix_of(draft.alloc(), before, session)?;
+    let text = farewell(before.why_of(session), before.parting_of(session));
+    let line = quit_line(draft.alloc(), from.as_slice(), text)?;
+    let hearers = before.sharers(session)?;
+    draft.show(hearers, line)?;
+    draft.establish(Deed::Gone { session })
+}
+
+/// What comes of a session being gone: it is told to each that shares a channel with it. Its facts may come next.
+pub fn decide_gone(
+    alloc: Global,
+    roster: &Roster,
+    session: SessionId,
+) -> Result<Verdict, AllocError>
+    requires { IsOpened roster.now.facts session }
+    ensures verdict { IfOk result (λ v. IsVerdict v session (departs roster.now.facts session)) }
+    ensures next { IfOk result (λ v. AreNext roster.now.facts v.deeds.items) }
+    ensures opened { IfOk result (λ v. opened (after roster.now.facts v.deeds.items) ≡ opened roster.now.facts) }
+{
+    let mut draft = Draft::new(alloc, roster);
+    depart(&mut draft, session)?;
+    verdict_of(alloc, draft.finish(), session)
+}

@@ -1,0 +1,177 @@
+//! A draft: a roster, and what a record does to it so far.
+ghost use Rattle.std.specs.Prelude.{◌≡◌, ◌∷◌, ◌++◌, [], true, Some, option_copied, IfOk, IfSome, OnOk};
+ghost use Rattle.roster.specs.LookBack.{after, opened, nick, user, registered, on, members, has_member, name, name_of};
+ghost use Rattle.roster.specs.Legal.{AreNext, IsNext};
+ghost use Rattle.deeds.specs.declared.effect.Effect.TheVariants.{Establish, Answer, Show, Copy};
+ghost use Rattle.deeds.specs.Effects.{deeds_of};
+
+use crate::effect::Effect;
+use chronicle::SessionId;
+use line_grammar::Octets;
+use numerics::Out;
+use roster::{Deed, Roster, Sessions, channels_have_one_name, spelled_names_are_names};
+use std::alloc::{AllocError, Global};
+use std::marker::Model;
+
+/// The facts of a roster with those that a record established so far, and the record's effects.
+#[derive(Drop)]
+pub(crate) struct Draft<'a> {
+    alloc: Global,
+    roster: &'a Roster,
+    effects: Vec<Effect>,
+}
+
+impl<'a> Model for Draft<'a> {
+    ghost use Rattle.roster.specs.LookBack.{after};
+    ghost use Rattle.deeds.specs.Effects.{deeds_of};
+    ghost use Rattle.deeds.specs.Drafted.{Drafted, IsDraft};
+
+    ghost Value = { Drafted };
+
+    ghost view = { λ a. record { base = a.roster.now.facts; facts = after a.roster.now.facts (deeds_of a.effects.items); effects = a.effects.items } };
+
+    ghost invariant = { λ a. IsDraft a.roster.now.facts (deeds_of a.effects.items) };
+}
+
+impl<'a> Draft<'a> {
+    ghost use Rattle.deeds.specs.Drafted.{Drafted, IsDraft, grown, IsSpelling};
+
+    /// Nothing is done yet.
+    pub(crate) fn new(alloc: Global, roster: &'a Roster) -> Draft<'a>
+        ensures { result ≡ record { base = roster.now.facts; facts = roster.now.facts; effects = [] } }
+    {
+        Draft {
+            alloc,
+            roster,
+            effects: Vec::new(alloc),
+        }
+    }
+
+    /// The allocator of what it makes.
+    pub(crate) fn alloc(&self) -> Global {
+        self.alloc
+    }
+
+    /// The roster before the record.
+    pub(crate) fn before(&self) -> &'a Roster
+        ensures { result.now.facts ≡ self.now.base }
+    {
+        self.roster
+    }
+
+    /// What was done.
+    pub(crate) fn finish(self) -> Vec<Effect>
+        ensures effects { result.items ≡ self.entry.effects }
+        ensures next { AreNext self.entry.base (deeds_of result.items) }
+        ensures opened { opened (after self.entry.base (deeds_of result.items)) ≡ opened self.entry.base }
+    {
+        self.effects
+    }
+
+    fn add(&mut self, effect: Effect) -> Result<(), AllocError>
+        requires { IsDraft self.old.facts (deeds_of (effect ∷ [])) }
+        ensures { OnOk result (self.new ≡ grown self.old (effect ∷ [])) }
+    {
+        self.effects.push(effect)?;
+        Ok(())
+    }
+
+    /// Establishes a fact, which opens no session.
+    pub(crate) fn establish(&mut self, deed: Deed) -> Result<(), AllocError>
+        requires next { IsNext self.old.facts deed }
+        requires opened { opened (deed ∷ self.old.facts) ≡ opened self.old.facts }
+        ensures { OnOk result (self.new ≡ grown self.old (Establish deed ∷ [])) }
+    {
+        self.add(Effect::Establish { deed })
+    }
+
+    /// Shows sessions a line.
+    pub(crate) fn show(&mut self, hearers: Sessions, line: Out) -> Result<(), AllocError>
+        ensures { OnOk result (self.new ≡ grown self.old (Show hearers line ∷ [])) }
+    {
+        self.add(Effect::Show { hearers, line })
+    }
+
+    /// The nickname of a session.
+    pub(crate) fn nick_of(&self, session: SessionId) -> Option<&Octets>
+        ensures { option_copied result ≡ nick self.now.facts session }
+    {
+        let mut nick = self.roster.nick_of(session);
+        for effect in &self.effects {
+            nick = effect.tells_nick(session).unwrap_or(nick);
+        }
+        nick
+    }
+
+    /// The user name of a session.
+    pub(crate) fn user_of(&self, session: SessionId) -> Option<&Octets>
+        ensures { option_copied result ≡ user self.now.facts session }
+    {
+        let mut user = self.roster.user_of(session);
+        for effect in &self.effects {
+            user = effect.tells_user(session).unwrap_or(user);
+        }
+        user
+    }
+
+    /// Whether a session is registered.
+    pub(crate) fn is_registered(&self, session: SessionId) -> bool
+        ensures { result ≡ registered self.now.facts session }
+    {
+        let mut registered = self.roster.is_registered(session);
+        for effect in &self.effects {
+            registered = effect.tells_registered(session).unwrap_or(registered);
+        }
+        registered
+    }
+
+    /// Whether a session is on a channel.
+    pub(crate) fn is_on(&self, session: SessionId, channel: &[u8]) -> bool
+        ensures { result ≡ on self.now.facts session channel.now }
+    {
+        let mut is_on = self.roster.is_on(session, channel);
+        for effect in &self.effects {
+            is_on = effect.tells_on(session, channel).unwrap_or(is_on);
+        }
+        is_on
+    }
+
+    /// Those on a channel, in the order of joining.
+    pub(crate) fn members(&self, channel: &[u8]) -> Result<Sessions, AllocError>
+        ensures { IfOk result (λ s. s ≡ members self.now.facts channel.now) }
+    {
+        let mut members = Sessions::copied(self.alloc, self.roster.members(channel))?;
+        for effect in &self.effects {
+            effect.seat(channel, &mut members)?;
+        }
+        Ok(members)
+    }
+
+    /// The name of a channel that has a member, as it was first spelled.
+    fn spelling(&self, channel: &[u8]) -> Option<&Octets>
+        ensures { has_member self.now.facts channel.now ≡ true → option_copied result ≡ Some (name self.now.facts channel.now) }
+    {
+        channels_have_one_name();
+        let mut spelling = self.roster.name_of(channel);
+        for effect in &self.effects {
+            spelling = effect.tells_name(channel).or(spelling);
+        }
+        spelling
+    }
+
+    /// The name of a channel that is there, as it was first spelled.
+    pub(crate) fn name_of(&self, channel: &[u8]) -> Result<Option<Octets>, AllocError>
+        ensures name { IfOk result (λ n. n ≡ name_of self.now.facts channel.now) }
+        ensures same { IfOk result (λ o. IfSome o (λ n. IsSpelling self.now.facts n channel.now)) }
+    {
+        channels_have_one_name();
+        spelled_names_are_names();
+        if self.members(channel)?.is_empty() {
+            return Ok(None);
+        }
+        match self.spelling(channel) {
+            Some(name) => Ok(Some(name.clone()?)),
+            None => Ok(None),
+        }
+    }
+}

@@ -1,0 +1,92 @@
+-- A session leaves all channels.
+use Rattle.std.proofs.Common.{◌≡◌, ℕ, zero, suc, ◌+◌, ◌<◌, ◌≤◌, Bool, true, false, ◌||◌, ◌==◌, cond, List, [], ◌∷◌, length, get_or, slice_set, Some, arith, refl, sym, ap, ◌∙◌, subst}
+use Rattle.std.specs.List.{list_any}
+use Rattle.std.specs.Option.{option_map, option_map_or}
+use Rattle.roster.specs.declared.deed.Deed.{Deed}
+use Rattle.roster.specs.declared.tables.Channel.{Channel}
+use Rattle.roster.specs.Seats.{Seats}
+use Rattle.roster.specs.LookBack.{is_same, without}
+use Rattle.roster.specs.Tables.{channel_of, members_in, name_in, names_of, AreWithout}
+use Rattle.roster.specs.Stands.{AreApart, HaveSeats, joins}
+
+-- the session is taken out of the first i
+abbrev pub AreSwept : ℕ → ℕ → List Channel → List Channel → Type 0
+AreSwept t i [] [] = Unit {0}
+AreSwept t zero (k ∷ ks) (l ∷ ls) = (l ≡ k) × AreSwept t zero ks ls
+AreSwept t (suc i) (k ∷ ks) (l ∷ ls) = (l.name ≡ k.name) × (l.members.list ≡ without t k.members.list) × (k.members.room ≤ l.members.room) × AreSwept t i ks ls
+AreSwept t i [] (l ∷ ls) = ⊥
+AreSwept t i (k ∷ ks) [] = ⊥
+
+pub swept_none : (t : ℕ) (ks : List Channel) → AreSwept t 0 ks ks
+swept_none t [] = tt
+swept_none t (k ∷ ks) = (refl, swept_none t ks)
+
+pub swept_all : (t i : ℕ) (ks ls : List Channel) → length ks ≤ i → AreSwept t i ks ls → AreWithout t ks ls
+swept_all t i [] [] l a = tt
+swept_all t i [] (x ∷ ls) l a = absurd a
+swept_all t i (k ∷ ks) [] l a = absurd a
+swept_all t zero (k ∷ ks) (x ∷ ls) l a = absurd (omega arith)
+swept_all t (suc i) (k ∷ ks) (x ∷ ls) l a = (a.0, a.1, a.2, swept_all t i ks ls (omega arith) a.3)
+
+swept_suc : (t i : ℕ) (ks ls : List Channel) (d : Channel) (m : Seats) → i < length ks → AreSwept t i ks ls → m.list ≡ without t (get_or ls i d).members.list → (get_or ls i d).members.room ≤ m.room
+    → AreSwept t (suc i) ks (slice_set ls i (record { name = (get_or ls i d).name; members = m }))
+swept_suc t i [] ls d m l a e r = absurd (omega arith)
+swept_suc t i (k ∷ ks) [] d m l a e r = absurd a
+swept_suc t zero (k ∷ ks) (x ∷ ls) d m l a e r =
+    let room : x.members.room ≡ k.members.room = ap (λ (y : Channel). y.members.room) a.0 in
+    (ap (λ (y : Channel). y.name) a.0, e ∙ ap (λ (y : Channel). without t y.members.list) a.0, omega arith, a.1)
+swept_suc t (suc i) (k ∷ ks) (x ∷ ls) d m l a e r = (a.0, a.1, a.2, swept_suc t i ks ls d m (omega arith) a.3 e r)
+
+pub swept_more : (t i : ℕ) (ks ls : List Channel) (d : Channel) (m : Seats) → i < length ks → AreSwept t i ks ls → m.list ≡ without t (get_or ls i d).members.list → (get_or ls i d).members.room ≤ m.room
+    → AreSwept t (i + 1) ks (slice_set ls i (record { name = (get_or ls i d).name; members = m }))
+swept_more t i ks ls d m l a e r =
+    let f : suc i ≡ i + 1 = omega arith in
+    subst (λ (n : ℕ). AreSwept t n ks (slice_set ls i (record { name = (get_or ls i d).name; members = m }))) f (swept_suc t i ks ls d m l a e r)
+
+-- ---- what is looked up
+
+pub members_without : (t : ℕ) (ks ls : List Channel) (c : List ℕ) → AreWithout t ks ls → members_in ls c ≡ without t (members_in ks c)
+members_without t [] [] c a = refl
+members_without t [] (l ∷ ls) c a = absurd a
+members_without t (k ∷ ks) [] c a = absurd a
+members_without t (k ∷ ks) (l ∷ ls) c a =
+    ap (λ n. option_map_or (λ (x : Channel). x.members.list) (cond (is_same n c) (Some l) (channel_of ls c)) []) a.0
+    ∙ elim (is_same k.name c) as (λ b. option_map_or (λ (x : Channel). x.members.list) (cond b (Some l) (channel_of ls c)) [] ≡ without t (option_map_or (λ (x : Channel). x.members.list) (cond b (Some k) (channel_of ks c)) [])) [
+      | true ↦ a.1
+      | false ↦ members_without t ks ls c a.3
+    ]
+
+pub names_without : (t : ℕ) (ks ls : List Channel) (c : List ℕ) → AreWithout t ks ls → name_in ls c ≡ name_in ks c
+names_without t [] [] c a = refl
+names_without t [] (l ∷ ls) c a = absurd a
+names_without t (k ∷ ks) [] c a = absurd a
+names_without t (k ∷ ks) (l ∷ ls) c a =
+    ap (λ n. option_map (λ (x : Channel). x.name) (cond (is_same n c) (Some l) (channel_of ls c))) a.0
+    ∙ elim (is_same k.name c) as (λ b. option_map (λ (x : Channel). x.name) (cond b (Some l) (channel_of ls c)) ≡ option_map (λ (x : Channel). x.name) (cond b (Some k) (channel_of ks c))) [
+      | true ↦ ap (λ n. Some n) a.0
+      | false ↦ names_without t ks ls c a.3
+    ]
+
+any_without : (t : ℕ) (ks ls : List Channel) (c : List ℕ) → AreWithout t ks ls → list_any (λ (l : Channel). is_same c l.name) ls ≡ list_any (λ (l : Channel). is_same c l.name) ks
+any_without t [] [] c a = refl
+any_without t [] (l ∷ ls) c a = absurd a
+any_without t (k ∷ ks) [] c a = absurd a
+any_without t (k ∷ ks) (l ∷ ls) c a = ap (λ n. is_same c n || list_any (λ (x : Channel). is_same c x.name) ls) a.0 ∙ ap (λ b. is_same c k.name || b) (any_without t ks ls c a.3)
+
+pub apart_without : (t : ℕ) (ks ls : List Channel) → AreWithout t ks ls → AreApart ks → AreApart ls
+apart_without t [] [] a h = tt
+apart_without t [] (l ∷ ls) a h = absurd a
+apart_without t (k ∷ ks) [] a h = absurd a
+apart_without t (k ∷ ks) (l ∷ ls) a h = (ap (λ n. list_any (λ (x : Channel). is_same n x.name) ls) a.0 ∙ any_without t ks ls k.name a.3 ∙ h.0, apart_without t ks ls a.3 h.1)
+
+pub seats_without : (t : ℕ) (ds : List Deed) (ks ls : List Channel) → AreWithout t ks ls → HaveSeats ds ks → HaveSeats ds ls
+seats_without t ds [] [] a h = tt
+seats_without t ds [] (l ∷ ls) a h = absurd a
+seats_without t ds (k ∷ ks) [] a h = absurd a
+seats_without t ds (k ∷ ks) (l ∷ ls) a h = ((let same = ap (λ n. joins n ds) a.0 in let r = h.0 in let s = a.2 in omega arith), seats_without t ds ks ls a.3 h.1)
+
+pub names_of_without : (t : ℕ) (ks ls : List Channel) → AreWithout t ks ls → names_of ls ≡ names_of ks
+names_of_without t [] [] a = refl
+names_of_without t [] (l ∷ ls) a = absurd a
+names_of_without t (k ∷ ks) [] a = absurd a
+names_of_without t (k ∷ ks) (l ∷ ls) a = ap (λ n. n ∷ names_of ls) a.0 ∙ ap (λ ns. k.name ∷ ns) (names_of_without t ks ls a.3)

@@ -1,0 +1,14 @@
+pub mod Bools
+pub mod Same
+pub mod OnChannels
+pub mod ChannelTable
+pub mod ChannelNames
+pub mod Places
+pub mod Standing
+pub mod MadeRoom
+pub mod Leaving
+pub mod Steps
+pub mod SameTables
+pub mod Marks
+pub mod Kept
+pub mod NameLaws

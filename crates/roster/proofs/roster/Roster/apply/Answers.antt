@@ -1,0 +1,125 @@
+use Rattle.std.proofs.Common.{arith, ◌≡◌, ◌∷◌, ◌++◌, [], drop, length, slice_get, Some, sym, ap, ◌∙◌}
+use Rattle.roster.specs.declared.deed.Deed.TheVariants.{Opened, NickSet, UserSet, Enrolled, ChannelMade, Joined, Ended, Gone}
+use Rattle.roster.specs.Known.{Known}
+use Rattle.roster.proofs.Kept.{before, done, opened_count, seat_free, kept_opened, kept_renamed, kept_introduced, kept_enrolled, kept_ended, kept_joined, kept_gone, kept_made}
+use Rattle.roster.proofs.MadeRoom.{spare_less}
+use Rattle.roster.proofs.roster.Roster.apply.Goals as goal
+
+pub invariant_of-self : goal.invariant_of-self
+invariant_of-self c =
+    let r = c.self.inside in let fs = r.facts.value in let ds = r.ready.value in
+    let first : slice_get ds 0 ≡ Some c.args.deed = ap (λ (k : Known). slice_get k.ready 0) c.self.view_is ∙ c.requires in
+    let t = c.in-Opened.session in let h = c.in-Opened.host in let e = Opened t h in
+    done c.args.deed e c.in-Opened.is fs ds c.push_reserved.new.self r.channels r.spare _ _ c.apply.ensures c.apply-2.ensures
+    (kept_opened r.people r.channels r.spare fs (drop 1 ds) c.push_reserved.new.self t h (before c.args.deed e c.in-Opened.is fs ds r.people r.channels r.spare first c.self.invariant) (c.push_reserved.ensures.items ∙ ap (λ p. r.people.items ++ p ∷ []) c.stranger.ensures) c.push_reserved.ensures.len c.push_reserved.ensures.capacity)
+
+pub rename-requires-clause-opened : goal.rename-requires-clause-opened
+rename-requires-clause-opened c =
+    let r = c.self.inside in let fs = r.facts.value in let ds = r.ready.value in
+    let first : slice_get ds 0 ≡ Some c.args.deed = ap (λ (k : Known). slice_get k.ready 0) c.self.view_is ∙ c.requires in
+    let t = c.in-NickSet.session in let n = c.in-NickSet.nick in
+    let i = before c.args.deed (NickSet t n) c.in-NickSet.is fs ds r.people r.channels r.spare first c.self.invariant in
+    let o = opened_count r.people.items r.channels.items fs i.stands in let to = i.next.0.1 in omega arith
+
+pub invariant_of-self-in-NickSet : goal.invariant_of-self-in-NickSet
+invariant_of-self-in-NickSet c =
+    let r = c.self.inside in let fs = r.facts.value in let ds = r.ready.value in
+    let first : slice_get ds 0 ≡ Some c.args.deed = ap (λ (k : Known). slice_get k.ready 0) c.self.view_is ∙ c.requires in
+    let t = c.in-NickSet.session in let n = c.in-NickSet.nick in let e = NickSet t n in
+    done c.args.deed e c.in-NickSet.is fs ds c.rename.new.people r.channels r.spare _ _ c.apply.ensures c.apply-2.ensures
+    (kept_renamed r.people r.channels r.spare fs (drop 1 ds) c.rename.new.people t n (before c.args.deed e c.in-NickSet.is fs ds r.people r.channels r.spare first c.self.invariant) c.rename.ensures.items c.rename.ensures.len c.rename.ensures.capacity)
+
+pub introduce-requires-clause-opened : goal.introduce-requires-clause-opened
+introduce-requires-clause-opened c =
+    let r = c.self.inside in let fs = r.facts.value in let ds = r.ready.value in
+    let first : slice_get ds 0 ≡ Some c.args.deed = ap (λ (k : Known). slice_get k.ready 0) c.self.view_is ∙ c.requires in
+    let t = c.in-UserSet.session in let u = c.in-UserSet.user in let x = c.in-UserSet.real in
+    let i = before c.args.deed (UserSet t u x) c.in-UserSet.is fs ds r.people r.channels r.spare first c.self.invariant in
+    let o = opened_count r.people.items r.channels.items fs i.stands in let to = i.next.0.1 in omega arith
+
+pub invariant_of-self-in-UserSet : goal.invariant_of-self-in-UserSet
+invariant_of-self-in-UserSet c =
+    let r = c.self.inside in let fs = r.facts.value in let ds = r.ready.value in
+    let first : slice_get ds 0 ≡ Some c.args.deed = ap (λ (k : Known). slice_get k.ready 0) c.self.view_is ∙ c.requires in
+    let t = c.in-UserSet.session in let u = c.in-UserSet.user in let x = c.in-UserSet.real in let e = UserSet t u x in
+    done c.args.deed e c.in-UserSet.is fs ds c.introduce.new.people r.channels r.spare _ _ c.apply.ensures c.apply-2.ensures
+    (kept_introduced r.people r.channels r.spare fs (drop 1 ds) c.introduce.new.people t u x (before c.args.deed e c.in-UserSet.is fs ds r.people r.channels r.spare first c.self.invariant) c.introduce.ensures.items c.introduce.ensures.len c.introduce.ensures.capacity)
+
+pub enroll-requires-clause-opened : goal.enroll-requires-clause-opened
+enroll-requires-clause-opened c =
+    let r = c.self.inside in let fs = r.facts.value in let ds = r.ready.value in
+    let first : slice_get ds 0 ≡ Some c.args.deed = ap (λ (k : Known). slice_get k.ready 0) c.self.view_is ∙ c.requires in
+    let t = c.in-Enrolled.session in
+    let i = before c.args.deed (Enrolled t) c.in-Enrolled.is fs ds r.people r.channels r.spare first c.self.invariant in
+    let o = opened_count r.people.items r.channels.items fs i.stands in let to = i.next.0.1 in omega arith
+
+pub invariant_of-self-in-Enrolled : goal.invariant_of-self-in-Enrolled
+invariant_of-self-in-Enrolled c =
+    let r = c.self.inside in let fs = r.facts.value in let ds = r.ready.value in
+    let first : slice_get ds 0 ≡ Some c.args.deed = ap (λ (k : Known). slice_get k.ready 0) c.self.view_is ∙ c.requires in
+    let t = c.in-Enrolled.session in let e = Enrolled t in
+    done c.args.deed e c.in-Enrolled.is fs ds c.enroll.new.people r.channels r.spare _ _ c.apply.ensures c.apply-2.ensures
+    (kept_enrolled r.people r.channels r.spare fs (drop 1 ds) c.enroll.new.people t (before c.args.deed e c.in-Enrolled.is fs ds r.people r.channels r.spare first c.self.invariant) c.enroll.ensures.items c.enroll.ensures.len c.enroll.ensures.capacity)
+
+pub end-requires-clause-opened : goal.end-requires-clause-opened
+end-requires-clause-opened c =
+    let r = c.self.inside in let fs = r.facts.value in let ds = r.ready.value in
+    let first : slice_get ds 0 ≡ Some c.args.deed = ap (λ (k : Known). slice_get k.ready 0) c.self.view_is ∙ c.requires in
+    let t = c.in-Ended.session in let w = c.in-Ended.why in let x = c.in-Ended.text in
+    let i = before c.args.deed (Ended t w x) c.in-Ended.is fs ds r.people r.channels r.spare first c.self.invariant in
+    let o = opened_count r.people.items r.channels.items fs i.stands in let to = i.next.0.1 in omega arith
+
+pub invariant_of-self-in-Ended : goal.invariant_of-self-in-Ended
+invariant_of-self-in-Ended c =
+    let r = c.self.inside in let fs = r.facts.value in let ds = r.ready.value in
+    let first : slice_get ds 0 ≡ Some c.args.deed = ap (λ (k : Known). slice_get k.ready 0) c.self.view_is ∙ c.requires in
+    let t = c.in-Ended.session in let w = c.in-Ended.why in let x = c.in-Ended.text in let e = Ended t w x in
+    done c.args.deed e c.in-Ended.is fs ds c.end.new.people r.channels r.spare _ _ c.apply.ensures c.apply-2.ensures
+    (kept_ended r.people r.channels r.spare fs (drop 1 ds) c.end.new.people t w x (before c.args.deed e c.in-Ended.is fs ds r.people r.channels r.spare first c.self.invariant) c.end.ensures.items c.end.ensures.len c.end.ensures.capacity)
+
+pub make-requires-clause-empty : goal.make-requires-clause-empty
+make-requires-clause-empty c =
+    let r = c.self.inside in let fs = r.facts.value in let ds = r.ready.value in
+    let first : slice_get ds 0 ≡ Some c.args.deed = ap (λ (k : Known). slice_get k.ready 0) c.self.view_is ∙ c.requires in
+    let e = ChannelMade c.in-ChannelMade.session c.in-ChannelMade.channel in
+    spare_less (length (e ∷ drop 1 ds)) 1 r.spare.items (omega arith) (before c.args.deed e c.in-ChannelMade.is fs ds r.people r.channels r.spare first c.self.invariant).room.empty
+
+pub invariant_of-self-in-ChannelMade : goal.invariant_of-self-in-ChannelMade
+invariant_of-self-in-ChannelMade c =
+    let r = c.self.inside in let fs = r.facts.value in let ds = r.ready.value in
+    let first : slice_get ds 0 ≡ Some c.args.deed = ap (λ (k : Known). slice_get k.ready 0) c.self.view_is ∙ c.requires in
+    let t = c.in-ChannelMade.session in let n = c.in-ChannelMade.channel in let e = ChannelMade t n in
+    done c.args.deed e c.in-ChannelMade.is fs ds r.people c.make.new.channels c.make.new.spare _ _ c.apply.ensures c.apply-2.ensures
+    (kept_made r.people r.channels r.spare fs (drop 1 ds) c.make.new.channels c.make.new.spare t n (before c.args.deed e c.in-ChannelMade.is fs ds r.people r.channels r.spare first c.self.invariant) c.make.ensures.made c.make.ensures.fewer c.make.ensures.len c.make.ensures.capacity)
+
+pub join-requires : goal.join-requires
+join-requires c =
+    let r = c.self.inside in let fs = r.facts.value in let ds = r.ready.value in
+    let first : slice_get ds 0 ≡ Some c.args.deed = ap (λ (k : Known). slice_get k.ready 0) c.self.view_is ∙ c.requires in
+    let t = c.in-Joined.session in let n = c.as_slice.result.now in let e = Joined t n in
+    let is : c.args.deed ≡ e = c.in-Joined.is ∙ ap (Joined t) (sym c.as_slice.ensures) in
+    seat_free t n (drop 1 ds) r.channels.items (before c.args.deed e is fs ds r.people r.channels r.spare first c.self.invariant).room.seats
+
+pub invariant_of-self-in-Joined : goal.invariant_of-self-in-Joined
+invariant_of-self-in-Joined c =
+    let r = c.self.inside in let fs = r.facts.value in let ds = r.ready.value in
+    let first : slice_get ds 0 ≡ Some c.args.deed = ap (λ (k : Known). slice_get k.ready 0) c.self.view_is ∙ c.requires in
+    let t = c.in-Joined.session in let n = c.as_slice.result.now in let e = Joined t n in
+    let is : c.args.deed ≡ e = c.in-Joined.is ∙ ap (Joined t) (sym c.as_slice.ensures) in
+    done c.args.deed e is fs ds r.people c.join.new.channels r.spare _ _ c.apply.ensures c.apply-2.ensures
+    (kept_joined r.people r.channels r.spare fs (drop 1 ds) c.join.new.channels t n (before c.args.deed e is fs ds r.people r.channels r.spare first c.self.invariant) c.join.ensures.joins c.join.ensures.len c.join.ensures.capacity)
+
+pub forget-requires-clause-opened : goal.forget-requires-clause-opened
+forget-requires-clause-opened c =
+    let r = c.self.inside in let fs = r.facts.value in let ds = r.ready.value in
+    let first : slice_get ds 0 ≡ Some c.args.deed = ap (λ (k : Known). slice_get k.ready 0) c.self.view_is ∙ c.requires in
+    let i = before c.args.deed (Gone c.in-Gone.session) c.in-Gone.is fs ds r.people r.channels r.spare first c.self.invariant in
+    let o = opened_count r.people.items r.channels.items fs i.stands in let to = i.next.0.1 in omega arith
+
+pub invariant_of-self-in-Gone : goal.invariant_of-self-in-Gone
+invariant_of-self-in-Gone c =
+    let r = c.self.inside in let fs = r.facts.value in let ds = r.ready.value in
+    let first : slice_get ds 0 ≡ Some c.args.deed = ap (λ (k : Known). slice_get k.ready 0) c.self.view_is ∙ c.requires in
+    let t = c.in-Gone.session in let e = Gone t in let named = c.forget in let left = c.leave_all in
+    done c.args.deed e c.in-Gone.is fs ds named.new.people left.new.channels r.spare _ _ c.apply.ensures c.apply-2.ensures
+    (kept_gone r.people r.channels r.spare fs (drop 1 ds) named.new.people left.new.channels t (before c.args.deed e c.in-Gone.is fs ds r.people r.channels r.spare first c.self.invariant) named.ensures.items named.ensures.len named.ensures.capacity left.ensures.leaves left.ensures.len left.ensures.capacity)

@@ -1,0 +1,9 @@
+-- What clauses see of a roster.
+use Rattle.std.specs.Prelude.{List}
+use Rattle.roster.specs.declared.deed.Deed.{Deed}
+
+pub record Known : Type 0 where
+  -- all facts, the newest first
+  pub facts : List Deed
+  -- the deeds that can be applied next, in this order, without memory
+  pub ready : List Deed

@@ -1,0 +1,7 @@
+pub mod LookBack
+pub mod Seats
+pub mod Known
+pub mod Tables
+pub mod Legal
+pub mod Stands
+pub mod Laws

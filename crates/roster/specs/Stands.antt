@@ -1,0 +1,91 @@
+-- How tables stand for a list of facts, and are ready for deeds.
+use Rattle.std.specs.Prelude.{◌≡◌, ℕ, zero, suc, ◌+◌, ◌≤◌, Bool, true, false, vec_len, vec_capacity, List, [], ◌∷◌, length, count_by}
+use Rattle.std.specs.declared.vec.Vec.{Vec}
+use Rattle.std.specs.declared.alloc.Global.{Global}
+use Rattle.std.specs.List.{list_any}
+use Rattle.roster.specs.declared.deed.Deed.{Deed}
+use Rattle.roster.specs.declared.deed.Deed.TheVariants.{Joined, ChannelMade}
+use Rattle.roster.specs.declared.tables.Person.{Person}
+use Rattle.roster.specs.declared.tables.Channel.{Channel}
+use Rattle.roster.specs.Seats.{Seats}
+use Rattle.roster.specs.LookBack.{is_same, numbers, opened, host, nick, user, real, registered, why, parting, members, name_of, channels}
+use Rattle.roster.specs.Legal.{AreNext}
+use Rattle.roster.specs.Tables.{person_at, members_in, name_in, names_of, is_populated}
+
+-- what facts say of a session
+abbrev pub person : List Deed → ℕ → Person
+person fs s = record { host = host fs s; nick = nick fs s; user = user fs s; real = real fs s; registered = registered fs s; why = why fs s; parting = parting fs s }
+
+-- no two channels have one name
+abbrev pub AreApart : List Channel → Type 0
+AreApart [] = Unit {0}
+AreApart (k ∷ ks) = (list_any (λ l. is_same k.name l.name) ks ≡ false) × AreApart ks
+
+-- each channel has a member
+abbrev pub AreHeld : List Channel → Type 0
+AreHeld [] = Unit {0}
+AreHeld (k ∷ ks) = (is_populated k ≡ true) × AreHeld ks
+
+-- tables stand for facts
+pub record Stands (ps : List Person) (ks : List Channel) (fs : List Deed) : Type 0 where
+  pub people : (s : ℕ) → person_at ps s ≡ person fs s
+  pub opened : opened fs ≡ numbers 1 (length ps)
+  pub members : (c : List ℕ) → members_in ks c ≡ members fs c
+  pub names : (c : List ℕ) → name_in ks c ≡ name_of fs c
+  pub channels : channels fs ≡ names_of ks
+  pub apart : AreApart ks
+  pub held : AreHeld ks
+
+-- ---- room
+
+-- whether a deed adds a member to a channel
+abbrev pub is_join : List ℕ → Deed → Bool
+is_join c (Joined t k) = is_same k c
+is_join c d = false
+
+-- how many deeds do
+abbrev pub joins : List ℕ → List Deed → ℕ
+joins c ds = count_by (is_join c) ds
+
+-- each channel has room for those who will join it
+abbrev pub HaveSeats : List Deed → List Channel → Type 0
+HaveSeats ds [] = Unit {0}
+HaveSeats ds (k ∷ ks) = (joins k.name ds ≤ k.members.room) × HaveSeats ds ks
+
+-- lists for the members of channels that will be made
+abbrev pub AreSpare : ℕ → List Seats → Type 0
+AreSpare n [] = Unit {0}
+AreSpare n (m ∷ ms) = (m.list ≡ []) × (n ≤ m.room) × AreSpare n ms
+
+-- the same names and members
+abbrev pub Alike : List Channel → List Channel → Type 0
+Alike [] [] = Unit {0}
+Alike (k ∷ ks) (l ∷ ls) = (l.name ≡ k.name) × (l.members.list ≡ k.members.list) × Alike ks ls
+Alike [] (l ∷ ls) = ⊥
+Alike (k ∷ ks) [] = ⊥
+
+-- the same, and the first i have room for those who will join them
+abbrev pub AreReserved : List Deed → ℕ → List Channel → List Channel → Type 0
+AreReserved ds i [] [] = Unit {0}
+AreReserved ds zero (k ∷ ks) (l ∷ ls) = (l.name ≡ k.name) × (l.members.list ≡ k.members.list) × AreReserved ds zero ks ls
+AreReserved ds (suc i) (k ∷ ks) (l ∷ ls) = (l.name ≡ k.name) × (l.members.list ≡ k.members.list) × (joins l.name ds ≤ l.members.room) × AreReserved ds i ks ls
+AreReserved ds i [] (l ∷ ls) = ⊥
+AreReserved ds i (k ∷ ks) [] = ⊥
+
+abbrev pub is_making : Deed → Bool
+is_making (ChannelMade t k) = true
+is_making d = false
+
+-- there is room for these deeds
+pub record HasRoom (ps : Vec Person Global) (ks : Vec Channel Global) (spare : Vec Seats Global) (ds : List Deed) : Type 0 where
+  pub people : vec_len ps + length ds ≤ vec_capacity ps
+  pub channels : vec_len ks + length ds ≤ vec_capacity ks
+  pub seats : HaveSeats ds ks.items
+  pub enough : count_by is_making ds ≤ length spare.items
+  pub empty : AreSpare (length ds) spare.items
+
+-- what holds of every roster
+pub record IsKept (ps : Vec Person Global) (ks : Vec Channel Global) (spare : Vec Seats Global) (fs ds : List Deed) : Type 0 where
+  pub stands : Stands ps.items ks.items fs
+  pub next : AreNext fs ds
+  pub room : HasRoom ps ks spare ds

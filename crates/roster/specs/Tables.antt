@@ -1,0 +1,96 @@
+-- What the tables of sessions and channels hold: words of the private contracts.
+use Rattle.std.specs.Prelude.{◌≡◌, ℕ, zero, suc, ◌-◌, ◌+◌, ◌≤◌, Bool, false, not, ◌&&◌, cond, List, [], ◌∷◌, ◌++◌, position, slice_index_or, slice_set, filter, Option, None, ◌==◌}
+use Rattle.std.specs.Option.{option_map_or, option_map}
+use Rattle.std.specs.List.{find, list_any}
+use Rattle.chronicle.specs.declared.why.Why.TheVariants.{SendQ}
+use Rattle.roster.specs.declared.tables.Person.{Person}
+use Rattle.roster.specs.declared.tables.Channel.{Channel}
+use Rattle.roster.specs.Seats.{Seats}
+use Rattle.roster.specs.LookBack.{is_same, is_named, is_some_one, among, without}
+
+abbrev pub nobody : Person
+nobody = record { host = []; nick = None; user = None; real = None; registered = false; why = SendQ; parting = [] }
+
+-- the person of session s
+abbrev pub person_at : List Person → ℕ → Person
+person_at ps zero = nobody
+person_at ps (suc i) = slice_index_or ps i nobody
+
+-- session s is another person
+abbrev pub with_person : List Person → ℕ → Person → List Person
+with_person ps s p = slice_set ps (s - 1) p
+
+-- the place of whoever has a nickname
+abbrev pub holder_place : List Person → List ℕ → Option ℕ
+holder_place ps n = position (λ p. is_named p.nick n) ps
+
+-- the channel of a name
+abbrev pub channel_of : List Channel → List ℕ → Option Channel
+channel_of ks c = find (λ k. is_same k.name c) ks
+
+abbrev pub members_in : List Channel → List ℕ → List ℕ
+members_in ks c = option_map_or (λ k. k.members.list) (channel_of ks c) []
+
+abbrev pub name_in : List Channel → List ℕ → Option (List ℕ)
+name_in ks c = option_map (λ k. k.name) (channel_of ks c)
+
+abbrev pub names_of : List Channel → List (List ℕ)
+names_of [] = []
+names_of (k ∷ ks) = k.name ∷ names_of ks
+
+-- whether two sessions are on one of these channels
+abbrev pub share_in : List Channel → ℕ → ℕ → Bool
+share_in ks s t = list_any (λ k. among s k.members.list && among t k.members.list) ks
+
+-- the sessions from k on that are marked, but for s
+abbrev pub marked : List Bool → ℕ → ℕ → List ℕ
+marked [] s k = []
+marked (b ∷ bs) s k = cond (b && not (s == k)) (k ∷ marked bs s (k + 1)) (marked bs s (k + 1))
+
+-- of n sessions from k on those that are on a channel with s, but for s
+abbrev pub sharing : List Channel → ℕ → ℕ → ℕ → List ℕ
+sharing ks s k zero = []
+sharing ks s k (suc n) = cond (share_in ks s k && not (s == k)) (k ∷ sharing ks s (k + 1) n) (sharing ks s (k + 1) n)
+
+-- the channel of a name has other members
+abbrev pub with_members : List Channel → List ℕ → Seats → List Channel
+with_members [] c ms = []
+with_members (k ∷ ks) c ms = cond (is_same k.name c) (record { name = k.name; members = ms } ∷ ks) (k ∷ with_members ks c ms)
+
+-- where there is no such channel, any number would do
+abbrev pub room_in : List Channel → List ℕ → ℕ
+room_in ks c = option_map_or (λ k. k.members.room) (channel_of ks c) 1
+
+-- the channel of a name has this list of members, and room for so many less at most
+pub record Reseats (old new : List Channel) (c list : List ℕ) (less : ℕ) : Type 0 where
+  pub seats : Seats
+  pub changed : new ≡ with_members old c seats
+  pub listed : seats.list ≡ list
+  pub room : room_in old c ≤ seats.room + less
+
+-- a channel more, at the end, with room for n members more
+pub record Makes (old new : List Channel) (c : List ℕ) (s n : ℕ) : Type 0 where
+  pub seats : Seats
+  pub added : new ≡ old ++ record { name = c; members = seats } ∷ []
+  pub listed : seats.list ≡ s ∷ []
+  pub room : n ≤ seats.room
+
+abbrev pub is_populated : Channel → Bool
+is_populated k = is_some_one k.members.list
+
+-- channels that have no member left end
+abbrev pub populated : List Channel → List Channel
+populated ks = filter is_populated ks
+
+-- a session is taken out of all channels
+abbrev pub AreWithout : ℕ → List Channel → List Channel → Type 0
+AreWithout t [] [] = Unit {0}
+AreWithout t (k ∷ ks) (l ∷ ls) = (l.name ≡ k.name) × (l.members.list ≡ without t k.members.list) × (k.members.room ≤ l.members.room) × AreWithout t ks ls
+AreWithout t [] (l ∷ ls) = ⊥
+AreWithout t (k ∷ ks) [] = ⊥
+
+-- the same, and then channels end
+pub record LeavesAll (old new : List Channel) (t : ℕ) : Type 0 where
+  pub between : List Channel
+  pub left : AreWithout t old between
+  pub ended : new ≡ populated between

@@ -1,0 +1,12 @@
+//! Comparing names.
+ghost use Rattle.std.specs.Prelude.{◌≡◌};
+ghost use Rattle.roster.specs.LookBack.{is_same};
+
+use casemapping::same;
+
+/// Whether two names are the same name.
+pub(crate) fn is_same(a: &[u8], b: &[u8]) -> bool
+    ensures { result ≡ is_same a.now b.now }
+{
+    same(a, b)
+}

@@ -1,0 +1,116 @@
+//! The table of sessions.
+ghost use Rattle.std.specs.Prelude.{◌≡◌, ◌<◌, ◌≤◌, [], length, option_copied, unwrap_or, vec_len, vec_capacity, Some, None, OnSome, true};
+ghost use Rattle.roster.specs.LookBack.{is_named};
+ghost use Rattle.roster.specs.Tables.{nobody, person_at, with_person, holder_place};
+
+use crate::names::is_same;
+use crate::tables::Person;
+use chronicle::{SessionId, Why};
+use line_grammar::Octets;
+use std::alloc::Global;
+
+/// A session of which nothing is known but its host, if that.
+pub(crate) fn stranger(alloc: Global, host: Octets) -> Person
+    ensures { result ≡ record nobody { host = host } }
+{
+    Person {
+        host,
+        nick: None,
+        user: None,
+        real: None,
+        registered: false,
+        why: Why::SendQ,
+        parting: Octets::from_vec(Vec::new(alloc)),
+    }
+}
+
+/// A session has this nickname from now on.
+pub(crate) fn rename(people: &mut Vec<Person>, session: SessionId, nick: Octets)
+    requires from_1 { 0 < session }
+    requires opened { session ≤ length people.old.items }
+    ensures items { people.new.items ≡ with_person people.old.items session (record (person_at people.old.items session) { nick = Some nick }) }
+    ensures len { vec_len people.new ≡ vec_len people.old }
+    ensures capacity { vec_capacity people.new ≡ vec_capacity people.old }
+{
+    let person = &mut people[session.number() as usize - 1];
+    person.nick = Some(nick);
+}
+
+/// A session has this user name and real name from now on.
+pub(crate) fn introduce(people: &mut Vec<Person>, session: SessionId, user: Octets, real: Octets)
+    requires from_1 { 0 < session }
+    requires opened { session ≤ length people.old.items }
+    ensures items { people.new.items ≡ with_person people.old.items session (record (person_at people.old.items session) { user = Some user; real = Some real }) }
+    ensures len { vec_len people.new ≡ vec_len people.old }
+    ensures capacity { vec_capacity people.new ≡ vec_capacity people.old }
+{
+    let person = &mut people[session.number() as usize - 1];
+    person.user = Some(user);
+    person.real = Some(real);
+}
+
+/// A session is registered from now on.
+pub(crate) fn enroll(people: &mut Vec<Person>, session: SessionId)
+    requires from_1 { 0 < session }
+    requires opened { session ≤ length people.old.items }
+    ensures items { people.new.items ≡ with_person people.old.items session (record (person_at people.old.items session) { registered = true }) }
+    ensures len { vec_len people.new ≡ vec_len people.old }
+    ensures capacity { vec_capacity people.new ≡ vec_capacity people.old }
+{
+    let person = &mut people[session.number() as usize - 1];
+    person.registered = true;
+}
+
+/// A session ended.
+pub(crate) fn end(people: &mut Vec<Person>, session: SessionId, why: Why, text: Octets)
+    requires from_1 { 0 < session }
+    requires opened { session ≤ length people.old.items }
+    ensures items { people.new.items ≡ with_person people.old.items session (record (person_at people.old.items session) { why = why; parting = text }) }
+    ensures len { vec_len people.new ≡ vec_len people.old }
+    ensures capacity { vec_capacity people.new ≡ vec_capacity people.old }
+{
+    let person = &mut people[session.number() as usize - 1];
+    person.why = why;
+    person.parting = text;
+}
+
+/// Nothing is known of a session any more.
+pub(crate) fn forget(people: &mut Vec<Person>, session: SessionId)
+    requires from_1 { 0 < session }
+    requires opened { session ≤ length people.old.items }
+    ensures items { people.new.items ≡ with_person people.old.items session nobody }
+    ensures len { vec_len people.new ≡ vec_len people.old }
+    ensures capacity { vec_capacity people.new ≡ vec_capacity people.old }
+{
+    let alloc = *people.allocator();
+    people[session.number() as usize - 1] = stranger(alloc, Octets::from_vec(Vec::new(alloc)));
+}
+
+/// Whether a nickname is one that a person has.
+fn has_nick(person: &Person, nick: &[u8]) -> bool
+    ensures { result ≡ is_named person.now.nick nick.now }
+{
+    match &person.nick {
+        Some(own) => is_same(own.as_slice(), nick),
+        None => false,
+    }
+}
+
+/// The place of whoever has a nickname.
+pub(crate) fn find_holder(people: &[Person], nick: &[u8]) -> Option<usize>
+    ensures { result ≡ holder_place people.now nick.now }
+{
+    people.iter().position(|person| has_nick(person, nick))
+}
+
+/// What is known of a session, where it was opened.
+pub(crate) fn find_person(people: &[Person], session: SessionId) -> Option<&Person>
+    ensures person { unwrap_or (option_copied result) nobody ≡ person_at people.now session }
+    ensures within { OnSome result ((0 < session) × (session ≤ length people.now)) }
+{
+    let number = session.number();
+    if number == 0 {
+        return None;
+    }
+    people.get(number as usize - 1)
+}

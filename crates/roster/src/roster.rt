@@ -1,0 +1,299 @@
+//! The roster: a list of facts, kept in tables.
+ghost use Rattle.std.specs.Prelude.{◌≡◌, ◌<◌, ◌^◌, ◌∷◌, [], Some, None, drop, length, slice_get, option_copied, unwrap_or, IfOk, OnOk};
+ghost use Rattle.roster.specs.declared.deed.Deed.TheVariants.{Ended};
+
+use crate::channels::{find_channel, join, leave_all, make, nth_channel};
+use crate::deed::Deed;
+use crate::members::Members;
+use crate::people::{end, enroll, find_holder, find_person, forget, introduce, rename, stranger};
+use crate::room::make_room;
+use crate::sessions::Sessions;
+use crate::sharing::find_sharers;
+use crate::tables::{Channel, Person};
+use chronicle::{SessionId, Why};
+use ghosts::{Change, Snapshot, append_all, apply as change, blank};
+use line_grammar::Octets;
+use std::alloc::{AllocError, Global};
+use std::collections::LinkedList;
+use std::marker::Model;
+
+/// What is known of sessions and channels, by all facts that were ever established. A clause sees it as the list of these,
+/// with the facts that it is ready for.
+#[derive(Drop)]
+pub struct Roster {
+    alloc: Global,
+    people: Vec<Person>,
+    channels: Vec<Channel>,
+    /// Lists for the members of channels that will be made.
+    spare: Vec<Members>,
+    facts: Snapshot<LinkedList<Deed>>,
+    ready: Snapshot<LinkedList<Deed>>,
+}
+
+impl Model for Roster {
+    ghost use Rattle.roster.specs.Known.{Known};
+    ghost use Rattle.roster.specs.Stands.{IsKept};
+
+    ghost Value = { Known };
+
+    ghost view = { λ a. record { facts = a.facts.value; ready = a.ready.value } };
+
+    ghost invariant = { λ a. IsKept a.people a.channels a.spare a.facts.value a.ready.value };
+}
+
+// A fact is added, as the newest.
+struct Adds;
+
+impl Change<LinkedList<Deed>, Deed> for Adds {
+    ghost changed = { λ fs d. d ∷ fs };
+}
+
+// The first fact that was prepared is done.
+struct DropsFirst;
+
+impl Change<LinkedList<Deed>, ()> for DropsFirst {
+    ghost changed = { λ ds unit. drop 1 ds };
+}
+
+impl Roster {
+    ghost use Rattle.roster.specs.Legal.{IsOpened, AreNext};
+    ghost use Rattle.roster.specs.LookBack.{opened, host, nick, user, real, registered, why, parting, holder, found, on, members, name_of, channels, sharers};
+
+    /// The roster of no facts.
+    pub fn new(alloc: Global) -> Roster
+        ensures { result ≡ record { facts = []; ready = [] } }
+    {
+        Roster {
+            alloc,
+            people: Vec::new(alloc),
+            channels: Vec::new(alloc),
+            spare: Vec::new(alloc),
+            facts: blank(alloc),
+            ready: blank(alloc),
+        }
+    }
+
+    /// Makes room for facts that may come next. At an `Err` it is ready for none.
+    pub fn prepare(&mut self, deeds: &[Deed]) -> Result<(), AllocError>
+        requires { AreNext self.old.facts deeds.now }
+        ensures facts { self.new.facts ≡ self.old.facts }
+        ensures ready { OnOk result (self.new.ready ≡ deeds.now) }
+    {
+        self.ready = blank(self.alloc);
+        if deeds.is_empty() {
+            return Ok(());
+        }
+        make_room(
+            self.alloc,
+            &mut self.people,
+            &mut self.channels,
+            &mut self.spare,
+            deeds,
+        )?;
+        append_all(&mut self.ready, deeds);
+        Ok(())
+    }
+
+    /// Establishes the next fact for which room was made. It takes no memory.
+    pub fn apply(&mut self, deed: Deed)
+        requires { slice_get self.old.ready 0 ≡ Some deed }
+        ensures facts { self.new.facts ≡ deed ∷ self.old.facts }
+        ensures ready { self.new.ready ≡ drop 1 self.old.ready }
+    {
+        change::<Adds, LinkedList<Deed>, Deed>(&mut self.facts, &deed);
+        change::<DropsFirst, LinkedList<Deed>, ()>(&mut self.ready, &());
+        match deed {
+            Deed::Opened { session: _, host } => {
+                self.people.push_reserved(stranger(self.alloc, host));
+            }
+            Deed::NickSet { session, nick } => rename(&mut self.people, session, nick),
+            Deed::UserSet {
+                session,
+                user,
+                real,
+            } => introduce(&mut self.people, session, user, real),
+            Deed::Enrolled { session } => enroll(&mut self.people, session),
+            Deed::ChannelMade { session, channel } => {
+                make(&mut self.channels, &mut self.spare, channel, session);
+            }
+            Deed::Joined { session, channel } => {
+                join(&mut self.channels, channel.as_slice(), session);
+            }
+            Deed::Ended { session, why, text } => end(&mut self.people, session, why, text),
+            Deed::Gone { session } => {
+                forget(&mut self.people, session);
+                leave_all(&mut self.channels, session);
+            }
+        }
+    }
+
+    /// Establishes that the server ended a session, for which no room is needed. It takes no memory, and is ready for no
+    /// facts after it.
+    pub fn end(&mut self, session: SessionId, reason: Why)
+        requires { IsOpened self.old.facts session }
+        ensures facts { self.new.facts ≡ Ended session reason [] ∷ self.old.facts }
+        ensures ready { self.new.ready ≡ [] }
+    {
+        let text = Octets::from_vec(Vec::new(self.alloc));
+        let deed = Deed::Ended {
+            session,
+            why: reason,
+            text: Octets::from_vec(Vec::new(self.alloc)),
+        };
+        change::<Adds, LinkedList<Deed>, Deed>(&mut self.facts, &deed);
+        self.ready = blank(self.alloc);
+        end(&mut self.people, session, reason, text);
+    }
+
+    /// How many sessions were opened: they have the numbers from 1.
+    pub fn opened(&self) -> usize
+        ensures count { result ≡ length (opened self.now.facts) }
+        ensures bound { result < 2 ^ 63 }
+    {
+        self.people.len()
+    }
+
+    /// The host of a session, empty where it wasn't opened or is gone.
+    pub fn host_of(&self, session: SessionId) -> &[u8]
+        ensures { result.now ≡ host self.now.facts session }
+    {
+        match find_person(&self.people, session) {
+            Some(person) => person.host.as_slice(),
+            None => &[],
+        }
+    }
+
+    /// The nickname of a session.
+    pub fn nick_of(&self, session: SessionId) -> Option<&Octets>
+        ensures nick { option_copied result ≡ nick self.now.facts session }
+        ensures unknown { (IsOpened self.now.facts session → ⊥) → result ≡ None }
+    {
+        match find_person(&self.people, session) {
+            Some(person) => person.nick.as_ref(),
+            None => None,
+        }
+    }
+
+    /// The user name of a session.
+    pub fn user_of(&self, session: SessionId) -> Option<&Octets>
+        ensures { option_copied result ≡ user self.now.facts session }
+    {
+        match find_person(&self.people, session) {
+            Some(person) => person.user.as_ref(),
+            None => None,
+        }
+    }
+
+    /// The real name of a session.
+    pub fn real_of(&self, session: SessionId) -> Option<&Octets>
+        ensures { option_copied result ≡ real self.now.facts session }
+    {
+        match find_person(&self.people, session) {
+            Some(person) => person.real.as_ref(),
+            None => None,
+        }
+    }
+
+    /// Whether a session is registered.
+    pub fn is_registered(&self, session: SessionId) -> bool
+        ensures { result ≡ registered self.now.facts session }
+    {
+        match find_person(&self.people, session) {
+            Some(person) => person.registered,
+            None => false,
+        }
+    }
+
+    /// Why a session ended; where that was never told its outbox was full.
+    pub fn why_of(&self, session: SessionId) -> Why
+        ensures { result ≡ why self.now.facts session }
+    {
+        match find_person(&self.people, session) {
+            Some(person) => person.why,
+            None => Why::SendQ,
+        }
+    }
+
+    /// The text that a session's client gave when it ended.
+    pub fn parting_of(&self, session: SessionId) -> &[u8]
+        ensures { result.now ≡ parting self.now.facts session }
+    {
+        match find_person(&self.people, session) {
+            Some(person) => person.parting.as_slice(),
+            None => &[],
+        }
+    }
+
+    /// The session that holds a nickname.
+    pub fn holder(&self, nick: &[u8]) -> Option<SessionId>
+        ensures { result ≡ holder self.now.facts nick.now }
+    {
+        match find_holder(&self.people, nick) {
+            Some(place) => Some(SessionId::new(place as u64 + 1)),
+            None => None,
+        }
+    }
+
+    /// The user of a nickname: the registered session that holds it.
+    pub fn find(&self, nick: &[u8]) -> Option<SessionId>
+        ensures { result ≡ found self.now.facts nick.now }
+    {
+        let session = self.holder(nick)?;
+        if self.is_registered(session) {
+            Some(session)
+        } else {
+            None
+        }
+    }
+
+    /// Those on a channel, in the order of joining.
+    pub fn members(&self, channel: &[u8]) -> &[SessionId]
+        ensures { result.now ≡ members self.now.facts channel.now }
+    {
+        match find_channel(&self.channels, channel) {
+            Some(channel) => channel.members.as_slice(),
+            None => &[],
+        }
+    }
+
+    /// Whether a session is on a channel.
+    pub fn is_on(&self, session: SessionId, channel: &[u8]) -> bool
+        ensures { result ≡ on self.now.facts session channel.now }
+    {
+        self.members(channel).contains(&session)
+    }
+
+    /// The name of a channel that is there, as it was first spelled.
+    pub fn name_of(&self, channel: &[u8]) -> Option<&Octets>
+        ensures { option_copied result ≡ name_of self.now.facts channel.now }
+    {
+        match find_channel(&self.channels, channel) {
+            Some(channel) => Some(&channel.name),
+            None => None,
+        }
+    }
+
+    /// How many channels there are.
+    pub fn channel_count(&self) -> usize
+        ensures { result ≡ length (channels self.now.facts) }
+    {
+        self.channels.len()
+    }
+
+    /// The name of the channel at a place, from 0, in the order of making.
+    pub fn channel_at(&self, place: usize) -> Option<&Octets>
+        ensures { option_copied result ≡ slice_get (channels self.now.facts) place }
+    {
+        match nth_channel(&self.channels, place) {
+            Some(channel) => Some(&channel.name),
+            None => None,
+        }
+    }
+
+    /// The other sessions that share a channel with one, each once, in order.
+    pub fn sharers(&self, session: SessionId) -> Result<Sessions, AllocError>
+        ensures { IfOk result (λ v. v ≡ sharers self.now.facts session) }
+    {
+        find_sharers(self.alloc, &self.channels, session, self.people.len())
+    }
+}
