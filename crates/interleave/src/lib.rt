@@ -5,11 +5,10 @@ mod event;
 mod inbox;
 mod laws;
 mod play;
-#[cfg(test)]
-mod tests;
 mod worker;
 
 pub use book::{
+    Book,
     Done, HangRefusal, Hung, Item, LineRefusal, OpenRefusal, ReapRefusal, Sessions, Settings,
     SweepRefusal,
 };

@@ -1,10 +1,10 @@
 //! A thousand steps, after each of which what is told is compared with what the records say.
-use super::acts::{Act, Told, brief, copied, play, take_step};
-use super::slow::{Fact, slow_facts, slow_nick, slow_on, slow_owed, slow_shut};
-use crate::{
-    BookRefusal, Item, LineRefusal, Note, Play, RecordNumber, SessionId, StepRefusal, Why,
+use crate::acts::{Act, Told, brief, play, take_step};
+use crate::again::copied;
+use interleave::{
+    BookRefusal, Item, LineRefusal, Note, Octets, Play, RecordNumber, SessionId, StepRefusal, Why,
 };
-use line_grammar::Octets;
+use oracle::{Fact, slow_facts, slow_nick, slow_on, slow_owed, slow_shut};
 use std::alloc::{AllocError, Global};
 use std::process::Abort;
 use std::test::Fail;
@@ -16,9 +16,6 @@ const LIMIT: usize = 60;
 const WORKERS: usize = 3;
 
 const SENDQ: usize = 3;
-
-/// After each so many steps, what is left is looked for.
-const WHOLE: usize = 1;
 
 /// What clients send.
 const TEXTS: [&str; 12] = [
@@ -351,13 +348,12 @@ fn look_ahead(rt: &impl Abort, alloc: Global, seen: &mut Seen) -> Result<(), Fai
     Ok(())
 }
 
-/// Whether what was taken is the first of what is owed, and what is left is the rest, where that was looked for.
-fn is_told(watched: &Watched, is_whole: bool) -> bool {
-    let Some((first, rest)) = watched.owed.split_at_checked(watched.taken.len()) else {
-        return false;
-    };
-    let is_rest = !is_whole && !watched.is_reaped || rest == watched.rest.as_slice();
-    first == watched.taken.as_slice() && is_rest
+/// Whether what was taken is the first of what is owed, and what is left is the rest.
+fn is_told(watched: &Watched) -> bool {
+    match watched.owed.split_at_checked(watched.taken.len()) {
+        Some((first, rest)) => first == watched.taken.as_slice() && rest == watched.rest.as_slice(),
+        None => false,
+    }
 }
 
 /// All that is owed, once more where a growth was refused.
@@ -426,7 +422,7 @@ fn read_back(alloc: Global, play: &Play, seen: &mut Seen) -> Result<(), AllocErr
 }
 
 /// Compares each session that was ever opened with the records.
-fn compare_all(rt: &impl Abort, play: &Play, seen: &Seen, channels: &[Octets], is_whole: bool) {
+fn compare_all(rt: &impl Abort, play: &Play, seen: &Seen, channels: &[Octets]) {
     let at = seen.acts.len();
     for (place, watched) in seen.sessions.iter().enumerate() {
         let session = SessionId::new(place as u64 + 1);
@@ -436,7 +432,7 @@ fn compare_all(rt: &impl Abort, play: &Play, seen: &Seen, channels: &[Octets], i
             !watched.is_shut,
             "{session:?} at {at}"
         );
-        assert!(rt; is_told(watched, is_whole), "{session:?} at {at}");
+        assert!(rt; is_told(watched), "{session:?} at {at}");
     }
 }
 
@@ -468,31 +464,53 @@ fn note(
     Ok(told)
 }
 
-#[test]
-fn a_thousand_steps(rt: HostRuntime) -> Result<(), Fail> {
-    let alloc = rt.alloc();
-    let mut play = play(alloc, LIMIT, WORKERS, SENDQ)?;
-    let channels = [copied(alloc, b"#a")?, copied(alloc, b"#B")?];
-    let mut seen = nothing_seen(alloc)?;
+/// Takes a step, and compares what is told after it with what the records say.
+fn take_next(
+    rt: &impl Abort,
+    alloc: Global,
+    play: &mut Play,
+    seen: &mut Seen,
+    act: Act,
+    channels: &[Octets],
+) -> Result<Told, Fail> {
+    if matches!(&act, Act::Reap(_)) {
+        look_ahead(rt, alloc, seen)?;
+    }
+    let at = seen.acts.len() as i64;
+    let answer = take_step(rt, alloc, play, act, at)?;
+    seen.acts.push(act)?;
+    let told = note(rt, alloc, seen, act, answer)?;
+    look_ahead(rt, alloc, seen)?;
+    read_back(alloc, play, seen)?;
+    compare_all(rt, play, seen, channels);
+    Ok(told)
+}
+
+/// Takes the steps that a sequence of numbers says, and counts the answers by their kinds.
+fn take_steps(
+    rt: &impl Abort,
+    alloc: Global,
+    play: &mut Play,
+    seen: &mut Seen,
+    channels: &[Octets],
+) -> Result<[u64; KINDS.len()], Fail> {
     let mut counts = [0u64; KINDS.len()];
     let mut number = 1;
-    for at in 0..STEPS {
+    for _ in 0..STEPS {
         number = after(number);
-        let act = act_of(number, &seen);
-        let is_whole = at % WHOLE == 0;
-        if matches!(&act, Act::Reap(_)) {
-            look_ahead(&rt, alloc, &mut seen)?;
-        }
-        let answer = take_step(&rt, alloc, &mut play, act, at as i64)?;
-        seen.acts.push(act)?;
-        let told = note(&rt, alloc, &mut seen, act, answer)?;
+        let act = act_of(number, seen);
+        let told = take_next(rt, alloc, play, seen, act, channels)?;
         count(&mut counts, told);
-        if is_whole {
-            look_ahead(&rt, alloc, &mut seen)?;
-        }
-        read_back(alloc, &play, &mut seen)?;
-        compare_all(&rt, &play, &seen, &channels, is_whole);
     }
+    Ok(counts)
+}
+
+#[test]
+fn a_thousand_steps(rt: HostRuntime) -> Result<(), Fail> {
+    let channels = [copied(rt.alloc(), b"#a")?, copied(rt.alloc(), b"#B")?];
+    let mut play = play(rt.alloc(), LIMIT, WORKERS, SENDQ)?;
+    let mut seen = nothing_seen(rt.alloc())?;
+    let counts = take_steps(&rt, rt.alloc(), &mut play, &mut seen, &channels)?;
     for (count, kind) in counts.iter().zip(KINDS.iter()) {
         assert!(rt; *count > 0, "{kind} in {counts:?}");
     }

@@ -1,5 +1,5 @@
 //! Playing scripts in tests, in which one growth is refused at most.
-use crate::{PlayFault, play};
+use halld::{PlayFault, play};
 use std::alloc::{AllocError, Global};
 use std::cell::Cell;
 use std::io;
@@ -159,6 +159,20 @@ impl Story {
         Ok(())
     }
 
+    /// Adds steps as they are written, and their notes.
+    pub(crate) fn extend(&mut self, script: &[u8], notes: &[u8]) -> Result<(), AllocError> {
+        self.script.extend_from_slice(script)?;
+        self.notes.extend_from_slice(notes)
+    }
+
+    /// What the steps give.
+    pub(crate) fn played(
+        &self,
+        alloc: Global,
+    ) -> Result<(Result<(), PlayFault>, Vec<u8>), AllocError> {
+        played(alloc, &self.script)
+    }
+
     /// Plays the steps.
     pub(crate) fn tell(&self, rt: &impl Abort, alloc: Global) -> Result<(), AllocError> {
         tell(rt, alloc, &self.script, &self.notes)
@@ -172,6 +186,19 @@ pub(crate) fn tell_steps(
     steps: &[(&str, &str)],
 ) -> Result<(), AllocError> {
     let mut story = Story::new(alloc)?;
+    story.add(steps)?;
+    story.tell(rt, alloc)
+}
+
+/// Plays steps after others, each with its notes.
+pub(crate) fn tell_after(
+    rt: &impl Abort,
+    alloc: Global,
+    before: &[(&str, &str)],
+    steps: &[(&str, &str)],
+) -> Result<(), AllocError> {
+    let mut story = Story::new(alloc)?;
+    story.add(before)?;
     story.add(steps)?;
     story.tell(rt, alloc)
 }

@@ -1,17 +1,18 @@
 //! The steps that tests take, each as a small value, and what became of each as another.
 ghost use Rattle.interleave.specs.Steps.{IsWellShaped};
 
-use crate::{
-    Done, Event, Item, Moment, Note, Octets, Play, PlayRefusal, SessionId, Settings, StepRefusal,
-    Why, WorkerId,
-};
+use crate::again::copied;
 use casemapping::is_host;
+use interleave::{
+    Done, Event, Item, Moment, Note, Play, PlayRefusal, SessionId, Settings, StepRefusal, Why,
+    WorkerId,
+};
 use std::alloc::{AllocError, Global};
 use std::process::Abort;
 use std::test::Fail;
 
 /// An event by the numbers of its worker and its session.
-#[derive(Clone, Copy, Debug)]
+#[derive(Clone, Copy)]
 pub(crate) enum Act {
     Connect,
     Feed(u64, &'static str),
@@ -43,14 +44,6 @@ pub(crate) enum Told {
     Swept(Option<u64>),
     Left(usize),
     Refused(StepRefusal),
-}
-
-/// A copy, once more where a growth was refused.
-pub(crate) fn copied(alloc: Global, octets: &[u8]) -> Result<Octets, AllocError> {
-    match Octets::copied(alloc, octets) {
-        Ok(copy) => Ok(copy),
-        Err(_) => Octets::copied(alloc, octets),
-    }
 }
 
 pub(crate) fn settings(alloc: Global, sessions: usize) -> Result<Settings, AllocError> {
@@ -213,9 +206,9 @@ pub(crate) fn compare(
     play: &mut Play,
     table: &[(Act, Told)],
 ) -> Result<(), AllocError> {
-    for (act, want) in table {
+    for (place, (act, want)) in table.iter().enumerate() {
         let answer = take_step(rt, alloc, play, *act, 2000)?;
-        assert_eq!(rt; brief(&answer), *want, "{act:?}");
+        assert_eq!(rt; brief(&answer), *want, "step {place}");
     }
     Ok(())
 }

@@ -1,6 +1,6 @@
 //! Readers and writers that give or take little, or fail.
-use super::shared::{room, twice};
-use crate::{PlayFault, play};
+use crate::shared::{room, twice};
+use halld::{PlayFault, play};
 use std::alloc::{AllocError, Global};
 use std::io;
 use std::io::{ErrorKind, Read, Write};
@@ -83,28 +83,47 @@ fn played_narrowly(
     Ok((result, output.octets))
 }
 
+const SCRIPT: &[u8] = b"take 1\ntake 2\n";
+
+const NOTES: &[u8] = b"refused NoSession\nrefused NoSession\n";
+
+/// How many reads and writes succeed, whether a write fails then or takes nothing, what the play ends with, and how many octets
+/// of its notes are written.
+const STREAMS: [(usize, usize, bool, Result<(), PlayFault>, usize); 6] = [
+    (99, 99, true, Ok(()), 36),
+    (14, 99, true, Err(PlayFault::ReadFailed), 36),
+    (13, 99, true, Err(PlayFault::ReadFailed), 18),
+    (0, 99, true, Err(PlayFault::ReadFailed), 0),
+    (99, 20, true, Err(PlayFault::WriteFailed), 20),
+    (99, 20, false, Err(PlayFault::WriteFailed), 20),
+];
+
+/// Plays the script, and plays it anew where it ended for want of memory, with the front of its notes written.
+fn played_twice(
+    rt: &impl Abort,
+    alloc: Global,
+    reads: usize,
+    writes: usize,
+    fails: bool,
+) -> Result<(Result<(), PlayFault>, Vec<u8>), AllocError> {
+    let (result, octets) = played_narrowly(alloc, SCRIPT, reads, writes, fails)?;
+    if result == Err(PlayFault::Memory) {
+        assert!(rt; NOTES.starts_with(octets.as_slice()));
+        return played_narrowly(alloc, SCRIPT, reads, writes, fails);
+    }
+    Ok((result, octets))
+}
+
 #[test]
 fn readers_and_writers(rt: HostRuntime) -> Result<(), Fail> {
-    let script = b"take 1\ntake 2\n";
-    let whole = b"refused NoSession\nrefused NoSession\n";
-    for (reads, writes, fails, end, want) in [
-        (99, 99, true, Ok(()), whole.as_slice()),
-        (14, 99, true, Err(PlayFault::ReadFailed), whole.as_slice()),
-        (13, 99, true, Err(PlayFault::ReadFailed), &whole[..18]),
-        (0, 99, true, Err(PlayFault::ReadFailed), b""),
-        (99, 20, true, Err(PlayFault::WriteFailed), &whole[..20]),
-        (99, 20, false, Err(PlayFault::WriteFailed), &whole[..20]),
-    ] {
-        let (mut result, mut octets) = played_narrowly(rt.alloc(), script, reads, writes, fails)?;
-        if result == Err(PlayFault::Memory) {
-            assert!(rt;
-                want.starts_with(octets.as_slice()),
-                "{reads} reads, {writes} writes"
-            );
-            (result, octets) = played_narrowly(rt.alloc(), script, reads, writes, fails)?;
-        }
-        assert_eq!(rt; result, end, "{reads} reads, {writes} writes");
-        assert_eq!(rt; octets.as_slice(), want, "{reads} reads, {writes} writes");
+    for (reads, writes, fails, end, count) in &STREAMS {
+        let (result, octets) = played_twice(&rt, rt.alloc(), *reads, *writes, *fails)?;
+        assert_eq!(rt; result, *end, "{reads} reads, {writes} writes");
+        assert_eq!(rt;
+            Some(octets.as_slice()),
+            NOTES.get(..*count),
+            "{reads} reads, {writes} writes"
+        );
     }
     Ok(())
 }
@@ -126,19 +145,22 @@ impl Read for Interrupted<'_> {
     }
 }
 
+/// Plays a script whose reads are interrupted.
+fn played_with_interrupts(alloc: Global) -> Result<(Result<(), PlayFault>, Vec<u8>), AllocError> {
+    let mut input = Interrupted {
+        octets: b"take 1\n",
+        is_interrupted: false,
+    };
+    let mut notes = room(alloc)?;
+    match play(alloc, &mut input, &mut notes) {
+        Err(PlayFault::Memory) => Err(AllocError),
+        result => Ok((result, notes)),
+    }
+}
+
 #[test]
 fn an_interrupted_read_is_tried_again(rt: HostRuntime) -> Result<(), Fail> {
-    let (result, notes) = twice(|| {
-        let mut input = Interrupted {
-            octets: b"take 1\n",
-            is_interrupted: false,
-        };
-        let mut notes = room(rt.alloc())?;
-        match play(rt.alloc(), &mut input, &mut notes) {
-            Err(PlayFault::Memory) => Err(AllocError),
-            result => Ok((result, notes)),
-        }
-    })?;
+    let (result, notes) = twice(|| played_with_interrupts(rt.alloc()))?;
     assert_eq!(rt; result, Ok(()));
     assert_eq!(rt; notes.as_slice(), b"refused NoSession\n".as_slice());
     Ok(())
@@ -158,19 +180,22 @@ impl Write for Unflushed {
     }
 }
 
+/// Plays a script into a writer that can't be flushed.
+fn played_unflushed(alloc: Global, script: &[u8]) -> Result<Result<(), PlayFault>, AllocError> {
+    let mut input = script;
+    match play(alloc, &mut input, &mut Unflushed) {
+        Err(PlayFault::Memory) => Err(AllocError),
+        result => Ok(result),
+    }
+}
+
 #[test]
 fn a_flush_that_fails_is_told(rt: HostRuntime) -> Result<(), Fail> {
     for (script, want) in [
         (b"take 1\n".as_slice(), PlayFault::WriteFailed),
         (b"take\n", PlayFault::BadLine(1)),
     ] {
-        let result = twice(|| {
-            let mut input = script;
-            match play(rt.alloc(), &mut input, &mut Unflushed) {
-                Err(PlayFault::Memory) => Err(AllocError),
-                result => Ok(result),
-            }
-        })?;
+        let result = twice(|| played_unflushed(rt.alloc(), script))?;
         assert_eq!(rt; result, Err(want), "{script:?}");
     }
     Ok(())
