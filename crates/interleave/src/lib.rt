@@ -8,8 +8,7 @@ mod play;
 mod worker;
 
 pub use book::{
-    Book,
-    Done, HangRefusal, Hung, Item, LineRefusal, OpenRefusal, ReapRefusal, Sessions, Settings,
+    Book, Done, HangRefusal, Hung, Item, LineRefusal, OpenRefusal, ReapRefusal, Sessions, Settings,
     SweepRefusal,
 };
 pub use chronicle::{Moment, RecordNumber, SessionId, Why};

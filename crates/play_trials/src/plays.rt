@@ -20,21 +20,25 @@ const SETTINGS: [(usize, usize, usize, usize, Option<PlayRefusal>); 8] = [
     (4, 100, 1, 4097, Some(PlayRefusal::BadSettings)),
 ];
 
+/// Why there is no play of so many, once more where a growth was refused.
+fn refusal(
+    alloc: Global,
+    sessions: usize,
+    limit: usize,
+    workers: usize,
+    sendq: usize,
+) -> Result<Option<PlayRefusal>, AllocError> {
+    let made = Play::new(alloc, settings(alloc, sessions)?, limit, workers, sendq).err();
+    if made != Some(PlayRefusal::Memory) {
+        return Ok(made);
+    }
+    Ok(Play::new(alloc, settings(alloc, sessions)?, limit, workers, sendq).err())
+}
+
 #[test]
 fn settings_within_their_limits_make_a_play(rt: HostRuntime) -> Result<(), Fail> {
     for (sessions, limit, workers, sendq, want) in &SETTINGS {
-        let first = settings(rt.alloc(), *sessions)?;
-        let again = settings(rt.alloc(), *sessions)?;
-        let made = match Play::new(rt.alloc(), first, *limit, *workers, *sendq).err() {
-            Some(PlayRefusal::Memory) => Play::new(
-                rt.alloc(),
-                again,
-                *limit,
-                *workers,
-                *sendq,
-            ).err(),
-            made => made,
-        };
+        let made = refusal(rt.alloc(), *sessions, *limit, *workers, *sendq)?;
         assert_eq!(rt; made, *want, "{sessions} {limit} {workers} {sendq}");
     }
     Ok(())

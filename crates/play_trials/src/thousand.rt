@@ -378,22 +378,17 @@ fn facts_of(alloc: Global, play: &Play) -> Result<Vec<Fact>, AllocError> {
     }
 }
 
-/// Compares what the book knows of a session with the facts of the records.
-fn compare_known(
-    rt: &impl Abort,
-    play: &Play,
-    facts: &[Fact],
-    session: SessionId,
-    channels: &[Octets],
-) {
+/// Whether the book knows of a session what the facts of the records say.
+fn is_known(play: &Play, facts: &[Fact], session: SessionId, channels: &[Octets]) -> bool {
     let book = play.book();
-    match (book.nick_of(session), slow_nick(facts, session)) {
-        (Some(nick), Some(want)) => assert!(rt; nick == want, "{session:?}"),
-        (nick, want) => assert!(rt; nick.is_none() && want.is_none(), "{session:?}"),
-    }
     for channel in channels {
-        let want = slow_on(facts, session, channel.as_slice());
-        assert_eq!(rt; book.is_on(session, channel), want, "{session:?}");
+        if book.is_on(session, channel) != slow_on(facts, session, channel.as_slice()) {
+            return false;
+        }
+    }
+    match (book.nick_of(session), slow_nick(facts, session)) {
+        (Some(nick), Some(want)) => nick == want,
+        (nick, want) => nick.is_none() && want.is_none(),
     }
 }
 
@@ -426,12 +421,12 @@ fn compare_all(rt: &impl Abort, play: &Play, seen: &Seen, channels: &[Octets]) {
     let at = seen.acts.len();
     for (place, watched) in seen.sessions.iter().enumerate() {
         let session = SessionId::new(place as u64 + 1);
-        compare_known(rt, play, &seen.facts, session, channels);
-        assert_eq!(rt;
-            play.book().is_open(session),
-            !watched.is_shut,
+        assert!(rt;
+            is_known(play, &seen.facts, session, channels),
             "{session:?} at {at}"
         );
+        let is_open = play.book().is_open(session);
+        assert!(rt; is_open != watched.is_shut, "{session:?} at {at}");
         assert!(rt; is_told(watched), "{session:?} at {at}");
     }
 }
