@@ -86,18 +86,17 @@ fn items(alloc: Global) -> Result<[(Item, &'static [u8]); 3], AllocError> {
     ])
 }
 
-/// Writes an item to a writer that takes `most` octets at a time.
-fn compare_whole(rt: &impl Abort, alloc: Global, item: &Item, want: &[u8], most: usize) {
+/// Whether an item goes out whole to a writer that takes `most` octets at a time.
+fn is_whole(alloc: Global, item: &Item, want: &[u8], most: usize) -> bool {
     let mut out = Narrow::new(alloc, most, 99, true);
-    assert_eq!(rt; write_out(item, b"h2", &mut out), (want.len(), Ok(())));
-    assert_eq!(rt; out.octets.as_slice(), want, "{most} at a time");
+    write_out(item, b"h2", &mut out) == (want.len(), Ok(())) && out.octets.as_slice() == want
 }
 
 #[test]
 fn a_text_goes_out_whole(rt: HostRuntime) -> Result<(), Fail> {
     for (item, want) in &items(rt.alloc())? {
         for most in [1, 2, 7, 99] {
-            compare_whole(&rt, rt.alloc(), item, want, most);
+            assert!(rt; is_whole(rt.alloc(), item, want, most), "{most} at a time");
         }
         let octets = written(rt.alloc(), item, b"h2")?;
         assert_eq!(rt; octets.as_slice(), *want);
@@ -105,25 +104,16 @@ fn a_text_goes_out_whole(rt: HostRuntime) -> Result<(), Fail> {
     Ok(())
 }
 
-/// Writes an item to a writer that takes `left` octets, and then fails or takes none.
-fn compare_front(
-    rt: &impl Abort,
-    alloc: Global,
-    item: &Item,
-    want: &[u8],
-    left: usize,
-    fault: WriteFault,
-) {
+/// Whether the front of an item goes out to a writer that takes `left` octets, and then fails or takes none.
+fn is_front(alloc: Global, item: &Item, want: &[u8], left: usize, fault: WriteFault) -> bool {
     let mut out = Narrow::new(alloc, 5, left, fault == WriteFault::Failed);
-    let (count, whole) = write_out(item, b"h2", &mut out);
-    assert_eq!(rt; count, left);
-    assert_eq!(rt; whole.is_ok(), left == want.len(), "{left} octets");
-    assert!(rt; whole.is_ok() || whole == Err(fault), "{left} octets");
-    assert_eq!(rt;
-        Some(out.octets.as_slice()),
-        want.get(..left),
-        "{left} octets"
-    );
+    let whole = if left == want.len() {
+        Ok(())
+    } else {
+        Err(fault)
+    };
+    write_out(item, b"h2", &mut out) == (left, whole)
+        && want.get(..left) == Some(out.octets.as_slice())
 }
 
 #[test]
@@ -131,22 +121,25 @@ fn a_fault_leaves_the_front(rt: HostRuntime) -> Result<(), Fail> {
     for (item, want) in &items(rt.alloc())? {
         for fault in [WriteFault::Failed, WriteFault::Zero] {
             for left in 0..=want.len() {
-                compare_front(&rt, rt.alloc(), item, want, left, fault);
+                assert!(rt;
+                    is_front(rt.alloc(), item, want, left, fault),
+                    "{left} octets"
+                );
             }
         }
     }
     Ok(())
 }
 
-/// Writes two items, the second where the first went out whole, to a writer that takes `left` octets and then fails. Answers how many went out.
-fn write_both(alloc: Global, first: &Item, second: &Item, left: usize) -> (usize, bool, Vec<u8>) {
-    let mut out = Narrow::new(alloc, 3, left, true);
-    let (count, whole) = write_out(first, b"h2", &mut out);
+/// Writes two items, the second where the first went out whole, and answers how many octets
+/// went out, and whether all did.
+fn write_both(first: &Item, second: &Item, out: &mut Narrow) -> (usize, bool) {
+    let (count, whole) = write_out(first, b"h2", out);
     if whole.is_err() {
-        return (count, false, out.octets);
+        return (count, false);
     }
-    let (more, whole) = write_out(second, b"h2", &mut out);
-    (count.saturating_add(more), whole.is_ok(), out.octets)
+    let (more, whole) = write_out(second, b"h2", out);
+    (count.saturating_add(more), whole.is_ok())
 }
 
 #[test]
@@ -155,10 +148,13 @@ fn two_items_up_to_a_fault(rt: HostRuntime) -> Result<(), Fail> {
     let second = last(2, Why::Quit);
     let both = [JOINED, CLOSED].concat(rt.alloc())?;
     for left in 0..=both.len() {
-        let (count, whole, octets) = write_both(rt.alloc(), &first, &second, left);
-        assert_eq!(rt; whole, left == both.len(), "{left} octets");
-        assert_eq!(rt; count, left);
-        assert_eq!(rt; Some(octets.as_slice()), both.get(..left));
+        let mut out = Narrow::new(rt.alloc(), 3, left, true);
+        let written = write_both(&first, &second, &mut out);
+        assert!(rt; written == (left, left == both.len()), "{left} octets");
+        assert!(rt;
+            both.get(..left) == Some(out.octets.as_slice()),
+            "{left} octets"
+        );
     }
     Ok(())
 }
