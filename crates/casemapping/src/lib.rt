@@ -7,8 +7,6 @@ mod folded_name;
 mod mapping;
 mod mask;
 mod names;
-#[cfg(test)]
-mod tests;
 
 pub use folded_name::Folded;
 pub use mapping::{fold, same};

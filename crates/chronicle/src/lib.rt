@@ -10,6 +10,3 @@ pub use journal::{Journal, JournalRefusal};
 pub use names::{Moment, RecordNumber, SessionId};
 pub use record::{Kind, Record};
 pub use why::Why;
-
-#[cfg(test)]
-mod tests;

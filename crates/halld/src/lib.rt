@@ -47,8 +47,6 @@ mod reader;
 mod refusals;
 mod script;
 mod split;
-#[cfg(test)]
-mod tests;
 mod words;
 
 pub use entry::{PlayFault, play};

@@ -5,12 +5,10 @@ mod event;
 mod inbox;
 mod laws;
 mod play;
-#[cfg(test)]
-mod tests;
 mod worker;
 
 pub use book::{
-    Done, HangRefusal, Hung, Item, LineRefusal, OpenRefusal, ReapRefusal, Sessions, Settings,
+    Book, Done, HangRefusal, Hung, Item, LineRefusal, OpenRefusal, ReapRefusal, Sessions, Settings,
     SweepRefusal,
 };
 pub use chronicle::{Moment, RecordNumber, SessionId, Why};

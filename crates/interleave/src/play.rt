@@ -126,6 +126,13 @@ impl Play {
         let _ = &self.book;
     }
 
+    /// The book, as it stands.
+    pub fn book(&self) -> &Book
+        ensures { result.now ≡ self.now.book }
+    {
+        &self.book
+    }
+
     // ---- why a step is refused
 
     fn is_known(&self, session: SessionId) -> bool
@@ -555,13 +562,5 @@ impl Play {
         }
         self.sound();
         Ok(notes)
-    }
-}
-
-#[cfg(test)]
-impl Play {
-    /// The book, for tests to look into.
-    pub(crate) fn book(&self) -> &Book {
-        &self.book
     }
 }

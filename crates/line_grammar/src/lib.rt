@@ -15,6 +15,3 @@ pub use message::{Message, Parameters};
 pub use octets::Octets;
 pub use spelling::{WriteFault, is_writable, push_untagged, write};
 pub use splitter::{Piece, Splitter, split_all};
-
-#[cfg(test)]
-mod tests;

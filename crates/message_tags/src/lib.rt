@@ -7,8 +7,6 @@ mod key;
 mod list;
 mod reading;
 mod tag;
-#[cfg(test)]
-mod tests;
 
 pub use client::client_only;
 pub use escaping::{escape, unescape, unescape_undoes_escape};

@@ -4,8 +4,6 @@
 mod item;
 mod queue;
 mod ring;
-#[cfg(test)]
-mod tests;
 mod writing;
 
 pub use item::Item;

@@ -1,0 +1,281 @@
+//! What no clause says: that calls succeed, and what a session's end looks like.
+use crate::again::copied;
+use book::{
+    Baton, Book, Done, HangRefusal, Item, LineRefusal, OpenRefusal, ReapRefusal, Ring, Settings,
+    Step,
+};
+use casemapping::is_host;
+use chronicle::{Moment, SessionId, Why};
+use line_grammar::{Octets, Piece};
+use std::alloc::Global;
+use std::process::Abort;
+use std::test::Fail;
+
+const NOON: i64 = 43_200_000;
+
+fn book(alloc: Global, limit: usize) -> Result<Book, Fail> {
+    let settings = Settings {
+        server: copied(alloc, b"irc.example")?,
+        sessions: 2,
+    };
+    Ok(Book::new(alloc, settings, limit).ok().ok_or("a book")?)
+}
+
+/// Opens a session whose outbox holds eight items.
+fn open(
+    rt: &impl Abort,
+    alloc: Global,
+    book: &mut Book,
+    host: &[u8],
+) -> Result<(SessionId, Baton), Fail> {
+    let first = copied(alloc, host)?;
+    let again = copied(alloc, host)?;
+    assert!(rt; is_host(first.as_slice()) && is_host(again.as_slice()));
+    let outbox = match Ring::new(alloc, 8) {
+        Ok(outbox) => outbox,
+        Err(_) => Ring::new(alloc, 8)?,
+    };
+    let opened = match book.open(first, Moment::new(NOON), outbox) {
+        Err((OpenRefusal::Memory, outbox)) => book.open(again, Moment::new(NOON), outbox),
+        answer => answer,
+    };
+    Ok(opened.ok().ok_or("a session")?)
+}
+
+fn say(alloc: Global, book: &mut Book, baton: &mut Baton, line: &[u8]) -> Result<(), Fail> {
+    let piece = Piece::Line(copied(alloc, line)?);
+    let done = match book.line(baton, &piece, Moment::new(NOON)) {
+        Err(LineRefusal::Memory) => book.line(baton, &piece, Moment::new(NOON)),
+        answer => answer,
+    };
+    match done {
+        Ok(_) => Ok(()),
+        Err(_) => Err("a line".into()),
+    }
+}
+
+/// Joins a channel after a NICK line.
+fn join(alloc: Global, book: &mut Book, baton: &mut Baton, nick: &[u8]) -> Result<(), Fail> {
+    say(alloc, book, baton, nick)?;
+    say(alloc, book, baton, b"USER a 0 * :A")?;
+    say(alloc, book, baton, b"JOIN #a")
+}
+
+/// Has a line accepted that owes one delivery, and answers what became of that.
+fn say_in_steps(
+    book: &mut Book,
+    baton: &mut Baton,
+    piece: &Piece,
+) -> Option<(Option<Step>, SessionId, Done)> {
+    let Ok(mut plan) = book.begin(baton, piece, Moment::new(NOON)) else {
+        return None;
+    };
+    let actor = plan.session();
+    let step = book.put_next(&mut plan);
+    let Some(_) = book.put_next(&mut plan) else {
+        return Some((step, actor, book.finish(plan, baton)));
+    };
+    None
+}
+
+/// Sweeps a session of whose end nobody is told.
+fn sweep_in_steps(book: &mut Book) -> Option<Done> {
+    let Ok(Some(mut plan)) = book.begin_sweep(Moment::new(NOON)) else {
+        return None;
+    };
+    let Some(_) = book.put_next(&mut plan) else {
+        return Some(book.finish_sweep(plan));
+    };
+    None
+}
+
+/// A book with its sessions 1 and 2, al and bo, who have joined a channel by records 1 to 8.
+fn meeting(rt: &impl Abort, alloc: Global) -> Result<(Book, Baton, Baton), Fail> {
+    let mut book = book(alloc, 40)?;
+    let (_, mut first) = open(rt, alloc, &mut book, b"h1")?;
+    let (_, mut second) = open(rt, alloc, &mut book, b"h2")?;
+    join(alloc, &mut book, &mut first, b"NICK al")?;
+    join(alloc, &mut book, &mut second, b"NICK bo")?;
+    Ok((book, first, second))
+}
+
+/// Has bo say something to al, once more where a growth was refused.
+fn said(
+    alloc: Global,
+    book: &mut Book,
+    baton: &mut Baton,
+) -> Result<(Option<Step>, SessionId, Done), Fail> {
+    let piece = Piece::Line(copied(alloc, b"PRIVMSG #a :hi")?);
+    let said = match say_in_steps(book, baton, &piece) {
+        None => say_in_steps(book, baton, &piece),
+        said => said,
+    };
+    Ok(said.ok_or("one delivery")?)
+}
+
+/// Compares a book with what the line of bo was to make of it.
+fn compare_said(rt: &impl Abort, book: &Book, done: &Done) {
+    assert!(rt; done.number.number() == 9);
+    assert!(rt; done.missed.is_empty() && !done.shut);
+    assert!(rt; book.len() == 9);
+    assert!(rt; book.last_moment().milliseconds() == NOON);
+    assert!(rt; book.record(done.number).is_some());
+}
+
+#[test]
+fn a_line_goes_in_steps(rt: HostRuntime) -> Result<(), Fail> {
+    let (mut book, _first, mut second) = meeting(&rt, rt.alloc())?;
+    let (step, actor, done) = said(rt.alloc(), &mut book, &mut second)?;
+    assert_eq!(rt; step, Some(Step::Put(SessionId::new(1))));
+    assert_eq!(rt; actor, SessionId::new(2));
+    compare_said(&rt, &book, &done);
+    book.sound();
+    Ok(())
+}
+
+/// Begins a line and drops its plan.
+fn drop_plan(book: &mut Book, baton: &Baton, piece: &Piece) -> Result<(), LineRefusal> {
+    let moment = Moment::new(NOON);
+    let plan = match book.begin(baton, piece, moment) {
+        Err(LineRefusal::Memory) => book.begin(baton, piece, moment)?,
+        answer => answer?,
+    };
+    drop(plan);
+    Ok(())
+}
+
+#[test]
+fn a_plan_that_is_dropped_leaves_the_book_busy(rt: HostRuntime) -> Result<(), Fail> {
+    let mut book = book(rt.alloc(), 40)?;
+    let (al, baton) = open(&rt, rt.alloc(), &mut book, b"h1")?;
+    let piece = Piece::Line(copied(rt.alloc(), b"NICK al")?);
+    let moment = Moment::new(NOON);
+    assert!(rt; drop_plan(&mut book, &baton, &piece).is_ok());
+    let again = book.begin(&baton, &piece, moment);
+    assert_eq!(rt; again.err(), Some(LineRefusal::Busy));
+    let hung = book.hang(al, Why::Shutdown, moment);
+    assert_eq!(rt; hung.err(), Some(HangRefusal::Busy));
+    Ok(())
+}
+
+/// Compares a session's nickname, none where it is empty, and whether it is on a channel.
+fn known(rt: &impl Abort, book: &Book, session: u64, nick: &[u8], on: bool, channel: &Octets) {
+    let session = SessionId::new(session);
+    match book.nick_of(session) {
+        Some(own) => assert!(rt; own.as_slice() == nick),
+        None => assert!(rt; nick.is_empty()),
+    }
+    assert_eq!(rt; book.is_on(session, channel), on);
+}
+
+/// Hangs al, who can't be given up before a sweep, and sweeps.
+fn hang_and_sweep(rt: &impl Abort, book: &mut Book, baton: Baton) -> Result<Baton, Fail> {
+    let moment = Moment::new(NOON);
+    let al = SessionId::new(1);
+    let hung = book.hang(al, Why::ReadEnded, moment).ok().ok_or("hung")?;
+    assert_eq!(rt; (hung.number.number(), hung.missed), (9, false));
+    assert!(rt; !book.is_open(al) && book.is_open(SessionId::new(2)));
+    let Err((ReapRefusal::NotGone, baton)) = book.reap(baton) else {
+        return Err("not gone".into());
+    };
+    let done = swept(book, moment).ok_or("swept")?;
+    assert_eq!(rt; (done.number.number(), done.shut), (10, true));
+    Ok(baton)
+}
+
+/// Takes the lines that bo is due: of its own join, and of the end of al.
+fn take_lines(rt: &impl Abort, book: &mut Book) -> Result<(), Fail> {
+    for want in [
+        b":bo!a@h2 JOIN #a\r\n".as_slice(),
+        b":al!a@h1 QUIT :Connection closed\r\n",
+    ] {
+        match book.take(SessionId::new(2)) {
+            Ok(Item::Lines { text, .. }) => assert_eq!(rt; text.as_slice(), want),
+            _ => return Err("a line".into()),
+        }
+    }
+    Ok(())
+}
+
+#[test]
+fn a_session_ends(rt: HostRuntime) -> Result<(), Fail> {
+    let (mut book, first, _second) = meeting(&rt, rt.alloc())?;
+    let channel = copied(rt.alloc(), b"#A")?;
+    known(&rt, &book, 1, b"al", true, &channel);
+    let first = hang_and_sweep(&rt, &mut book, first)?;
+    known(&rt, &book, 1, b"", false, &channel);
+    known(&rt, &book, 2, b"bo", true, &channel);
+    take_lines(&rt, &mut book)?;
+    let left = book.reap(first).ok().ok_or("left")?;
+    assert_eq!(rt; (left.session.number(), left.count), (1, 3));
+    Ok(())
+}
+
+/// Sweeps a session in steps, once more where a growth was refused.
+fn swept_in_steps(book: &mut Book) -> Option<Done> {
+    match sweep_in_steps(book) {
+        None => sweep_in_steps(book),
+        swept => swept,
+    }
+}
+
+/// A book whose session 1 has quit.
+fn after_a_quit(rt: &impl Abort, alloc: Global) -> Result<Book, Fail> {
+    let mut book = book(alloc, 40)?;
+    let (_, mut baton) = open(rt, alloc, &mut book, b"h1")?;
+    say(alloc, &mut book, &mut baton, b"QUIT")?;
+    Ok(book)
+}
+
+#[test]
+fn a_sweep_goes_in_steps(rt: HostRuntime) -> Result<(), Fail> {
+    let mut book = after_a_quit(&rt, rt.alloc())?;
+    let al = SessionId::new(1);
+    assert!(rt; !book.is_open(al));
+    assert!(rt; matches!(book.take(al), Ok(Item::Last { why: Why::Quit, .. })));
+    let done = swept_in_steps(&mut book).ok_or("no delivery")?;
+    assert_eq!(rt; (done.number.number(), done.shut), (3, true));
+    let nobody = book.begin_sweep(Moment::new(NOON));
+    assert!(rt; matches!(nobody, Ok(None)));
+    Ok(())
+}
+
+/// Sweeps, once more where a growth was refused.
+fn swept(book: &mut Book, moment: Moment) -> Option<Done> {
+    let swept = match book.sweep(moment) {
+        Err(_) => book.sweep(moment),
+        answer => answer,
+    };
+    swept.ok()?
+}
+
+/// Ends session 1 of a full journal in the room that is kept for that.
+fn end(rt: &impl Abort, book: &mut Book, baton: Baton) {
+    let moment = Moment::new(NOON);
+    assert!(rt; book.hang(SessionId::new(1), Why::Shutdown, moment).is_ok());
+    assert!(rt; swept(book, moment).is_some());
+    assert!(rt; book.reap(baton).is_ok());
+}
+
+/// Fills a journal for a session and so many lines of it, and ends the session.
+fn fill(rt: &impl Abort, alloc: Global, lines: usize) -> Result<(), Fail> {
+    let mut book = book(alloc, lines.saturating_add(3))?;
+    let (_, mut baton) = open(rt, alloc, &mut book, b"h1")?;
+    for _ in 0..lines {
+        say(alloc, &mut book, &mut baton, b"NICK al")?;
+    }
+    let piece = Piece::Line(copied(alloc, b"NICK al")?);
+    let full = book.line(&mut baton, &piece, Moment::new(NOON));
+    assert_eq!(rt; full.err(), Some(LineRefusal::JournalFull));
+    end(rt, &mut book, baton);
+    assert_eq!(rt; book.len(), lines.saturating_add(3));
+    Ok(())
+}
+
+#[test]
+fn a_journal_is_used_to_its_end(rt: HostRuntime) -> Result<(), Fail> {
+    for lines in [0, 1] {
+        fill(&rt, rt.alloc(), lines)?;
+    }
+    Ok(())
+}

@@ -1,0 +1,127 @@
+//! Plays: their settings, and whole runs of events.
+use crate::acts::{Act, Told, brief, compare, play, settings};
+use interleave::{
+    BookRefusal, Event, Moment, Note, Play, PlayRefusal, ReapRefusal, SessionId, StepRefusal,
+    WorkerId,
+};
+use std::alloc::{AllocError, Global};
+use std::process::Abort;
+use std::test::Fail;
+
+/// Sessions, records, workers and items of an outbox, and why there is no play of so many.
+const SETTINGS: [(usize, usize, usize, usize, Option<PlayRefusal>); 8] = [
+    (4, 100, 1, 1, None),
+    (4, 100, 64, 4096, None),
+    (0, 100, 1, 1, Some(PlayRefusal::BadSettings)),
+    (4, 0, 1, 1, Some(PlayRefusal::BadSettings)),
+    (4, 100, 0, 1, Some(PlayRefusal::BadSettings)),
+    (4, 100, 65, 1, Some(PlayRefusal::BadSettings)),
+    (4, 100, 1, 0, Some(PlayRefusal::BadSettings)),
+    (4, 100, 1, 4097, Some(PlayRefusal::BadSettings)),
+];
+
+/// Why there is no play of so many, once more where a growth was refused.
+fn refusal(
+    alloc: Global,
+    sessions: usize,
+    limit: usize,
+    workers: usize,
+    sendq: usize,
+) -> Result<Option<PlayRefusal>, AllocError> {
+    let made = Play::new(alloc, settings(alloc, sessions)?, limit, workers, sendq).err();
+    if made != Some(PlayRefusal::Memory) {
+        return Ok(made);
+    }
+    Ok(Play::new(alloc, settings(alloc, sessions)?, limit, workers, sendq).err())
+}
+
+#[test]
+fn settings_within_their_limits_make_a_play(rt: HostRuntime) -> Result<(), Fail> {
+    for (sessions, limit, workers, sendq, want) in &SETTINGS {
+        let made = refusal(rt.alloc(), *sessions, *limit, *workers, *sendq)?;
+        assert_eq!(rt; made, *want, "{sessions} {limit} {workers} {sendq}");
+    }
+    Ok(())
+}
+
+/// Opens al and bo, each with a nickname and a user name: records 1 to 6.
+fn start(rt: &impl Abort, alloc: Global, play: &mut Play) -> Result<(), AllocError> {
+    let table = [
+        (Act::Connect, Told::Session(1)),
+        (Act::Connect, Told::Session(2)),
+        (Act::Feed(1, "NICK al\r\nUSER a 0 * :Al\r\n"), Told::Read(2)),
+        (Act::Feed(2, "NICK bo\r\nUSER b 0 * :Bo\r\n"), Told::Read(2)),
+    ];
+    compare(rt, alloc, play, &table)?;
+    for (session, number) in [(1, 3), (2, 4), (1, 5), (2, 6)] {
+        let table = [
+            (Act::Pick(1, session), Told::Picked),
+            (Act::Begin(1), Told::Record(number)),
+            (Act::End(1), Told::Done(number)),
+        ];
+        compare(rt, alloc, play, &table)?;
+    }
+    Ok(())
+}
+
+const BEFORE_THE_RUN: [(Act, Told); 5] = [
+    (Act::Feed(1, "JOIN #a\r\n"), Told::Read(1)),
+    (Act::Feed(2, "JOIN #b\r\n"), Told::Read(1)),
+    (Act::Pick(1, 1), Told::Picked),
+    (Act::Pick(2, 2), Told::Picked),
+    (Act::Begin(1), Told::Record(7)),
+];
+
+/// What becomes of the events of the run.
+const TOLD: [Told; 7] = [
+    Told::Refused(StepRefusal::Locked),
+    Told::Refused(StepRefusal::NotHolding),
+    Told::Put(1),
+    Told::Done(7),
+    Told::Back,
+    Told::Item(7),
+    Told::Refused(StepRefusal::Book(BookRefusal::Reap(ReapRefusal::NotGone))),
+];
+
+/// What becomes of the events of a run, in which worker 1 ends and worker 2 gives its line back.
+fn run(play: &mut Play) -> Result<Vec<Result<Note, StepRefusal>>, AllocError> {
+    let session = SessionId::new(1);
+    let one = WorkerId::new(1);
+    let two = WorkerId::new(2);
+    let moment = Moment::new(2000);
+    let events = [
+        Event::Begin {
+            worker: two,
+            moment,
+        },
+        Event::Put { worker: two },
+        Event::Put { worker: one },
+        Event::End { worker: one },
+        Event::Back { worker: two },
+        Event::Take { session },
+        Event::Reap { session },
+    ];
+    play.run(&events)
+}
+
+/// Compares what became of the events of the run.
+fn compare_notes(rt: &impl Abort, notes: &[Result<Note, StepRefusal>]) {
+    assert_eq!(rt; notes.len(), TOLD.len());
+    for (note, want) in notes.iter().zip(TOLD.iter()) {
+        assert_eq!(rt; brief(note), *want);
+    }
+}
+
+#[test]
+fn a_run_tells_the_same(rt: HostRuntime) -> Result<(), Fail> {
+    let mut play = play(rt.alloc(), 100, 2, 8)?;
+    start(&rt, rt.alloc(), &mut play)?;
+    compare(&rt, rt.alloc(), &mut play, &BEFORE_THE_RUN)?;
+    let notes = match run(&mut play) {
+        Ok(notes) => notes,
+        Err(_) => run(&mut play)?,
+    };
+    compare_notes(&rt, &notes);
+    play.sound();
+    Ok(())
+}
