@@ -1,10 +1,10 @@
 -- Who was never opened is owed nothing, isn't shut and isn't gone.
 use Rattle.std.proofs.lemmas.Bool.Decides.{eqb_tells, nat_tests}
-use Rattle.std.proofs.Common.{◌≡◌, ◌≢◌, inl, inr, ℕ, ◌+◌, ◌<◌, Bool, true, false, ◌||◌, ◌==◌, nat_le, cond, List, [], ◌∷◌, ◌++◌, length, arith, refl, sym, ap, ◌∙◌, ne_eqb}
+use Rattle.std.proofs.Common.{◌≡◌, ◌≢◌, inl, inr, ℕ, ◌+◌, ◌<◌, Bool, true, false, ◌||◌, ◌==◌, nat_le, cond, List, [], ◌∷◌, length, arith, refl, sym, ap, ◌∙◌, ne_eqb}
 use Rattle.std.specs.List.{list_any}
 use Rattle.chronicle.specs.declared.record.Kind.{Kind}
 use Rattle.chronicle.specs.declared.record.Kind.TheVariants as kind
-use Rattle.chronicle.specs.History.{Rec, opened_by, sessions, said_by, accepted, misses, ends, shut, leaves, gone}
+use Rattle.chronicle.specs.History.{Rec, sessions, said_by, accepted, misses, ends, shut, leaves, gone}
 use Rattle.outbox.specs.declared.item.Item.{Item}
 use Rattle.deeds.specs.Deeds.{facts, lines}
 use Rattle.book.specs.Owed.{item, delivery, owed}

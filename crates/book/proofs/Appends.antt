@@ -1,6 +1,6 @@
 -- All that a book keeps stands for its history where a record is appended.
 use Rattle.std.proofs.Common.{◌≡◌, ℕ, ℤ, ◌+◌, ◌-◌, ◌<◌, ◌≤◌, Bool, true, false, ◌&&◌, ◌||◌, ◌==◌, List, [], ◌∷◌, ◌++◌, length, slice_set, slice_index_or, Option, Some, arith, refl, sym, ap, ◌∙◌, subst, length-append, append-nil, eq-eqb}
-use Rattle.std.proofs.lemmas.List.{length-set, get_or-set_same, set-get_or}
+use Rattle.std.proofs.lemmas.List.{get_or-set_same, set-get_or}
 use Rattle.roster.specs.declared.deed.Deed.TheVariants.{Ended}
 use Rattle.line_grammar.specs.declared.splitter.Piece.{Piece}
 use Rattle.chronicle.specs.declared.record.Kind.TheVariants.{Said, Hung, Gone}
@@ -17,7 +17,6 @@ use Rattle.roster.specs.Legal.{IsOpened}
 use Rattle.deeds.specs.Rows.{of_command}
 use Rattle.deeds.specs.Departure.{departs}
 use Rattle.deeds.specs.Effects.{deeds_of}
-use Rattle.deeds.specs.Deeds.{facts}
 use Rattle.book.specs.declared.plan.Planned.{Planned}
 use Rattle.book.specs.declared.seat.Seat.{Seat}
 use Rattle.book.specs.Kept.{IsKept}

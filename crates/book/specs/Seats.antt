@@ -9,7 +9,6 @@ use Rattle.book.specs.declared.plan.Planned.{Planned}
 use Rattle.deeds.specs.declared.verdict.Verdict.{Verdict}
 use Rattle.book.specs.Book.{puts, others}
 use Rattle.std.specs.List.{flat_map}
-use Rattle.numerics.specs.declared.outgoing.Out.{Out}
 use Rattle.deeds.specs.declared.effect.Effect.{Effect}
 use Rattle.deeds.specs.declared.verdict.Shown.{Shown}
 use Rattle.deeds.specs.Effects.{heard, lines_to}

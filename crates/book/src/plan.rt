@@ -62,11 +62,7 @@ fn tell_one(texts: &mut [Octets], session: SessionId, line: &[u8]) -> Result<(),
 }
 
 /// Adds octets to what each of some sessions hears.
-fn tell_each(
-    texts: &mut [Octets],
-    hearers: &[SessionId],
-    line: &[u8],
-) -> Result<(), AllocError>
+fn tell_each(texts: &mut [Octets], hearers: &[SessionId], line: &[u8]) -> Result<(), AllocError>
     ensures { OnOk result ((i : ℕ) → i < length texts.old → slice_index_or texts.new i [] ≡ slice_index_or texts.old i [] ++ repeated hearers.now line.now (i + 1)) }
 {
     for hearer in hearers {

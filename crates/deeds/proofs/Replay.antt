@@ -1,5 +1,5 @@
 -- What is looked up after effects is the answer before them, changed by each in turn.
-use Rattle.std.proofs.Common.{◌≡◌, ℕ, zero, suc, ◌+◌, ◌-◌, ◌<◌, ◌≤◌, ◌==◌, Bool, true, false, cond, List, [], ◌∷◌, ◌++◌, length, take, get_or, unwrap_or, arith, refl, sym, ap, ◌∙◌, subst, append_assoc, length-append}
+use Rattle.std.proofs.Common.{◌≡◌, ℕ, zero, suc, ◌+◌, ◌<◌, ◌≤◌, List, [], ◌∷◌, ◌++◌, length, take, get_or, unwrap_or, arith, refl, sym, ap, ◌∙◌, subst, append_assoc, length-append}
 use Rattle.deeds.specs.Drafted.{Drafted, IsDraft, grown}
 use Rattle.std.proofs.lemmas.List.{take_more}
 use Rattle.roster.specs.declared.deed.Deed.{Deed}
@@ -99,7 +99,6 @@ pub grown_grown : (d : Drafted) (xs ys : List Effect) → grown (grown d xs) ys 
 grown_grown d xs ys =
     ap (λ (gs : List Deed). record { base = d.base; facts = gs; effects = d.effects ++ xs ++ ys }) (sym (after-effects d.facts xs ys))
     ∙ ap (λ (es : List Effect). record { base = d.base; facts = after d.facts (deeds_of (xs ++ ys)); effects = es }) (append_assoc d.effects xs ys)
-
 
 -- ---- sessions that were opened
 

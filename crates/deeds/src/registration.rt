@@ -51,11 +51,7 @@ pub(crate) fn introduce(
 }
 
 /// A session ends as its client asked.
-pub(crate) fn quit(
-    draft: &mut Draft,
-    session: SessionId,
-    text: &Octets,
-) -> Result<(), AllocError>
+pub(crate) fn quit(draft: &mut Draft, session: SessionId, text: &Octets) -> Result<(), AllocError>
     requires { IsOpened draft.old.facts session }
     ensures { OnOk result (draft.new ≡ grown draft.old (quits session text.now)) }
 {

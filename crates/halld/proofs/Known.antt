@@ -2,7 +2,7 @@
 use Rattle.std.proofs.Common.{◌≡◌, ℕ, List, [], ◌++◌, Option, Some, None, refl, sym, ap, ◌∙◌, subst}
 use Rattle.std.specs.Prelude.{IfSome}
 use Rattle.std.specs.Option.{option_map}
-use Rattle.std.specs.Io.KnownBytes.{Consumes, Keeps, IsAtEnd}
+use Rattle.std.specs.Io.KnownBytes.{Consumes, Keeps, IsAtEnd, Appends}
 use Rattle.halld.specs.declared.entry.PlayFault.{PlayFault}
 use Rattle.halld.specs.Headers.{default_limits}
 use Rattle.halld.specs.Lines.{lines_of, Told, told_of, told_after, told_ahead}
@@ -35,6 +35,13 @@ fault_at (Some xs) None bs f x e read fault is = absurd read
 fault_at (Some xs) (Some ys) bs f x e read fault is =
     let same : f (bs ++ ys) ≡ x = (let h : Some (f xs) ≡ Some x = is in let k : f (bs ++ ys) ≡ f xs = ap f (sym read) in cc) in
     subst (λ y. IsFaultOf y e) same (fault ys)
+
+-- what was appended stays appended where nothing changes
+pub appends_kept : (a b c : Option (List ℕ)) (bs : List ℕ) → Appends a b bs → Keeps b c → Appends a c bs
+appends_kept None b c bs appended kept = tt
+appends_kept (Some xs) None c bs appended kept = absurd appended
+appends_kept (Some xs) (Some ys) None bs appended kept = absurd kept
+appends_kept (Some xs) (Some ys) (Some zs) bs appended kept = kept ∙ appended
 
 -- a play begins before the first line
 pub start : (script : List ℕ) → told_ahead (Some default_limits) 0 [] script ≡ told_of script

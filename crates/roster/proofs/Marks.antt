@@ -1,5 +1,5 @@
 -- Who shares a channel with whom: marks, and what the facts say.
-use Rattle.std.proofs.Common.{◌≡◌, inl, inr, ℕ, zero, suc, ◌+◌, ◌<◌, ◌≤◌, Bool, true, false, not, ◌&&◌, ◌||◌, ◌==◌, cond, List, [], ◌∷◌, ◌++◌, filter, length, take, drop, get_or, slice_index_or, arith, refl, sym, ap, ◌∙◌}
+use Rattle.std.proofs.Common.{◌≡◌, ℕ, zero, suc, ◌+◌, ◌<◌, Bool, true, false, not, ◌&&◌, ◌||◌, ◌==◌, cond, List, [], ◌∷◌, ◌++◌, filter, length, take, drop, get_or, slice_index_or, arith, refl, sym, ap, ◌∙◌}
 use Rattle.std.proofs.lemmas.Grind.{common_steps}
 use Rattle.std.proofs.lemmas.List.{take_more}
 use Rattle.std.proofs.lemmas.List.Folds.{list_any-append}
@@ -7,7 +7,7 @@ use Rattle.std.specs.List.{list_any}
 use Rattle.roster.specs.declared.deed.Deed.{Deed}
 use Rattle.roster.specs.declared.tables.Person.{Person}
 use Rattle.roster.specs.declared.tables.Channel.{Channel}
-use Rattle.roster.specs.LookBack.{numbers, opened, on, members, channels, among, share, sharers}
+use Rattle.roster.specs.LookBack.{numbers, on, members, among, share, sharers}
 use Rattle.roster.specs.Tables.{members_in, names_of, share_in, marked, sharing}
 use Rattle.roster.specs.Stands.{Stands}
 use Rattle.roster.proofs.Bools.{or-false}

@@ -1,8 +1,7 @@
 -- What follows of names of channels.
-use Rattle.std.proofs.Common.{◌≡◌, inl, inr, ℕ, true, cond, List, [], ◌∷◌, refl, ap, ◌∙◌}
-use Rattle.roster.specs.declared.deed.Deed.{Deed}
+use Rattle.std.proofs.Common.{inl, inr, [], ◌∷◌}
 use Rattle.roster.specs.declared.deed.Deed.TheVariants.{Opened, NickSet, UserSet, Enrolled, ChannelMade, Joined, Ended, Gone}
-use Rattle.roster.specs.LookBack.{is_same, name}
+use Rattle.roster.specs.LookBack.{is_same}
 use Rattle.roster.specs.Laws.{ChannelsHaveOneName, SpelledNamesAreNames}
 use Rattle.roster.proofs.Bools.{either}
 use Rattle.roster.proofs.Same.{is_same-refl}

@@ -6,7 +6,7 @@ use Rattle.roster.specs.LookBack.{is_same, is_some_one}
 use Rattle.roster.specs.declared.deed.Deed.{Deed}
 use Rattle.roster.specs.declared.tables.Person.{Person}
 use Rattle.roster.specs.declared.tables.Channel.{Channel}
-use Rattle.roster.specs.Tables.{channel_of, members_in, name_in, names_of, is_populated}
+use Rattle.roster.specs.Tables.{channel_of, members_in, name_in, names_of}
 use Rattle.roster.specs.Stands.{Alike, AreApart, AreHeld, Stands}
 
 members_alike : (ks ls : List Channel) (c : List ℕ) → Alike ks ls → members_in ls c ≡ members_in ks c

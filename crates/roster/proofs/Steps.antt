@@ -10,7 +10,7 @@ use Rattle.roster.specs.declared.tables.Person.{Person}
 use Rattle.roster.specs.declared.tables.Channel.{Channel}
 use Rattle.roster.specs.Seats.{Seats}
 use Rattle.roster.specs.LookBack.{is_same, numbers, opened, on, without, members, is_some_one, has_member, name, name_of, channels}
-use Rattle.roster.specs.Tables.{nobody, person_at, with_person, channel_of, members_in, name_in, names_of, with_members, Reseats, Makes, LeavesAll}
+use Rattle.roster.specs.Tables.{nobody, person_at, with_person, channel_of, members_in, name_in, names_of, Reseats, Makes, LeavesAll}
 use Rattle.roster.specs.Stands.{person, AreApart, AreHeld, Stands}
 use Rattle.roster.proofs.Bools.{either}
 use Rattle.roster.proofs.Leaving.{members_without, names_without, names_of_without, apart_without}

@@ -1,7 +1,6 @@
 -- What holds of sessions and channels, each looked up backwards in a list of facts, the newest first: RFC 2812, section 1.2 (clients), RFC 2811, section 2 (channels). What a session had is given back when it is gone.
 use Rattle.std.specs.Prelude.{ℕ, zero, suc, ◌+◌, Bool, true, false, not, ◌&&◌, ◌==◌, cond, List, [], ◌∷◌, ◌++◌, filter, unwrap_or, Option, Some, None}
 use Rattle.std.specs.List.{find, list_any}
-use Rattle.std.specs.Option.{is_some}
 use Rattle.std.specs.Str.{bytes_eq}
 use Rattle.casemapping.specs.Fold.{folded}
 use Rattle.chronicle.specs.declared.why.Why.{Why}

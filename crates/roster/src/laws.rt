@@ -4,11 +4,9 @@ ghost use Rattle.roster.specs.Laws.{ChannelsHaveOneName, SpelledNamesAreNames};
 /// One name, however it is spelled, has the same members (RFC 2812, section 2.2).
 pub fn channels_have_one_name()
     ensures { ChannelsHaveOneName }
-{
-}
+{}
 
 /// A channel's name as it was first spelled is its name.
 pub fn spelled_names_are_names()
     ensures { SpelledNamesAreNames }
-{
-}
+{}

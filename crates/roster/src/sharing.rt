@@ -63,11 +63,7 @@ fn push_marked(
 }
 
 /// The sessions that are marked, but for one.
-fn numbers_marked(
-    alloc: Global,
-    marks: &[bool],
-    session: SessionId,
-) -> Result<Sessions, AllocError>
+fn numbers_marked(alloc: Global, marks: &[bool], session: SessionId) -> Result<Sessions, AllocError>
     ensures { IfOk result (λ v. v ≡ marked marks.now session 1) }
 {
     let mut others = Sessions::from_vec(Vec::new(alloc));

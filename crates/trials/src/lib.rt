@@ -13,4 +13,6 @@ mod names;
 #[cfg(test)]
 mod outboxes;
 #[cfg(test)]
+mod rosters;
+#[cfg(test)]
 mod tags;

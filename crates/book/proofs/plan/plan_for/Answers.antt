@@ -1,9 +1,8 @@
-use Rattle.std.proofs.Common.{arith, ◌≡◌, ◌+◌, ◌<◌, ◌++◌, [], List, ℕ, length, slice_index_or, sym, ap, ◌∙◌}
+use Rattle.std.proofs.Common.{arith, ◌≡◌, ◌+◌, ◌<◌, ◌++◌, [], List, ℕ, length, slice_index_or, ap, ◌∙◌}
 use Rattle.numerics.specs.declared.outgoing.Out.{Out}
 use Rattle.deeds.specs.declared.verdict.Shown.{Shown}
 use Rattle.deeds.specs.Deeds.{text}
-use Rattle.book.specs.Book.{others}
-use Rattle.book.specs.Seats.{heard_text, planned_for}
+use Rattle.book.specs.Seats.{heard_text}
 use Rattle.book.proofs.Plans.{planned_whole}
 use Rattle.book.proofs.plan.plan_for.Goals as goal
 

@@ -1,5 +1,4 @@
-use Rattle.std.proofs.Common.{arith, ◌≡◌, ◌+◌, ◌-◌, ◌<◌, ◌≤◌, [], List, ℕ, length, take, vec_len, slice_index_or, Some, sym, ap, ◌∙◌}
-use Rattle.std.proofs.lemmas.Grind.{common_steps}
+use Rattle.std.proofs.Common.{arith, ◌≡◌, ◌+◌, ◌-◌, ◌<◌, ◌≤◌, [], List, ℕ, length, take, vec_len, slice_index_or, Some, ap, ◌∙◌}
 use Rattle.std.proofs.lemmas.List.{get_or-take, take-take}
 use Rattle.book.specs.Seats.{no_seat}
 use Rattle.book.proofs.Plans.{goes_back}

@@ -1,4 +1,4 @@
-use Rattle.std.proofs.Common.{arith, ◌≡◌, ◌+◌, ℕ, List, false, ap, ◌∙◌, subst}
+use Rattle.std.proofs.Common.{arith, ◌≡◌, ◌+◌, ℕ, List, false, subst}
 use Rattle.std.specs.Result.{IfOk}
 use Rattle.deeds.specs.Departure.{departs}
 use Rattle.deeds.specs.Verdicts.{IsVerdict}

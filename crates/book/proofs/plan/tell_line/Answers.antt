@@ -1,4 +1,4 @@
-use Rattle.std.proofs.Common.{◌≡◌, ◌+◌, ◌<◌, ◌++◌, [], List, ℕ, length, slice_index_or, ap, ◌∙◌}
+use Rattle.std.proofs.Common.{◌+◌, ◌++◌, [], List, ℕ, slice_index_or, ap, ◌∙◌}
 use Rattle.book.specs.Seats.{repeated}
 use Rattle.book.proofs.Plans.{repeated_line}
 use Rattle.book.proofs.plan.tell_line.Goals as goal

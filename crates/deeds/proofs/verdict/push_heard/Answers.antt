@@ -1,4 +1,4 @@
-use Rattle.std.proofs.Common.{◌≡◌, ◌+◌, ◌==◌, ◌++◌, ◌∷◌, [], cond, List, drop, sym, ap, ◌∙◌, append_assoc}
+use Rattle.std.proofs.Common.{◌+◌, ◌==◌, ◌++◌, ◌∷◌, [], cond, List, drop, ap, ◌∙◌, append_assoc}
 use Rattle.numerics.specs.declared.outgoing.Out.{Out}
 use Rattle.deeds.specs.Effects.{heard}
 use Rattle.deeds.proofs.Sorted.{heard_more}

@@ -4,7 +4,7 @@ use Rattle.std.specs.Prelude.{IfSome, IfErr}
 use Rattle.halld.specs.Lines.{Told, told_of}
 use Rattle.halld.specs.Faults.{IsFaultOf, IsGood}
 use Rattle.halld.specs.Printed.{IsPrinted}
-use Rattle.halld.proofs.Known.{if_known, told_from_start, printed_from_start}
+use Rattle.halld.proofs.Known.{if_known, appends_kept, told_from_start, printed_from_start}
 use Rattle.halld.proofs.entry.play.Goals as goal
 
 pub returns-in_err-played-clause-fault : goal.returns-in_err-played-clause-fault
@@ -26,4 +26,4 @@ returns-in-Ok-clause-printed g c =
     let r = c.new-reader.ensures in let new = c.new-reader.result in
     let known = g.R.Read.remaining c.args.input.now in
     let p = c.in_ok-played.ensures.printed in
-    (p.0, grind (arith, common_steps), if_known (λ script. IsPrinted script p.0) known (λ script k. printed_from_start new.stage new.line.items r.head r.line script p.0 (p.2 script k)))
+    (p.0, appends_kept _ _ _ p.0 p.1 c.flush-flushed.ensures.bytes, if_known (λ script. IsPrinted script p.0) known (λ script k. printed_from_start new.stage new.line.items r.head r.line script p.0 (p.2 script k)))

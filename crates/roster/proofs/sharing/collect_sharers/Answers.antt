@@ -1,6 +1,6 @@
-use Rattle.std.proofs.Common.{arith, ◌≡◌, ◌+◌, ◌<◌, false, List, ℕ, length, slice_index_or, ap, ◌∙◌, subst}
+use Rattle.std.proofs.Common.{arith, ◌≡◌, ◌+◌, ◌<◌, List, ℕ, length, ap, ◌∙◌, subst}
 use Rattle.std.specs.Result.{IfOk}
-use Rattle.roster.specs.Tables.{share_in, marked, sharing}
+use Rattle.roster.specs.Tables.{share_in, sharing}
 use Rattle.roster.proofs.Marks.{marked-sharing}
 use Rattle.roster.proofs.sharing.collect_sharers.Goals as goal
 

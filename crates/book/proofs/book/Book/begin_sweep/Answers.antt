@@ -1,4 +1,4 @@
-use Rattle.std.proofs.Common.{◌≡◌, ℕ, Some, sym, ap, ◌∙◌}
+use Rattle.std.proofs.Common.{ℕ, Some, sym, ap, ◌∙◌}
 use Rattle.chronicle.specs.declared.record.Kind.TheVariants.{Gone}
 use Rattle.book.specs.Book.{begun}
 use Rattle.book.proofs.book.Book.begin_sweep.Goals as goal

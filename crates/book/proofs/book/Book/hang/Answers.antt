@@ -1,5 +1,4 @@
-use Rattle.std.proofs.Common.{arith, ◌≡◌, ◌+◌, ◌-◌, ◌≤◌, ◌∷◌, [], true, false, length, Some, slice_set, ℕ, ap, sym, ◌∙◌, subst}
-use Rattle.std.proofs.lemmas.Grind.{common_steps}
+use Rattle.std.proofs.Common.{◌≡◌, ◌+◌, ◌-◌, ◌≤◌, ◌∷◌, [], true, false, length, Some, slice_set, ℕ, ap, sym, ◌∙◌, subst}
 use Rattle.chronicle.specs.declared.record.Kind.TheVariants.{Hung}
 use Rattle.outbox.specs.Ring.{has_room, with_put}
 use Rattle.outbox.specs.declared.item.Item.TheVariants.{Last}

@@ -2,7 +2,6 @@ use Rattle.std.proofs.Common.{arith, ◌≡◌, length, sym, ap, ◌∙◌}
 use Rattle.std.proofs.lemmas.Grind.{common_steps}
 use Rattle.roster.specs.Known.{Known}
 use Rattle.roster.specs.LookBack.{channels}
-use Rattle.roster.specs.Tables.{names_of}
 use Rattle.roster.proofs.ChannelNames.{names_of-length}
 use Rattle.roster.proofs.roster.Roster.channel_count.Goals as goal
 

@@ -1,4 +1,4 @@
-use Rattle.std.proofs.Common.{arith, ◌≡◌, ◌≤◌, length, ap, ◌∙◌}
+use Rattle.std.proofs.Common.{arith, ◌≡◌, ◌≤◌, length, ap}
 use Rattle.roster.specs.Known.{Known}
 use Rattle.roster.specs.LookBack.{opened}
 use Rattle.roster.proofs.Kept.{opened_count}

@@ -1,4 +1,4 @@
-use Rattle.std.proofs.Common.{◌≡◌, ◌++◌, [], List, sym, ap, ◌∙◌, subst}
+use Rattle.std.proofs.Common.{◌≡◌, ◌++◌, List, sym, ap, ◌∙◌, subst}
 use Rattle.roster.specs.declared.deed.Deed.{Deed}
 use Rattle.roster.specs.Known.{Known}
 use Rattle.roster.specs.Legal.{AreNext}

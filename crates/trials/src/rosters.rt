@@ -1,0 +1,226 @@
+//! What a roster answers after commands, and that a refused growth changes nothing.
+ghost use Rattle.std.specs.Prelude.{◌≡◌, IfOk};
+ghost use Rattle.roster.specs.Legal.{IsOpened, AreNext};
+ghost use Rattle.roster.specs.LookBack.{after};
+
+use crate::again::copied;
+use chronicle::{Moment, SessionId, Why};
+use deeds::{Shown, Verdict, decide, decide_gone, read};
+use line_grammar::{Octets, Piece};
+use numerics::Out;
+use roster::{Deed, Roster};
+use std::alloc::{AllocError, Global};
+use std::process::Abort;
+use std::test::Fail;
+
+/// Applies facts for which room was made.
+fn apply_all(roster: &mut Roster, deeds: Vec<Deed>)
+    requires { roster.old.ready ≡ deeds.items }
+    ensures { roster.new.facts ≡ after roster.old.facts deeds.items }
+{
+    for deed in deeds {
+        roster.apply(deed);
+    }
+}
+
+/// Establishes facts, with room that is asked for once more where a growth was refused.
+fn establish(roster: &mut Roster, deeds: Vec<Deed>) -> Result<(), AllocError>
+    requires { AreNext roster.old.facts deeds.items }
+{
+    if roster.prepare(&deeds).is_err() {
+        roster.prepare(&deeds)?;
+    }
+    apply_all(roster, deeds);
+    Ok(())
+}
+
+/// Opens the next session.
+fn open(alloc: Global, roster: &mut Roster, host: &[u8]) -> Result<(), AllocError> {
+    let session = SessionId::new(roster.opened() as u64 + 1);
+    let host = copied(alloc, host)?;
+    let mut deeds = Vec::new(alloc);
+    deeds.push(Deed::Opened { session, host })?;
+    establish(roster, deeds)
+}
+
+/// What comes of a line, decided once more where a growth was refused.
+fn decided(
+    alloc: Global,
+    roster: &Roster,
+    session: SessionId,
+    line: &[u8],
+) -> Result<Verdict, AllocError>
+    requires { IsOpened roster.now.facts session }
+    ensures { IfOk result (λ v. AreNext roster.now.facts v.deeds.items) }
+{
+    let piece = Piece::Line(copied(alloc, line)?);
+    let command = match read(alloc, &piece) {
+        Ok(command) => command,
+        Err(_) => read(alloc, &piece)?,
+    };
+    match decide(alloc, roster, session, &command, Moment::new(5)) {
+        Ok(verdict) => Ok(verdict),
+        Err(_) => decide(alloc, roster, session, &command, Moment::new(5)),
+    }
+}
+
+/// What comes of a session being gone, decided once more where a growth was refused.
+fn departed(alloc: Global, roster: &Roster, session: SessionId) -> Result<Verdict, AllocError>
+    requires { IsOpened roster.now.facts session }
+    ensures { IfOk result (λ v. AreNext roster.now.facts v.deeds.items) }
+{
+    match decide_gone(alloc, roster, session) {
+        Ok(verdict) => Ok(verdict),
+        Err(_) => decide_gone(alloc, roster, session),
+    }
+}
+
+/// Whether a line is spelled so, once more where a growth was refused.
+fn is_spelled(alloc: Global, line: &Out, want: &[u8]) -> Result<bool, AllocError> {
+    let octets = match line.octets(alloc) {
+        Ok(octets) => octets,
+        Err(_) => line.octets(alloc)?,
+    };
+    Ok(octets.as_slice() == want)
+}
+
+/// Whether sessions have these numbers, in this order.
+fn are(sessions: &[SessionId], numbers: &[u64]) -> bool {
+    sessions.len() == numbers.len()
+        && sessions
+            .iter()
+            .zip(numbers.iter())
+            .all(|(session, number)| session.number() == *number)
+}
+
+/// Whether lines are one line for these hearers, or none where there are no hearers.
+fn is_shown(
+    alloc: Global,
+    shown: &[Shown],
+    hearers: &[u64],
+    line: &[u8],
+) -> Result<bool, AllocError> {
+    match shown {
+        [] => Ok(hearers.is_empty()),
+        [one] => Ok(are(one.hearers.as_slice(), hearers) && is_spelled(alloc, &one.line, line)?),
+        _ => Ok(false),
+    }
+}
+
+/// Lines of two sessions, whom a line is shown by each, and that line.
+const STORY: [(u64, &[u8], &[u64], &[u8]); 9] = [
+    (1, b"NICK al", &[], b""),
+    (1, b"USER a 0 * :Al", &[], b""),
+    (1, b"JOIN #a", &[1], b":al!a@h1 JOIN #a\r\n"),
+    (2, b"NICK bo", &[], b""),
+    (2, b"USER b 0 * :Bo", &[], b""),
+    (2, b"JOIN #A", &[1, 2], b":bo!b@h2 JOIN #a\r\n"),
+    (1, b"PRIVMSG #A :hi", &[2], b":al!a@h1 PRIVMSG #a :hi\r\n"),
+    (2, b"NICK AL", &[], b""),
+    (1, b"QUIT :bye", &[], b""),
+];
+
+/// Has a line accepted, and compares what it shows.
+fn say(
+    rt: &impl Abort,
+    roster: &mut Roster,
+    alloc: Global,
+    row: &(u64, &[u8], &[u64], &[u8]),
+) -> Result<(), AllocError> {
+    let (number, line, hearers, want) = *row;
+    assert!(rt; 0 < number && number as usize <= roster.opened());
+    let verdict = decided(alloc, roster, SessionId::new(number), line)?;
+    let Verdict {
+        deeds,
+        reply: _,
+        copies,
+        others,
+    } = verdict;
+    establish(roster, deeds)?;
+    assert!(rt; copies.is_empty());
+    assert!(rt; is_shown(alloc, &others, hearers, want)?);
+    Ok(())
+}
+
+/// A roster after the story.
+fn told(rt: &impl Abort, alloc: Global) -> Result<Roster, AllocError> {
+    let mut roster = Roster::new(alloc);
+    open(alloc, &mut roster, b"h1")?;
+    open(alloc, &mut roster, b"h2")?;
+    for row in &STORY {
+        say(rt, &mut roster, alloc, row)?;
+    }
+    Ok(roster)
+}
+
+/// Whether a name, where there is one, is this.
+fn is_name(name: Option<&Octets>, want: &[u8]) -> bool {
+    match name {
+        Some(name) => name.as_slice() == want,
+        None => false,
+    }
+}
+
+/// Whether this is what the roster answers of sessions after the story.
+fn knows_sessions(roster: &Roster) -> bool {
+    let al = SessionId::new(1);
+    roster.opened() == 2
+        && roster.host_of(al) == b"h1".as_slice()
+        && is_name(roster.user_of(al), b"a")
+        && is_name(roster.real_of(al), b"Al")
+        && roster.is_registered(al)
+        && roster.find(b"AL") == Some(al)
+        && roster.find(b"cy").is_none()
+        && roster.holder(b"Bo") == Some(SessionId::new(2))
+        && roster.why_of(al) == Why::Quit
+        && roster.parting_of(al) == b"bye".as_slice()
+}
+
+/// Whether this is what it answers of channels.
+fn knows_channels(roster: &Roster) -> bool {
+    roster.channel_count() == 1
+        && is_name(roster.channel_at(0), b"#a")
+        && roster.channel_at(1).is_none()
+        && is_name(roster.name_of(b"#A"), b"#a")
+        && are(roster.members(b"#A"), &[1, 2])
+        && roster.is_on(SessionId::new(2), b"#a")
+        && !roster.is_on(SessionId::new(2), b"#b")
+}
+
+#[test]
+fn a_roster_answers_by_its_facts(rt: HostRuntime) -> Result<(), Fail> {
+    let roster = told(&rt, rt.alloc())?;
+    assert!(rt; knows_sessions(&roster));
+    assert!(rt; knows_channels(&roster));
+    let sharers = match roster.sharers(SessionId::new(1)) {
+        Ok(sharers) => sharers,
+        Err(_) => roster.sharers(SessionId::new(1))?,
+    };
+    assert!(rt; are(sharers.as_slice(), &[2]));
+    Ok(())
+}
+
+/// Whether nothing is known of a session that is gone.
+fn forgot(roster: &Roster, session: SessionId) -> bool {
+    roster.opened() == 2
+        && roster.host_of(session).is_empty()
+        && roster.nick_of(session).is_none()
+        && !roster.is_registered(session)
+        && roster.why_of(session) == Why::SendQ
+        && are(roster.members(b"#a"), &[2])
+}
+
+#[test]
+fn a_gone_session_is_forgotten(rt: HostRuntime) -> Result<(), Fail> {
+    let al = SessionId::new(1);
+    let mut roster = told(&rt, rt.alloc())?;
+    assert!(rt; roster.opened() == 2);
+    let verdict = departed(rt.alloc(), &roster, al)?;
+    establish(&mut roster, verdict.deeds)?;
+    assert!(rt; is_shown(rt.alloc(), &verdict.others, &[2], b":al!a@h1 QUIT :bye\r\n")?);
+    assert!(rt; forgot(&roster, al));
+    assert!(rt; roster.opened() == 2);
+    roster.end(SessionId::new(2), Why::ReadEnded);
+    assert!(rt; roster.why_of(SessionId::new(2)) == Why::ReadEnded);
+    Ok(())
+}
