@@ -39,6 +39,9 @@ fn open(alloc: Global, roster: &mut Roster, host: &[u8]) -> Result<(), AllocErro
     let session = SessionId::new(roster.opened() as u64 + 1);
     let host = copied(alloc, host)?;
     let mut deeds = Vec::new(alloc);
+    if deeds.reserve(1).is_err() {
+        deeds.reserve(1)?;
+    }
     deeds.push(Deed::Opened { session, host })?;
     establish(roster, deeds)
 }
