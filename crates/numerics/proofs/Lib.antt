@@ -1,1 +1,3 @@
+pub mod Cuts
+pub mod Dates
 mod Examples
