@@ -1,10 +1,9 @@
 -- The definitions at work, computed.
-use Rattle.std.proofs.Common.{◌≡◌, ℕ, ◌<◌, List, [], ◌∷◌, ◌++◌, codes, pos, Some, None, true, false, refl}
+use Rattle.std.proofs.Common.{◌≡◌, ℕ, List, [], ◌∷◌, ◌++◌, codes, pos, Some, None, true, false, refl}
 use Rattle.line_grammar.specs.Spelling.{untagged}
-use Rattle.jiff_core.specs.Calendar.{days_in_year, days_in_month}
 use Rattle.numerics.specs.declared.numeric.Numeric.{Numeric}
 use Rattle.numerics.specs.declared.numeric.Numeric.TheVariants as numeric
-use Rattle.numerics.specs.declared.prefix.Prefix.TheVariants.{Operator, Voice}
+use Rattle.numerics.specs.declared.prefix.Prefix.TheVariants.{Operator}
 use Rattle.numerics.specs.Outgoing.{line, octets, room}
 use Rattle.numerics.specs.Numerics.{numeric as numeric_line}
 use Rattle.numerics.specs.Support.{tokens}

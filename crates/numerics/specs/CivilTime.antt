@@ -1,5 +1,5 @@
 -- A moment as a date and a time of the day: RFC 3339, section 5.6, in UTC and to the millisecond, as IRCv3 server-time writes it. The calendar is Gregorian.
-use Rattle.std.specs.Prelude.{◌≡◌, ℕ, zero, suc, ◌+◌, ◌-◌, ◌*◌, ◌/◌, ◌%◌, nat_lt, true, false, ℤ, pos, ◌<ℤ◌, ◌⊎◌, unsigned_abs, List, [], ◌∷◌, ◌++◌, codes}
+use Rattle.std.specs.Prelude.{◌≡◌, ℕ, zero, suc, ◌+◌, ◌-◌, ◌/◌, ◌%◌, nat_lt, true, false, ℤ, pos, ◌<ℤ◌, ◌⊎◌, unsigned_abs, List, [], ◌∷◌, ◌++◌, codes}
 use Rattle.jiff_core.specs.Calendar.{days_in_year, days_in_month}
 use Rattle.jiff_core.specs.declared.civil.date.Date.{Date}
 

@@ -1,7 +1,7 @@
-use Rattle.std.proofs.Common.{◌≡◌, ℕ, List, length, ap, subst, sym, ◌∙◌, arith}
+use Rattle.std.proofs.Common.{length, ap, subst, sym, ◌∙◌}
 use Rattle.std.specs.List.{All, flat_map}
 use Rattle.std.proofs.lemmas.Result.{IfOk-weaker}
-use Rattle.numerics.specs.Cut.{AreFull, IsWithin, cut}
+use Rattle.numerics.specs.Cut.{AreFull, IsWithin}
 use Rattle.numerics.proofs.Cuts.{joined-cut, within-cut, full-cut}
 use Rattle.numerics.proofs.cut.split_names.Goals as goal
 

@@ -1,8 +1,8 @@
-use Rattle.std.proofs.Common.{◌≡◌, ℕ, List, ap, subst, sym, ◌∙◌, arith}
+use Rattle.std.proofs.Common.{ap, subst, sym, ◌∙◌, arith}
 use Rattle.std.specs.List.{All, flat_map}
 use Rattle.std.proofs.lemmas.Result.{IfOk-weaker}
 use Rattle.numerics.specs.declared.cut.TheConstants.{MAX_TOKENS}
-use Rattle.numerics.specs.Cut.{AreFull, IsWithin, cut}
+use Rattle.numerics.specs.Cut.{AreFull, IsWithin}
 use Rattle.numerics.proofs.Cuts.{joined-cut, within-cut, full-cut}
 use Rattle.numerics.proofs.cut.split_tokens.Goals as goal
 
