@@ -1,3 +1,4 @@
 pub mod Cuts
 pub mod Dates
+pub mod Rooms
 mod Examples

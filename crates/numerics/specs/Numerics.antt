@@ -9,7 +9,7 @@ use Rattle.numerics.specs.declared.numeric.Numeric.{Numeric}
 use Rattle.numerics.specs.declared.numeric.Numeric.TheVariants.{Welcome, YourHost, Created, MyInfo, ISupport, UModeIs, Away, UnAway, NowAway, WhoisUser, WhoisServer, EndOfWho, EndOfWhois, WhoisChannels, ListReply, ListEnd, ChannelModeIs, NoTopic, Topic, Inviting, WhoReply, NamReply, EndOfNames, BanList, EndOfBanList, Motd, MotdStart, EndOfMotd, NoSuchNick, NoSuchServer, NoSuchChannel, CannotSendToChan, TooManyChannels, TooManyTargets, NoOrigin, InvalidCapCmd, NoRecipient, NoTextToSend, InputTooLong, UnknownCommand, NoMotd, NoNicknameGiven, ErroneousNickname, NicknameInUse, UserNotInChannel, NotOnChannel, UserOnChannel, NotRegistered, NeedMoreParams, AlreadyRegistered, ChannelIsFull, UnknownMode, InviteOnlyChan, BannedFromChan, BadChannelKey, ChanOPrivsNeeded, UModeUnknownFlag, UsersDontMatch, LoggedIn, SaslSuccess, SaslFail, SaslTooLong, SaslAborted, SaslAlready, SaslMechs}
 use Rattle.numerics.specs.Outgoing.{line}
 
--- the mark of an operator or of who has voice
+-- `@` marks an operator, `+` who has voice
 abbrev pub mark : Prefix → ℕ
 mark Operator = 64
 mark Voice = 43

@@ -5,6 +5,7 @@
 mod civil_time;
 mod cut;
 mod heading;
+mod laws;
 mod numeric;
 mod outgoing;
 mod prefix;
@@ -14,6 +15,7 @@ mod words;
 
 pub use civil_time::{TimeFault, time_text};
 pub use cut::{MAX_TOKENS, split_names, split_tokens};
+pub use laws::{room_for_channels, room_for_names};
 pub use numeric::{Numeric, Who};
 pub use outgoing::{Out, copied_all};
 pub use prefix::{Prefix, prefixed};
