@@ -53,7 +53,9 @@ fn is_among(names: &[Octets], name: &[u8]) -> bool
 fn is_target(targets: &[JoinTarget], channel: &[u8]) -> bool
     ensures { result ≡ list_any (λ target. is_same target.channel channel.now) targets.now }
 {
-    targets.iter().any(|target| is_same(target.channel.as_slice(), channel))
+    targets
+        .iter()
+        .any(|target| is_same(target.channel.as_slice(), channel))
 }
 
 fn add_name(names: &mut Vec<Octets>, alloc: Global, name: &[u8]) -> Result<(), AllocError>

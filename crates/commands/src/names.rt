@@ -64,7 +64,10 @@ impl CommandName {
     pub fn read(name: &[u8]) -> Option<CommandName>
         ensures { result ≡ named name.now }
     {
-        KNOWN.iter().copied().find(|known| is_named(name, known.text()))
+        KNOWN
+            .iter()
+            .copied()
+            .find(|known| is_named(name, known.text()))
     }
 
     /// The name in upper case.
@@ -99,7 +102,8 @@ impl CommandName {
     }
 }
 
-fn is_named(name: &[u8], other: &[u8]) -> bool
+/// Whether two names are the same in either case.
+pub(crate) fn is_named(name: &[u8], other: &[u8]) -> bool
     ensures { result ≡ str_eq_ignore_ascii_case name.now other.now }
 {
     name.eq_ignore_ascii_case(other)
