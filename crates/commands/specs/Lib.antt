@@ -7,3 +7,4 @@ pub mod Channels
 pub mod Talking
 pub mod Queries
 pub mod Commands
+pub mod Asked

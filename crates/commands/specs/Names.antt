@@ -30,10 +30,13 @@ name_text Who = codes "WHO"
 name_text Whois = codes "WHOIS"
 name_text Motd = codes "MOTD"
 
-abbrev pub known_names : List CommandName
-known_names =
-    Quit ∷ Cap ∷ Authenticate ∷ Pass ∷ Nick ∷ User ∷ Ping ∷ Pong ∷ Join ∷ Part ∷ Kick ∷ Invite ∷
+abbrev pub names_but_quit : List CommandName
+names_but_quit =
+    Cap ∷ Authenticate ∷ Pass ∷ Nick ∷ User ∷ Ping ∷ Pong ∷ Join ∷ Part ∷ Kick ∷ Invite ∷
     Topic ∷ Mode ∷ Privmsg ∷ Notice ∷ Tagmsg ∷ Away ∷ Names ∷ ListChannels ∷ Who ∷ Whois ∷ Motd ∷ []
+
+abbrev pub known_names : List CommandName
+known_names = Quit ∷ names_but_quit
 
 -- the command of a name, if it is known
 unfoldable pub named : List ℕ → Option CommandName
