@@ -1,5 +1,5 @@
 -- A command asks to quit exactly where the piece does from which it is read.
-use Rattle.std.proofs.Common.{◌≡◌, ℕ, Bool, true, false, ◌||◌, ◌&&◌, cond, List, [], ◌∷◌, codes, Option, Some, None, Result, Ok, Err, refl, inl, inr}
+use Rattle.std.proofs.Common.{◌≡◌, ℕ, Bool, true, false, ◌||◌, ◌&&◌, cond, List, [], ◌∷◌, codes, Option, Some, None, Result, refl, inl, inr}
 use Rattle.std.specs.List.{find, list_all}
 use Rattle.std.specs.Str.{str_eq_ignore_ascii_case}
 use Rattle.std.proofs.lemmas.Bool.{cases_Bool}
@@ -19,7 +19,7 @@ use Rattle.commands.specs.Registering.{user_name, cap_req, cap_subcommand, user_
 use Rattle.commands.specs.Talking.{second_or_empty}
 use Rattle.commands.specs.Queries.{nick_asked}
 use Rattle.commands.specs.Commands.{with_params, known_or_not, command_of}
-use Rattle.commands.specs.Asked.{read_as, asked_by, asked_of, is_quit_command, asks_for_quit}
+use Rattle.commands.specs.Asked.{read_as, asked_by, asked_of, asks_for_quit}
 
 -- whether it was read as QUIT
 abbrev is_quit_read : Result Command ReadFault → Bool

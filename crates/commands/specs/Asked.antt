@@ -1,5 +1,5 @@
 -- What an accepted piece asks for: RFC 2812, section 2.3.1. A line that is too long is told apart (IRCv3 message-tags); what is no message asks for nothing.
-use Rattle.std.specs.Prelude.{ℕ, Bool, true, false, Option, Some, None, Result, Ok, Err}
+use Rattle.std.specs.Prelude.{Bool, true, false, Option, Some, None, Result, Ok, Err}
 use Rattle.line_grammar.specs.declared.message.Message.{Message}
 use Rattle.line_grammar.specs.declared.splitter.Piece.{Piece}
 use Rattle.line_grammar.specs.declared.splitter.Piece.TheVariants as piece

@@ -1,5 +1,5 @@
 -- What a message asks for: RFC 2812, section 3, IRCv3 Capability Negotiation, SASL 3.1 and message-tags. Each command's checks stand in the order in which they are made.
-use Rattle.std.specs.Prelude.{ℕ, Bool, true, false, cond, List, [], ◌∷◌, Option, Some, None, Result, Ok, Err}
+use Rattle.std.specs.Prelude.{ℕ, List, Option, Some, None, Result, Err}
 use Rattle.line_grammar.specs.declared.message.Message.{Message}
 use Rattle.commands.specs.declared.names.CommandName.{CommandName}
 use Rattle.commands.specs.declared.names.CommandName.TheVariants.{Cap, Authenticate, Pass, Nick, User, Ping, Pong, Quit, Join, Part, Kick, Invite, Topic, Mode, Privmsg, Notice, Tagmsg, Away, Names, List as ListChannels, Who, Whois, Motd}

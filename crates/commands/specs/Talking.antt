@@ -1,6 +1,5 @@
 -- What the commands that send texts ask for: RFC 2812, sections 3.3.1, 3.3.2 and 4.1, and IRCv3 message-tags.
 use Rattle.std.specs.Prelude.{ℕ, ◌||◌, cond, List, [], ◌∷◌, Result, Ok, Err}
-use Rattle.commands.specs.declared.names.CommandName.{CommandName}
 use Rattle.commands.specs.declared.names.CommandName.TheVariants as name
 use Rattle.commands.specs.declared.command.Command.{Command}
 use Rattle.commands.specs.declared.command.Command.TheVariants.{Privmsg, Notice, Tagmsg, Away}

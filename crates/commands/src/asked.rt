@@ -51,6 +51,7 @@ fn asked_by_line(alloc: Global, line: &[u8]) -> Result<Asked, AllocError>
 }
 
 /// What an accepted piece asks for.
+#[tactic(auto, unfolding(crate::specs::Asked::asked_of, chronicle::specs::History::is_quit))]
 pub fn read_piece(alloc: Global, piece: &Piece) -> Result<Asked, AllocError>
     ensures asked { IfOk result (λ asked. asked ≡ asked_of piece.now) }
     ensures quit { IfOk result (λ asked. asks_for_quit asked ≡ is_quit piece.now) }

@@ -20,3 +20,6 @@ pub use join_targets::{JoinTarget, JoinTargets};
 pub use names::CommandName;
 pub use reading::read;
 pub use texts::Texts;
+
+#[cfg(test)]
+mod tests;

@@ -1,4 +1,4 @@
-use Rattle.std.proofs.Common.{◌≡◌, arith, ap, sym, ◌∙◌, Result, Ok, Err}
+use Rattle.std.proofs.Common.{◌≡◌, arith, ap, ◌∙◌, Result, Ok, Err}
 use Rattle.std.specs.Result.{IfOk}
 use Rattle.std.proofs.lemmas.Grind.{common_steps}
 use Rattle.line_grammar.specs.declared.splitter.Piece.{Piece}
@@ -12,12 +12,6 @@ quits : {E : Type 0} (piece : Piece) (r : Result Asked E) → IfOk r (λ asked. 
 quits piece (Ok asked) e = ap asks_for_quit e ∙ quit_is piece
 quits piece (Err x) e = tt
 
-pub returns-in-TooLong : goal.returns-in-TooLong
-unfolding asked_of is_quit
-returns-in-TooLong c = record { asked = ap asked_of (sym c.in-TooLong.is); quit = ap is_quit (sym c.in-TooLong.is) }
-
-pub returns-in-Line : goal.returns-in-Line
+pub returns-in-Line-clause-quit : goal.returns-in-Line-clause-quit
 unfolding asked_of
-returns-in-Line c =
-    let asked : IfOk c.asked_by_line.result (λ asked. asked ≡ asked_of c.args.piece.now) = grind (arith, common_steps) in
-    record { asked = asked; quit = quits c.args.piece.now c.asked_by_line.result asked }
+returns-in-Line-clause-quit c = quits c.args.piece.now c.asked_by_line.result (grind (arith, common_steps))
