@@ -12,3 +12,6 @@ pub use accounts::{Account, AccountFault, Accounts};
 pub use caps::{Cap, Caps, requested};
 pub use sasl::{Credentials, plain};
 pub use settings::{MAX_SESSIONS, Motd, Settings, is_well_set};
+
+#[cfg(test)]
+mod tests;
