@@ -152,6 +152,11 @@ fn channels_have_their_keys(rt: HostRuntime) -> Result<(), Fail> {
     assert_eq!(rt; targets.len(), 2);
     assert_eq!(rt; joined(&targets), 4);
     assert!(rt; !targets.is_empty());
+    let copy = match targets.clone() {
+        Ok(copy) => copy,
+        Err(_) => targets.clone()?,
+    };
+    assert!(rt; copy == targets);
     Ok(())
 }
 
@@ -162,6 +167,11 @@ fn words_are_as_given(rt: HostRuntime) -> Result<(), Fail> {
     assert_eq!(rt; words.len(), 2);
     assert!(rt; words.as_slice()[1].as_slice() == b"-batch".as_slice());
     assert!(rt; !words.is_empty());
+    let copy = match words.clone() {
+        Ok(copy) => copy,
+        Err(_) => words.clone()?,
+    };
+    assert!(rt; copy == words);
     Ok(())
 }
 
