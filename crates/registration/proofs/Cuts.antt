@@ -60,3 +60,5 @@ four a b c separator (x ∷ xs) =
       | inl is ↦ rw is refl
       | inr isnt ↦ rw isnt (four_by_onto a b c x (parts separator xs))
     ]
+
+pub ruleset fourth = (four)

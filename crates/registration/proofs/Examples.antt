@@ -10,8 +10,7 @@ use Rattle.casemapping.specs.Names.{nick_shape}
 use Rattle.registration.specs.declared.accounts.Account.{Account}
 use Rattle.registration.specs.declared.accounts.AccountFault.{AccountFault}
 use Rattle.registration.specs.declared.accounts.AccountFault.TheVariants.{Shape, BadName, BadDigest, Twice}
-use Rattle.registration.specs.declared.caps.Cap.{Cap}
-use Rattle.registration.specs.declared.caps.Cap.TheVariants.{Batch, EchoMessage, LabeledResponse, MessageTags, Sasl, ServerTime}
+use Rattle.registration.specs.declared.caps.Cap.TheVariants.{Batch, EchoMessage, Sasl}
 use Rattle.registration.specs.declared.caps.Caps.{Caps}
 use Rattle.registration.specs.declared.sasl.Credentials.{Credentials}
 use Rattle.registration.specs.Accounts.{accounts_in}

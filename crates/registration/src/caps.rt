@@ -58,11 +58,17 @@ impl Cap {
 /// Which capabilities are on.
 #[derive(Clone, Copy, Debug, Default, PartialEq)]
 pub struct Caps {
+    /// Whether batch is on.
     pub batch: bool,
+    /// Whether echo-message is on.
     pub echo_message: bool,
+    /// Whether labeled-response is on.
     pub labeled_response: bool,
+    /// Whether message-tags is on.
     pub message_tags: bool,
+    /// Whether sasl is on.
     pub sasl: bool,
+    /// Whether server-time is on.
     pub server_time: bool,
 }
 

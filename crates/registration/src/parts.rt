@@ -32,6 +32,7 @@ pub(crate) fn split_first(text: &[u8], separator: u8) -> (&[u8], Option<&[u8]>)
 }
 
 /// The parts of a text, where there are just three.
+#[tactic(auto, using(crate::proofs::Cuts::fourth))]
 pub(crate) fn three_parts(text: &[u8], separator: u8) -> Option<(&[u8], &[u8], &[u8])>
     ensures { option_map (λ found. (found.0.now, found.1.now, found.2.now)) result ≡ three_of (parts separator text.now) }
 {

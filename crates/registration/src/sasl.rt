@@ -1,7 +1,7 @@
 //! The PLAIN mechanism (RFC 4616).
-ghost use Rattle.std.specs.Prelude.{◌≡◌, IfOk, Option};
+ghost use Rattle.std.specs.Prelude.{◌≡◌, IfOk, IfSome};
 ghost use Rattle.registration.specs.Parts.{parts, three_of};
-ghost use Rattle.registration.specs.Plain.{credentials_from, credentials_of, is_own};
+ghost use Rattle.registration.specs.Plain.{Spells, credentials_from, credentials_of, is_own};
 
 use crate::parts::{is_same, three_parts};
 use base64::DecodeAllocError;
@@ -12,7 +12,9 @@ use std::alloc::{AllocError, Global};
 /// Who logs in, and with which password. Neither is empty.
 #[derive(Clone, Debug, Drop, PartialEq)]
 pub struct Credentials {
+    /// The user's name, as given.
     pub user: Octets,
+    /// The password.
     pub password: Octets,
 }
 
@@ -42,7 +44,8 @@ fn credentials_from(alloc: Global, message: &[u8]) -> Result<Option<Credentials>
 /// to act as.
 #[tactic(auto, unfolding(crate::specs::Plain::credentials_of))]
 pub fn plain(alloc: Global, payload: &[u8]) -> Result<Option<Credentials>, AllocError>
-    ensures { IfOk result (λ found. found ≡ credentials_of payload.now) }
+    ensures found { IfOk result (λ found. found ≡ credentials_of payload.now) }
+    ensures spelled { IfOk result (λ found. IfSome found (λ c. Spells payload.now c)) }
 {
     match STANDARD.decode(alloc, payload) {
         Ok(message) => credentials_from(alloc, &message),
