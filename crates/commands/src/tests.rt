@@ -175,12 +175,20 @@ fn words_are_as_given(rt: HostRuntime) -> Result<(), Fail> {
     Ok(())
 }
 
+fn read_line(alloc: Global, line: &[u8]) -> Result<Command, ReadFault> {
+    match parse(alloc, line) {
+        Ok(message) => read(alloc, &message),
+        Err(_) => Err(ReadFault::Memory),
+    }
+}
+
 #[test]
 fn names_are_told_in_upper_case(rt: HostRuntime) -> Result<(), Fail> {
-    let Ok(message) = parse(rt.alloc(), b"tagmsg :") else {
-        return Err(Fail::from("no message"));
+    let read = match read_line(rt.alloc(), b"tagmsg :") {
+        Err(ReadFault::Memory) => read_line(rt.alloc(), b"tagmsg :"),
+        read => read,
     };
-    let Err(ReadFault::NoRecipient { command }) = read(rt.alloc(), &message) else {
+    let Err(ReadFault::NoRecipient { command }) = read else {
         return Err(Fail::from("a recipient"));
     };
     assert_eq!(rt; command.text(), b"TAGMSG".as_slice());
