@@ -13,5 +13,5 @@ pub use grammar::{LineFault, parse};
 pub use laws::{any_cutting, one_message_a_line, reads_what_is_spelled};
 pub use message::{Message, Parameters};
 pub use octets::Octets;
-pub use spelling::{WriteFault, is_writable, push_untagged, write};
+pub use spelling::{WriteFault, is_writable, needs_colon, push_untagged, write};
 pub use splitter::{Piece, Splitter, split_all};

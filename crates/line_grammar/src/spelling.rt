@@ -148,7 +148,9 @@ fn any_needs_colon(parameters: &[Octets]) -> bool
         .any(|parameter| needs_colon(parameter.as_slice()))
 }
 
-fn needs_colon(parameter: &[u8]) -> bool
+/// Whether a parameter can be spelled after a colon alone: it is empty, has a space in it or begins with a colon
+/// (RFC 2812, section 2.3.1).
+pub fn needs_colon(parameter: &[u8]) -> bool
     ensures { result ≡ needs_colon parameter.now }
 {
     matches!(parameter, [] | [b':', ..]) || parameter.contains(&b' ')

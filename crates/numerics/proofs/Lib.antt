@@ -1,1 +1,4 @@
+pub mod Cuts
+pub mod Dates
+pub mod Rooms
 mod Examples

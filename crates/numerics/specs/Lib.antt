@@ -1,1 +1,5 @@
 pub mod Outgoing
+pub mod Numerics
+pub mod Support
+pub mod Cut
+pub mod CivilTime

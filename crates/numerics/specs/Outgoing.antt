@@ -1,5 +1,5 @@
 -- An outgoing line: RFC 2812, section 2.3 (with its CR LF a line has at most 512 octets).
-use Rattle.std.specs.Prelude.{ℕ, Bool, List, [], ◌∷◌, ◌++◌, take, Some}
+use Rattle.std.specs.Prelude.{ℕ, ◌-◌, Bool, List, [], ◌∷◌, ◌++◌, length, take, Some}
 use Rattle.line_grammar.specs.Spelling.{untagged}
 use Rattle.numerics.specs.declared.outgoing.Out.{Out}
 
@@ -7,6 +7,14 @@ use Rattle.numerics.specs.declared.outgoing.Out.{Out}
 abbrev pub line : List ℕ → List ℕ → List (List ℕ) → Bool → Out
 line source command params colon = record { tags = []; source = Some source; command = command; params = params; colon = colon }
 
+-- its spelling without tags
+abbrev pub spelled : Out → List ℕ
+spelled o = untagged o.source o.command o.params o.colon
+
 -- what goes out of a line without tags: its first 510 octets, then CR LF
 unfoldable pub octets : Out → List ℕ
-octets o = take 510 (untagged o.source o.command o.params o.colon) ++ 13 ∷ 10 ∷ []
+octets o = take 510 (spelled o) ++ 13 ∷ 10 ∷ []
+
+-- how many octets more it may have
+unfoldable pub room : Out → ℕ
+room o = 510 - length (spelled o)

@@ -1,6 +1,6 @@
 //! Outgoing lines (RFC 2812, section 2.3).
 ghost use Rattle.std.specs.Prelude.{◌≡◌, map, IfOk};
-ghost use Rattle.numerics.specs.Outgoing.{line, octets};
+ghost use Rattle.numerics.specs.Outgoing.{line, octets, room, spelled};
 
 use line_grammar::{Octets, Parameters, push_untagged};
 use std::alloc::{AllocError, Global};
@@ -48,6 +48,23 @@ impl Out {
     pub fn octets(&self, alloc: Global) -> Result<Octets, AllocError>
         ensures { IfOk result (λ o. o ≡ octets self.now) }
     {
+        let mut text = self.spelled(alloc)?;
+        text.truncate(MAX_LINE);
+        text.extend_from_slice(b"\r\n")?;
+        Ok(Octets::from_vec(text))
+    }
+
+    /// How many octets more it may have before some are cut off (RFC 2812, section 2.3). Its tags don't count.
+    #[tactic(auto, unfolding(crate::specs::Outgoing::room))]
+    pub fn room(&self, alloc: Global) -> Result<usize, AllocError>
+        ensures { IfOk result (λ count. count ≡ room self.now) }
+    {
+        Ok(MAX_LINE.saturating_sub(self.spelled(alloc)?.len()))
+    }
+
+    fn spelled(&self, alloc: Global) -> Result<Vec<u8>, AllocError>
+        ensures { IfOk result (λ text. text.items ≡ spelled self.now) }
+    {
         let mut text = Vec::new(alloc);
         push_untagged(
             &mut text,
@@ -56,9 +73,7 @@ impl Out {
             self.params.as_slice(),
             self.colon,
         )?;
-        text.truncate(MAX_LINE);
-        text.extend_from_slice(b"\r\n")?;
-        Ok(Octets::from_vec(text))
+        Ok(text)
     }
 }
 

@@ -1,0 +1,4 @@
+pub mod Distinct
+pub mod Cuts
+pub mod Quitting
+mod Examples

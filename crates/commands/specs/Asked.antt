@@ -1,0 +1,33 @@
+-- What an accepted piece asks for: RFC 2812, section 2.3.1. A line that is too long is told apart (IRCv3 message-tags); what is no message asks for nothing.
+use Rattle.std.specs.Prelude.{Bool, true, false, Option, Some, None, Result, Ok, Err}
+use Rattle.line_grammar.specs.declared.message.Message.{Message}
+use Rattle.line_grammar.specs.declared.splitter.Piece.{Piece}
+use Rattle.line_grammar.specs.declared.splitter.Piece.TheVariants as piece
+use Rattle.line_grammar.specs.Reading.{reading}
+use Rattle.commands.specs.declared.asked.Asked.{Asked}
+use Rattle.commands.specs.declared.asked.Asked.TheVariants.{Nothing, TooLong, Command as Asks, Fault as Fails}
+use Rattle.commands.specs.declared.command.Command.{Command}
+use Rattle.commands.specs.declared.command.Command.TheVariants.{Quit}
+use Rattle.commands.specs.declared.command.ReadFault.{ReadFault}
+use Rattle.commands.specs.Commands.{command_of}
+
+abbrev pub read_as : Result Command ReadFault → Asked
+read_as (Ok command) = Asks command
+read_as (Err fault) = Fails fault
+
+abbrev pub asked_by : Option Message → Asked
+asked_by None = Nothing
+asked_by (Some m) = read_as (command_of m)
+
+unfoldable pub asked_of : Piece → Asked
+asked_of piece.TooLong = TooLong
+asked_of (piece.Line line) = asked_by (reading line)
+
+-- whether the command is QUIT
+abbrev pub is_quit_command : Command → Bool
+is_quit_command (Quit text) = true
+is_quit_command command = false
+
+abbrev pub asks_for_quit : Asked → Bool
+asks_for_quit (Asks command) = is_quit_command command
+asks_for_quit asked = false

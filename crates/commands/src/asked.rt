@@ -1,0 +1,63 @@
+//! What an accepted piece asks for.
+ghost use Rattle.std.specs.Prelude.{◌≡◌, IfOk, Some};
+ghost use Rattle.chronicle.specs.History.{is_quit};
+ghost use Rattle.commands.specs.Asked.{asked_by, asked_of, asks_for_quit};
+ghost use Rattle.line_grammar.specs.Reading.{reading};
+
+use crate::{Command, ReadFault, read};
+use line_grammar::{LineFault, Message, Octets, Piece, parse};
+use std::alloc::{AllocError, Global};
+
+/// What a piece asks for.
+#[derive(Clone, Debug, Drop, PartialEq)]
+pub enum Asked {
+    /// Nothing: the line holds NUL, or has no command.
+    Nothing,
+    /// Nothing, since the line was too long: 417 answers it.
+    TooLong,
+    /// This command.
+    Command(Command),
+    /// Nothing that can be done: a numeric answers it.
+    Fault(ReadFault),
+}
+
+impl Asked {
+    /// Whether it asks to end the session.
+    pub fn is_quit(&self) -> bool
+        ensures { result ≡ asks_for_quit self.now }
+    {
+        matches!(self, Asked::Command(Command::Quit { .. }))
+    }
+}
+
+fn asked_by(alloc: Global, message: &Message) -> Result<Asked, AllocError>
+    ensures { IfOk result (λ asked. asked ≡ asked_by (Some message.now)) }
+{
+    match read(alloc, message) {
+        Ok(command) => Ok(Asked::Command(command)),
+        Err(ReadFault::Memory) => Err(AllocError),
+        Err(fault) => Ok(Asked::Fault(fault)),
+    }
+}
+
+fn asked_by_line(alloc: Global, line: &[u8]) -> Result<Asked, AllocError>
+    ensures { IfOk result (λ asked. asked ≡ asked_by (reading line.now)) }
+{
+    match parse(alloc, line) {
+        Ok(message) => asked_by(alloc, &message),
+        Err(LineFault::Memory) => Err(AllocError),
+        Err(LineFault::HasNul | LineFault::NoCommand) => Ok(Asked::Nothing),
+    }
+}
+
+/// What an accepted piece asks for.
+#[tactic(auto, unfolding(crate::specs::Asked::asked_of, chronicle::specs::History::is_quit))]
+pub fn read_piece(alloc: Global, piece: &Piece) -> Result<Asked, AllocError>
+    ensures asked { IfOk result (λ asked. asked ≡ asked_of piece.now) }
+    ensures quit { IfOk result (λ asked. asks_for_quit asked ≡ is_quit piece.now) }
+{
+    match piece {
+        Piece::TooLong => Ok(Asked::TooLong),
+        Piece::Line(line) => asked_by_line(alloc, line.as_slice()),
+    }
+}

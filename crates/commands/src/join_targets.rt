@@ -1,0 +1,85 @@
+//! Channels to join (RFC 2812, section 3.2.1).
+ghost use Rattle.std.specs.Prelude.{◌≡◌, ◌↔◌, [], length, IsTrue};
+
+use line_grammar::Octets;
+use std::alloc::AllocError;
+use std::marker::Model;
+
+/// A channel to join.
+#[derive(Clone, Debug, Drop, PartialEq)]
+pub struct JoinTarget {
+    /// Its name, as given.
+    pub channel: Octets,
+    /// The key that was given for it. Empty where there is none.
+    pub key: Octets,
+}
+
+/// Channels to join, in order.
+#[derive(Debug, Drop)]
+pub struct JoinTargets {
+    targets: Vec<JoinTarget>,
+}
+
+impl Model for JoinTargets {
+    ghost use Rattle.std.specs.Prelude.{List};
+    ghost use Rattle.commands.specs.declared.join_targets.JoinTarget.{JoinTarget};
+
+    ghost Value = { List JoinTarget };
+
+    ghost view = { λ a. a.targets.items };
+}
+
+impl JoinTargets {
+    /// The channels of a vector.
+    pub fn from_vec(targets: Vec<JoinTarget>) -> JoinTargets
+        ensures { result ≡ targets.items }
+    {
+        JoinTargets { targets }
+    }
+
+    /// How many channels there are.
+    pub fn len(&self) -> usize
+        ensures { result ≡ length self.now }
+    {
+        self.targets.len()
+    }
+
+    /// Whether there is none.
+    pub fn is_empty(&self) -> bool
+        ensures { IsTrue result ↔ (self.now ≡ []) }
+    {
+        self.targets.is_empty()
+    }
+
+    /// The channels as a slice.
+    pub fn as_slice(&self) -> &[JoinTarget]
+        ensures { result.now ≡ self.now }
+    {
+        &self.targets
+    }
+}
+
+impl Clone for JoinTargets {
+    ghost is_clone = { λ a b. b ≡ a };
+
+    fn clone(&self) -> Result<JoinTargets, AllocError> {
+        Ok(JoinTargets {
+            targets: self.targets.clone()?,
+        })
+    }
+}
+
+impl PartialEq for JoinTargets {
+    ghost use Rattle.std.specs.Prelude.{◌&&◌};
+    ghost use Rattle.std.specs.Cmp.Lexicographic.{pointwise};
+    ghost use Rattle.std.specs.Cmp.Rules.{comparing};
+    ghost use Rattle.std.specs.Str.{bytes_eq};
+
+    ghost eq = { pointwise (λ a b. bytes_eq a.channel b.channel && bytes_eq a.key b.key) };
+
+    ghost laws = { Prim.search comparing };
+
+    fn eq(&self, other: &JoinTargets) -> bool {
+        self.targets == other.targets
+    }
+}

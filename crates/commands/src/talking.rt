@@ -1,0 +1,76 @@
+//! The commands that send texts (RFC 2812, sections 3.3.1, 3.3.2 and 4.1; IRCv3 message-tags).
+ghost use Rattle.std.specs.Prelude.{◌≡◌, ◌⊎◌, IfOk, IfErr};
+ghost use Rattle.commands.specs.Talking.{privmsg_command, notice_command, tagmsg_command, away_command, second_or_empty};
+
+use crate::lists::read_names;
+use crate::params::first;
+use crate::{Command, CommandName, ReadFault, Texts};
+use line_grammar::Octets;
+use std::alloc::Global;
+
+/// The second parameter. Empty where there is none.
+fn second(params: &[Octets]) -> &[u8]
+    ensures { result.now ≡ second_or_empty params.now }
+{
+    match params {
+        [_, params @ ..] => first(params),
+        [] => &[],
+    }
+}
+
+pub(crate) fn read_privmsg(alloc: Global, params: &[Octets]) -> Result<Command, ReadFault>
+    ensures ok { IfOk result (λ command. privmsg_command params.now ≡ Ok command) }
+    ensures err { IfErr result (λ fault. (fault ≡ ReadFault.Memory) ⊎ (privmsg_command params.now ≡ Err fault)) }
+{
+    let list = first(params);
+    if list.is_empty() {
+        return Err(ReadFault::NoRecipient {
+            command: CommandName::Privmsg,
+        });
+    }
+    let text = Octets::copied(alloc, second(params))?;
+    if text.is_empty() {
+        return Err(ReadFault::NoTextToSend);
+    }
+    let targets = read_names(alloc, list)?;
+    Ok(Command::Privmsg { targets, text })
+}
+
+pub(crate) fn read_notice(alloc: Global, params: &[Octets]) -> Result<Command, ReadFault>
+    ensures ok { IfOk result (λ command. notice_command params.now ≡ Ok command) }
+    ensures err { IfErr result (λ fault. (fault ≡ ReadFault.Memory) ⊎ (notice_command params.now ≡ Err fault)) }
+{
+    let list = first(params);
+    let text = second(params);
+    if list.is_empty() || text.is_empty() {
+        return Ok(Command::Notice {
+            targets: Texts::from_vec(Vec::new(alloc)),
+            text: Octets::from_vec(Vec::new(alloc)),
+        });
+    }
+    let targets = read_names(alloc, list)?;
+    let text = Octets::copied(alloc, text)?;
+    Ok(Command::Notice { targets, text })
+}
+
+pub(crate) fn read_tagmsg(alloc: Global, params: &[Octets]) -> Result<Command, ReadFault>
+    ensures ok { IfOk result (λ command. tagmsg_command params.now ≡ Ok command) }
+    ensures err { IfErr result (λ fault. (fault ≡ ReadFault.Memory) ⊎ (tagmsg_command params.now ≡ Err fault)) }
+{
+    let list = first(params);
+    if list.is_empty() {
+        return Err(ReadFault::NoRecipient {
+            command: CommandName::Tagmsg,
+        });
+    }
+    let targets = read_names(alloc, list)?;
+    Ok(Command::Tagmsg { targets })
+}
+
+pub(crate) fn read_away(alloc: Global, params: &[Octets]) -> Result<Command, ReadFault>
+    ensures ok { IfOk result (λ command. away_command params.now ≡ Ok command) }
+    ensures err { IfErr result (λ fault. (fault ≡ ReadFault.Memory) ⊎ (away_command params.now ≡ Err fault)) }
+{
+    let text = Octets::copied(alloc, first(params))?;
+    Ok(Command::Away { text })
+}

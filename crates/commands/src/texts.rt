@@ -1,0 +1,74 @@
+//! Lists of texts that a clause sees as lists.
+ghost use Rattle.std.specs.Prelude.{◌≡◌, ◌↔◌, [], length, IsTrue};
+
+use line_grammar::Octets;
+use std::alloc::AllocError;
+use std::marker::Model;
+
+/// Texts, in order.
+#[derive(Debug, Drop)]
+pub struct Texts {
+    texts: Vec<Octets>,
+}
+
+impl Model for Texts {
+    ghost use Rattle.std.specs.Prelude.{ℕ, List};
+
+    ghost Value = { List (List ℕ) };
+
+    ghost view = { λ a. a.texts.items };
+}
+
+impl Texts {
+    /// The texts of a vector.
+    pub fn from_vec(texts: Vec<Octets>) -> Texts
+        ensures { result ≡ texts.items }
+    {
+        Texts { texts }
+    }
+
+    /// How many texts there are.
+    pub fn len(&self) -> usize
+        ensures { result ≡ length self.now }
+    {
+        self.texts.len()
+    }
+
+    /// Whether there is none.
+    pub fn is_empty(&self) -> bool
+        ensures { IsTrue result ↔ (self.now ≡ []) }
+    {
+        self.texts.is_empty()
+    }
+
+    /// The texts as a slice.
+    pub fn as_slice(&self) -> &[Octets]
+        ensures { result.now ≡ self.now }
+    {
+        &self.texts
+    }
+}
+
+impl Clone for Texts {
+    ghost is_clone = { λ a b. b ≡ a };
+
+    fn clone(&self) -> Result<Texts, AllocError> {
+        Ok(Texts {
+            texts: self.texts.clone()?,
+        })
+    }
+}
+
+impl PartialEq for Texts {
+    ghost use Rattle.std.specs.Cmp.Lexicographic.{pointwise};
+    ghost use Rattle.std.specs.Cmp.Rules.{comparing};
+    ghost use Rattle.std.specs.Str.{bytes_eq};
+
+    ghost eq = { pointwise bytes_eq };
+
+    ghost laws = { Prim.search comparing };
+
+    fn eq(&self, other: &Texts) -> bool {
+        self.texts == other.texts
+    }
+}

@@ -1,0 +1,116 @@
+//! Words cut into lines.
+ghost use Rattle.std.specs.Prelude.{◌≡◌, ℕ, ◌+◌, ◌<◌, ◌≤◌, ◌^◌, [], ◌∷◌, ◌++◌, length, IfOk, OnOk};
+ghost use Rattle.std.specs.List.{All, flat_map};
+ghost use Rattle.numerics.specs.Numerics.{spaced};
+ghost use Rattle.numerics.specs.Cut.{AreFull, IsWithin, cut, filled, takes};
+
+use crate::Words;
+use line_grammar::Octets;
+use std::alloc::{AllocError, Global};
+use std::marker::Model;
+use std::mem;
+
+/// The most tokens of a line that tells what the server supports: with whom it tells and the text these are
+/// the 15 parameters that a line may have (RFC 2812, section 2.3.1).
+pub const MAX_TOKENS: usize = 13;
+
+/// Cuts names into as few lines as their order allows, where names that stand in one line have `room` octets,
+/// with a space between each two. Each line is filled before the next is begun. No names make no line.
+pub fn split_names(alloc: Global, names: &[Octets], room: usize) -> Result<Vec<Words>, AllocError>
+    requires { All (λ name. length name ≤ room) names.now }
+    ensures lines { IfOk result (λ lines. lines.items ≡ cut room (length names.now) names.now) }
+    ensures joined { IfOk result (λ lines. flat_map (λ line. line) lines.items ≡ names.now) }
+    ensures fit { IfOk result (λ lines. All (IsWithin room (length names.now)) lines.items) }
+    ensures full { IfOk result (λ lines. AreFull room (length names.now) lines.items) }
+{
+    cut(alloc, names, room, names.len())
+}
+
+/// Cuts tokens into lines as [`split_names`] does names, with at most [`MAX_TOKENS`] in a line.
+pub fn split_tokens(alloc: Global, tokens: &[Octets], room: usize) -> Result<Vec<Words>, AllocError>
+    requires { All (λ token. length token ≤ room) tokens.now }
+    ensures lines { IfOk result (λ lines. lines.items ≡ cut room MAX_TOKENS tokens.now) }
+    ensures joined { IfOk result (λ lines. flat_map (λ line. line) lines.items ≡ tokens.now) }
+    ensures fit { IfOk result (λ lines. All (IsWithin room MAX_TOKENS) lines.items) }
+    ensures full { IfOk result (λ lines. AreFull room MAX_TOKENS lines.items) }
+{
+    cut(alloc, tokens, room, MAX_TOKENS)
+}
+
+/// A line that is being filled. It has a word at least.
+#[derive(Drop)]
+struct Line {
+    words: Vec<Octets>,
+    /// Octets of the words, with a space between each two.
+    octets: usize,
+}
+
+impl Model for Line {
+    ghost use Rattle.std.specs.Prelude.{◌≡◌, ℕ, ◌<◌, List, length};
+    ghost use Rattle.numerics.specs.Numerics.{spaced};
+
+    ghost Value = { List (List ℕ) };
+
+    ghost view = { λ a. a.words.items };
+
+    ghost invariant = { λ a. (a.octets ≡ length (spaced a.words.items)) × (0 < length a.words.items) };
+}
+
+impl Line {
+    #[tactic(auto, using(crate::proofs::Cuts::one_spaced))]
+    fn new(alloc: Global, word: &Octets) -> Result<Line, AllocError>
+        ensures { IfOk result (λ line. line ≡ word.now ∷ []) }
+    {
+        let mut words = Vec::new(alloc);
+        words.push(word.clone()?)?;
+        Ok(Line {
+            words,
+            octets: word.len(),
+        })
+    }
+
+    #[tactic(auto, using(crate::proofs::Cuts::more_spaced))]
+    fn takes(&self, word: &Octets, room: usize, most: usize) -> bool
+        ensures { result ≡ takes room most self.now word.now }
+    {
+        self.words.len() < most && self.octets < room && word.len() < room - self.octets
+    }
+
+    #[tactic(auto, using(crate::proofs::Cuts::more_spaced))]
+    fn push(&mut self, word: &Octets) -> Result<(), AllocError>
+        requires { length (spaced (self.old ++ word.now ∷ [])) < 2 ^ 64 }
+        ensures { OnOk result (self.new ≡ self.old ++ word.now ∷ []) }
+    {
+        let word = word.clone()?;
+        let octets = self.octets + 1 + word.len();
+        self.words.push(word)?;
+        self.octets = octets;
+        Ok(())
+    }
+
+    fn into_words(self) -> Words
+        ensures { result ≡ self }
+    {
+        Words::from_vec(self.words)
+    }
+}
+
+fn cut(alloc: Global, words: &[Octets], room: usize, most: usize) -> Result<Vec<Words>, AllocError>
+    ensures { IfOk result (λ lines. lines.items ≡ cut room most words.now) }
+{
+    let mut lines = Vec::new(alloc);
+    let Some((first, more)) = words.split_first() else {
+        return Ok(lines);
+    };
+    let mut line = Line::new(alloc, first)?;
+    for word in more {
+        if line.takes(word, room, most) {
+            line.push(word)?;
+        } else {
+            let full = mem::replace(&mut line, Line::new(alloc, word)?);
+            lines.push(full.into_words())?;
+        }
+    }
+    lines.push(line.into_words())?;
+    Ok(lines)
+}

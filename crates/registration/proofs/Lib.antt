@@ -1,0 +1,4 @@
+pub mod Cuts
+pub mod Same
+mod Examples
+pub mod Spelled

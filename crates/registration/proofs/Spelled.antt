@@ -1,0 +1,40 @@
+-- What is read from a message of PLAIN is what the message tells, and the payload is its one spelling.
+use Rattle.std.proofs.Common.{◌≡◌, ℕ, Bool, true, false, ◌&&◌, List, [], ◌∷◌, Option, Some, None, Result, Ok, Err, sym, subst, inl, inr}
+use Rattle.std.specs.List.{join_with_byte}
+use Rattle.std.specs.Option.{IfSome}
+use Rattle.std.specs.Result.{IfOk}
+use Rattle.std.proofs.lemmas.Bool.{cases_Bool}
+use Rattle.std.proofs.lemmas.List.Splits.{join_with_byte-slice_split}
+use Rattle.base64.specs.Engines.{standard}
+use Rattle.base64.specs.GeneralPurpose.{encode_of}
+use Rattle.registration.specs.declared.sasl.Credentials.{Credentials}
+use Rattle.registration.specs.Parts.{is_present, parts, three_of}
+use Rattle.registration.specs.Plain.{Spells, Tells, credentials_from, is_own}
+
+second_true : (a b : Bool) → (a && b) ≡ true → b ≡ true
+second_true true b e = e
+second_true false b e = cc
+
+-- what is in the parts of a message is told by the message
+told_by_parts : (ps : List (List ℕ)) (message : List ℕ) → join_with_byte 0 ps ≡ message → IfSome (credentials_from (three_of ps)) (Tells message)
+told_by_parts [] message e = tt
+told_by_parts (i ∷ []) message e = tt
+told_by_parts (i ∷ u ∷ []) message e = tt
+told_by_parts (i ∷ u ∷ p ∷ []) message e =
+    elim (cases_Bool (is_present u && is_present p && is_own i u)) [
+      | inl is ↦ rw is (record { identity = i; own = second_true (is_present u && is_present p) (is_own i u) is; whole = sym e })
+      | inr isnt ↦ rw isnt tt
+    ]
+told_by_parts (i ∷ u ∷ p ∷ q ∷ ps) message e = tt
+
+told : (message : List ℕ) → IfSome (credentials_from (three_of (parts 0 message))) (Tells message)
+told message = told_by_parts (parts 0 message) message (join_with_byte-slice_split 0 message)
+
+pub tells : {E : Type 0} (message : List ℕ) (r : Result (Option Credentials) E) → IfOk r (λ found. found ≡ credentials_from (three_of (parts 0 message))) → IfOk r (λ found. IfSome found (λ c. Tells message c))
+tells message (Ok found) e = let P : Option Credentials → Type 0 = λ found. IfSome found (Tells message) in subst P (sym e) (told message)
+tells message (Err x) e = tt
+
+pub spells : {E : Type 0} (payload message : List ℕ) (r : Result (Option Credentials) E) → payload ≡ encode_of standard message → IfOk r (λ found. IfSome found (λ c. Tells message c)) → IfOk r (λ found. IfSome found (λ c. Spells payload c))
+spells payload message (Ok (Some c)) e told = record { message = message; tells = told; spelled = e }
+spells payload message (Ok None) e told = tt
+spells payload message (Err x) e told = tt

@@ -1,0 +1,6 @@
+pub mod Caps
+pub mod Parts
+pub mod PartSteps
+pub mod Plain
+pub mod Accounts
+pub mod Settings
