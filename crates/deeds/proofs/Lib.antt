@@ -1,4 +1,3 @@
 pub mod Replay
 pub mod Named
 pub mod Sorted
-pub mod Quitting

@@ -3,7 +3,7 @@ use Rattle.std.proofs.Common.{◌≡◌, inl, inr, ℕ, Bool, ◌⊎◌, true, f
 use Rattle.std.specs.Option.{option_or, option_map}
 use Rattle.roster.specs.Laws.{ChannelsHaveOneName, SpelledNamesAreNames}
 use Rattle.roster.specs.declared.deed.Deed.{Deed}
-use Rattle.roster.specs.declared.deed.Deed.TheVariants.{Opened, NickSet, UserSet, Enrolled, ChannelMade, Joined, Ended, Gone}
+use Rattle.roster.specs.declared.deed.Deed.TheVariants.{Opened, NickSet, UserSet, HoldSet, CapsSet, ExchangeSet, LoggedIn, Enrolled, ChannelMade, Joined, Ended, Gone}
 use Rattle.roster.specs.LookBack.{is_same, registered, after, on, without, members, is_some_one, has_member, name, name_of}
 use Rattle.roster.specs.Legal.{IsNext, AreNext}
 use Rattle.deeds.specs.declared.effect.Effect.{Effect}
@@ -46,6 +46,10 @@ told : ChannelsHaveOneName → (fs : List Deed) (d : Deed) (c : List ℕ) (o : O
 told law fs (Opened t x) c o may h e = h e
 told law fs (NickSet t n) c o may h e = h e
 told law fs (UserSet t u r) c o may h e = h e
+told law fs (HoldSet t x) c o may h e = h e
+told law fs (CapsSet t x) c o may h e = h e
+told law fs (ExchangeSet t x) c o may h e = h e
+told law fs (LoggedIn t x) c o may h e = h e
 told law fs (Enrolled t) c o may h e = h e
 told law fs (Ended t w x) c o may h e = h e
 told law fs (ChannelMade t k) c o may h e = elim (either (is_same k c)) [

@@ -3,7 +3,7 @@ use Rattle.std.proofs.Common.{◌≡◌, ℕ, zero, suc, ◌+◌, ◌<◌, ◌�
 use Rattle.deeds.specs.Drafted.{Drafted, IsDraft, grown}
 use Rattle.std.proofs.lemmas.List.{take_more}
 use Rattle.roster.specs.declared.deed.Deed.{Deed}
-use Rattle.roster.specs.declared.deed.Deed.TheVariants.{Opened, NickSet, UserSet, Enrolled, ChannelMade, Joined, Ended, Gone}
+use Rattle.roster.specs.declared.deed.Deed.TheVariants.{Opened, NickSet, UserSet, HoldSet, CapsSet, ExchangeSet, LoggedIn, Enrolled, ChannelMade, Joined, Ended, Gone}
 use Rattle.roster.specs.LookBack.{after, opened, nick, user, registered, on, members}
 use Rattle.roster.specs.Legal.{IsOpened, AreNext}
 use Rattle.deeds.specs.declared.effect.Effect.{Effect}
@@ -97,8 +97,8 @@ next_at fs (x ∷ es) (suc i) e l is a =
 -- effects on effects
 pub grown_grown : (d : Drafted) (xs ys : List Effect) → grown (grown d xs) ys ≡ grown d (xs ++ ys)
 grown_grown d xs ys =
-    ap (λ (gs : List Deed). record { base = d.base; facts = gs; effects = d.effects ++ xs ++ ys }) (sym (after-effects d.facts xs ys))
-    ∙ ap (λ (es : List Effect). record { base = d.base; facts = after d.facts (deeds_of (xs ++ ys)); effects = es }) (append_assoc d.effects xs ys)
+    ap (λ (gs : List Deed). record { settings = d.settings; base = d.base; facts = gs; effects = d.effects ++ xs ++ ys }) (sym (after-effects d.facts xs ys))
+    ∙ ap (λ (es : List Effect). record { settings = d.settings; base = d.base; facts = after d.facts (deeds_of (xs ++ ys)); effects = es }) (append_assoc d.effects xs ys)
 
 -- ---- sessions that were opened
 
@@ -109,6 +109,10 @@ opened_one : (d : Deed) (fs : List Deed) → length (opened fs) ≤ length (open
 opened_one (Opened t h) fs = let e : length (opened fs ++ t ∷ []) ≡ length (opened fs) + 1 = length-append (opened fs) (t ∷ []) in omega arith
 opened_one (NickSet t n) fs = same (length (opened fs))
 opened_one (UserSet t u r) fs = same (length (opened fs))
+opened_one (HoldSet t x) fs = same (length (opened fs))
+opened_one (CapsSet t x) fs = same (length (opened fs))
+opened_one (ExchangeSet t x) fs = same (length (opened fs))
+opened_one (LoggedIn t x) fs = same (length (opened fs))
 opened_one (Enrolled t) fs = same (length (opened fs))
 opened_one (ChannelMade t c) fs = same (length (opened fs))
 opened_one (Joined t c) fs = same (length (opened fs))

@@ -1,6 +1,8 @@
 -- What each kind of record does, and so the facts of a history and the lines of a record: RFC 2812, section 3.1 (registration, QUIT).
 use Rattle.std.specs.Prelude.{ℕ, List, [], ◌∷◌}
 use Rattle.std.specs.List.{flat_map}
+use Rattle.commands.specs.Asked.{asked_of}
+use Rattle.registration.specs.declared.settings.Settings.{Settings}
 use Rattle.chronicle.specs.declared.record.Kind.{Kind}
 use Rattle.chronicle.specs.declared.record.Kind.TheVariants as kind
 use Rattle.chronicle.specs.History.{Rec, actor}
@@ -11,30 +13,29 @@ use Rattle.roster.specs.declared.deed.Deed.TheVariants.{Opened, Ended}
 use Rattle.roster.specs.LookBack.{after}
 use Rattle.deeds.specs.declared.effect.Effect.{Effect}
 use Rattle.deeds.specs.declared.effect.Effect.TheVariants.{Establish}
-use Rattle.deeds.specs.Commands.{command_of}
 use Rattle.deeds.specs.Effects.{deeds_of, lines_to}
 use Rattle.deeds.specs.Departure.{departs}
-use Rattle.deeds.specs.Rows.{of_command}
+use Rattle.deeds.specs.Rows.{of_asked}
 
--- what a record does
-abbrev pub effects : List Deed → Kind → List Effect
-effects fs (kind.Opened s h) = Establish (Opened s h) ∷ []
-effects fs (kind.Said s i piece) = of_command fs s (command_of piece)
-effects fs (kind.Hung s w) = Establish (Ended s w []) ∷ []
-effects fs (kind.Gone s) = departs fs s
+-- what a record does, on a server of these settings
+abbrev pub effects : Settings → List Deed → Kind → List Effect
+effects g fs (kind.Opened s h) = Establish (Opened s h) ∷ []
+effects g fs (kind.Said s i piece) = of_asked g fs s (asked_of piece)
+effects g fs (kind.Hung s w) = Establish (Ended s w []) ∷ []
+effects g fs (kind.Gone s) = departs fs s
 
 -- the facts that it establishes, in order
-abbrev pub deeds : List Deed → Kind → List Deed
-deeds fs k = deeds_of (effects fs k)
+abbrev pub deeds : Settings → List Deed → Kind → List Deed
+deeds g fs k = deeds_of (effects g fs k)
 
 -- all facts of a history, the newest first
-abbrev pub facts : List Rec → List Deed
-facts [] = []
-facts (r ∷ h) = after (facts h) (deeds (facts h) r.kind)
+abbrev pub facts : Settings → List Rec → List Deed
+facts g [] = []
+facts g (r ∷ h) = after (facts g h) (deeds g (facts g h) r.kind)
 
 -- all lines of a record to t, its own session or another
-abbrev pub lines : List Deed → Kind → ℕ → List Out
-lines fs k t = lines_to (actor k) (effects fs k) t
+abbrev pub lines : Settings → List Deed → Kind → ℕ → List Out
+lines g fs k t = lines_to (actor k) (effects g fs k) t
 
 -- what goes out of lines
 abbrev pub text : List Out → List ℕ

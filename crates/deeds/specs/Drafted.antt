@@ -1,5 +1,6 @@
 -- What clauses see of a draft.
 use Rattle.std.specs.Prelude.{◌≡◌, ℕ, List, ◌++◌}
+use Rattle.registration.specs.declared.settings.Settings.{Settings}
 use Rattle.roster.specs.declared.deed.Deed.{Deed}
 use Rattle.roster.specs.LookBack.{after, opened, on, has_member}
 use Rattle.roster.specs.Legal.{AreNext}
@@ -7,6 +8,8 @@ use Rattle.deeds.specs.declared.effect.Effect.{Effect}
 use Rattle.deeds.specs.Effects.{deeds_of}
 
 pub record Drafted : Type 0 where
+  -- the server's
+  pub settings : Settings
   -- the facts of the roster
   pub base : List Deed
   -- and with those that were established since
@@ -15,7 +18,7 @@ pub record Drafted : Type 0 where
 
 -- a draft with these effects more
 abbrev pub grown : Drafted → List Effect → Drafted
-grown d es = record { base = d.base; facts = after d.facts (deeds_of es); effects = d.effects ++ es }
+grown d es = record { settings = d.settings; base = d.base; facts = after d.facts (deeds_of es); effects = d.effects ++ es }
 
 -- facts that a draft may establish: they may come next, and open no session
 pub record IsDraft (fs ds : List Deed) : Type 0 where

@@ -1,4 +1,3 @@
-pub mod Commands
 pub mod Effects
 pub mod Lines
 pub mod Registration

@@ -28,7 +28,7 @@ impl<'a> Model for Draft<'a> {
 
     ghost Value = { Drafted };
 
-    ghost view = { λ a. record { base = a.roster.now.facts; facts = after a.roster.now.facts (deeds_of a.effects.items); effects = a.effects.items } };
+    ghost view = { λ a. record { settings = a.roster.now.settings; base = a.roster.now.facts; facts = after a.roster.now.facts (deeds_of a.effects.items); effects = a.effects.items } };
 
     ghost invariant = { λ a. IsDraft a.roster.now.facts (deeds_of a.effects.items) };
 }
@@ -38,7 +38,7 @@ impl<'a> Draft<'a> {
 
     /// Nothing is done yet.
     pub(crate) fn new(alloc: Global, roster: &'a Roster) -> Draft<'a>
-        ensures { result ≡ record { base = roster.now.facts; facts = roster.now.facts; effects = [] } }
+        ensures { result ≡ record { settings = roster.now.settings; base = roster.now.facts; facts = roster.now.facts; effects = [] } }
     {
         Draft {
             alloc,
@@ -54,7 +54,8 @@ impl<'a> Draft<'a> {
 
     /// The roster before the record.
     pub(crate) fn before(&self) -> &'a Roster
-        ensures { result.now.facts ≡ self.now.base }
+        ensures facts { result.now.facts ≡ self.now.base }
+        ensures settings { result.now.settings ≡ self.now.settings }
     {
         self.roster
     }

@@ -2,7 +2,6 @@
 #![tactic(auto)]
 
 mod channels;
-mod command;
 mod departure;
 mod draft;
 mod effect;
@@ -12,7 +11,6 @@ mod rows;
 mod talking;
 mod verdict;
 
-pub use command::{Command, read};
 pub use departure::decide_gone;
 pub use effect::Effect;
 pub use rows::decide;

@@ -1,10 +1,11 @@
 -- What holds of every roster is kept by each deed.
-use Rattle.std.proofs.Common.{◌≡◌, inl, inr, ℕ, zero, suc, ◌+◌, ◌<◌, ◌≤◌, true, false, cond, List, [], ◌∷◌, ◌++◌, length, drop, slice_get, count_by, vec_len, vec_capacity, Some, None, arith, refl, sym, ap, ◌∙◌, subst}
+use Rattle.std.proofs.Common.{◌≡◌, inl, inr, ℕ, zero, suc, ◌+◌, ◌<◌, ◌≤◌, Bool, true, false, cond, Option, List, [], ◌∷◌, ◌++◌, length, drop, slice_get, count_by, vec_len, vec_capacity, Some, None, arith, refl, sym, ap, ◌∙◌, subst}
 use Rattle.std.specs.declared.vec.Vec.{Vec}
 use Rattle.std.specs.declared.alloc.Global.{Global}
 use Rattle.roster.proofs.Same.{is_same-sym}
+use Rattle.registration.specs.declared.caps.Caps.{Caps}
 use Rattle.roster.specs.declared.deed.Deed.{Deed}
-use Rattle.roster.specs.declared.deed.Deed.TheVariants.{Opened, NickSet, UserSet, Enrolled, ChannelMade, Joined, Ended, Gone}
+use Rattle.roster.specs.declared.deed.Deed.TheVariants.{Opened, NickSet, UserSet, HoldSet, CapsSet, ExchangeSet, LoggedIn, Enrolled, ChannelMade, Joined, Ended, Gone}
 use Rattle.roster.specs.declared.tables.Person.{Person}
 use Rattle.roster.specs.declared.tables.Channel.{Channel}
 use Rattle.roster.specs.Seats.{Seats}
@@ -18,7 +19,7 @@ use Rattle.roster.proofs.OnChannels.{among-members, someone}
 use Rattle.roster.proofs.ChannelTable.{seats-populated}
 use Rattle.roster.proofs.Leaving.{seats_without}
 use Rattle.roster.proofs.MadeRoom.{joins-cons, makings-cons, seats_less, joins_few, seats-push, spare_less, room_none}
-use Rattle.roster.proofs.Steps.{stranger, stands_opened, stands_renamed, stands_introduced, stands_enrolled, stands_ended, stands_joined, stands_gone, stands_made}
+use Rattle.roster.proofs.Steps.{stranger, stands_opened, stands_renamed, stands_introduced, stands_held, stands_equipped, stands_exchanging, stands_logged_in, stands_enrolled, stands_ended, stands_joined, stands_gone, stands_made}
 
 length-numbers : (k n : ℕ) → length (numbers k n) ≡ n
 length-numbers k zero = refl
@@ -105,6 +106,18 @@ module _ (ps : Vec Person Global) (ks : Vec Channel Global) (spare : Vec Seats G
 
   pub kept_introduced : (qs : Vec Person Global) (t : ℕ) (u r : List ℕ) → IsKept ps ks spare fs (UserSet t u r ∷ ds) → qs.items ≡ with_person ps.items t (record (person_at ps.items t) { user = Some u; real = Some r }) → vec_len qs ≡ vec_len ps → vec_capacity qs ≡ vec_capacity ps → IsKept qs ks spare (UserSet t u r ∷ fs) ds
   kept_introduced qs t u r i e l c = told (UserSet t u r) qs _ refl i (stands_introduced ps.items ks.items fs i.stands t u r i.next.0.0 (within t i.stands i.next.0)) e l c
+
+  pub kept_held : (qs : Vec Person Global) (t : ℕ) (v : Bool) → IsKept ps ks spare fs (HoldSet t v ∷ ds) → qs.items ≡ with_person ps.items t (record (person_at ps.items t) { held = v }) → vec_len qs ≡ vec_len ps → vec_capacity qs ≡ vec_capacity ps → IsKept qs ks spare (HoldSet t v ∷ fs) ds
+  kept_held qs t v i e l c = told (HoldSet t v) qs _ refl i (stands_held ps.items ks.items fs i.stands t v i.next.0.0 (within t i.stands i.next.0)) e l c
+
+  pub kept_equipped : (qs : Vec Person Global) (t : ℕ) (k : Caps) → IsKept ps ks spare fs (CapsSet t k ∷ ds) → qs.items ≡ with_person ps.items t (record (person_at ps.items t) { caps = k }) → vec_len qs ≡ vec_len ps → vec_capacity qs ≡ vec_capacity ps → IsKept qs ks spare (CapsSet t k ∷ fs) ds
+  kept_equipped qs t k i e l c = told (CapsSet t k) qs _ refl i (stands_equipped ps.items ks.items fs i.stands t k i.next.0.0 (within t i.stands i.next.0)) e l c
+
+  pub kept_exchanging : (qs : Vec Person Global) (t : ℕ) (x : Option (List ℕ)) → IsKept ps ks spare fs (ExchangeSet t x ∷ ds) → qs.items ≡ with_person ps.items t (record (person_at ps.items t) { exchange = x }) → vec_len qs ≡ vec_len ps → vec_capacity qs ≡ vec_capacity ps → IsKept qs ks spare (ExchangeSet t x ∷ fs) ds
+  kept_exchanging qs t x i e l c = told (ExchangeSet t x) qs _ refl i (stands_exchanging ps.items ks.items fs i.stands t x i.next.0.0 (within t i.stands i.next.0)) e l c
+
+  pub kept_logged_in : (qs : Vec Person Global) (t : ℕ) (a : List ℕ) → IsKept ps ks spare fs (LoggedIn t a ∷ ds) → qs.items ≡ with_person ps.items t (record (person_at ps.items t) { account = Some a }) → vec_len qs ≡ vec_len ps → vec_capacity qs ≡ vec_capacity ps → IsKept qs ks spare (LoggedIn t a ∷ fs) ds
+  kept_logged_in qs t a i e l c = told (LoggedIn t a) qs _ refl i (stands_logged_in ps.items ks.items fs i.stands t a i.next.0.0 (within t i.stands i.next.0)) e l c
 
   pub kept_enrolled : (qs : Vec Person Global) (t : ℕ) → IsKept ps ks spare fs (Enrolled t ∷ ds) → qs.items ≡ with_person ps.items t (record (person_at ps.items t) { registered = true }) → vec_len qs ≡ vec_len ps → vec_capacity qs ≡ vec_capacity ps → IsKept qs ks spare (Enrolled t ∷ fs) ds
   kept_enrolled qs t i e l c = told (Enrolled t) qs _ refl i (stands_enrolled ps.items ks.items fs i.stands t i.next.0.0 (within t i.stands i.next.0)) e l c

@@ -1,6 +1,6 @@
 -- What follows of names of channels.
 use Rattle.std.proofs.Common.{inl, inr, [], ◌∷◌}
-use Rattle.roster.specs.declared.deed.Deed.TheVariants.{Opened, NickSet, UserSet, Enrolled, ChannelMade, Joined, Ended, Gone}
+use Rattle.roster.specs.declared.deed.Deed.TheVariants.{Opened, NickSet, UserSet, HoldSet, CapsSet, ExchangeSet, LoggedIn, Enrolled, ChannelMade, Joined, Ended, Gone}
 use Rattle.roster.specs.LookBack.{is_same}
 use Rattle.roster.specs.Laws.{ChannelsHaveOneName, SpelledNamesAreNames}
 use Rattle.roster.proofs.Bools.{either}
@@ -15,6 +15,10 @@ spelled [] c = is_same-refl c
 spelled (Opened t x ∷ fs) c = spelled fs c
 spelled (NickSet t n ∷ fs) c = spelled fs c
 spelled (UserSet t u r ∷ fs) c = spelled fs c
+spelled (HoldSet t n ∷ fs) c = spelled fs c
+spelled (CapsSet t n ∷ fs) c = spelled fs c
+spelled (ExchangeSet t n ∷ fs) c = spelled fs c
+spelled (LoggedIn t n ∷ fs) c = spelled fs c
 spelled (Enrolled t ∷ fs) c = spelled fs c
 spelled (ChannelMade t k ∷ fs) c = elim (either (is_same k c)) [ inl same ↦ rw same same | inr other ↦ rw other (spelled fs c) ]
 spelled (Joined t k ∷ fs) c = spelled fs c

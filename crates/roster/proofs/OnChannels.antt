@@ -4,7 +4,7 @@ use Rattle.std.proofs.lemmas.Bool.Decides.{eqb_tells}
 use Rattle.std.proofs.Common.{◌≡◌, inl, inr, ℕ, Bool, true, false, ◌&&◌, ◌||◌, ◌==◌, cond, List, [], ◌∷◌, ◌++◌, unwrap_or, Some, None, refl, sym, ap, ◌∙◌, ne_eqb}
 use Rattle.roster.proofs.Same.{is_same-right}
 use Rattle.roster.specs.declared.deed.Deed.{Deed}
-use Rattle.roster.specs.declared.deed.Deed.TheVariants.{Opened, NickSet, UserSet, Enrolled, ChannelMade, Joined, Ended, Gone}
+use Rattle.roster.specs.declared.deed.Deed.TheVariants.{Opened, NickSet, UserSet, HoldSet, CapsSet, ExchangeSet, LoggedIn, Enrolled, ChannelMade, Joined, Ended, Gone}
 use Rattle.roster.specs.LookBack.{is_same, among, on, without, members, seated, is_some_one}
 use Rattle.roster.proofs.Bools.{or-true, or-false}
 
@@ -46,6 +46,10 @@ among-members [] t c = refl
 among-members (Opened u h ∷ fs) t c = among-members fs t c
 among-members (NickSet u n ∷ fs) t c = among-members fs t c
 among-members (UserSet u n r ∷ fs) t c = among-members fs t c
+among-members (HoldSet u n ∷ fs) t c = among-members fs t c
+among-members (CapsSet u n ∷ fs) t c = among-members fs t c
+among-members (ExchangeSet u n ∷ fs) t c = among-members fs t c
+among-members (LoggedIn u n ∷ fs) t c = among-members fs t c
 among-members (Enrolled u ∷ fs) t c = among-members fs t c
 among-members (Ended u w x ∷ fs) t c = among-members fs t c
 among-members (ChannelMade u k ∷ fs) t c = made (is_same k c) t u (members fs c) ∙ ap (unwrap_or (cond (is_same k c) (Some (u == t)) None)) (among-members fs t c)
@@ -57,6 +61,10 @@ seated-same : (d : Deed) (c e : List ℕ) (ms : List ℕ) → is_same c e ≡ tr
 seated-same (Opened u h) c e ms s = refl
 seated-same (NickSet u n) c e ms s = refl
 seated-same (UserSet u n r) c e ms s = refl
+seated-same (HoldSet u n) c e ms s = refl
+seated-same (CapsSet u n) c e ms s = refl
+seated-same (ExchangeSet u n) c e ms s = refl
+seated-same (LoggedIn u n) c e ms s = refl
 seated-same (Enrolled u) c e ms s = refl
 seated-same (Ended u w x) c e ms s = refl
 seated-same (ChannelMade u k) c e ms s = ap (λ b. cond b (u ∷ []) ms) (is_same-right c e k s)

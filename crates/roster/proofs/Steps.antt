@@ -4,8 +4,9 @@ use Rattle.std.proofs.lemmas.Bool.Decides.{eqb_tells}
 use Rattle.std.proofs.Common.{◌≡◌, ◌≢◌, inl, inr, ℕ, zero, suc, ◌+◌, ◌-◌, ◌<◌, ◌≤◌, Bool, true, false, cond, List, [], ◌∷◌, ◌++◌, filter, length, slice_index_or, slice_set, Option, Some, None, arith, refl, sym, ap, ◌∙◌, ne_eqb, eq-eqb, length-append, subst}
 use Rattle.std.specs.Option.{is_some, option_map, option_map_or}
 use Rattle.chronicle.specs.declared.why.Why.{Why}
+use Rattle.registration.specs.declared.caps.Caps.{Caps}
 use Rattle.roster.specs.declared.deed.Deed.{Deed}
-use Rattle.roster.specs.declared.deed.Deed.TheVariants.{Opened, NickSet, UserSet, Enrolled, ChannelMade, Joined, Ended, Gone}
+use Rattle.roster.specs.declared.deed.Deed.TheVariants.{Opened, NickSet, UserSet, HoldSet, CapsSet, ExchangeSet, LoggedIn, Enrolled, ChannelMade, Joined, Ended, Gone}
 use Rattle.roster.specs.declared.tables.Person.{Person}
 use Rattle.roster.specs.declared.tables.Channel.{Channel}
 use Rattle.roster.specs.Seats.{Seats}
@@ -97,6 +98,26 @@ module _ (ps : List Person) (ks : List Channel) (fs : List Deed) (i : Stands ps 
   stands_introduced t u r from to =
       told (UserSet t u r) t (record (person_at ps t) { user = Some u; real = Some r }) from to
       (ap (λ (p : Person). record p { user = Some u; real = Some r }) (i.people t) ∙ rw (eq-eqb t t refl) refl) (λ s ne. rw (ne_eqb t s ne) refl) refl (λ c. refl) (λ c. refl) refl
+
+  pub stands_held : (t : ℕ) (v : Bool) → 0 < t → t ≤ length ps → Stands (with_person ps t (record (person_at ps t) { held = v })) ks (HoldSet t v ∷ fs)
+  stands_held t v from to =
+      told (HoldSet t v) t (record (person_at ps t) { held = v }) from to
+      (ap (λ (p : Person). record p { held = v }) (i.people t) ∙ rw (eq-eqb t t refl) refl) (λ s ne. rw (ne_eqb t s ne) refl) refl (λ c. refl) (λ c. refl) refl
+
+  pub stands_equipped : (t : ℕ) (k : Caps) → 0 < t → t ≤ length ps → Stands (with_person ps t (record (person_at ps t) { caps = k })) ks (CapsSet t k ∷ fs)
+  stands_equipped t k from to =
+      told (CapsSet t k) t (record (person_at ps t) { caps = k }) from to
+      (ap (λ (p : Person). record p { caps = k }) (i.people t) ∙ rw (eq-eqb t t refl) refl) (λ s ne. rw (ne_eqb t s ne) refl) refl (λ c. refl) (λ c. refl) refl
+
+  pub stands_exchanging : (t : ℕ) (x : Option (List ℕ)) → 0 < t → t ≤ length ps → Stands (with_person ps t (record (person_at ps t) { exchange = x })) ks (ExchangeSet t x ∷ fs)
+  stands_exchanging t x from to =
+      told (ExchangeSet t x) t (record (person_at ps t) { exchange = x }) from to
+      (ap (λ (p : Person). record p { exchange = x }) (i.people t) ∙ rw (eq-eqb t t refl) refl) (λ s ne. rw (ne_eqb t s ne) refl) refl (λ c. refl) (λ c. refl) refl
+
+  pub stands_logged_in : (t : ℕ) (a : List ℕ) → 0 < t → t ≤ length ps → Stands (with_person ps t (record (person_at ps t) { account = Some a })) ks (LoggedIn t a ∷ fs)
+  stands_logged_in t a from to =
+      told (LoggedIn t a) t (record (person_at ps t) { account = Some a }) from to
+      (ap (λ (p : Person). record p { account = Some a }) (i.people t) ∙ rw (eq-eqb t t refl) refl) (λ s ne. rw (ne_eqb t s ne) refl) refl (λ c. refl) (λ c. refl) refl
 
   pub stands_enrolled : (t : ℕ) → 0 < t → t ≤ length ps → Stands (with_person ps t (record (person_at ps t) { registered = true })) ks (Enrolled t ∷ fs)
   stands_enrolled t from to =

@@ -1,7 +1,7 @@
 -- Which fact may come next. Whoever establishes one has looked that up.
 use Rattle.std.specs.Prelude.{◌≡◌, ℕ, suc, ◌<◌, ◌≤◌, true, false, List, [], ◌∷◌, length}
 use Rattle.roster.specs.declared.deed.Deed.{Deed}
-use Rattle.roster.specs.declared.deed.Deed.TheVariants.{Opened, NickSet, UserSet, Enrolled, ChannelMade, Joined, Ended, Gone}
+use Rattle.roster.specs.declared.deed.Deed.TheVariants.{Opened, NickSet, UserSet, HoldSet, CapsSet, ExchangeSet, LoggedIn, Enrolled, ChannelMade, Joined, Ended, Gone}
 use Rattle.roster.specs.LookBack.{opened, on, has_member}
 
 -- a session that was opened: they are numbered from 1 in the order in which they are
@@ -13,6 +13,10 @@ abbrev pub IsNext : List Deed → Deed → Type 0
 IsNext fs (Opened t h) = t ≡ suc (length (opened fs))
 IsNext fs (NickSet t n) = IsOpened fs t
 IsNext fs (UserSet t u r) = IsOpened fs t
+IsNext fs (HoldSet t on) = IsOpened fs t
+IsNext fs (CapsSet t caps) = IsOpened fs t
+IsNext fs (ExchangeSet t x) = IsOpened fs t
+IsNext fs (LoggedIn t a) = IsOpened fs t
 IsNext fs (Enrolled t) = IsOpened fs t
 IsNext fs (ChannelMade t k) = has_member fs k ≡ false
 IsNext fs (Joined t k) = (has_member fs k ≡ true) × (on fs t k ≡ false)

@@ -1,4 +1,4 @@
--- What holds of sessions and channels, each looked up backwards in a list of facts, the newest first: RFC 2812, section 1.2 (clients), RFC 2811, section 2 (channels). What a session had is given back when it is gone.
+-- What holds of sessions and channels, each looked up backwards in a list of facts, the newest first: RFC 2812, section 1.2 (clients), RFC 2811, section 2 (channels), IRCv3 Capability Negotiation and SASL 3.1. What a session had is given back when it is gone.
 use Rattle.std.specs.Prelude.{ℕ, zero, suc, ◌+◌, Bool, true, false, not, ◌&&◌, ◌==◌, cond, List, [], ◌∷◌, ◌++◌, filter, unwrap_or, Option, Some, None}
 use Rattle.std.specs.List.{find, list_any}
 use Rattle.std.specs.Str.{bytes_eq}
@@ -6,7 +6,9 @@ use Rattle.casemapping.specs.Fold.{folded}
 use Rattle.chronicle.specs.declared.why.Why.{Why}
 use Rattle.chronicle.specs.declared.why.Why.TheVariants.{SendQ}
 use Rattle.roster.specs.declared.deed.Deed.{Deed}
-use Rattle.roster.specs.declared.deed.Deed.TheVariants.{Opened, NickSet, UserSet, Enrolled, ChannelMade, Joined, Ended, Gone}
+use Rattle.roster.specs.declared.deed.Deed.TheVariants.{Opened, NickSet, UserSet, HoldSet, CapsSet, ExchangeSet, LoggedIn, Enrolled, ChannelMade, Joined, Ended, Gone}
+use Rattle.registration.specs.declared.caps.Caps.{Caps}
+use Rattle.registration.specs.Caps.{none_on}
 
 -- names are compared folded
 unfoldable pub is_same : List ℕ → List ℕ → Bool
@@ -69,6 +71,46 @@ tells_real s d = None
 
 abbrev pub real : List Deed → ℕ → Option (List ℕ)
 real fs s = newest (tells_real s) None fs
+
+abbrev pub tells_held : ℕ → Deed → Option Bool
+tells_held s (Opened t h) = cond (t == s) (Some false) None
+tells_held s (HoldSet t on) = cond (t == s) (Some on) None
+tells_held s (Gone t) = cond (t == s) (Some false) None
+tells_held s d = None
+
+-- whether its registration waits for the end of capability negotiation
+abbrev pub held : List Deed → ℕ → Bool
+held fs s = newest (tells_held s) false fs
+
+abbrev pub tells_caps : ℕ → Deed → Option Caps
+tells_caps s (Opened t h) = cond (t == s) (Some none_on) None
+tells_caps s (CapsSet t caps) = cond (t == s) (Some caps) None
+tells_caps s (Gone t) = cond (t == s) (Some none_on) None
+tells_caps s d = None
+
+-- its capabilities
+abbrev pub caps : List Deed → ℕ → Caps
+caps fs s = newest (tells_caps s) none_on fs
+
+abbrev pub tells_exchange : ℕ → Deed → Option (Option (List ℕ))
+tells_exchange s (Opened t h) = cond (t == s) (Some None) None
+tells_exchange s (ExchangeSet t x) = cond (t == s) (Some x) None
+tells_exchange s (Gone t) = cond (t == s) (Some None) None
+tells_exchange s d = None
+
+-- what it sent so far of an exchange of SASL that is open
+abbrev pub exchange : List Deed → ℕ → Option (List ℕ)
+exchange fs s = newest (tells_exchange s) None fs
+
+abbrev pub tells_account : ℕ → Deed → Option (Option (List ℕ))
+tells_account s (Opened t h) = cond (t == s) (Some None) None
+tells_account s (LoggedIn t a) = cond (t == s) (Some (Some a)) None
+tells_account s (Gone t) = cond (t == s) (Some None) None
+tells_account s d = None
+
+-- the account by which it is logged in
+abbrev pub account : List Deed → ℕ → Option (List ℕ)
+account fs s = newest (tells_account s) None fs
 
 abbrev pub tells_registered : ℕ → Deed → Option Bool
 tells_registered s (Opened t h) = cond (t == s) (Some false) None

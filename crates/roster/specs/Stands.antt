@@ -8,13 +8,13 @@ use Rattle.roster.specs.declared.deed.Deed.TheVariants.{Joined, ChannelMade}
 use Rattle.roster.specs.declared.tables.Person.{Person}
 use Rattle.roster.specs.declared.tables.Channel.{Channel}
 use Rattle.roster.specs.Seats.{Seats}
-use Rattle.roster.specs.LookBack.{is_same, numbers, opened, host, nick, user, real, registered, why, parting, members, name_of, channels}
+use Rattle.roster.specs.LookBack.{is_same, numbers, opened, host, nick, user, real, held, caps, exchange, account, registered, why, parting, members, name_of, channels}
 use Rattle.roster.specs.Legal.{AreNext}
 use Rattle.roster.specs.Tables.{person_at, members_in, name_in, names_of, is_populated}
 
 -- what facts say of a session
 abbrev pub person : List Deed → ℕ → Person
-person fs s = record { host = host fs s; nick = nick fs s; user = user fs s; real = real fs s; registered = registered fs s; why = why fs s; parting = parting fs s }
+person fs s = record { host = host fs s; nick = nick fs s; user = user fs s; real = real fs s; held = held fs s; caps = caps fs s; exchange = exchange fs s; account = account fs s; registered = registered fs s; why = why fs s; parting = parting fs s }
 
 -- no two channels have one name
 abbrev pub AreApart : List Channel → Type 0

@@ -3,13 +3,14 @@ use Rattle.std.specs.Prelude.{◌≡◌, ℕ, zero, suc, ◌-◌, ◌+◌, ◌�
 use Rattle.std.specs.Option.{option_map_or, option_map}
 use Rattle.std.specs.List.{find, list_any}
 use Rattle.chronicle.specs.declared.why.Why.TheVariants.{SendQ}
+use Rattle.registration.specs.Caps.{none_on}
 use Rattle.roster.specs.declared.tables.Person.{Person}
 use Rattle.roster.specs.declared.tables.Channel.{Channel}
 use Rattle.roster.specs.Seats.{Seats}
 use Rattle.roster.specs.LookBack.{is_same, is_named, is_some_one, among, without}
 
 abbrev pub nobody : Person
-nobody = record { host = []; nick = None; user = None; real = None; registered = false; why = SendQ; parting = [] }
+nobody = record { host = []; nick = None; user = None; real = None; held = false; caps = none_on; exchange = None; account = None; registered = false; why = SendQ; parting = [] }
 
 -- the person of session s
 abbrev pub person_at : List Person → ℕ → Person

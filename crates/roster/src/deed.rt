@@ -1,12 +1,13 @@
 //! The elementary facts that a record establishes.
 ghost use Rattle.std.specs.Prelude.{◌≡◌, ◌∷◌, ◌++◌, option_copied, OnOk};
 ghost use Rattle.std.specs.Option.{option_map};
-ghost use Rattle.roster.specs.LookBack.{tells_nick, tells_user, tells_registered, tells_on, tells_name, seated};
+ghost use Rattle.roster.specs.LookBack.{tells_nick, tells_user, tells_held, tells_caps, tells_exchange, tells_account, tells_registered, tells_on, tells_name, seated};
 
 use crate::names::is_same;
 use crate::sessions::Sessions;
 use chronicle::{SessionId, Why};
 use line_grammar::Octets;
+use registration::Caps;
 use std::alloc::AllocError;
 
 /// An elementary fact. What holds of sessions and channels is read back from a list of these.
@@ -27,6 +28,26 @@ pub enum Deed {
         session: SessionId,
         user: Octets,
         real: Octets,
+    },
+    /// Whether the registration of a session waits for the end of capability negotiation.
+    HoldSet {
+        session: SessionId,
+        held: bool,
+    },
+    /// A session has these capabilities.
+    CapsSet {
+        session: SessionId,
+        caps: Caps,
+    },
+    /// A session has an exchange of SASL open, and sent this of it so far; or it has none.
+    ExchangeSet {
+        session: SessionId,
+        exchange: Option<Octets>,
+    },
+    /// A session is logged in by an account.
+    LoggedIn {
+        session: SessionId,
+        account: Octets,
     },
     /// A session is registered from now on.
     Enrolled {
@@ -80,6 +101,68 @@ impl Deed {
                 user,
                 ..
             } if *other == session => Some(Some(user)),
+            Deed::Opened { session: other, .. } | Deed::Gone { session: other }
+                if *other == session => { Some(None) }
+            _ => None,
+        }
+    }
+
+    /// What it tells of whether the registration of a session waits, if anything.
+    pub fn tells_held(&self, session: SessionId) -> Option<bool>
+        ensures { result ≡ tells_held session self.now }
+    {
+        match self {
+            Deed::HoldSet {
+                session: other,
+                held,
+            } => (*other == session).then_some(*held),
+            Deed::Opened { session: other, .. } | Deed::Gone { session: other } => {
+                (*other == session).then_some(false)
+            }
+            _ => None,
+        }
+    }
+
+    /// What it tells of the capabilities of a session, if anything.
+    pub fn tells_caps(&self, session: SessionId) -> Option<Caps>
+        ensures { result ≡ tells_caps session self.now }
+    {
+        match self {
+            Deed::CapsSet {
+                session: other,
+                caps,
+            } => (*other == session).then_some(*caps),
+            Deed::Opened { session: other, .. } | Deed::Gone { session: other } => {
+                (*other == session).then_some(Caps::none())
+            }
+            _ => None,
+        }
+    }
+
+    /// What it tells of the open exchange of a session, if anything.
+    pub fn tells_exchange(&self, session: SessionId) -> Option<Option<&Octets>>
+        ensures { option_map (λ x. option_copied x) result ≡ tells_exchange session self.now }
+    {
+        match self {
+            Deed::ExchangeSet {
+                session: other,
+                exchange,
+            } if *other == session => Some(exchange.as_ref()),
+            Deed::Opened { session: other, .. } | Deed::Gone { session: other }
+                if *other == session => { Some(None) }
+            _ => None,
+        }
+    }
+
+    /// What it tells of the account of a session, if anything.
+    pub fn tells_account(&self, session: SessionId) -> Option<Option<&Octets>>
+        ensures { option_map (λ a. option_copied a) result ≡ tells_account session self.now }
+    {
+        match self {
+            Deed::LoggedIn {
+                session: other,
+                account,
+            } if *other == session => Some(Some(account)),
             Deed::Opened { session: other, .. } | Deed::Gone { session: other }
                 if *other == session => { Some(None) }
             _ => None,

@@ -7,6 +7,7 @@ use crate::names::is_same;
 use crate::tables::Person;
 use chronicle::{SessionId, Why};
 use line_grammar::Octets;
+use registration::Caps;
 use std::alloc::Global;
 
 /// A session of which nothing is known but its host, if that.
@@ -18,6 +19,10 @@ pub(crate) fn stranger(alloc: Global, host: Octets) -> Person
         nick: None,
         user: None,
         real: None,
+        held: false,
+        caps: Caps::none(),
+        exchange: None,
+        account: None,
         registered: false,
         why: Why::SendQ,
         parting: Octets::from_vec(Vec::new(alloc)),
@@ -47,6 +52,54 @@ pub(crate) fn introduce(people: &mut Vec<Person>, session: SessionId, user: Octe
     let person = &mut people[session.number() as usize - 1];
     person.user = Some(user);
     person.real = Some(real);
+}
+
+/// The registration of a session waits from now on, or doesn't.
+pub(crate) fn hold(people: &mut Vec<Person>, session: SessionId, held: bool)
+    requires from_1 { 0 < session }
+    requires opened { session ≤ length people.old.items }
+    ensures items { people.new.items ≡ with_person people.old.items session (record (person_at people.old.items session) { held = held }) }
+    ensures len { vec_len people.new ≡ vec_len people.old }
+    ensures capacity { vec_capacity people.new ≡ vec_capacity people.old }
+{
+    let person = &mut people[session.number() as usize - 1];
+    person.held = held;
+}
+
+/// A session has these capabilities from now on.
+pub(crate) fn equip(people: &mut Vec<Person>, session: SessionId, caps: Caps)
+    requires from_1 { 0 < session }
+    requires opened { session ≤ length people.old.items }
+    ensures items { people.new.items ≡ with_person people.old.items session (record (person_at people.old.items session) { caps = caps }) }
+    ensures len { vec_len people.new ≡ vec_len people.old }
+    ensures capacity { vec_capacity people.new ≡ vec_capacity people.old }
+{
+    let person = &mut people[session.number() as usize - 1];
+    person.caps = caps;
+}
+
+/// A session has this of an exchange open from now on, or none.
+pub(crate) fn open_exchange(people: &mut Vec<Person>, session: SessionId, exchange: Option<Octets>)
+    requires from_1 { 0 < session }
+    requires opened { session ≤ length people.old.items }
+    ensures items { people.new.items ≡ with_person people.old.items session (record (person_at people.old.items session) { exchange = exchange }) }
+    ensures len { vec_len people.new ≡ vec_len people.old }
+    ensures capacity { vec_capacity people.new ≡ vec_capacity people.old }
+{
+    let person = &mut people[session.number() as usize - 1];
+    person.exchange = exchange;
+}
+
+/// A session is logged in by this account from now on.
+pub(crate) fn log_in(people: &mut Vec<Person>, session: SessionId, account: Octets)
+    requires from_1 { 0 < session }
+    requires opened { session ≤ length people.old.items }
+    ensures items { people.new.items ≡ with_person people.old.items session (record (person_at people.old.items session) { account = Some account }) }
+    ensures len { vec_len people.new ≡ vec_len people.old }
+    ensures capacity { vec_capacity people.new ≡ vec_capacity people.old }
+{
+    let person = &mut people[session.number() as usize - 1];
+    person.account = Some(account);
 }
 
 /// A session is registered from now on.

@@ -1,11 +1,14 @@
 //! The roster: a list of facts, kept in tables.
-ghost use Rattle.std.specs.Prelude.{◌≡◌, ◌<◌, ◌^◌, ◌∷◌, [], Some, None, drop, length, slice_get, option_copied, unwrap_or, IfOk, OnOk};
+ghost use Rattle.std.specs.Prelude.{◌≡◌, ◌<◌, ◌^◌, ◌∷◌, [], Some, None, drop, length, slice_get, option_copied, unwrap_or, IfOk, OnOk, OnErr};
 ghost use Rattle.roster.specs.declared.deed.Deed.TheVariants.{Ended};
 
 use crate::channels::{find_channel, join, leave_all, make, nth_channel};
 use crate::deed::Deed;
 use crate::members::Members;
-use crate::people::{end, enroll, find_holder, find_person, forget, introduce, rename, stranger};
+use crate::people::{
+    end, enroll, equip, find_holder, find_person, forget, hold, introduce, log_in, open_exchange,
+    rename, stranger,
+};
 use crate::room::make_room;
 use crate::sessions::Sessions;
 use crate::sharing::find_sharers;
@@ -13,15 +16,17 @@ use crate::tables::{Channel, Person};
 use chronicle::{SessionId, Why};
 use ghosts::{Change, Snapshot, append_all, apply as change, blank};
 use line_grammar::Octets;
+use registration::{Caps, Settings};
 use std::alloc::{AllocError, Global};
 use std::collections::LinkedList;
 use std::marker::Model;
 
 /// What is known of sessions and channels, by all facts that were ever established. A clause sees it as the list of these,
-/// with the facts that it is ready for.
+/// with the server's settings and the facts that it is ready for.
 #[derive(Drop)]
 pub struct Roster {
     alloc: Global,
+    settings: Settings,
     people: Vec<Person>,
     channels: Vec<Channel>,
     /// Lists for the members of channels that will be made.
@@ -36,7 +41,7 @@ impl Model for Roster {
 
     ghost Value = { Known };
 
-    ghost view = { λ a. record { facts = a.facts.value; ready = a.ready.value } };
+    ghost view = { λ a. record { settings = a.settings; facts = a.facts.value; ready = a.ready.value } };
 
     ghost invariant = { λ a. IsKept a.people a.channels a.spare a.facts.value a.ready.value };
 }
@@ -57,14 +62,15 @@ impl Change<LinkedList<Deed>, ()> for DropsFirst {
 
 impl Roster {
     ghost use Rattle.roster.specs.Legal.{IsOpened, AreNext};
-    ghost use Rattle.roster.specs.LookBack.{opened, host, nick, user, real, registered, why, parting, holder, found, on, members, name_of, channels, sharers};
+    ghost use Rattle.roster.specs.LookBack.{opened, host, nick, user, real, held, caps, exchange, account, registered, why, parting, holder, found, on, members, name_of, channels, sharers};
 
     /// The roster of no facts.
-    pub fn new(alloc: Global) -> Roster
-        ensures { result ≡ record { facts = []; ready = [] } }
+    pub fn new(alloc: Global, settings: Settings) -> Roster
+        ensures { result ≡ record { settings = settings; facts = []; ready = [] } }
     {
         Roster {
             alloc,
+            settings,
             people: Vec::new(alloc),
             channels: Vec::new(alloc),
             spare: Vec::new(alloc),
@@ -76,8 +82,10 @@ impl Roster {
     /// Makes room for facts that may come next. At an `Err` it is ready for none.
     pub fn prepare(&mut self, deeds: &[Deed]) -> Result<(), AllocError>
         requires { AreNext self.old.facts deeds.now }
+        ensures settings { self.new.settings ≡ self.old.settings }
         ensures facts { self.new.facts ≡ self.old.facts }
         ensures ready { OnOk result (self.new.ready ≡ deeds.now) }
+        ensures none { OnErr result (self.new.ready ≡ []) }
     {
         self.ready = blank(self.alloc);
         if deeds.is_empty() {
@@ -97,6 +105,7 @@ impl Roster {
     /// Establishes the next fact for which room was made. It takes no memory.
     pub fn apply(&mut self, deed: Deed)
         requires { slice_get self.old.ready 0 ≡ Some deed }
+        ensures settings { self.new.settings ≡ self.old.settings }
         ensures facts { self.new.facts ≡ deed ∷ self.old.facts }
         ensures ready { self.new.ready ≡ drop 1 self.old.ready }
     {
@@ -112,6 +121,12 @@ impl Roster {
                 user,
                 real,
             } => introduce(&mut self.people, session, user, real),
+            Deed::HoldSet { session, held } => hold(&mut self.people, session, held),
+            Deed::CapsSet { session, caps } => equip(&mut self.people, session, caps),
+            Deed::ExchangeSet { session, exchange } => {
+                open_exchange(&mut self.people, session, exchange);
+            }
+            Deed::LoggedIn { session, account } => log_in(&mut self.people, session, account),
             Deed::Enrolled { session } => enroll(&mut self.people, session),
             Deed::ChannelMade { session, channel } => {
                 make(&mut self.channels, &mut self.spare, channel, session);
@@ -131,6 +146,7 @@ impl Roster {
     /// facts after it.
     pub fn end(&mut self, session: SessionId, reason: Why)
         requires { IsOpened self.old.facts session }
+        ensures settings { self.new.settings ≡ self.old.settings }
         ensures facts { self.new.facts ≡ Ended session reason [] ∷ self.old.facts }
         ensures ready { self.new.ready ≡ [] }
     {
@@ -143,6 +159,13 @@ impl Roster {
         change::<Adds, LinkedList<Deed>, Deed>(&mut self.facts, &deed);
         self.ready = blank(self.alloc);
         end(&mut self.people, session, reason, text);
+    }
+
+    /// The server's settings.
+    pub fn settings(&self) -> &Settings
+        ensures { result.now ≡ self.now.settings }
+    {
+        &self.settings
     }
 
     /// How many sessions were opened: they have the numbers from 1.
@@ -190,6 +213,46 @@ impl Roster {
     {
         match find_person(&self.people, session) {
             Some(person) => person.real.as_ref(),
+            None => None,
+        }
+    }
+
+    /// Whether the registration of a session waits for the end of capability negotiation.
+    pub fn is_held(&self, session: SessionId) -> bool
+        ensures { result ≡ held self.now.facts session }
+    {
+        match find_person(&self.people, session) {
+            Some(person) => person.held,
+            None => false,
+        }
+    }
+
+    /// The capabilities of a session.
+    pub fn caps_of(&self, session: SessionId) -> Caps
+        ensures { result ≡ caps self.now.facts session }
+    {
+        match find_person(&self.people, session) {
+            Some(person) => person.caps,
+            None => Caps::none(),
+        }
+    }
+
+    /// What a session sent so far of an exchange of SASL that is open.
+    pub fn exchange_of(&self, session: SessionId) -> Option<&Octets>
+        ensures { option_copied result ≡ exchange self.now.facts session }
+    {
+        match find_person(&self.people, session) {
+            Some(person) => person.exchange.as_ref(),
+            None => None,
+        }
+    }
+
+    /// The account by which a session is logged in.
+    pub fn account_of(&self, session: SessionId) -> Option<&Octets>
+        ensures { option_copied result ≡ account self.now.facts session }
+    {
+        match find_person(&self.people, session) {
+            Some(person) => person.account.as_ref(),
             None => None,
         }
     }

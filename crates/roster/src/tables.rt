@@ -2,6 +2,7 @@
 use crate::members::Members;
 use chronicle::Why;
 use line_grammar::Octets;
+use registration::Caps;
 
 /// What is known of a session.
 #[derive(Debug, Drop)]
@@ -10,6 +11,13 @@ pub struct Person {
     pub nick: Option<Octets>,
     pub user: Option<Octets>,
     pub real: Option<Octets>,
+    /// Whether registration waits for the end of capability negotiation.
+    pub held: bool,
+    pub caps: Caps,
+    /// What was sent so far of an exchange of SASL that is open.
+    pub exchange: Option<Octets>,
+    /// The account by which it is logged in.
+    pub account: Option<Octets>,
     pub registered: bool,
     /// Why it ended, where it did.
     pub why: Why,

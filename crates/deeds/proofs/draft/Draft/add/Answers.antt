@@ -19,5 +19,5 @@ pub returns : goal.returns
 returns c =
     let fs = c.self.inside.roster.now.facts in let es = c.self.inside.effects.items in let e = c.args.effect in
     let added : c.push.new.self.items ≡ es ++ e ∷ [] = grind (arith, common_steps) in
-    let new : List Effect → Drafted = λ xs. record { base = fs; facts = after fs (deeds_of xs); effects = xs } in
-    ap new added ∙ ap (λ (gs : List Deed). record { base = fs; facts = gs; effects = es ++ e ∷ [] }) (after-effects fs es (e ∷ [])) ∙ ap (λ (d : Drafted). grown d (e ∷ [])) c.self.view_is
+    let new : List Effect → Drafted = λ xs. record { settings = c.self.inside.roster.now.settings; base = fs; facts = after fs (deeds_of xs); effects = xs } in
+    ap new added ∙ ap (λ (gs : List Deed). record { settings = c.self.inside.roster.now.settings; base = fs; facts = gs; effects = es ++ e ∷ [] }) (after-effects fs es (e ∷ [])) ∙ ap (λ (d : Drafted). grown d (e ∷ [])) c.self.view_is

@@ -1,7 +1,7 @@
 use Rattle.std.proofs.Common.{arith, ◌≡◌, ◌∷◌, ◌++◌, [], drop, length, slice_get, Some, sym, ap, ◌∙◌}
-use Rattle.roster.specs.declared.deed.Deed.TheVariants.{Opened, NickSet, UserSet, Enrolled, ChannelMade, Joined, Ended, Gone}
+use Rattle.roster.specs.declared.deed.Deed.TheVariants.{Opened, NickSet, UserSet, HoldSet, CapsSet, ExchangeSet, LoggedIn, Enrolled, ChannelMade, Joined, Ended, Gone}
 use Rattle.roster.specs.Known.{Known}
-use Rattle.roster.proofs.Kept.{before, done, opened_count, seat_free, kept_opened, kept_renamed, kept_introduced, kept_enrolled, kept_ended, kept_joined, kept_gone, kept_made}
+use Rattle.roster.proofs.Kept.{before, done, opened_count, seat_free, kept_opened, kept_renamed, kept_introduced, kept_held, kept_equipped, kept_exchanging, kept_logged_in, kept_enrolled, kept_ended, kept_joined, kept_gone, kept_made}
 use Rattle.roster.proofs.MadeRoom.{spare_less}
 use Rattle.roster.proofs.roster.Roster.apply.Goals as goal
 
@@ -44,6 +44,70 @@ invariant_of-self-in-UserSet c =
     let t = c.in-UserSet.session in let u = c.in-UserSet.user in let x = c.in-UserSet.real in let e = UserSet t u x in
     done c.args.deed e c.in-UserSet.is fs ds c.introduce.new.people r.channels r.spare _ _ c.apply.ensures c.apply-2.ensures
     (kept_introduced r.people r.channels r.spare fs (drop 1 ds) c.introduce.new.people t u x (before c.args.deed e c.in-UserSet.is fs ds r.people r.channels r.spare first c.self.invariant) c.introduce.ensures.items c.introduce.ensures.len c.introduce.ensures.capacity)
+
+pub hold-requires-clause-opened : goal.hold-requires-clause-opened
+hold-requires-clause-opened c =
+    let r = c.self.inside in let fs = r.facts.value in let ds = r.ready.value in
+    let first : slice_get ds 0 ≡ Some c.args.deed = ap (λ (k : Known). slice_get k.ready 0) c.self.view_is ∙ c.requires in
+    let t = c.in-HoldSet.session in let v = c.in-HoldSet.held in
+    let i = before c.args.deed (HoldSet t v) c.in-HoldSet.is fs ds r.people r.channels r.spare first c.self.invariant in
+    let o = opened_count r.people.items r.channels.items fs i.stands in let to = i.next.0.1 in omega arith
+
+pub invariant_of-self-in-HoldSet : goal.invariant_of-self-in-HoldSet
+invariant_of-self-in-HoldSet c =
+    let r = c.self.inside in let fs = r.facts.value in let ds = r.ready.value in
+    let first : slice_get ds 0 ≡ Some c.args.deed = ap (λ (k : Known). slice_get k.ready 0) c.self.view_is ∙ c.requires in
+    let t = c.in-HoldSet.session in let v = c.in-HoldSet.held in let e = HoldSet t v in
+    done c.args.deed e c.in-HoldSet.is fs ds c.hold.new.people r.channels r.spare _ _ c.apply.ensures c.apply-2.ensures
+    (kept_held r.people r.channels r.spare fs (drop 1 ds) c.hold.new.people t v (before c.args.deed e c.in-HoldSet.is fs ds r.people r.channels r.spare first c.self.invariant) c.hold.ensures.items c.hold.ensures.len c.hold.ensures.capacity)
+
+pub equip-requires-clause-opened : goal.equip-requires-clause-opened
+equip-requires-clause-opened c =
+    let r = c.self.inside in let fs = r.facts.value in let ds = r.ready.value in
+    let first : slice_get ds 0 ≡ Some c.args.deed = ap (λ (k : Known). slice_get k.ready 0) c.self.view_is ∙ c.requires in
+    let t = c.in-CapsSet.session in let k = c.in-CapsSet.caps in
+    let i = before c.args.deed (CapsSet t k) c.in-CapsSet.is fs ds r.people r.channels r.spare first c.self.invariant in
+    let o = opened_count r.people.items r.channels.items fs i.stands in let to = i.next.0.1 in omega arith
+
+pub invariant_of-self-in-CapsSet : goal.invariant_of-self-in-CapsSet
+invariant_of-self-in-CapsSet c =
+    let r = c.self.inside in let fs = r.facts.value in let ds = r.ready.value in
+    let first : slice_get ds 0 ≡ Some c.args.deed = ap (λ (k : Known). slice_get k.ready 0) c.self.view_is ∙ c.requires in
+    let t = c.in-CapsSet.session in let k = c.in-CapsSet.caps in let e = CapsSet t k in
+    done c.args.deed e c.in-CapsSet.is fs ds c.equip.new.people r.channels r.spare _ _ c.apply.ensures c.apply-2.ensures
+    (kept_equipped r.people r.channels r.spare fs (drop 1 ds) c.equip.new.people t k (before c.args.deed e c.in-CapsSet.is fs ds r.people r.channels r.spare first c.self.invariant) c.equip.ensures.items c.equip.ensures.len c.equip.ensures.capacity)
+
+pub open_exchange-requires-clause-opened : goal.open_exchange-requires-clause-opened
+open_exchange-requires-clause-opened c =
+    let r = c.self.inside in let fs = r.facts.value in let ds = r.ready.value in
+    let first : slice_get ds 0 ≡ Some c.args.deed = ap (λ (k : Known). slice_get k.ready 0) c.self.view_is ∙ c.requires in
+    let t = c.in-ExchangeSet.session in let x = c.in-ExchangeSet.exchange in
+    let i = before c.args.deed (ExchangeSet t x) c.in-ExchangeSet.is fs ds r.people r.channels r.spare first c.self.invariant in
+    let o = opened_count r.people.items r.channels.items fs i.stands in let to = i.next.0.1 in omega arith
+
+pub invariant_of-self-in-ExchangeSet : goal.invariant_of-self-in-ExchangeSet
+invariant_of-self-in-ExchangeSet c =
+    let r = c.self.inside in let fs = r.facts.value in let ds = r.ready.value in
+    let first : slice_get ds 0 ≡ Some c.args.deed = ap (λ (k : Known). slice_get k.ready 0) c.self.view_is ∙ c.requires in
+    let t = c.in-ExchangeSet.session in let x = c.in-ExchangeSet.exchange in let e = ExchangeSet t x in
+    done c.args.deed e c.in-ExchangeSet.is fs ds c.open_exchange.new.people r.channels r.spare _ _ c.apply.ensures c.apply-2.ensures
+    (kept_exchanging r.people r.channels r.spare fs (drop 1 ds) c.open_exchange.new.people t x (before c.args.deed e c.in-ExchangeSet.is fs ds r.people r.channels r.spare first c.self.invariant) c.open_exchange.ensures.items c.open_exchange.ensures.len c.open_exchange.ensures.capacity)
+
+pub log_in-requires-clause-opened : goal.log_in-requires-clause-opened
+log_in-requires-clause-opened c =
+    let r = c.self.inside in let fs = r.facts.value in let ds = r.ready.value in
+    let first : slice_get ds 0 ≡ Some c.args.deed = ap (λ (k : Known). slice_get k.ready 0) c.self.view_is ∙ c.requires in
+    let t = c.in-LoggedIn.session in let a = c.in-LoggedIn.account in
+    let i = before c.args.deed (LoggedIn t a) c.in-LoggedIn.is fs ds r.people r.channels r.spare first c.self.invariant in
+    let o = opened_count r.people.items r.channels.items fs i.stands in let to = i.next.0.1 in omega arith
+
+pub invariant_of-self-in-LoggedIn : goal.invariant_of-self-in-LoggedIn
+invariant_of-self-in-LoggedIn c =
+    let r = c.self.inside in let fs = r.facts.value in let ds = r.ready.value in
+    let first : slice_get ds 0 ≡ Some c.args.deed = ap (λ (k : Known). slice_get k.ready 0) c.self.view_is ∙ c.requires in
+    let t = c.in-LoggedIn.session in let a = c.in-LoggedIn.account in let e = LoggedIn t a in
+    done c.args.deed e c.in-LoggedIn.is fs ds c.log_in.new.people r.channels r.spare _ _ c.apply.ensures c.apply-2.ensures
+    (kept_logged_in r.people r.channels r.spare fs (drop 1 ds) c.log_in.new.people t a (before c.args.deed e c.in-LoggedIn.is fs ds r.people r.channels r.spare first c.self.invariant) c.log_in.ensures.items c.log_in.ensures.len c.log_in.ensures.capacity)
 
 pub enroll-requires-clause-opened : goal.enroll-requires-clause-opened
 enroll-requires-clause-opened c =
