@@ -1,10 +1,11 @@
--- The definitions at work, computed: capabilities, lines of an accounts file, payloads of PLAIN, and texts of settings.
+-- The definitions at work, computed: capabilities, lines of an accounts file, payloads of PLAIN, texts of settings, and what commands are answered by while a session registers.
 use Rattle.std.proofs.Common.{◌≡◌, ℕ, Bool, true, false, List, [], ◌∷◌, ◌++◌, codes, map, Some, None, Result, Ok, Err, refl, ◌&&◌}
-use Rattle.std.specs.Prelude.{take}
+use Rattle.std.specs.Prelude.{take, replicate}
 use Rattle.std.specs.Cmp.Lexicographic.{slice_cmp}
 use Rattle.std.specs.Ordering.{nat_cmp, is_lt}
 use Rattle.hex.proofs.OnLiterals.{hex_on_literals}
 use Rattle.base64.proofs.OnLiterals.{base64_on_literals}
+use Rattle.sha2.specs.Sha256.{compress, digest_bytes, first_words, hash_after, rounds, schedule, sha256}
 use Rattle.casemapping.specs.Fold.{fold_of}
 use Rattle.casemapping.specs.Names.{nick_shape}
 use Rattle.registration.specs.declared.accounts.Account.{Account}
@@ -12,9 +13,15 @@ use Rattle.registration.specs.declared.accounts.AccountFault.{AccountFault}
 use Rattle.registration.specs.declared.accounts.AccountFault.TheVariants.{Shape, BadName, BadDigest, Twice}
 use Rattle.registration.specs.declared.caps.Cap.TheVariants.{Batch, EchoMessage, Sasl}
 use Rattle.registration.specs.declared.caps.Caps.{Caps}
+use Rattle.registration.specs.declared.enrol.CapAnswer.TheVariants.{Acknowledged, Refused}
+use Rattle.registration.specs.declared.enrol.NickAnswer.TheVariants.{Erroneous, InUse, Same, Taken}
+use Rattle.registration.specs.declared.enrol.SaslAnswer.{SaslAnswer}
+use Rattle.registration.specs.declared.enrol.SaslAnswer.TheVariants.{AlreadyLoggedIn, Failed, Opened, UnknownMechanism, Aborted, TooLong, Waits, LoggedIn}
+use Rattle.registration.specs.declared.enrol.UserAnswer.TheVariants.{Accepted, AlreadyTold}
 use Rattle.registration.specs.declared.sasl.Credentials.{Credentials}
-use Rattle.registration.specs.Accounts.{accounts_in}
+use Rattle.registration.specs.Accounts.{accounts_in, logged_in}
 use Rattle.registration.specs.Caps.{after_request, all_caps, cap_name, cap_named, list_of, none_on}
+use Rattle.registration.specs.Enrol.{Enrolment, cap_answer, holds, is_ready, nick_answer, sasl_answer, user_answer}
 use Rattle.registration.specs.Parts.{is_same}
 use Rattle.registration.specs.Plain.{credentials_of}
 use Rattle.registration.specs.Settings.{is_motd, is_text, is_version}
@@ -104,3 +111,57 @@ versions = (refl, refl, refl, refl, refl, refl)
 
 texts : (is_text 100 [] ≡ true) × (is_text 5 (codes "halld") ≡ true) × (is_text 4 (codes "halld") ≡ false) × (is_text 100 (13 ∷ []) ≡ false) × (is_motd None ≡ true) × (is_motd (Some []) ≡ true) × (is_motd (Some (codes "hello" ∷ [] ∷ [])) ≡ true) × (is_motd (Some (codes "hello" ∷ (10 ∷ []) ∷ [])) ≡ false)
 texts = (refl, refl, refl, refl, refl, refl, refl, refl)
+
+-- ---- while a session registers
+
+abbrev stranger : Enrolment
+stranger = record { nick = None; user = None; hold = false; caps = none_on; exchange = None; account = None; registered = false }
+
+abbrev al : Enrolment
+al = record stranger { nick = Some (codes "al"); user = Some (codes "u") }
+
+nicks : (nick_answer stranger (codes "al") false ≡ Taken) × (nick_answer stranger (codes "1al") true ≡ Erroneous) × (nick_answer al (codes "bo") true ≡ InUse) × (nick_answer al (codes "al") false ≡ Same) × (nick_answer al (codes "AL") false ≡ Taken)
+unfolding nick_answer nick_shape
+nicks = (refl, refl, refl, refl, refl)
+
+users : (user_answer stranger ≡ Accepted) × (user_answer al ≡ AlreadyTold)
+users = (refl, refl)
+
+caps_asked : (cap_answer al (codes "sasl" ∷ codes "batch" ∷ []) ≡ Acknowledged batch_and_sasl) × (cap_answer al (codes "sasl" ∷ codes "cap-notify" ∷ []) ≡ Refused)
+unfolding after_request
+caps_asked = (refl, refl)
+
+completed : (is_ready al ≡ true) × (is_ready stranger ≡ false) × (is_ready (record al { hold = true }) ≡ false) × (is_ready (record al { registered = true }) ≡ false) × (holds al ≡ true) × (holds (record al { registered = true }) ≡ false)
+completed = (refl, refl, refl, refl, refl, refl)
+
+-- what a piece is answered by where there is no account
+abbrev answer_to : Enrolment → List ℕ → SaslAnswer
+answer_to e piece = sasl_answer [] e piece
+
+abbrev asks : Enrolment
+asks = record al { caps = batch_and_sasl }
+
+-- so much was sent of an exchange that is open
+abbrev sent : ℕ → Enrolment
+sent count = record asks { exchange = Some (replicate count 65) }
+
+begun : (answer_to al (codes "PLAIN") ≡ Failed) × (answer_to asks (codes "PLAIN") ≡ Opened) × (answer_to asks (codes "plain") ≡ Opened) × (answer_to asks (codes "EXTERNAL") ≡ UnknownMechanism) × (answer_to asks (codes "*") ≡ UnknownMechanism) × (answer_to (record asks { account = Some (codes "al") }) (codes "PLAIN") ≡ AlreadyLoggedIn)
+unfolding sasl_answer is_same fold_of
+begun = (refl, refl, refl, refl, refl, refl)
+
+pieces : (answer_to (sent 4) (codes "*") ≡ Aborted) × (answer_to (sent 0) (replicate 401 65) ≡ TooLong) × (answer_to (sent 400) (replicate 400 65) ≡ Waits (replicate 800 65)) × (answer_to (sent 1200) (65 ∷ []) ≡ TooLong)
+unfolding sasl_answer
+pieces = (refl, refl, refl, refl)
+
+-- `+` and no octet end an exchange
+ends : (answer_to (sent 0) (codes "+") ≡ Failed) × (answer_to (sent 0) [] ≡ Failed) × (answer_to (sent 0) (codes "AGFsAGJj") ≡ Failed)
+unfolding sasl_answer credentials_of base64_on_literals is_same fold_of logged_in
+ends = (refl, refl, refl)
+
+-- SHA-256 of `a` before `bc`
+abbrev accounts : List Account
+accounts = record { name = codes "Al"; salt = codes "a"; digest = sha256 (codes "abc") } ∷ []
+
+logs_in : (sasl_answer accounts (sent 0) (codes "AGFsAGJj") ≡ LoggedIn (codes "Al")) × (sasl_answer accounts (sent 0) (codes "AGFsAGJk") ≡ Failed) × (sasl_answer accounts (sent 0) (codes "AGJvAGJj") ≡ Failed)
+unfolding sasl_answer credentials_of base64_on_literals is_same fold_of logged_in first_words schedule rounds compress hash_after digest_bytes sha256
+logs_in = (refl, refl, refl)

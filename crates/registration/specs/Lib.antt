@@ -4,3 +4,4 @@ pub mod PartSteps
 pub mod Plain
 pub mod Accounts
 pub mod Settings
+pub mod Enrol

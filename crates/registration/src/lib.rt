@@ -1,14 +1,16 @@
-//! What a server is told when it starts, the accounts of its users, and capabilities (RFC 2812, section
-//! 3.1; IRCv3 Capability Negotiation and SASL 3.1; RFC 4616).
+//! What a server is told when it starts, the accounts of its users, capabilities, and what a session that
+//! registers is answered (RFC 2812, section 3.1; IRCv3 Capability Negotiation and SASL 3.1; RFC 4616).
 #![tactic(auto)]
 
 mod accounts;
 mod caps;
+mod enrol;
 mod parts;
 mod sasl;
 mod settings;
 
 pub use accounts::{Account, AccountFault, Accounts};
 pub use caps::{Cap, Caps, requested};
+pub use enrol::{CapAnswer, Enrol, NickAnswer, SaslAnswer, UserAnswer};
 pub use sasl::{Credentials, plain};
 pub use settings::{MAX_SESSIONS, Motd, Settings, is_well_set};
