@@ -1,5 +1,6 @@
 -- The definitions at work, computed: what lines ask for.
-use Rattle.std.proofs.Common.{◌≡◌, ℕ, true, false, List, [], ◌∷◌, codes, Some, None, refl}
+use Rattle.std.proofs.Common.{◌≡◌, ℕ, true, false, List, [], ◌∷◌, codes, Option, Some, None, refl}
+use Rattle.line_grammar.specs.declared.message.Message.{Message}
 use Rattle.line_grammar.specs.declared.splitter.Piece.TheVariants as piece
 use Rattle.line_grammar.specs.Reading.{reading, parameters, with_command}
 use Rattle.casemapping.specs.Fold.{fold_of}
@@ -13,11 +14,24 @@ use Rattle.commands.specs.declared.asked.Asked.TheVariants.{Nothing, TooLong, Co
 use Rattle.commands.specs.Lists.{is_same}
 use Rattle.commands.specs.Names.{named}
 use Rattle.commands.specs.Commands.{with_params, command_of}
-use Rattle.commands.specs.Asked.{asked_of}
+use Rattle.commands.specs.Asked.{read_as, asked_of}
 
 -- what a line asks for
 abbrev of : List ℕ → Asked
 of line = asked_of (piece.Line line)
+
+-- what it is read as, be its command served or not
+abbrev read_as_given : Option Message → Asked
+read_as_given None = Nothing
+read_as_given (Some m) = read_as (command_of m)
+
+abbrev read_of : List ℕ → Asked
+read_of line = read_as_given (reading line)
+
+-- what isn't served is unknown whatever its shape, as it was given
+unserved : (of (codes "part") ≡ Fails (fault.UnknownCommand (codes "part"))) × (of (codes "PART #a") ≡ Fails (fault.UnknownCommand (codes "PART"))) × (of (codes "NOTICE") ≡ Nothing) × (of (codes "notice bo :hi") ≡ Nothing) × (of (codes "JOIN") ≡ Fails (fault.NeedMoreParams name.Join))
+unfolding asked_of reading parameters with_command command_of named with_params
+unserved = (refl, refl, refl, refl, refl)
 
 abbrev target : List ℕ → List ℕ → JoinTarget
 target channel key = record { channel = channel; key = key }
@@ -62,11 +76,11 @@ joined_once : (of (codes "JOIN #A[1],#a{1},#b ,,k") ≡ Asks (command.Join (targ
 unfolding asked_of reading parameters with_command command_of named with_params is_same fold_of
 joined_once = (refl, refl)
 
-channels : (of (codes "PART ,") ≡ Asks (command.Part [] [])) × (of (codes "PART #a,#b :bye") ≡ Asks (command.Part (codes "#a" ∷ codes "#b" ∷ []) (codes "bye"))) × (of (codes "KICK #a") ≡ Fails (fault.NeedMoreParams name.Kick)) × (of (codes "KICK #a bo,BO,cy :out") ≡ Asks (command.Kick (codes "#a") (codes "bo" ∷ codes "cy" ∷ []) (codes "out"))) × (of (codes "KICK #a :") ≡ Asks (command.Kick (codes "#a") [] []))
+channels : (read_of (codes "PART ,") ≡ Asks (command.Part [] [])) × (read_of (codes "PART #a,#b :bye") ≡ Asks (command.Part (codes "#a" ∷ codes "#b" ∷ []) (codes "bye"))) × (read_of (codes "KICK #a") ≡ Fails (fault.NeedMoreParams name.Kick)) × (read_of (codes "KICK #a bo,BO,cy :out") ≡ Asks (command.Kick (codes "#a") (codes "bo" ∷ codes "cy" ∷ []) (codes "out"))) × (read_of (codes "KICK #a :") ≡ Asks (command.Kick (codes "#a") [] []))
 unfolding asked_of reading parameters with_command command_of named with_params is_same fold_of
 channels = (refl, refl, refl, refl, refl)
 
-more_of_channels : (of (codes "INVITE bo") ≡ Fails (fault.NeedMoreParams name.Invite)) × (of (codes "INVITE bo #a") ≡ Asks (command.Invite (codes "bo") (codes "#a"))) × (of (codes "TOPIC #a") ≡ Asks (command.Topic (codes "#a") None)) × (of (codes "TOPIC #a :") ≡ Asks (command.Topic (codes "#a") (Some []))) × (of (codes "MODE :") ≡ Asks (command.Mode [] [])) × (of (codes "MODE #a +ov bo cy") ≡ Asks (command.Mode (codes "#a") (codes "+ov" ∷ codes "bo" ∷ codes "cy" ∷ [])))
+more_of_channels : (read_of (codes "INVITE bo") ≡ Fails (fault.NeedMoreParams name.Invite)) × (read_of (codes "INVITE bo #a") ≡ Asks (command.Invite (codes "bo") (codes "#a"))) × (read_of (codes "TOPIC #a") ≡ Asks (command.Topic (codes "#a") None)) × (read_of (codes "TOPIC #a :") ≡ Asks (command.Topic (codes "#a") (Some []))) × (read_of (codes "MODE :") ≡ Asks (command.Mode [] [])) × (read_of (codes "MODE #a +ov bo cy") ≡ Asks (command.Mode (codes "#a") (codes "+ov" ∷ codes "bo" ∷ codes "cy" ∷ [])))
 unfolding asked_of reading parameters with_command command_of named with_params
 more_of_channels = (refl, refl, refl, refl, refl, refl)
 
@@ -74,10 +88,10 @@ talking : (of (codes "PRIVMSG") ≡ Fails (fault.NoRecipient name.Privmsg)) × (
 unfolding asked_of reading parameters with_command command_of named with_params is_same fold_of
 talking = (refl, refl, refl, refl, refl, refl)
 
-more_talking : (of (codes "NOTICE") ≡ Asks (command.Notice [] [])) × (of (codes "NOTICE bo :") ≡ Asks (command.Notice [] [])) × (of (codes "NOTICE bo :hi") ≡ Asks (command.Notice (codes "bo" ∷ []) (codes "hi"))) × (of (codes "@+k=v TAGMSG") ≡ Fails (fault.NoRecipient name.Tagmsg)) × (of (codes "@+k=v TAGMSG bo,bo") ≡ Asks (command.Tagmsg (codes "bo" ∷ []))) × (of (codes "AWAY") ≡ Asks (command.Away [])) × (of (codes "AWAY :back soon") ≡ Asks (command.Away (codes "back soon")))
+more_talking : (read_of (codes "NOTICE") ≡ Asks (command.Notice [] [])) × (read_of (codes "NOTICE bo :") ≡ Asks (command.Notice [] [])) × (read_of (codes "NOTICE bo :hi") ≡ Asks (command.Notice (codes "bo" ∷ []) (codes "hi"))) × (read_of (codes "@+k=v TAGMSG") ≡ Fails (fault.NoRecipient name.Tagmsg)) × (read_of (codes "@+k=v TAGMSG bo,bo") ≡ Asks (command.Tagmsg (codes "bo" ∷ []))) × (read_of (codes "AWAY") ≡ Asks (command.Away [])) × (read_of (codes "AWAY :back soon") ≡ Asks (command.Away (codes "back soon")))
 unfolding asked_of reading parameters with_command command_of named with_params is_same fold_of
 more_talking = (refl, refl, refl, refl, refl, refl, refl)
 
-queries : (of (codes "NAMES") ≡ Asks (command.Names None)) × (of (codes "NAMES :") ≡ Asks (command.Names (Some []))) × (of (codes "LIST #b,#a") ≡ Asks (command.List (Some (codes "#b" ∷ codes "#a" ∷ [])))) × (of (codes "WHO") ≡ Asks (command.Who None)) × (of (codes "WHOIS") ≡ Fails fault.NoNicknameGiven) × (of (codes "WHOIS al :") ≡ Fails fault.NoNicknameGiven) × (of (codes "WHOIS x al") ≡ Asks (command.Whois (codes "al"))) × (of (codes "MOTD :") ≡ Asks (command.Motd (Some [])))
+queries : (read_of (codes "NAMES") ≡ Asks (command.Names None)) × (read_of (codes "NAMES :") ≡ Asks (command.Names (Some []))) × (read_of (codes "LIST #b,#a") ≡ Asks (command.List (Some (codes "#b" ∷ codes "#a" ∷ [])))) × (read_of (codes "WHO") ≡ Asks (command.Who None)) × (read_of (codes "WHOIS") ≡ Fails fault.NoNicknameGiven) × (read_of (codes "WHOIS al :") ≡ Fails fault.NoNicknameGiven) × (read_of (codes "WHOIS x al") ≡ Asks (command.Whois (codes "al"))) × (of (codes "MOTD :") ≡ Asks (command.Motd (Some [])))
 unfolding asked_of reading parameters with_command command_of named with_params is_same fold_of
 queries = (refl, refl, refl, refl, refl, refl, refl, refl)

@@ -1,5 +1,5 @@
 -- A command asks to quit exactly where the piece does from which it is read.
-use Rattle.std.proofs.Common.{◌≡◌, ℕ, Bool, true, false, ◌||◌, ◌&&◌, cond, List, [], ◌∷◌, codes, Option, Some, None, Result, refl, inl, inr}
+use Rattle.std.proofs.Common.{◌≡◌, ℕ, Bool, true, false, ◌||◌, ◌&&◌, cond, List, [], ◌∷◌, codes, Option, Some, None, Result, refl, sym, ◌∙◌, inl, inr}
 use Rattle.std.specs.List.{find, list_all}
 use Rattle.std.specs.Str.{str_eq_ignore_ascii_case}
 use Rattle.std.proofs.lemmas.Bool.{cases_Bool}
@@ -12,14 +12,14 @@ use Rattle.commands.specs.declared.names.CommandName.{CommandName}
 use Rattle.commands.specs.declared.names.CommandName.TheVariants.{Cap, Authenticate, Pass, Nick, User, Ping, Pong, Quit, Join, Part, Kick, Invite, Topic, Mode, Privmsg, Notice, Tagmsg, Away, Names, List as ListChannels, Who, Whois, Motd}
 use Rattle.commands.specs.declared.command.Command.{Command}
 use Rattle.commands.specs.declared.command.ReadFault.{ReadFault}
-use Rattle.commands.specs.Names.{name_text, names_but_quit, named}
+use Rattle.commands.specs.Names.{is_served, name_text, names_but_quit, named}
 use Rattle.commands.specs.Params.{first_or_empty}
 use Rattle.commands.specs.Lists.{is_empty}
 use Rattle.commands.specs.Registering.{user_name, cap_req, cap_subcommand, user_command}
 use Rattle.commands.specs.Talking.{second_or_empty}
 use Rattle.commands.specs.Queries.{nick_asked}
 use Rattle.commands.specs.Commands.{with_params, known_or_not, command_of}
-use Rattle.commands.specs.Asked.{read_as, asked_by, asked_of, asks_for_quit}
+use Rattle.commands.specs.Asked.{read_as, not_served, served_or_not, asked_by, asked_of, asks_for_quit}
 
 -- whether it was read as QUIT
 abbrev is_quit_read : Result Command ReadFault → Bool
@@ -112,9 +112,29 @@ quit_read : (m : Message) → is_quit_read (command_of m) ≡ str_eq_ignore_asci
 unfolding command_of named
 quit_read m = found_first (λ known. str_eq_ignore_ascii_case m.command (name_text known)) m names_but_quit refl
 
+not_served-quits : (name : CommandName) (m : Message) → asks_for_quit (not_served name m) ≡ false
+not_served-quits Notice m = refl
+not_served-quits other m = refl
+
+-- QUIT is served
+not_served-other : (name : CommandName) → is_served name ≡ false → is_other name ≡ true
+not_served-other Quit e = cc
+not_served-other other e = refl
+
+asked-quits : (found : Option CommandName) (m : Message) → named m.command ≡ found → asks_for_quit (served_or_not found m) ≡ str_eq_ignore_ascii_case m.command (codes "QUIT")
+unfolding command_of
+asked-quits None m e = quit_read m
+asked-quits (Some name) m e =
+    elim (cases_Bool (is_served name)) [
+      | inl is ↦ rw is (quit_read m)
+      | inr isnt ↦
+          let read : is_quit_read (command_of m) ≡ false = rw e (not_quit name (not_served-other name isnt) m.params) in
+          rw isnt (not_served-quits name m ∙ sym read ∙ quit_read m)
+    ]
+
 of_message : (m : Option Message) → asks_for_quit (asked_by m) ≡ asks_to_quit m
 of_message None = refl
-of_message (Some m) = quit_read m
+of_message (Some m) = asked-quits (named m.command) m refl
 
 pub quit_is : (piece : Piece) → asks_for_quit (asked_of piece) ≡ is_quit piece
 unfolding asked_of is_quit

@@ -1,17 +1,17 @@
 //! What an accepted piece asks for.
 ghost use Rattle.std.specs.Prelude.{◌≡◌, IfOk, Some};
 ghost use Rattle.chronicle.specs.History.{is_quit};
-ghost use Rattle.commands.specs.Asked.{asked_by, asked_of, asks_for_quit};
+ghost use Rattle.commands.specs.Asked.{asked_by, asked_of, asks_for_quit, not_served};
 ghost use Rattle.line_grammar.specs.Reading.{reading};
 
-use crate::{Command, ReadFault, read};
+use crate::{Command, CommandName, ReadFault, read};
 use line_grammar::{LineFault, Message, Octets, Piece, parse};
 use std::alloc::{AllocError, Global};
 
 /// What a piece asks for.
 #[derive(Clone, Debug, Drop, PartialEq)]
 pub enum Asked {
-    /// Nothing: the line holds NUL, or has no command.
+    /// Nothing: the line holds NUL, has no command, or is a NOTICE that isn't served.
     Nothing,
     /// Nothing, since the line was too long: 417 answers it.
     TooLong,
@@ -30,9 +30,25 @@ impl Asked {
     }
 }
 
+/// What a command asks for that isn't served: an unknown command, but nothing where it is NOTICE.
+fn not_served(name: CommandName, message: &Message) -> Result<Asked, AllocError>
+    ensures { IfOk result (λ asked. asked ≡ not_served name message.now) }
+{
+    if name == CommandName::Notice {
+        return Ok(Asked::Nothing);
+    }
+    let name = message.command.clone()?;
+    Ok(Asked::Fault(ReadFault::UnknownCommand { name }))
+}
+
 fn asked_by(alloc: Global, message: &Message) -> Result<Asked, AllocError>
     ensures { IfOk result (λ asked. asked ≡ asked_by (Some message.now)) }
 {
+    if let Some(name) = CommandName::read(message.command.as_slice()) {
+        if !name.is_served() {
+            return not_served(name, message);
+        }
+    }
     match read(alloc, message) {
         Ok(command) => Ok(Asked::Command(command)),
         Err(ReadFault::Memory) => Err(AllocError),

@@ -1,7 +1,7 @@
 //! The names of commands (RFC 2812, section 3; IRCv3 Capability Negotiation, SASL 3.1 and message-tags).
 ghost use Rattle.std.specs.Prelude.{◌≡◌};
 ghost use Rattle.std.specs.Str.{str_eq_ignore_ascii_case};
-ghost use Rattle.commands.specs.Names.{name_text, named};
+ghost use Rattle.commands.specs.Names.{is_served, name_text, named};
 
 /// The name of a command that is known.
 #[derive(Clone, Copy, Debug, PartialEq)]
@@ -98,6 +98,37 @@ impl CommandName {
             CommandName::Who => b"WHO",
             CommandName::Whois => b"WHOIS",
             CommandName::Motd => b"MOTD",
+        }
+    }
+
+    /// Whether the server serves it. What it doesn't serve yet is answered as if it were unknown.
+    pub fn is_served(self) -> bool
+        ensures { result ≡ is_served self }
+    {
+        match self {
+            CommandName::Cap => true,
+            CommandName::Authenticate => true,
+            CommandName::Pass => true,
+            CommandName::Nick => true,
+            CommandName::User => true,
+            CommandName::Ping => true,
+            CommandName::Pong => true,
+            CommandName::Quit => true,
+            CommandName::Join => true,
+            CommandName::Part => false,
+            CommandName::Kick => false,
+            CommandName::Invite => false,
+            CommandName::Topic => false,
+            CommandName::Mode => false,
+            CommandName::Privmsg => true,
+            CommandName::Notice => false,
+            CommandName::Tagmsg => false,
+            CommandName::Away => false,
+            CommandName::Names => false,
+            CommandName::List => false,
+            CommandName::Who => false,
+            CommandName::Whois => false,
+            CommandName::Motd => true,
         }
     }
 }

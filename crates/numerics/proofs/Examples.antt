@@ -5,7 +5,7 @@ use Rattle.numerics.specs.declared.numeric.Numeric.{Numeric}
 use Rattle.numerics.specs.declared.numeric.Numeric.TheVariants as numeric
 use Rattle.numerics.specs.declared.prefix.Prefix.TheVariants.{Operator}
 use Rattle.numerics.specs.Outgoing.{line, octets, room}
-use Rattle.numerics.specs.Numerics.{numeric as numeric_line}
+use Rattle.numerics.specs.Numerics.{numeric as numeric_line, row_line}
 use Rattle.numerics.specs.Support.{tokens}
 use Rattle.numerics.specs.Cut.{cut}
 use Rattle.numerics.specs.CivilTime.{falls_in, civil_date, time_text}
@@ -40,11 +40,11 @@ shows n text = octets (numeric_line (codes "s") (codes "al") n) ≡ text ++ crlf
 greeting : shows (numeric.Welcome (codes "al!a@h1")) (codes ":s 001 al :Welcome to the Internet Relay Network al!a@h1")
     × shows (numeric.YourHost (codes "halld-1")) (codes ":s 002 al :Your host is s, running version halld-1")
     × shows (numeric.MyInfo (codes "halld-1")) (codes ":s 004 al s halld-1 i biklmnostv")
-unfolding octets untagged numeric_line
+unfolding octets untagged numeric_line row_line
 greeting = (refl, refl, refl)
 
 support : shows (numeric.ISupport tokens) (codes ":s 005 al AWAYLEN=200 CASEMAPPING=rfc1459 CHANLIMIT=#&:20 CHANMODES=b,k,l,imnst CHANNELLEN=50 CHANTYPES=#& KICKLEN=200 MAXLIST=b:60 MODES=4 NICKLEN=30 PREFIX=(ov)@+ TOPICLEN=300 :are supported by this server")
-unfolding octets untagged numeric_line
+unfolding octets untagged numeric_line row_line
 support = refl
 
 queries : shows (numeric.WhoisUser (codes "bo") (codes "b") (codes "h2") (codes "Bo B")) (codes ":s 311 al bo b h2 * :Bo B")
@@ -52,7 +52,7 @@ queries : shows (numeric.WhoisUser (codes "bo") (codes "b") (codes "h2") (codes 
     × shows (numeric.WhoReply (record { channel = codes "#a"; user = codes "b"; host = codes "h2"; nick = codes "bo"; away = true; prefix = Some Operator; real = codes "Bo B" })) (codes ":s 352 al #a b h2 s bo G@ :0 Bo B")
     × shows (numeric.NamReply false (codes "#a") (codes "@al" ∷ codes "bo" ∷ [])) (codes ":s 353 al = #a :@al bo")
     × shows numeric.MotdStart (codes ":s 375 al :- s Message of the day - ")
-unfolding octets untagged numeric_line
+unfolding octets untagged numeric_line row_line
 queries = (refl, refl, refl, refl, refl)
 
 errors : shows (numeric.NoSuchNick (codes "bo")) (codes ":s 401 al bo :No such nick/channel")
@@ -62,7 +62,7 @@ errors : shows (numeric.NoSuchNick (codes "bo")) (codes ":s 401 al bo :No such n
     × shows (numeric.UnknownCommand (codes "FOO")) (codes ":s 421 al FOO :Unknown command")
     × shows (numeric.UnknownMode 58) (codes ":s 472 al * :is unknown mode char to me for channel")
     × shows (numeric.LoggedIn (codes "*!*@h1") (codes "al")) (codes ":s 900 al *!*@h1 al :You are now logged in as al")
-unfolding octets untagged numeric_line
+unfolding octets untagged numeric_line row_line
 errors = (refl, refl, refl, refl, refl, refl, refl)
 
 -- ---- lists cut into lines

@@ -1,5 +1,5 @@
 -- The numerics: RFC 2812, section 5, and those of IRCv3 (capability negotiation, SASL 3.1). Where a standard has no text, or many servers have another, the text is this project's own.
-use Rattle.std.specs.Prelude.{ℕ, Bool, List, [], ◌∷◌, ◌++◌, map, cond, codes, decimal, Option, Some, None, is_some, option_to_list}
+use Rattle.std.specs.Prelude.{ℕ, Bool, true, false, List, [], ◌∷◌, ◌++◌, map, cond, codes, decimal, Option, Some, None, is_some, option_to_list}
 use Rattle.std.specs.List.{concat, join_by}
 use Rattle.line_grammar.specs.Spelling.{needs_colon}
 use Rattle.numerics.specs.declared.outgoing.Out.{Out}
@@ -110,12 +110,74 @@ row server SaslAborted = says (codes "906") [] (codes "SASL authentication abort
 row server SaslAlready = says (codes "907") [] (codes "You have already authenticated using SASL")
 row server SaslMechs = says (codes "908") (codes "PLAIN" ∷ []) (codes "are available SASL mechanisms")
 
+-- whether it says only its text
+abbrev pub is_fixed : Numeric → Bool
+is_fixed UnAway = true
+is_fixed NowAway = true
+is_fixed ListEnd = true
+is_fixed EndOfMotd = true
+is_fixed NoOrigin = true
+is_fixed NoTextToSend = true
+is_fixed InputTooLong = true
+is_fixed NoMotd = true
+is_fixed NoNicknameGiven = true
+is_fixed NotRegistered = true
+is_fixed AlreadyRegistered = true
+is_fixed UModeUnknownFlag = true
+is_fixed UsersDontMatch = true
+is_fixed SaslSuccess = true
+is_fixed SaslFail = true
+is_fixed SaslTooLong = true
+is_fixed SaslAborted = true
+is_fixed SaslAlready = true
+is_fixed other = false
+
+-- whether it says one text of each name
+abbrev pub is_about : Numeric → Bool
+is_about (EndOfWho name) = true
+is_about (EndOfWhois name) = true
+is_about (NoTopic name) = true
+is_about (EndOfNames name) = true
+is_about (EndOfBanList name) = true
+is_about (NoSuchNick name) = true
+is_about (NoSuchServer name) = true
+is_about (NoSuchChannel name) = true
+is_about (CannotSendToChan name) = true
+is_about (TooManyChannels name) = true
+is_about (TooManyTargets name) = true
+is_about (InvalidCapCmd name) = true
+is_about (UnknownCommand name) = true
+is_about (ErroneousNickname name) = true
+is_about (NicknameInUse name) = true
+is_about (NotOnChannel name) = true
+is_about (NeedMoreParams name) = true
+is_about (ChannelIsFull name) = true
+is_about (InviteOnlyChan name) = true
+is_about (BannedFromChan name) = true
+is_about (BadChannelKey name) = true
+is_about (ChanOPrivsNeeded name) = true
+is_about other = false
+
+-- whether it tells of a channel, neither by a fixed text nor by one text of each name
+abbrev pub is_of_channel : Numeric → Bool
+is_of_channel (ListReply channel members topic) = true
+is_of_channel (ChannelModeIs channel modes params) = true
+is_of_channel (Topic channel topic) = true
+is_of_channel (Inviting nick channel) = true
+is_of_channel (WhoReply who) = true
+is_of_channel (NamReply secret channel names) = true
+is_of_channel (BanList channel mask) = true
+is_of_channel (UserNotInChannel nick channel) = true
+is_of_channel (UserOnChannel nick channel) = true
+is_of_channel (UnknownMode letter) = true
+is_of_channel other = false
+
 -- a word that can't stand as a middle parameter is shown as `*`
 abbrev pub shown : List ℕ → List ℕ
 shown word = cond (needs_colon word) (codes "*") word
 
 -- a row as a line from a server
-abbrev pub row_line : List ℕ → List ℕ → Row → Out
+unfoldable pub row_line : List ℕ → List ℕ → Row → Out
 row_line server to r = line server r.code (to ∷ (map shown r.words ++ option_to_list r.text)) (is_some r.text)
 
 -- `:server NNN to ..`

@@ -67,6 +67,116 @@ impl Heading<'_, '_> {
         self.telling(code, words, &spaced(self.alloc, names)?)
     }
 
+    /// The line of a numeric that says two names and a text.
+    pub(crate) fn about_two(
+        &self,
+        code: &[u8],
+        first: &Octets,
+        second: &Octets,
+        text: &[u8],
+    ) -> Result<Out, AllocError>
+        ensures { IfOk result (λ o. o ≡ row_line self.now.server.now self.now.to.now (says code.now (first.now ∷ second.now ∷ []) text.now)) }
+    {
+        self.telling(code, &[first.as_slice(), second.as_slice()], text)
+    }
+
+    /// A line of two words alone.
+    pub(crate) fn two(
+        &self,
+        code: &[u8],
+        first: &Octets,
+        second: &Octets,
+    ) -> Result<Out, AllocError>
+        ensures { IfOk result (λ o. o ≡ row_line self.now.server.now self.now.to.now (lists code.now (first.now ∷ second.now ∷ []))) }
+    {
+        self.listing(code, &[first.as_slice(), second.as_slice()])
+    }
+
+    /// A line of a text that ends with what is given.
+    pub(crate) fn ending(&self, code: &[u8], text: &[u8], end: &Octets) -> Result<Out, AllocError>
+        ensures { IfOk result (λ o. o ≡ row_line self.now.server.now self.now.to.now (says code.now [] (text.now ++ end.now))) }
+    {
+        self.joining(code, &[], &[text, end.as_slice()])
+    }
+
+    /// The line that welcomes.
+    pub(crate) fn welcome(&self, source: &Octets) -> Result<Out, AllocError>
+        ensures { IfOk result (λ o. o ≡ row_line self.now.server.now self.now.to.now (row self.now.server.now (Numeric.Welcome source.now))) }
+    {
+        self.ending(b"001", b"Welcome to the Internet Relay Network ", source)
+    }
+
+    /// The line that tells what the server supports.
+    pub(crate) fn isupport(&self, tokens: &Words) -> Result<Out, AllocError>
+        ensures { IfOk result (λ o. o ≡ row_line self.now.server.now self.now.to.now (row self.now.server.now (Numeric.ISupport tokens.now))) }
+    {
+        let text: &[u8] = b"are supported by this server";
+        self.line(b"005", &[], tokens.as_slice(), Some(text))
+    }
+
+    /// The line that tells who a user is.
+    pub(crate) fn whois_user(
+        &self,
+        nick: &Octets,
+        user: &Octets,
+        host: &Octets,
+        real: &Octets,
+    ) -> Result<Out, AllocError>
+        ensures { IfOk result (λ o. o ≡ row_line self.now.server.now self.now.to.now (row self.now.server.now (Numeric.WhoisUser nick.now user.now host.now real.now))) }
+    {
+        self.telling(
+            b"311",
+            &[nick.as_slice(), user.as_slice(), host.as_slice(), b"*"],
+            real.as_slice(),
+        )
+    }
+
+    /// The line that tells channels that a user is on.
+    pub(crate) fn whois_channels(&self, nick: &Octets, channels: &Words) -> Result<Out, AllocError>
+        ensures { IfOk result (λ o. o ≡ row_line self.now.server.now self.now.to.now (row self.now.server.now (Numeric.WhoisChannels nick.now channels.now))) }
+    {
+        self.naming(b"319", &[nick.as_slice()], channels.as_slice())
+    }
+
+    /// The line that tells the modes of a channel.
+    pub(crate) fn channel_modes(
+        &self,
+        channel: &Octets,
+        modes: &Octets,
+        params: &Words,
+    ) -> Result<Out, AllocError>
+        ensures { IfOk result (λ o. o ≡ row_line self.now.server.now self.now.to.now (row self.now.server.now (Numeric.ChannelModeIs channel.now modes.now params.now))) }
+    {
+        self.line(
+            b"324",
+            &[channel.as_slice(), modes.as_slice()],
+            params.as_slice(),
+            None,
+        )
+    }
+
+    /// The line that tells of a command that names nobody.
+    pub(crate) fn no_recipient(&self, command: &Octets) -> Result<Out, AllocError>
+        ensures { IfOk result (λ o. o ≡ row_line self.now.server.now self.now.to.now (row self.now.server.now (Numeric.NoRecipient command.now))) }
+    {
+        self.joining(
+            b"411",
+            &[],
+            &[b"No recipient given (", command.as_slice(), b")"],
+        )
+    }
+
+    /// The line that tells who is logged in.
+    pub(crate) fn logged_in(&self, source: &Octets, account: &Octets) -> Result<Out, AllocError>
+        ensures { IfOk result (λ o. o ≡ row_line self.now.server.now self.now.to.now (row self.now.server.now (Numeric.LoggedIn source.now account.now))) }
+    {
+        self.joining(
+            b"900",
+            &[source.as_slice(), account.as_slice()],
+            &[b"You are now logged in as ", account.as_slice()],
+        )
+    }
+
     /// The line that tells of a channel in a list.
     pub(crate) fn list_reply(
         &self,
@@ -180,6 +290,7 @@ impl Heading<'_, '_> {
     }
 
     /// A line of words, more words, and a text after a colon where there is one.
+    #[tactic(auto, unfolding(crate::specs::Numerics::row_line))]
     pub(crate) fn line(
         &self,
         code: &[u8],

@@ -9,6 +9,7 @@ mod laws;
 mod numeric;
 mod outgoing;
 mod prefix;
+mod rows;
 mod support;
 mod texts;
 mod words;
