@@ -9,6 +9,7 @@ use Rattle.roster.specs.declared.deed.Deed.{Deed}
 use Rattle.roster.specs.declared.deed.Deed.TheVariants.{Opened, NickSet, UserSet, HoldSet, CapsSet, ExchangeSet, LoggedIn, Enrolled, ChannelMade, Joined, Ended, Gone}
 use Rattle.registration.specs.declared.caps.Caps.{Caps}
 use Rattle.registration.specs.Caps.{none_on}
+use Rattle.registration.specs.Enrol.{Enrolment}
 
 -- names are compared folded
 unfoldable pub is_same : List ℕ → List ℕ → Bool
@@ -120,6 +121,23 @@ tells_registered s d = None
 
 abbrev pub registered : List Deed → ℕ → Bool
 registered fs s = newest (tells_registered s) false fs
+
+-- what is known of it while it registers
+abbrev pub enrol : List Deed → ℕ → Enrolment
+enrol fs s = record { nick = nick fs s; user = user fs s; hold = held fs s; caps = caps fs s; exchange = exchange fs s; account = account fs s; registered = registered fs s }
+
+-- the same after one fact more
+abbrev pub enrolled : ℕ → Deed → Enrolment → Enrolment
+enrolled s d e =
+    record {
+      nick = unwrap_or (tells_nick s d) e.nick;
+      user = unwrap_or (tells_user s d) e.user;
+      hold = unwrap_or (tells_held s d) e.hold;
+      caps = unwrap_or (tells_caps s d) e.caps;
+      exchange = unwrap_or (tells_exchange s d) e.exchange;
+      account = unwrap_or (tells_account s d) e.account;
+      registered = unwrap_or (tells_registered s d) e.registered;
+    }
 
 abbrev pub tells_why : ℕ → Deed → Option Why
 tells_why s (Opened t h) = cond (t == s) (Some SendQ) None

@@ -4,6 +4,7 @@ use Rattle.std.specs.Option.{option_map_or, option_map}
 use Rattle.std.specs.List.{find, list_any}
 use Rattle.chronicle.specs.declared.why.Why.TheVariants.{SendQ}
 use Rattle.registration.specs.Caps.{none_on}
+use Rattle.registration.specs.Enrol.{Enrolment}
 use Rattle.roster.specs.declared.tables.Person.{Person}
 use Rattle.roster.specs.declared.tables.Channel.{Channel}
 use Rattle.roster.specs.Seats.{Seats}
@@ -11,6 +12,10 @@ use Rattle.roster.specs.LookBack.{is_same, is_named, is_some_one, among, without
 
 abbrev pub nobody : Person
 nobody = record { host = []; nick = None; user = None; real = None; held = false; caps = none_on; exchange = None; account = None; registered = false; why = SendQ; parting = [] }
+
+-- what is known of a person while it registers
+abbrev pub enrolment_in : Person → Enrolment
+enrolment_in p = record { nick = p.nick; user = p.user; hold = p.held; caps = p.caps; exchange = p.exchange; account = p.account; registered = p.registered }
 
 -- the person of session s
 abbrev pub person_at : List Person → ℕ → Person

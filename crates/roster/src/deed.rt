@@ -1,13 +1,14 @@
 //! The elementary facts that a record establishes.
 ghost use Rattle.std.specs.Prelude.{◌≡◌, ◌∷◌, ◌++◌, option_copied, OnOk};
-ghost use Rattle.std.specs.Option.{option_map};
-ghost use Rattle.roster.specs.LookBack.{tells_nick, tells_user, tells_held, tells_caps, tells_exchange, tells_account, tells_registered, tells_on, tells_name, seated};
+ghost use Rattle.registration.specs.Enrol.{enrolment};
+ghost use Rattle.roster.specs.LookBack.{enrolled, tells_on, tells_name, seated};
 
 use crate::names::is_same;
+use crate::people::blank_enrol;
 use crate::sessions::Sessions;
 use chronicle::{SessionId, Why};
 use line_grammar::Octets;
-use registration::Caps;
+use registration::{Caps, Enrol};
 use std::alloc::AllocError;
 
 /// An elementary fact. What holds of sessions and channels is read back from a list of these.
@@ -76,109 +77,61 @@ pub enum Deed {
 }
 
 impl Deed {
-    /// What it tells of the nickname of a session, if anything.
-    pub fn tells_nick(&self, session: SessionId) -> Option<Option<&Octets>>
-        ensures { option_map (λ n. option_copied n) result ≡ tells_nick session self.now }
+    /// What is known of a session while it registers, after this.
+    pub fn enroll<'a>(&'a self, session: SessionId, enrol: Enrol<'a>) -> Enrol<'a>
+        ensures { enrolment result ≡ enrolled session self.now (enrolment enrol.entry) }
     {
         match self {
+            Deed::Opened { session: other, .. } | Deed::Gone { session: other }
+                if *other == session => { blank_enrol() }
             Deed::NickSet {
                 session: other,
                 nick,
-            } if *other == session => Some(Some(nick)),
-            Deed::Opened { session: other, .. } | Deed::Gone { session: other }
-                if *other == session => { Some(None) }
-            _ => None,
-        }
-    }
-
-    /// What it tells of the user name of a session, if anything.
-    pub fn tells_user(&self, session: SessionId) -> Option<Option<&Octets>>
-        ensures { option_map (λ u. option_copied u) result ≡ tells_user session self.now }
-    {
-        match self {
+            } if *other == session => Enrol {
+                nick: Some(nick),
+                ..enrol
+            },
             Deed::UserSet {
                 session: other,
                 user,
                 ..
-            } if *other == session => Some(Some(user)),
-            Deed::Opened { session: other, .. } | Deed::Gone { session: other }
-                if *other == session => { Some(None) }
-            _ => None,
-        }
-    }
-
-    /// What it tells of whether the registration of a session waits, if anything.
-    pub fn tells_held(&self, session: SessionId) -> Option<bool>
-        ensures { result ≡ tells_held session self.now }
-    {
-        match self {
+            } if *other == session => Enrol {
+                user: Some(user),
+                ..enrol
+            },
             Deed::HoldSet {
                 session: other,
                 held,
-            } => (*other == session).then_some(*held),
-            Deed::Opened { session: other, .. } | Deed::Gone { session: other } => {
-                (*other == session).then_some(false)
-            }
-            _ => None,
-        }
-    }
-
-    /// What it tells of the capabilities of a session, if anything.
-    pub fn tells_caps(&self, session: SessionId) -> Option<Caps>
-        ensures { result ≡ tells_caps session self.now }
-    {
-        match self {
+            } if *other == session => Enrol {
+                hold: *held,
+                ..enrol
+            },
             Deed::CapsSet {
                 session: other,
                 caps,
-            } => (*other == session).then_some(*caps),
-            Deed::Opened { session: other, .. } | Deed::Gone { session: other } => {
-                (*other == session).then_some(Caps::none())
-            }
-            _ => None,
-        }
-    }
-
-    /// What it tells of the open exchange of a session, if anything.
-    pub fn tells_exchange(&self, session: SessionId) -> Option<Option<&Octets>>
-        ensures { option_map (λ x. option_copied x) result ≡ tells_exchange session self.now }
-    {
-        match self {
+            } if *other == session => Enrol {
+                caps: *caps,
+                ..enrol
+            },
             Deed::ExchangeSet {
                 session: other,
                 exchange,
-            } if *other == session => Some(exchange.as_ref()),
-            Deed::Opened { session: other, .. } | Deed::Gone { session: other }
-                if *other == session => { Some(None) }
-            _ => None,
-        }
-    }
-
-    /// What it tells of the account of a session, if anything.
-    pub fn tells_account(&self, session: SessionId) -> Option<Option<&Octets>>
-        ensures { option_map (λ a. option_copied a) result ≡ tells_account session self.now }
-    {
-        match self {
+            } if *other == session => Enrol {
+                exchange: exchange.as_ref(),
+                ..enrol
+            },
             Deed::LoggedIn {
                 session: other,
                 account,
-            } if *other == session => Some(Some(account)),
-            Deed::Opened { session: other, .. } | Deed::Gone { session: other }
-                if *other == session => { Some(None) }
-            _ => None,
-        }
-    }
-
-    /// What it tells of whether a session is registered, if anything.
-    pub fn tells_registered(&self, session: SessionId) -> Option<bool>
-        ensures { result ≡ tells_registered session self.now }
-    {
-        match self {
-            Deed::Enrolled { session: other } => (*other == session).then_some(true),
-            Deed::Opened { session: other, .. } | Deed::Gone { session: other } => {
-                (*other == session).then_some(false)
-            }
-            _ => None,
+            } if *other == session => Enrol {
+                account: Some(account),
+                ..enrol
+            },
+            Deed::Enrolled { session: other } if *other == session => Enrol {
+                registered: true,
+                ..enrol
+            },
+            _ => enrol,
         }
     }
 

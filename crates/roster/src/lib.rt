@@ -3,6 +3,7 @@
 
 mod channels;
 mod deed;
+mod given;
 mod laws;
 mod members;
 mod names;

@@ -1,13 +1,14 @@
 //! The table of sessions.
 ghost use Rattle.std.specs.Prelude.{◌≡◌, ◌<◌, ◌≤◌, [], length, option_copied, unwrap_or, vec_len, vec_capacity, Some, None, OnSome, true};
+ghost use Rattle.registration.specs.Enrol.{enrolment};
 ghost use Rattle.roster.specs.LookBack.{is_named};
-ghost use Rattle.roster.specs.Tables.{nobody, person_at, with_person, holder_place};
+ghost use Rattle.roster.specs.Tables.{nobody, enrolment_in, person_at, with_person, holder_place};
 
 use crate::names::is_same;
 use crate::tables::Person;
 use chronicle::{SessionId, Why};
 use line_grammar::Octets;
-use registration::Caps;
+use registration::{Caps, Enrol};
 use std::alloc::Global;
 
 /// A session of which nothing is known but its host, if that.
@@ -26,6 +27,36 @@ pub(crate) fn stranger(alloc: Global, host: Octets) -> Person
         registered: false,
         why: Why::SendQ,
         parting: Octets::from_vec(Vec::new(alloc)),
+    }
+}
+
+/// Nothing is known of a session yet.
+pub(crate) fn blank_enrol<'a>() -> Enrol<'a>
+    ensures { enrolment result ≡ enrolment_in nobody }
+{
+    Enrol {
+        nick: None,
+        user: None,
+        hold: false,
+        caps: Caps::none(),
+        exchange: None,
+        account: None,
+        registered: false,
+    }
+}
+
+/// What is known of a session while it registers.
+pub(crate) fn enrol_of(person: &Person) -> Enrol<'_>
+    ensures { enrolment result ≡ enrolment_in person.now }
+{
+    Enrol {
+        nick: person.nick.as_ref(),
+        user: person.user.as_ref(),
+        hold: person.held,
+        caps: person.caps,
+        exchange: person.exchange.as_ref(),
+        account: person.account.as_ref(),
+        registered: person.registered,
     }
 }
 

@@ -4,10 +4,11 @@ ghost use Rattle.roster.specs.declared.deed.Deed.TheVariants.{Ended};
 
 use crate::channels::{find_channel, join, leave_all, make, nth_channel};
 use crate::deed::Deed;
+use crate::given::Given;
 use crate::members::Members;
 use crate::people::{
-    end, enroll, equip, find_holder, find_person, forget, hold, introduce, log_in, open_exchange,
-    rename, stranger,
+    blank_enrol, end, enrol_of, enroll, equip, find_holder, find_person, forget, hold, introduce,
+    log_in, open_exchange, rename, stranger,
 };
 use crate::room::make_room;
 use crate::sessions::Sessions;
@@ -16,7 +17,7 @@ use crate::tables::{Channel, Person};
 use chronicle::{SessionId, Why};
 use ghosts::{Change, Snapshot, append_all, apply as change, blank};
 use line_grammar::Octets;
-use registration::{Caps, Settings};
+use registration::{Enrol, Settings};
 use std::alloc::{AllocError, Global};
 use std::collections::LinkedList;
 use std::marker::Model;
@@ -26,7 +27,7 @@ use std::marker::Model;
 #[derive(Drop)]
 pub struct Roster {
     alloc: Global,
-    settings: Settings,
+    given: Given,
     people: Vec<Person>,
     channels: Vec<Channel>,
     /// Lists for the members of channels that will be made.
@@ -41,7 +42,7 @@ impl Model for Roster {
 
     ghost Value = { Known };
 
-    ghost view = { λ a. record { settings = a.settings; facts = a.facts.value; ready = a.ready.value } };
+    ghost view = { λ a. record { settings = a.given; facts = a.facts.value; ready = a.ready.value } };
 
     ghost invariant = { λ a. IsKept a.people a.channels a.spare a.facts.value a.ready.value };
 }
@@ -61,16 +62,19 @@ impl Change<LinkedList<Deed>, ()> for DropsFirst {
 }
 
 impl Roster {
+    ghost use Rattle.registration.specs.Settings.{IsWellSet};
     ghost use Rattle.roster.specs.Legal.{IsOpened, AreNext};
-    ghost use Rattle.roster.specs.LookBack.{opened, host, nick, user, real, held, caps, exchange, account, registered, why, parting, holder, found, on, members, name_of, channels, sharers};
+    ghost use Rattle.registration.specs.Enrol.{enrolment};
+    ghost use Rattle.roster.specs.LookBack.{opened, host, nick, user, real, enrol, registered, why, parting, holder, found, on, members, name_of, channels, sharers};
 
-    /// The roster of no facts.
+    /// The roster of no facts, on a server whose settings are within their limits.
     pub fn new(alloc: Global, settings: Settings) -> Roster
+        requires { IsWellSet settings }
         ensures { result ≡ record { settings = settings; facts = []; ready = [] } }
     {
         Roster {
             alloc,
-            settings,
+            given: Given::new(settings),
             people: Vec::new(alloc),
             channels: Vec::new(alloc),
             spare: Vec::new(alloc),
@@ -163,9 +167,10 @@ impl Roster {
 
     /// The server's settings.
     pub fn settings(&self) -> &Settings
-        ensures { result.now ≡ self.now.settings }
+        ensures value { result.now ≡ self.now.settings }
+        ensures well_set { IsWellSet self.now.settings }
     {
-        &self.settings
+        self.given.get()
     }
 
     /// How many sessions were opened: they have the numbers from 1.
@@ -217,43 +222,13 @@ impl Roster {
         }
     }
 
-    /// Whether the registration of a session waits for the end of capability negotiation.
-    pub fn is_held(&self, session: SessionId) -> bool
-        ensures { result ≡ held self.now.facts session }
+    /// What is known of a session while it registers.
+    pub fn enrol_of(&self, session: SessionId) -> Enrol<'_>
+        ensures { enrolment result ≡ enrol self.now.facts session }
     {
         match find_person(&self.people, session) {
-            Some(person) => person.held,
-            None => false,
-        }
-    }
-
-    /// The capabilities of a session.
-    pub fn caps_of(&self, session: SessionId) -> Caps
-        ensures { result ≡ caps self.now.facts session }
-    {
-        match find_person(&self.people, session) {
-            Some(person) => person.caps,
-            None => Caps::none(),
-        }
-    }
-
-    /// What a session sent so far of an exchange of SASL that is open.
-    pub fn exchange_of(&self, session: SessionId) -> Option<&Octets>
-        ensures { option_copied result ≡ exchange self.now.facts session }
-    {
-        match find_person(&self.people, session) {
-            Some(person) => person.exchange.as_ref(),
-            None => None,
-        }
-    }
-
-    /// The account by which a session is logged in.
-    pub fn account_of(&self, session: SessionId) -> Option<&Octets>
-        ensures { option_copied result ≡ account self.now.facts session }
-    {
-        match find_person(&self.people, session) {
-            Some(person) => person.account.as_ref(),
-            None => None,
+            Some(person) => enrol_of(person),
+            None => blank_enrol(),
         }
     }
 
