@@ -4,7 +4,7 @@ use Rattle.std.specs.Option.{option_or, option_map}
 use Rattle.roster.specs.Laws.{ChannelsHaveOneName, SpelledNamesAreNames}
 use Rattle.roster.specs.declared.deed.Deed.{Deed}
 use Rattle.roster.specs.declared.deed.Deed.TheVariants.{Opened, NickSet, UserSet, HoldSet, CapsSet, ExchangeSet, LoggedIn, Enrolled, ChannelMade, Joined, Ended, Gone}
-use Rattle.roster.specs.LookBack.{is_same, registered, after, on, without, members, is_some_one, has_member, name, name_of}
+use Rattle.roster.specs.LookBack.{is_same, after, on, without, members, is_some_one, has_member, name, name_of}
 use Rattle.roster.specs.Legal.{IsNext, AreNext}
 use Rattle.deeds.specs.declared.effect.Effect.{Effect}
 use Rattle.deeds.specs.declared.effect.Effect.TheVariants.{Establish, Answer, Show, Copy}
@@ -93,6 +93,6 @@ module _ (fs : List Deed) (s : ℕ) (c : List ℕ) where
   pub join_next : (n : List ℕ) → name_of fs c ≡ Some n → IsSpelling fs n c → on fs s c ≡ false → (has_member fs n ≡ true) × (on fs s n ≡ false)
   join_next n e i off = (i.there ∙ (there (has_member fs c) (name fs c) n e).0, i.on s ∙ off)
 
--- a registered session that isn't on a channel joins it
-pub joins_there : (fs : List Deed) (s : ℕ) (from c : List ℕ) → registered fs s ≡ true → on fs s c ≡ false → joins fs s from c ≡ join_there s from fs c (name_of fs c)
-joins_there fs s from c is away = rw (is, away) refl
+-- a session that isn't on a channel joins it
+pub joins_there : (fs : List Deed) (s : ℕ) (from c : List ℕ) → on fs s c ≡ false → joins fs s from c ≡ join_there s from fs c (name_of fs c)
+joins_there fs s from c away = rw away refl

@@ -4,12 +4,12 @@ use Rattle.deeds.specs.Drafted.{Drafted, IsDraft, grown}
 use Rattle.std.proofs.lemmas.List.{take_more}
 use Rattle.roster.specs.declared.deed.Deed.{Deed}
 use Rattle.roster.specs.declared.deed.Deed.TheVariants.{Opened, NickSet, UserSet, HoldSet, CapsSet, ExchangeSet, LoggedIn, Enrolled, ChannelMade, Joined, Ended, Gone}
-use Rattle.roster.specs.LookBack.{after, opened, nick, user, registered, on, members}
+use Rattle.roster.specs.LookBack.{after, opened, host, enrol, on, members}
 use Rattle.roster.specs.Legal.{IsOpened, AreNext}
 use Rattle.deeds.specs.declared.effect.Effect.{Effect}
 use Rattle.deeds.specs.declared.effect.Effect.TheVariants.{Establish, Answer, Show, Copy}
 use Rattle.deeds.specs.Effects.{deeds_of}
-use Rattle.deeds.specs.Tells.{effect_nick, effect_user, effect_registered, effect_on, effect_seated}
+use Rattle.deeds.specs.Tells.{effect_host, effect_enrolled, effect_on, effect_seated}
 
 pub after-append : (fs ds es : List Deed) → after fs (ds ++ es) ≡ after (after fs ds) es
 after-append fs [] es = refl
@@ -35,23 +35,17 @@ pub replay : {A : Type 0} (look : List Deed → A) (step : A → Effect → A) �
     → (fs : List Deed) (es : List Effect) (i : ℕ) (e : Effect) → i < length es → e ≡ get_or es i e → look (after fs (deeds_of (take (i + 1) es))) ≡ step (look (after fs (deeds_of (take i es)))) e
 replay look step h fs es i e l is = ap look (after-take fs es i e l is) ∙ h (after fs (deeds_of (take i es))) e
 
-pub nick_step : (s : ℕ) (fs : List Deed) (e : Effect) → nick (after fs (deeds_of (e ∷ []))) s ≡ unwrap_or (effect_nick s e) (nick fs s)
-nick_step s fs (Establish d) = refl
-nick_step s fs (Answer l) = refl
-nick_step s fs (Show hs l) = refl
-nick_step s fs (Copy l) = refl
+pub host_step : (s : ℕ) (fs : List Deed) (e : Effect) → host (after fs (deeds_of (e ∷ []))) s ≡ unwrap_or (effect_host s e) (host fs s)
+host_step s fs (Establish d) = refl
+host_step s fs (Answer l) = refl
+host_step s fs (Show hs l) = refl
+host_step s fs (Copy l) = refl
 
-pub user_step : (s : ℕ) (fs : List Deed) (e : Effect) → user (after fs (deeds_of (e ∷ []))) s ≡ unwrap_or (effect_user s e) (user fs s)
-user_step s fs (Establish d) = refl
-user_step s fs (Answer l) = refl
-user_step s fs (Show hs l) = refl
-user_step s fs (Copy l) = refl
-
-pub registered_step : (s : ℕ) (fs : List Deed) (e : Effect) → registered (after fs (deeds_of (e ∷ []))) s ≡ unwrap_or (effect_registered s e) (registered fs s)
-registered_step s fs (Establish d) = refl
-registered_step s fs (Answer l) = refl
-registered_step s fs (Show hs l) = refl
-registered_step s fs (Copy l) = refl
+pub enrol_step : (s : ℕ) (fs : List Deed) (e : Effect) → enrol (after fs (deeds_of (e ∷ []))) s ≡ effect_enrolled s e (enrol fs s)
+enrol_step s fs (Establish d) = refl
+enrol_step s fs (Answer l) = refl
+enrol_step s fs (Show hs l) = refl
+enrol_step s fs (Copy l) = refl
 
 pub on_step : (s : ℕ) (c : List ℕ) (fs : List Deed) (e : Effect) → on (after fs (deeds_of (e ∷ []))) s c ≡ unwrap_or (effect_on s c e) (on fs s c)
 on_step s c fs (Establish d) = refl

@@ -1,8 +1,8 @@
 -- What JOIN does: RFC 2812, section 3.2.1.
-use Rattle.std.specs.Prelude.{ℕ, List, [], ◌∷◌, Option, Some, None, not, ◌||◌, if◌then◌else◌}
+use Rattle.std.specs.Prelude.{ℕ, List, [], ◌∷◌, Option, Some, None, if◌then◌else◌}
 use Rattle.roster.specs.declared.deed.Deed.{Deed}
 use Rattle.roster.specs.declared.deed.Deed.TheVariants.{ChannelMade, Joined}
-use Rattle.roster.specs.LookBack.{registered, on, members, name_of}
+use Rattle.roster.specs.LookBack.{on, members, name_of}
 use Rattle.deeds.specs.declared.effect.Effect.{Effect}
 use Rattle.deeds.specs.declared.effect.Effect.TheVariants.{Establish, Show}
 use Rattle.deeds.specs.Lines.{join_line}
@@ -16,6 +16,6 @@ abbrev pub join_there : ℕ → List ℕ → List Deed → List ℕ → Option (
 join_there s from fs c None = entered from fs c (ChannelMade s c)
 join_there s from fs c (Some n) = entered from fs n (Joined s n)
 
--- a registered session that isn't on the channel joins it
+-- a session that isn't on the channel joins it
 abbrev pub joins : List Deed → ℕ → List ℕ → List ℕ → List Effect
-joins fs s from c = if not (registered fs s) || on fs s c then [] else join_there s from fs c (name_of fs c)
+joins fs s from c = if on fs s c then [] else join_there s from fs c (name_of fs c)

@@ -1,6 +1,9 @@
 pub mod Effects
 pub mod Lines
+pub mod Replies
+pub mod Welcome
 pub mod Registration
+pub mod Negotiation
 pub mod Channels
 pub mod Talking
 pub mod Departure

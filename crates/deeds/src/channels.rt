@@ -63,7 +63,7 @@ fn join_there(
     }
 }
 
-/// A registered session joins a channel.
+/// A session joins a channel that it isn't on.
 pub(crate) fn join(
     draft: &mut Draft,
     session: SessionId,
@@ -72,7 +72,7 @@ pub(crate) fn join(
 ) -> Result<(), AllocError>
     ensures { OnOk result (draft.new ≡ grown draft.old (joins draft.old.facts session from.now channel.now)) }
 {
-    if !draft.is_registered(session) || draft.is_on(session, channel.as_slice()) {
+    if draft.is_on(session, channel.as_slice()) {
         return Ok(());
     }
     let name = draft.name_of(channel.as_slice())?;

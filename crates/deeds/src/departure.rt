@@ -31,7 +31,7 @@ fn depart(draft: &mut Draft, session: SessionId) -> Result<(), AllocError>
     ensures { OnOk result (draft.new ≡ grown draft.old (departs draft.old.facts session)) }
 {
     let before = draft.before();
-    let from = prefix_of(draft.alloc(), before, session)?;
+    let from = prefix_of(draft, session)?;
     let text = farewell(before.why_of(session), before.parting_of(session));
     let line = quit_line(draft.alloc(), from.as_slice(), text)?;
     let hearers = before.sharers(session)?;

@@ -1,6 +1,7 @@
 //! A draft: a roster, and what a record does to it so far.
 ghost use Rattle.std.specs.Prelude.{◌≡◌, ◌∷◌, ◌++◌, [], true, Some, option_copied, IfOk, IfSome, OnOk};
-ghost use Rattle.roster.specs.LookBack.{after, opened, nick, user, registered, on, members, has_member, name, name_of};
+ghost use Rattle.registration.specs.Enrol.{enrolment};
+ghost use Rattle.roster.specs.LookBack.{after, opened, host, nick, user, caps, exchange, registered, enrol, on, members, has_member, name, name_of};
 ghost use Rattle.roster.specs.Legal.{AreNext, IsNext};
 ghost use Rattle.deeds.specs.declared.effect.Effect.TheVariants.{Establish, Answer, Show, Copy};
 ghost use Rattle.deeds.specs.Effects.{deeds_of};
@@ -9,6 +10,7 @@ use crate::effect::Effect;
 use chronicle::SessionId;
 use line_grammar::Octets;
 use numerics::Out;
+use registration::{Caps, Enrol};
 use roster::{Deed, Roster, Sessions, channels_have_one_name, spelled_names_are_names};
 use std::alloc::{AllocError, Global};
 use std::marker::Model;
@@ -93,37 +95,68 @@ impl<'a> Draft<'a> {
         self.add(Effect::Show { hearers, line })
     }
 
+    /// Answers the record's session.
+    pub(crate) fn answer(&mut self, line: Out) -> Result<(), AllocError>
+        ensures { OnOk result (self.new ≡ grown self.old (Answer line ∷ [])) }
+    {
+        self.add(Effect::Answer { line })
+    }
+
+    /// The host of a session.
+    pub(crate) fn host_of(&self, session: SessionId) -> &[u8]
+        ensures { result.now ≡ host self.now.facts session }
+    {
+        let mut host = self.roster.host_of(session);
+        for effect in &self.effects {
+            host = effect.tells_host(session).unwrap_or(host);
+        }
+        host
+    }
+
+    /// What is known of a session while it registers.
+    pub(crate) fn enrol_of(&self, session: SessionId) -> Enrol<'_>
+        ensures { enrolment result ≡ enrol self.now.facts session }
+    {
+        let mut enrol = self.roster.enrol_of(session);
+        for effect in &self.effects {
+            enrol = effect.enroll(session, enrol);
+        }
+        enrol
+    }
+
     /// The nickname of a session.
     pub(crate) fn nick_of(&self, session: SessionId) -> Option<&Octets>
         ensures { option_copied result ≡ nick self.now.facts session }
     {
-        let mut nick = self.roster.nick_of(session);
-        for effect in &self.effects {
-            nick = effect.tells_nick(session).unwrap_or(nick);
-        }
-        nick
+        self.enrol_of(session).nick
     }
 
     /// The user name of a session.
     pub(crate) fn user_of(&self, session: SessionId) -> Option<&Octets>
         ensures { option_copied result ≡ user self.now.facts session }
     {
-        let mut user = self.roster.user_of(session);
-        for effect in &self.effects {
-            user = effect.tells_user(session).unwrap_or(user);
-        }
-        user
+        self.enrol_of(session).user
+    }
+
+    /// What a session sent so far of an exchange of SASL that is open.
+    pub(crate) fn exchange_of(&self, session: SessionId) -> Option<&Octets>
+        ensures { option_copied result ≡ exchange self.now.facts session }
+    {
+        self.enrol_of(session).exchange
+    }
+
+    /// The capabilities of a session.
+    pub(crate) fn caps_of(&self, session: SessionId) -> Caps
+        ensures { result ≡ caps self.now.facts session }
+    {
+        self.enrol_of(session).caps
     }
 
     /// Whether a session is registered.
     pub(crate) fn is_registered(&self, session: SessionId) -> bool
         ensures { result ≡ registered self.now.facts session }
     {
-        let mut registered = self.roster.is_registered(session);
-        for effect in &self.effects {
-            registered = effect.tells_registered(session).unwrap_or(registered);
-        }
-        registered
+        self.enrol_of(session).registered
     }
 
     /// Whether a session is on a channel.

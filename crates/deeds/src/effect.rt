@@ -1,11 +1,13 @@
 //! What a record does, one thing after another.
 ghost use Rattle.std.specs.Prelude.{◌≡◌, option_copied, OnOk};
 ghost use Rattle.std.specs.Option.{option_map};
-ghost use Rattle.deeds.specs.Tells.{effect_nick, effect_user, effect_registered, effect_on, effect_name, effect_seated};
+ghost use Rattle.registration.specs.Enrol.{enrolment};
+ghost use Rattle.deeds.specs.Tells.{effect_host, effect_enrolled, effect_on, effect_name, effect_seated};
 
 use chronicle::SessionId;
 use line_grammar::Octets;
 use numerics::Out;
+use registration::Enrol;
 use roster::{Deed, Sessions};
 use std::alloc::AllocError;
 
@@ -23,33 +25,23 @@ pub enum Effect {
 }
 
 impl Effect {
-    /// What it tells of the nickname of a session, if anything.
-    pub(crate) fn tells_nick(&self, session: SessionId) -> Option<Option<&Octets>>
-        ensures { option_map (λ n. option_copied n) result ≡ effect_nick session self.now }
+    /// What it tells of the host of a session, if anything.
+    pub(crate) fn tells_host(&self, session: SessionId) -> Option<&[u8]>
+        ensures { option_map (λ h. h.now) result ≡ effect_host session self.now }
     {
         match self {
-            Effect::Establish { deed } => deed.tells_nick(session),
+            Effect::Establish { deed } => deed.tells_host(session),
             _ => None,
         }
     }
 
-    /// What it tells of the user name of a session, if anything.
-    pub(crate) fn tells_user(&self, session: SessionId) -> Option<Option<&Octets>>
-        ensures { option_map (λ u. option_copied u) result ≡ effect_user session self.now }
+    /// What is known of a session while it registers, after this.
+    pub(crate) fn enroll<'a>(&'a self, session: SessionId, enrol: Enrol<'a>) -> Enrol<'a>
+        ensures { enrolment result ≡ effect_enrolled session self.now (enrolment enrol.entry) }
     {
         match self {
-            Effect::Establish { deed } => deed.tells_user(session),
-            _ => None,
-        }
-    }
-
-    /// What it tells of whether a session is registered, if anything.
-    pub(crate) fn tells_registered(&self, session: SessionId) -> Option<bool>
-        ensures { result ≡ effect_registered session self.now }
-    {
-        match self {
-            Effect::Establish { deed } => deed.tells_registered(session),
-            _ => None,
+            Effect::Establish { deed } => deed.enroll(session, enrol),
+            _ => enrol,
         }
     }
 

@@ -6,10 +6,13 @@ mod departure;
 mod draft;
 mod effect;
 mod lines;
+mod negotiation;
 mod registration;
+mod replies;
 mod rows;
 mod talking;
 mod verdict;
+mod welcome;
 
 pub use departure::decide_gone;
 pub use effect::Effect;

@@ -1,38 +1,35 @@
-//! The lines that are shown (RFC 2812, sections 2.3.1, 3.1.7, 3.2.1 and 3.3.1).
-ghost use Rattle.std.specs.Prelude.{◌≡◌, ◌++◌, [], unwrap_or, option_copied, OnOk, IfOk};
-ghost use Rattle.deeds.specs.Lines.{prefix, join_line, privmsg_line, quit_line};
+//! The lines that are shown, and those that answer without a number (RFC 2812, sections 2.3.1, 3.1.2, 3.1.7, 3.2.1, 3.3.1 and
+//! 3.7.3; IRCv3 Capability Negotiation and SASL 3.1).
+ghost use Rattle.std.specs.Prelude.{◌≡◌, ◌++◌, [], option_copied, OnOk, IfOk};
+ghost use Rattle.deeds.specs.Lines.{title, prefix, join_line, privmsg_line, quit_line, nick_line, pong_line, cap_line, go_on_line};
 
+use crate::draft::Draft;
 use chronicle::SessionId;
-use line_grammar::Octets;
-use numerics::Out;
-use roster::Roster;
+use line_grammar::{Octets, Parameters, needs_colon};
+use numerics::{Out, copied_all};
 use std::alloc::{AllocError, Global};
 
-/// Adds a name, where there is one.
-fn push_name(text: &mut Vec<u8>, name: Option<&Octets>) -> Result<(), AllocError>
-    ensures { OnOk result (text.new.items ≡ text.old.items ++ unwrap_or (option_copied name.entry) []) }
+/// Adds a name, or a star before it is known.
+fn push_title(text: &mut Vec<u8>, name: Option<&Octets>) -> Result<(), AllocError>
+    ensures { OnOk result (text.new.items ≡ text.old.items ++ title (option_copied name.entry)) }
 {
     match name {
         Some(name) => text.extend_from_slice(name.as_slice()),
-        None => Ok(()),
+        None => text.extend_from_slice(b"*"),
     }
 }
 
 /// Whom the lines of a session come from: `nick!user@host`.
 #[tactic(auto, unfolding(crate::specs::Lines::prefix))]
-pub(crate) fn prefix_of(
-    alloc: Global,
-    roster: &Roster,
-    session: SessionId,
-) -> Result<Octets, AllocError>
-    ensures { IfOk result (λ p. p ≡ prefix roster.now.facts session) }
+pub(crate) fn prefix_of(draft: &Draft<'_>, session: SessionId) -> Result<Octets, AllocError>
+    ensures { IfOk result (λ p. p ≡ prefix draft.now.facts session) }
 {
-    let mut text = Vec::new(alloc);
-    push_name(&mut text, roster.nick_of(session))?;
+    let mut text = Vec::new(draft.alloc());
+    push_title(&mut text, draft.nick_of(session))?;
     text.extend_from_slice(b"!")?;
-    push_name(&mut text, roster.user_of(session))?;
+    push_title(&mut text, draft.user_of(session))?;
     text.extend_from_slice(b"@")?;
-    text.extend_from_slice(roster.host_of(session))?;
+    text.extend_from_slice(draft.host_of(session))?;
     Ok(Octets::from_vec(text))
 }
 
@@ -40,9 +37,7 @@ pub(crate) fn prefix_of(
 pub(crate) fn join_line(alloc: Global, from: &[u8], channel: &[u8]) -> Result<Out, AllocError>
     ensures { IfOk result (λ l. l ≡ join_line from.now channel.now) }
 {
-    let mut params = Vec::new(alloc);
-    params.push(Octets::copied(alloc, channel)?)?;
-    Out::new(alloc, from, b"JOIN", params, false)
+    Out::new(alloc, from, b"JOIN", copied_all(alloc, &[channel])?, false)
 }
 
 /// The line that carries a text to a channel.
@@ -54,9 +49,7 @@ pub(crate) fn privmsg_line(
 ) -> Result<Out, AllocError>
     ensures { IfOk result (λ l. l ≡ privmsg_line from.now target.now text.now) }
 {
-    let mut params = Vec::new(alloc);
-    params.push(Octets::copied(alloc, target)?)?;
-    params.push(Octets::copied(alloc, text)?)?;
+    let params = copied_all(alloc, &[target, text])?;
     Out::new(alloc, from, b"PRIVMSG", params, true)
 }
 
@@ -64,7 +57,47 @@ pub(crate) fn privmsg_line(
 pub(crate) fn quit_line(alloc: Global, from: &[u8], text: &[u8]) -> Result<Out, AllocError>
     ensures { IfOk result (λ l. l ≡ quit_line from.now text.now) }
 {
-    let mut params = Vec::new(alloc);
-    params.push(Octets::copied(alloc, text)?)?;
-    Out::new(alloc, from, b"QUIT", params, true)
+    Out::new(alloc, from, b"QUIT", copied_all(alloc, &[text])?, true)
+}
+
+/// The line that shows a change of nickname.
+pub(crate) fn nick_line(alloc: Global, from: &[u8], new: &[u8]) -> Result<Out, AllocError>
+    ensures { IfOk result (λ l. l ≡ nick_line from.now new.now) }
+{
+    Out::new(alloc, from, b"NICK", copied_all(alloc, &[new])?, false)
+}
+
+/// The line that answers PING.
+pub(crate) fn pong_line(alloc: Global, server: &[u8], token: &[u8]) -> Result<Out, AllocError>
+    ensures { IfOk result (λ l. l ≡ pong_line server.now token.now) }
+{
+    let params = copied_all(alloc, &[server, token])?;
+    Out::new(alloc, server, b"PONG", params, needs_colon(token))
+}
+
+/// The line that answers CAP with a list.
+pub(crate) fn cap_line(
+    alloc: Global,
+    server: &[u8],
+    to: &[u8],
+    subcommand: &[u8],
+    list: &[u8],
+) -> Result<Out, AllocError>
+    ensures { IfOk result (λ l. l ≡ cap_line server.now to.now subcommand.now list.now) }
+{
+    let params = copied_all(alloc, &[to, subcommand, list])?;
+    Out::new(alloc, server, b"CAP", params, true)
+}
+
+/// The line by which a client is to go on with its exchange.
+pub(crate) fn go_on_line(alloc: Global) -> Result<Out, AllocError>
+    ensures { IfOk result (λ l. l ≡ go_on_line) }
+{
+    Ok(Out {
+        tags: Octets::from_vec(Vec::new(alloc)),
+        source: None,
+        command: Octets::copied(alloc, b"AUTHENTICATE")?,
+        params: Parameters::from_vec(copied_all(alloc, &[b"+"])?),
+        colon: false,
+    })
 }

@@ -1,16 +1,60 @@
-//! NICK, USER and QUIT, and when a session is registered (RFC 2812, section 3.1).
-ghost use Rattle.std.specs.Prelude.{◌≡◌, OnOk};
+//! NICK, USER, PASS and QUIT, and when a session is registered (RFC 2812, section 3.1).
+ghost use Rattle.std.specs.Prelude.{◌≡◌, ◌∷◌, [], OnOk};
+ghost use Rattle.roster.specs.LookBack.{exchange};
 ghost use Rattle.roster.specs.Legal.{IsOpened};
 ghost use Rattle.deeds.specs.Drafted.{grown};
-ghost use Rattle.deeds.specs.Registration.{takes_nick, introduces, quits, completed};
+ghost use Rattle.deeds.specs.Registration.{is_held, shows_nick, renames, takes_nick, introduces, passes, quits, aborts, enrolls, registers, completed};
 
 use crate::draft::Draft;
+use crate::lines::{nick_line, prefix_of};
+use crate::replies::{tell, tell_all};
+use crate::welcome::welcome;
 use chronicle::{SessionId, Why};
 use line_grammar::Octets;
-use roster::Deed;
+use numerics::Numeric;
+use registration::{NickAnswer, UserAnswer};
+use roster::{Deed, Roster};
 use std::alloc::AllocError;
 
-/// A session without a nickname takes one that no other holds.
+// ---- NICK
+
+/// Whether another session holds a nickname.
+fn is_held(roster: &Roster, session: SessionId, nick: &[u8]) -> bool
+    ensures { result ≡ is_held roster.now.facts session nick.now }
+{
+    match roster.holder(nick) {
+        Some(holder) => holder != session,
+        None => false,
+    }
+}
+
+/// Shows a change of nickname to the session and to each that shares a channel with it.
+fn show_nick(draft: &mut Draft, session: SessionId, nick: &Octets) -> Result<(), AllocError>
+    requires first { draft.old.facts ≡ draft.old.base }
+    ensures { OnOk result (draft.new ≡ grown draft.old (shows_nick draft.old.facts session nick.now ∷ [])) }
+{
+    let from = prefix_of(draft, session)?;
+    let line = nick_line(draft.alloc(), from.as_slice(), nick.as_slice())?;
+    let mut hearers = draft.before().sharers(session)?;
+    hearers.push(session)?;
+    draft.show(hearers, line)
+}
+
+/// A session takes a nickname, which is shown once it is registered.
+#[tactic(auto, using(crate::proofs::Replay::grown_grown))]
+fn rename(draft: &mut Draft, session: SessionId, nick: &Octets) -> Result<(), AllocError>
+    requires opened { IsOpened draft.old.facts session }
+    requires first { draft.old.facts ≡ draft.old.base }
+    ensures { OnOk result (draft.new ≡ grown draft.old (renames draft.old.facts session nick.now)) }
+{
+    let new = nick.clone()?;
+    if draft.is_registered(session) {
+        show_nick(draft, session, nick)?;
+    }
+    draft.establish(Deed::NickSet { session, nick: new })
+}
+
+/// A session takes a nickname that no other holds.
 pub(crate) fn take_nick(
     draft: &mut Draft,
     session: SessionId,
@@ -18,15 +62,24 @@ pub(crate) fn take_nick(
 ) -> Result<(), AllocError>
     requires opened { IsOpened draft.old.facts session }
     requires first { draft.old.facts ≡ draft.old.base }
-    ensures { OnOk result (draft.new ≡ grown draft.old (takes_nick draft.old.facts session nick.now)) }
+    ensures { OnOk result (draft.new ≡ grown draft.old (takes_nick draft.old.settings draft.old.facts session nick.now)) }
 {
-    let before = draft.before();
-    if before.nick_of(session).is_some() || before.holder(nick.as_slice()).is_some() {
-        return Ok(());
+    let is_held = is_held(draft.before(), session, nick.as_slice());
+    match draft.enrol_of(session).nick(nick.as_slice(), is_held) {
+        NickAnswer::Erroneous => {
+            let numeric = Numeric::ErroneousNickname(nick.clone()?);
+            tell(draft, session, &numeric)
+        }
+        NickAnswer::InUse => {
+            let numeric = Numeric::NicknameInUse(nick.clone()?);
+            tell(draft, session, &numeric)
+        }
+        NickAnswer::Same => Ok(()),
+        NickAnswer::Taken => rename(draft, session, nick),
     }
-    let nick = nick.clone()?;
-    draft.establish(Deed::NickSet { session, nick })
 }
+
+// ---- USER, PASS and QUIT
 
 /// A session tells its user name and real name, once.
 pub(crate) fn introduce(
@@ -36,18 +89,30 @@ pub(crate) fn introduce(
     real: &Octets,
 ) -> Result<(), AllocError>
     requires { IsOpened draft.old.facts session }
-    ensures { OnOk result (draft.new ≡ grown draft.old (introduces draft.old.facts session user.now real.now)) }
+    ensures { OnOk result (draft.new ≡ grown draft.old (introduces draft.old.settings draft.old.facts session user.now real.now)) }
 {
-    if draft.user_of(session).is_some() {
-        return Ok(());
+    match draft.enrol_of(session).user() {
+        UserAnswer::AlreadyTold => tell(draft, session, &Numeric::AlreadyRegistered),
+        UserAnswer::Accepted => {
+            let user = user.clone()?;
+            let real = real.clone()?;
+            draft.establish(Deed::UserSet {
+                session,
+                user,
+                real,
+            })
+        }
     }
-    let user = user.clone()?;
-    let real = real.clone()?;
-    draft.establish(Deed::UserSet {
-        session,
-        user,
-        real,
-    })
+}
+
+/// A session tells a password, which isn't looked at.
+pub(crate) fn pass(draft: &mut Draft, session: SessionId) -> Result<(), AllocError>
+    ensures { OnOk result (draft.new ≡ grown draft.old (passes draft.old.settings draft.old.facts session)) }
+{
+    if draft.is_registered(session) {
+        return tell(draft, session, &Numeric::AlreadyRegistered);
+    }
+    Ok(())
 }
 
 /// A session ends as its client asked.
@@ -63,16 +128,53 @@ pub(crate) fn quit(draft: &mut Draft, session: SessionId, text: &Octets) -> Resu
     })
 }
 
-/// A session that has a nickname and a user name is registered.
+// ---- registration
+
+/// An exchange of SASL that is open is aborted.
+#[tactic(auto, using(crate::proofs::Replay::grown_grown))]
+fn abort(draft: &mut Draft, session: SessionId) -> Result<(), AllocError>
+    requires { IsOpened draft.old.facts session }
+    ensures done { OnOk result (draft.new ≡ grown draft.old (aborts draft.old.settings draft.old.facts session (exchange draft.old.facts session))) }
+{
+    if draft.exchange_of(session).is_none() {
+        return Ok(());
+    }
+    tell(draft, session, &Numeric::SaslAborted)?;
+    draft.establish(Deed::ExchangeSet {
+        session,
+        exchange: None,
+    })
+}
+
+/// A session is welcomed, and registered from then on.
+#[tactic(auto, using(crate::proofs::Replay::grown_grown))]
+fn enroll(draft: &mut Draft, session: SessionId) -> Result<(), AllocError>
+    requires { IsOpened draft.old.facts session }
+    ensures { OnOk result (draft.new ≡ grown draft.old (enrolls draft.old.settings draft.old.facts session)) }
+{
+    let source = prefix_of(draft, session)?;
+    let numerics = welcome(draft.alloc(), draft.before().settings(), source)?;
+    tell_all(draft, session, &numerics)?;
+    draft.establish(Deed::Enrolled { session })
+}
+
+/// A session is registered, and an exchange that is open aborted before.
+#[tactic(auto, using(crate::proofs::Replay::grown_grown))]
+fn register(draft: &mut Draft, session: SessionId) -> Result<(), AllocError>
+    requires { IsOpened draft.old.facts session }
+    ensures { OnOk result (draft.new ≡ grown draft.old (registers draft.old.settings draft.old.facts session)) }
+{
+    abort(draft, session)?;
+    enroll(draft, session)
+}
+
+/// A session that is ready, and isn't registered yet, is registered.
 pub(crate) fn complete(draft: &mut Draft, session: SessionId) -> Result<(), AllocError>
     requires { IsOpened draft.old.facts session }
-    ensures { OnOk result (draft.new ≡ grown draft.old (completed draft.old.facts session)) }
+    ensures { OnOk result (draft.new ≡ grown draft.old (completed draft.old.settings draft.old.facts session)) }
 {
-    if draft.nick_of(session).is_some()
-        && draft.user_of(session).is_some()
-        && !draft.is_registered(session)
-    {
-        return draft.establish(Deed::Enrolled { session });
+    if draft.enrol_of(session).ready() {
+        return register(draft, session);
     }
     Ok(())
 }

@@ -1,21 +1,29 @@
 //! What comes of a command.
-ghost use Rattle.std.specs.Prelude.{◌≡◌, IfOk, OnOk};
+ghost use Rattle.std.specs.Prelude.{◌≡◌, ◌∷◌, [], option_copied, IfOk, OnOk};
 ghost use Rattle.roster.specs.LookBack.{after, opened};
 ghost use Rattle.roster.specs.Legal.{IsOpened, AreNext};
+ghost use Rattle.deeds.specs.declared.effect.Effect.TheVariants.{Answer};
 ghost use Rattle.deeds.specs.Drafted.{grown};
-ghost use Rattle.deeds.specs.Rows.{asked, joins_one, of_asked, of_command, sends_one};
+ghost use Rattle.deeds.specs.Lines.{pong_line};
+ghost use Rattle.deeds.specs.Replies.{tells_all};
+ghost use Rattle.deeds.specs.Welcome.{motd_asked};
+ghost use Rattle.deeds.specs.Rows.{asked, fault_numeric, is_for_registered, joins_one, of_asked, of_command, refused, sends_one, served};
 ghost use Rattle.deeds.specs.Verdicts.{IsVerdict};
 
 use crate::channels::join;
 use crate::draft::Draft;
-use crate::lines::prefix_of;
-use crate::registration::{complete, introduce, quit, take_nick};
+use crate::lines::{pong_line, prefix_of};
+use crate::negotiation::{authenticate, negotiate};
+use crate::registration::{complete, introduce, pass, quit, take_nick};
+use crate::replies::{tell, tell_all};
 use crate::talking::send;
 use crate::verdict::{Verdict, verdict_of};
-use casemapping::{is_channel, is_nick};
+use crate::welcome::motd_asked;
+use casemapping::is_channel;
 use chronicle::{Moment, SessionId};
-use commands::{Asked, Command, JoinTarget};
+use commands::{Asked, Command, JoinTarget, ReadFault};
 use line_grammar::Octets;
+use numerics::Numeric;
 use roster::Roster;
 use std::alloc::{AllocError, Global};
 
@@ -25,7 +33,6 @@ fn join_one(
     session: SessionId,
     targets: &[JoinTarget],
 ) -> Result<(), AllocError>
-    requires first { draft.old.facts ≡ draft.old.base }
     ensures { OnOk result (draft.new ≡ grown draft.old (joins_one draft.old.facts session targets.now)) }
 {
     let [target] = targets else {
@@ -34,7 +41,7 @@ fn join_one(
     if !is_channel(target.channel.as_slice()) {
         return Ok(());
     }
-    let from = prefix_of(draft.alloc(), draft.before(), session)?;
+    let from = prefix_of(draft, session)?;
     join(draft, session, from.as_slice(), &target.channel)
 }
 
@@ -45,35 +52,84 @@ fn send_one(
     targets: &[Octets],
     text: &Octets,
 ) -> Result<(), AllocError>
-    requires first { draft.old.facts ≡ draft.old.base }
     ensures { OnOk result (draft.new ≡ grown draft.old (sends_one draft.old.facts session targets.now text.now)) }
 {
     let [target] = targets else {
         return Ok(());
     };
-    let from = prefix_of(draft.alloc(), draft.before(), session)?;
+    let from = prefix_of(draft, session)?;
     send(draft, session, from.as_slice(), target, text)
 }
 
+/// Answers PING.
+fn pong(draft: &mut Draft, token: &[u8]) -> Result<(), AllocError>
+    ensures { OnOk result (draft.new ≡ grown draft.old (Answer (pong_line draft.old.settings.server token.now) ∷ [])) }
+{
+    let server = draft.before().settings().server.as_slice();
+    let line = pong_line(draft.alloc(), server, token)?;
+    draft.answer(line)
+}
+
+/// Answers MOTD.
+fn show_motd(
+    draft: &mut Draft,
+    session: SessionId,
+    server: &Option<Octets>,
+) -> Result<(), AllocError>
+    ensures { OnOk result (draft.new ≡ grown draft.old (tells_all draft.old.settings draft.old.facts session (motd_asked draft.old.settings server.now))) }
+{
+    let numerics = motd_asked(draft.alloc(), draft.before().settings(), server)?;
+    tell_all(draft, session, &numerics)
+}
+
+/// Whether a command is for those alone who are registered.
+fn is_for_registered(command: &Command) -> bool
+    ensures { result ≡ is_for_registered command.now }
+{
+    !matches!(
+        command,
+        Command::Cap(_)
+            | Command::Authenticate { .. }
+            | Command::Pass
+            | Command::Nick { .. }
+            | Command::User { .. }
+            | Command::Ping { .. }
+            | Command::Pong
+            | Command::Quit { .. }
+    )
+}
+
 /// Does what a command asks for by itself.
+fn serve(draft: &mut Draft, session: SessionId, command: &Command) -> Result<(), AllocError>
+    requires opened { IsOpened draft.old.facts session }
+    requires first { draft.old.facts ≡ draft.old.base }
+    ensures { OnOk result (draft.new ≡ grown draft.old (served draft.old.settings draft.old.facts session command.now)) }
+{
+    match command {
+        Command::Cap(subcommand) => negotiate(draft, session, subcommand),
+        Command::Authenticate { piece } => authenticate(draft, session, piece.as_slice()),
+        Command::Pass => pass(draft, session),
+        Command::Nick { nick } => take_nick(draft, session, nick),
+        Command::User { user, real } => introduce(draft, session, user, real),
+        Command::Ping { token } => pong(draft, token.as_slice()),
+        Command::Quit { text } => quit(draft, session, text),
+        Command::Join { targets } => join_one(draft, session, targets.as_slice()),
+        Command::Privmsg { targets, text } => send_one(draft, session, targets.as_slice(), text),
+        Command::Motd { server } => show_motd(draft, session, server),
+        _ => Ok(()),
+    }
+}
+
+/// Does what a command asks for by itself, where its session may.
 fn obey(draft: &mut Draft, session: SessionId, command: &Command) -> Result<(), AllocError>
     requires opened { IsOpened draft.old.facts session }
     requires first { draft.old.facts ≡ draft.old.base }
     ensures { OnOk result (draft.new ≡ grown draft.old (asked draft.old.settings draft.old.facts session command.now)) }
 {
-    match command {
-        Command::Nick { nick } => {
-            if !is_nick(nick.as_slice()) {
-                return Ok(());
-            }
-            take_nick(draft, session, nick)
-        }
-        Command::User { user, real } => introduce(draft, session, user, real),
-        Command::Quit { text } => quit(draft, session, text),
-        Command::Join { targets } => join_one(draft, session, targets.as_slice()),
-        Command::Privmsg { targets, text } => send_one(draft, session, targets.as_slice(), text),
-        _ => Ok(()),
+    if is_for_registered(command) && !draft.is_registered(session) {
+        return tell(draft, session, &Numeric::NotRegistered);
     }
+    serve(draft, session, command)
 }
 
 /// Does what a command asks for, and registers a session that is complete by it.
@@ -87,6 +143,38 @@ fn perform(draft: &mut Draft, session: SessionId, command: &Command) -> Result<(
     complete(draft, session)
 }
 
+/// The numeric that answers a message which asks for nothing that can be done.
+fn fault_numeric(alloc: Global, fault: &ReadFault) -> Result<Option<Numeric>, AllocError>
+    ensures { IfOk result (λ n. n ≡ fault_numeric fault.now) }
+{
+    Ok(match fault {
+        ReadFault::UnknownCommand { name } => Some(Numeric::UnknownCommand(name.clone()?)),
+        ReadFault::NeedMoreParams { command } => {
+            Some(Numeric::NeedMoreParams(Octets::copied(alloc, command.text())?))
+        }
+        ReadFault::NoNicknameGiven => Some(Numeric::NoNicknameGiven),
+        ReadFault::NoRecipient { command } => {
+            Some(Numeric::NoRecipient(Octets::copied(alloc, command.text())?))
+        }
+        ReadFault::NoTextToSend => Some(Numeric::NoTextToSend),
+        ReadFault::NoOrigin => Some(Numeric::NoOrigin),
+        ReadFault::InvalidCapSubcommand { subcommand } => {
+            Some(Numeric::InvalidCapCmd(subcommand.clone()?))
+        }
+        ReadFault::Memory => None,
+    })
+}
+
+/// Answers a message which asks for nothing that can be done.
+fn refuse(draft: &mut Draft, session: SessionId, fault: &ReadFault) -> Result<(), AllocError>
+    ensures { OnOk result (draft.new ≡ grown draft.old (refused draft.old.settings draft.old.facts session (fault_numeric fault.now))) }
+{
+    match fault_numeric(draft.alloc(), fault)? {
+        Some(numeric) => tell(draft, session, &numeric),
+        None => Ok(()),
+    }
+}
+
 /// Does what a line asks for.
 fn answer(draft: &mut Draft, session: SessionId, asked: &Asked) -> Result<(), AllocError>
     requires opened { IsOpened draft.old.facts session }
@@ -94,8 +182,10 @@ fn answer(draft: &mut Draft, session: SessionId, asked: &Asked) -> Result<(), Al
     ensures { OnOk result (draft.new ≡ grown draft.old (of_asked draft.old.settings draft.old.facts session asked.now)) }
 {
     match asked {
+        Asked::Nothing => Ok(()),
+        Asked::TooLong => tell(draft, session, &Numeric::InputTooLong),
         Asked::Command(command) => perform(draft, session, command),
-        _ => Ok(()),
+        Asked::Fault(fault) => refuse(draft, session, fault),
     }
 }
 

@@ -1,7 +1,8 @@
 //! The elementary facts that a record establishes.
 ghost use Rattle.std.specs.Prelude.{◌≡◌, ◌∷◌, ◌++◌, option_copied, OnOk};
+ghost use Rattle.std.specs.Option.{option_map};
 ghost use Rattle.registration.specs.Enrol.{enrolment};
-ghost use Rattle.roster.specs.LookBack.{enrolled, tells_on, tells_name, seated};
+ghost use Rattle.roster.specs.LookBack.{tells_host, enrolled, tells_on, tells_name, seated};
 
 use crate::names::is_same;
 use crate::people::blank_enrol;
@@ -77,6 +78,20 @@ pub enum Deed {
 }
 
 impl Deed {
+    /// What it tells of the host of a session, if anything.
+    pub fn tells_host(&self, session: SessionId) -> Option<&[u8]>
+        ensures { option_map (λ h. h.now) result ≡ tells_host session self.now }
+    {
+        match self {
+            Deed::Opened {
+                session: other,
+                host,
+            } if *other == session => Some(host.as_slice()),
+            Deed::Gone { session: other } if *other == session => Some(&[]),
+            _ => None,
+        }
+    }
+
     /// What is known of a session while it registers, after this.
     pub fn enroll<'a>(&'a self, session: SessionId, enrol: Enrol<'a>) -> Enrol<'a>
         ensures { enrolment result ≡ enrolled session self.now (enrolment enrol.entry) }
