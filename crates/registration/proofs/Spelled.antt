@@ -1,5 +1,5 @@
 -- What is read from a message of PLAIN is what the message tells, and the payload is its one spelling.
-use Rattle.std.proofs.Common.{◌≡◌, ℕ, Bool, true, false, ◌&&◌, List, [], ◌∷◌, Option, Some, None, Result, Ok, Err, sym, subst, inl, inr}
+use Rattle.std.proofs.Common.{◌≡◌, ℕ, Bool, true, false, ◌&&◌, List, [], ◌∷◌, Option, Some, None, Result, Ok, Err, ap, sym, ◌∙◌, subst, inl, inr}
 use Rattle.std.specs.List.{join_with_byte}
 use Rattle.std.specs.Option.{IfSome}
 use Rattle.std.specs.Result.{IfOk}
@@ -30,11 +30,18 @@ told_by_parts (i ∷ u ∷ p ∷ q ∷ ps) message e = tt
 told : (message : List ℕ) → IfSome (credentials_from (three_of (parts 0 message))) (Tells message)
 told message = told_by_parts (parts 0 message) message (join_with_byte-slice_split 0 message)
 
-pub tells : {E : Type 0} (message : List ℕ) (r : Result (Option Credentials) E) → IfOk r (λ found. found ≡ credentials_from (three_of (parts 0 message))) → IfOk r (λ found. IfSome found (λ c. Tells message c))
+tells : {E : Type 0} (message : List ℕ) (r : Result (Option Credentials) E) → IfOk r (λ found. found ≡ credentials_from (three_of (parts 0 message))) → IfOk r (λ found. IfSome found (λ c. Tells message c))
 tells message (Ok found) e = let P : Option Credentials → Type 0 = λ found. IfSome found (Tells message) in subst P (sym e) (told message)
 tells message (Err x) e = tt
 
-pub spells : {E : Type 0} (payload message : List ℕ) (r : Result (Option Credentials) E) → payload ≡ encode_of standard message → IfOk r (λ found. IfSome found (λ c. Tells message c)) → IfOk r (λ found. IfSome found (λ c. Spells payload c))
-spells payload message (Ok (Some c)) e told = record { message = message; tells = told; spelled = e }
-spells payload message (Ok None) e told = tt
-spells payload message (Err x) e told = tt
+spells_if_told : {E : Type 0} (payload message : List ℕ) (r : Result (Option Credentials) E) → payload ≡ encode_of standard message → IfOk r (λ found. IfSome found (λ c. Tells message c)) → IfOk r (λ found. IfSome found (λ c. Spells payload c))
+spells_if_told payload message (Ok (Some c)) e told = record { message = message; tells = told; spelled = e }
+spells_if_told payload message (Ok None) e told = tt
+spells_if_told payload message (Err x) e told = tt
+
+-- what was found in a payload, and read from that
+pub spells : {E : Type 0} (payload : List ℕ) (found : Option (List ℕ)) (message read : List ℕ) (r : Result (Option Credentials) E) → found ≡ Some message → read ≡ message → IfSome found (λ m. payload ≡ encode_of standard m) → IfOk r (λ c. c ≡ credentials_from (three_of (parts 0 read))) → IfOk r (λ c. IfSome c (λ told. Spells payload told))
+spells payload found message read r is same exact from =
+    let P : Option (List ℕ) → Type 0 = λ o. IfSome o (λ m. payload ≡ encode_of standard m) in
+    let whole : payload ≡ encode_of standard message = subst P is exact in
+    spells_if_told payload read r (whole ∙ ap (encode_of standard) (sym same)) (tells read r from)

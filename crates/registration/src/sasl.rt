@@ -1,5 +1,8 @@
 //! The PLAIN mechanism (RFC 4616).
 ghost use Rattle.std.specs.Prelude.{◌≡◌, IfOk, IfSome};
+ghost use Rattle.std.specs.Result.{result_ok};
+ghost use Rattle.base64.specs.Engines.{standard};
+ghost use Rattle.base64.specs.GeneralPurpose.{decode_of, encode_of};
 ghost use Rattle.registration.specs.Parts.{parts, three_of};
 ghost use Rattle.registration.specs.Plain.{Spells, credentials_from, credentials_of, is_own};
 
@@ -39,6 +42,19 @@ fn credentials_from(alloc: Global, message: &[u8]) -> Result<Option<Credentials>
     Ok(Some(Credentials { user, password }))
 }
 
+/// What a payload tells in base64, in the standard alphabet with padding and in its one spelling. `None` where it is
+/// anything else.
+fn decoded(alloc: Global, payload: &[u8]) -> Result<Option<Octets>, AllocError>
+    ensures found { IfOk result (λ message. message ≡ result_ok (decode_of standard payload.now)) }
+    ensures exact { IfOk result (λ message. IfSome message (λ m. payload.now ≡ encode_of standard m)) }
+{
+    match STANDARD.decode(alloc, payload) {
+        Ok(message) => Ok(Some(Octets::from_vec(message))),
+        Err(DecodeAllocError::OutOfMemory) => Err(AllocError),
+        Err(DecodeAllocError::DecodeError(_)) => Ok(None),
+    }
+}
+
 /// Who logs in by a payload of PLAIN, and with which password. The payload is in base64, in the standard
 /// alphabet with padding and in its one spelling. `None` where it is anything else, or names somebody else
 /// to act as.
@@ -47,9 +63,8 @@ pub fn plain(alloc: Global, payload: &[u8]) -> Result<Option<Credentials>, Alloc
     ensures found { IfOk result (λ found. found ≡ credentials_of payload.now) }
     ensures spelled { IfOk result (λ found. IfSome found (λ c. Spells payload.now c)) }
 {
-    match STANDARD.decode(alloc, payload) {
-        Ok(message) => credentials_from(alloc, &message),
-        Err(DecodeAllocError::OutOfMemory) => Err(AllocError),
-        Err(DecodeAllocError::DecodeError(_)) => Ok(None),
+    match decoded(alloc, payload)? {
+        Some(message) => credentials_from(alloc, message.as_slice()),
+        None => Ok(None),
     }
 }

@@ -5,6 +5,8 @@
 #[cfg(test)]
 mod again;
 #[cfg(test)]
+mod enrolling;
+#[cfg(test)]
 mod journal;
 #[cfg(test)]
 mod lines;
