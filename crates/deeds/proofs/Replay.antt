@@ -1,5 +1,6 @@
 -- What is looked up after effects is the answer before them, changed by each in turn.
-use Rattle.std.proofs.Common.{◌≡◌, ℕ, zero, suc, ◌+◌, ◌<◌, ◌≤◌, List, [], ◌∷◌, ◌++◌, length, take, get_or, unwrap_or, arith, refl, sym, ap, ◌∙◌, subst, append_assoc, length-append}
+use Rattle.std.proofs.Common.{◌≡◌, ℕ, zero, suc, ◌+◌, ◌<◌, ◌≤◌, List, [], ◌∷◌, ◌++◌, length, take, get_or, unwrap_or, arith, refl, sym, ap, ◌∙◌, subst, append_assoc, length-append, Result, Ok, Err}
+use Rattle.std.specs.Result.{OnOk}
 use Rattle.deeds.specs.Drafted.{Drafted, IsDraft, grown}
 use Rattle.std.proofs.lemmas.List.{take_more}
 use Rattle.roster.specs.declared.deed.Deed.{Deed}
@@ -94,6 +95,11 @@ grown_grown d xs ys =
     ap (λ (gs : List Deed). record { settings = d.settings; base = d.base; facts = gs; effects = d.effects ++ xs ++ ys }) (sym (after-effects d.facts xs ys))
     ∙ ap (λ (es : List Effect). record { settings = d.settings; base = d.base; facts = after d.facts (deeds_of (xs ++ ys)); effects = es }) (append_assoc d.effects xs ys)
 
+-- a step that adds effects, after one that added others
+pub on_grown : {E : Type 0} (r : Result (Unit {0}) E) (d m k : Drafted) (xs ys : List Effect) → m ≡ grown d xs → OnOk r (k ≡ grown m ys) → OnOk r (k ≡ grown d (xs ++ ys))
+on_grown (Ok u) d m k xs ys e f = f ∙ ap (λ (x : Drafted). grown x ys) e ∙ grown_grown d xs ys
+on_grown (Err x) d m k xs ys e f = tt
+
 -- ---- sessions that were opened
 
 same : (n : ℕ) → n ≤ n
@@ -120,3 +126,7 @@ opened_more fs (d ∷ ds) = let a = opened_one d fs in let b = opened_more (d �
 -- a session that was opened still is
 pub still_opened : (fs ds : List Deed) (s : ℕ) → IsOpened fs s → IsOpened (after fs ds) s
 still_opened fs ds s o = (o.0, (let a = opened_more fs ds in let b = o.1 in omega arith))
+
+-- also in a draft that grew
+pub opened_grown : (d m : Drafted) (xs : List Effect) (s : ℕ) → m ≡ grown d xs → IsOpened d.facts s → IsOpened m.facts s
+opened_grown d m xs s e o = subst (λ (x : Drafted). IsOpened x.facts s) (sym e) (still_opened d.facts (deeds_of xs) s o)

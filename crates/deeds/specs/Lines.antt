@@ -1,5 +1,5 @@
 -- The lines that are shown, and those that answer without a number: RFC 2812, sections 2.3.1 (prefix), 3.1.2 (NICK), 3.1.7 (QUIT), 3.2.1 (JOIN), 3.3.1 (PRIVMSG) and 3.7.3 (PONG); IRCv3 Capability Negotiation and SASL 3.1.
-use Rattle.std.specs.Prelude.{ℕ, List, [], ◌∷◌, ◌++◌, codes, unwrap_or, true, false, None}
+use Rattle.std.specs.Prelude.{ℕ, List, [], ◌∷◌, ◌++◌, codes, unwrap_or, true, false, Option, None}
 use Rattle.line_grammar.specs.Spelling.{needs_colon}
 use Rattle.numerics.specs.declared.outgoing.Out.{Out}
 use Rattle.numerics.specs.Outgoing.{line}

@@ -49,7 +49,7 @@ fn cap_list(alloc: Global, caps: &[Cap], shows_values: bool) -> Result<Octets, A
     ensures { IfOk result (λ l. l ≡ cap_list shows_values caps.now) }
 {
     let texts = cap_texts(alloc, caps, shows_values)?;
-    spaced(alloc, &texts)
+    Ok(Octets::from_vec(spaced(alloc, &texts)?))
 }
 
 /// Answers a subcommand with a list.
@@ -91,10 +91,10 @@ fn request(draft: &mut Draft, session: SessionId, words: &[Octets]) -> Result<()
     let shown = spaced(draft.alloc(), words)?;
     match answer {
         CapAnswer::Acknowledged { caps } => {
-            list(draft, session, b"ACK", shown.as_slice())?;
+            list(draft, session, b"ACK", &shown)?;
             draft.establish(Deed::CapsSet { session, caps })
         }
-        CapAnswer::Refused => list(draft, session, b"NAK", shown.as_slice()),
+        CapAnswer::Refused => list(draft, session, b"NAK", &shown),
     }
 }
 
@@ -147,9 +147,9 @@ pub(crate) fn negotiate(
 
 /// Answers a session with a numeric, and its exchange ends.
 #[tactic(auto, using(crate::proofs::Replay::grown_grown))]
-fn close(draft: &mut Draft, session: SessionId, numeric: &Numeric) -> Result<(), AllocError>
+fn close(draft: &mut Draft, session: SessionId, numeric: Numeric) -> Result<(), AllocError>
     requires { IsOpened draft.old.facts session }
-    ensures { OnOk result (draft.new ≡ grown draft.old (tells draft.old.settings draft.old.facts session numeric.now ∷ closes session ∷ [])) }
+    ensures { OnOk result (draft.new ≡ grown draft.old (tells draft.old.settings draft.old.facts session numeric ∷ closes session ∷ [])) }
 {
     tell(draft, session, numeric)?;
     draft.establish(Deed::ExchangeSet {
@@ -179,12 +179,17 @@ fn log_in(draft: &mut Draft, session: SessionId, account: Octets) -> Result<(), 
     requires { IsOpened draft.old.facts session }
     ensures { OnOk result (draft.new ≡ grown draft.old (sasl_answered draft.old.settings draft.old.facts session (LoggedIn account))) }
 {
-    let told = Numeric::LoggedIn {
-        source: prefix_of(draft, session)?,
-        account: account.clone()?,
-    };
-    tell(draft, session, &told)?;
-    tell(draft, session, &Numeric::SaslSuccess)?;
+    let source = prefix_of(draft, session)?;
+    let named = account.clone()?;
+    tell(
+        draft,
+        session,
+        Numeric::LoggedIn {
+            source,
+            account: named,
+        },
+    )?;
+    tell(draft, session, Numeric::SaslSuccess)?;
     draft.establish(Deed::LoggedIn { session, account })?;
     draft.establish(Deed::ExchangeSet {
         session,
@@ -207,15 +212,15 @@ pub(crate) fn authenticate(
         .enrol_of(session)
         .authenticate(draft.alloc(), accounts, piece)?;
     match answer {
-        SaslAnswer::AlreadyLoggedIn => tell(draft, session, &Numeric::SaslAlready),
-        SaslAnswer::Failed => close(draft, session, &Numeric::SaslFail),
+        SaslAnswer::AlreadyLoggedIn => tell(draft, session, Numeric::SaslAlready),
+        SaslAnswer::Failed => close(draft, session, Numeric::SaslFail),
         SaslAnswer::Opened => open(draft, session),
         SaslAnswer::UnknownMechanism => {
-            tell(draft, session, &Numeric::SaslMechs)?;
-            tell(draft, session, &Numeric::SaslFail)
+            tell(draft, session, Numeric::SaslMechs)?;
+            tell(draft, session, Numeric::SaslFail)
         }
-        SaslAnswer::Aborted => close(draft, session, &Numeric::SaslAborted),
-        SaslAnswer::TooLong => close(draft, session, &Numeric::SaslTooLong),
+        SaslAnswer::Aborted => close(draft, session, Numeric::SaslAborted),
+        SaslAnswer::TooLong => close(draft, session, Numeric::SaslTooLong),
         SaslAnswer::Waits { exchange } => draft.establish(Deed::ExchangeSet {
             session,
             exchange: Some(exchange),

@@ -20,8 +20,8 @@ pub(crate) fn title_of(alloc: Global, name: Option<&Octets>) -> Result<Octets, A
     }
 }
 
-/// Answers a session with a numeric.
-pub(crate) fn tell(
+/// Answers a session with a numeric that is lent.
+fn tell_lent(
     draft: &mut Draft,
     session: SessionId,
     numeric: &Numeric,
@@ -34,6 +34,17 @@ pub(crate) fn tell(
     draft.answer(line)
 }
 
+/// Answers a session with a numeric.
+pub(crate) fn tell(
+    draft: &mut Draft,
+    session: SessionId,
+    numeric: Numeric,
+) -> Result<(), AllocError>
+    ensures { OnOk result (draft.new ≡ grown draft.old (tells draft.old.settings draft.old.facts session numeric ∷ [])) }
+{
+    tell_lent(draft, session, &numeric)
+}
+
 /// Answers a session with several numerics.
 pub(crate) fn tell_all(
     draft: &mut Draft,
@@ -43,7 +54,7 @@ pub(crate) fn tell_all(
     ensures { OnOk result (draft.new ≡ grown draft.old (tells_all draft.old.settings draft.old.facts session numerics.now)) }
 {
     for numeric in numerics {
-        tell(draft, session, numeric)?;
+        tell_lent(draft, session, numeric)?;
     }
     Ok(())
 }

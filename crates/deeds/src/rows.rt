@@ -14,7 +14,7 @@ use crate::channels::join;
 use crate::draft::Draft;
 use crate::lines::{pong_line, prefix_of};
 use crate::negotiation::{authenticate, negotiate};
-use crate::registration::{complete, introduce, pass, quit, take_nick};
+use crate::enrolling::{complete, introduce, pass, quit, take_nick};
 use crate::replies::{tell, tell_all};
 use crate::talking::send;
 use crate::verdict::{Verdict, verdict_of};
@@ -127,7 +127,7 @@ fn obey(draft: &mut Draft, session: SessionId, command: &Command) -> Result<(), 
     ensures { OnOk result (draft.new ≡ grown draft.old (asked draft.old.settings draft.old.facts session command.now)) }
 {
     if is_for_registered(command) && !draft.is_registered(session) {
-        return tell(draft, session, &Numeric::NotRegistered);
+        return tell(draft, session, Numeric::NotRegistered);
     }
     serve(draft, session, command)
 }
@@ -170,7 +170,7 @@ fn refuse(draft: &mut Draft, session: SessionId, fault: &ReadFault) -> Result<()
     ensures { OnOk result (draft.new ≡ grown draft.old (refused draft.old.settings draft.old.facts session (fault_numeric fault.now))) }
 {
     match fault_numeric(draft.alloc(), fault)? {
-        Some(numeric) => tell(draft, session, &numeric),
+        Some(numeric) => tell(draft, session, numeric),
         None => Ok(()),
     }
 }
@@ -183,7 +183,7 @@ fn answer(draft: &mut Draft, session: SessionId, asked: &Asked) -> Result<(), Al
 {
     match asked {
         Asked::Nothing => Ok(()),
-        Asked::TooLong => tell(draft, session, &Numeric::InputTooLong),
+        Asked::TooLong => tell(draft, session, Numeric::InputTooLong),
         Asked::Command(command) => perform(draft, session, command),
         Asked::Fault(fault) => refuse(draft, session, fault),
     }

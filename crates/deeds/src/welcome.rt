@@ -3,14 +3,12 @@ ghost use Rattle.std.specs.Prelude.{◌≡◌, ◌∷◌, ◌++◌, [], map, IfO
 ghost use Rattle.numerics.specs.declared.numeric.Numeric.TheVariants.{ISupport, Motd as MotdLine};
 ghost use Rattle.numerics.specs.CivilTime.{time_text};
 ghost use Rattle.registration.specs.Settings.{IsWellSet};
-ghost use Rattle.roster.specs.LookBack.{is_same};
 ghost use Rattle.deeds.specs.Welcome.{motd_numerics, motd_asked, support_numerics, welcome_numerics};
 
-use casemapping::same;
-use chronicle::Moment;
 use line_grammar::Octets;
 use numerics::{Numeric, TimeFault, Words, split_tokens, time_text, tokens};
 use registration::{Motd, Settings};
+use roster::is_same;
 use std::alloc::{AllocError, Global};
 
 /// Octets of the tokens in a line, at most: so it fits with every server's name and nickname.
@@ -39,12 +37,6 @@ fn push_motd(numerics: &mut Vec<Numeric>, motd: &Option<Motd>) -> Result<(), All
         None => numerics.push(Numeric::NoMotd)?,
     }
     Ok(())
-}
-
-fn is_same(a: &[u8], b: &[u8]) -> bool
-    ensures { result ≡ is_same a.now b.now }
-{
-    same(a, b)
 }
 
 /// The message of the day of a server that was asked for, where it is this one.

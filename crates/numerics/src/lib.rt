@@ -21,4 +21,5 @@ pub use numeric::{Numeric, Who};
 pub use outgoing::{Out, copied_all};
 pub use prefix::{Prefix, prefixed};
 pub use support::tokens;
+pub use texts::spaced;
 pub use words::Words;

@@ -18,7 +18,7 @@ pub(crate) fn joined(alloc: Global, pieces: &[&[u8]]) -> Result<Vec<u8>, AllocEr
 }
 
 /// Words put together, with a space between each two.
-pub(crate) fn spaced(alloc: Global, words: &[Octets]) -> Result<Vec<u8>, AllocError>
+pub fn spaced(alloc: Global, words: &[Octets]) -> Result<Vec<u8>, AllocError>
     ensures { IfOk result (λ t. t.items ≡ spaced words.now) }
 {
     let mut text = Vec::new(alloc);

@@ -1,6 +1,6 @@
 //! Capabilities (IRCv3 Capability Negotiation).
 ghost use Rattle.std.specs.Prelude.{◌≡◌, IfOk, true, false, ◌==◌, cond, MatchOption, Some, None, not};
-ghost use Rattle.registration.specs.Caps.{after_request, after_word, cap_name, cap_named, is_known, is_on, list_of, name_of_word, none_on, turned, turns_on};
+ghost use Rattle.registration.specs.Caps.{after_request, all_caps, after_word, cap_name, cap_named, is_known, is_on, list_of, name_of_word, none_on, turned, turns_on};
 
 use line_grammar::Octets;
 use std::alloc::{AllocError, Global};
@@ -33,6 +33,13 @@ const ALL: [Cap; 6] = [
 ];
 
 impl Cap {
+    /// Every capability, sorted by name.
+    pub fn all() -> &'static [Cap]
+        ensures { result.now ≡ all_caps }
+    {
+        &ALL
+    }
+
     /// Its name.
     pub fn name(&self) -> &'static [u8]
         ensures { result.now ≡ cap_name self.now }

@@ -16,5 +16,6 @@ mod tables;
 
 pub use deed::Deed;
 pub use laws::{channels_have_one_name, spelled_names_are_names};
+pub use names::is_same;
 pub use roster::Roster;
 pub use sessions::Sessions;

@@ -3,6 +3,9 @@ ghost use Rattle.std.specs.Prelude.{◌≡◌, ◌∷◌, [], OnOk};
 ghost use Rattle.roster.specs.LookBack.{exchange};
 ghost use Rattle.roster.specs.Legal.{IsOpened};
 ghost use Rattle.deeds.specs.Drafted.{grown};
+ghost use Rattle.deeds.specs.Lines.{prefix};
+ghost use Rattle.deeds.specs.Replies.{tells_all};
+ghost use Rattle.deeds.specs.Welcome.{welcome_numerics};
 ghost use Rattle.deeds.specs.Registration.{is_held, shows_nick, renames, takes_nick, introduces, passes, quits, aborts, enrolls, registers, completed};
 
 use crate::draft::Draft;
@@ -67,12 +70,12 @@ pub(crate) fn take_nick(
     let is_held = is_held(draft.before(), session, nick.as_slice());
     match draft.enrol_of(session).nick(nick.as_slice(), is_held) {
         NickAnswer::Erroneous => {
-            let numeric = Numeric::ErroneousNickname(nick.clone()?);
-            tell(draft, session, &numeric)
+            let nick = nick.clone()?;
+            tell(draft, session, Numeric::ErroneousNickname(nick))
         }
         NickAnswer::InUse => {
-            let numeric = Numeric::NicknameInUse(nick.clone()?);
-            tell(draft, session, &numeric)
+            let nick = nick.clone()?;
+            tell(draft, session, Numeric::NicknameInUse(nick))
         }
         NickAnswer::Same => Ok(()),
         NickAnswer::Taken => rename(draft, session, nick),
@@ -92,7 +95,7 @@ pub(crate) fn introduce(
     ensures { OnOk result (draft.new ≡ grown draft.old (introduces draft.old.settings draft.old.facts session user.now real.now)) }
 {
     match draft.enrol_of(session).user() {
-        UserAnswer::AlreadyTold => tell(draft, session, &Numeric::AlreadyRegistered),
+        UserAnswer::AlreadyTold => tell(draft, session, Numeric::AlreadyRegistered),
         UserAnswer::Accepted => {
             let user = user.clone()?;
             let real = real.clone()?;
@@ -110,7 +113,7 @@ pub(crate) fn pass(draft: &mut Draft, session: SessionId) -> Result<(), AllocErr
     ensures { OnOk result (draft.new ≡ grown draft.old (passes draft.old.settings draft.old.facts session)) }
 {
     if draft.is_registered(session) {
-        return tell(draft, session, &Numeric::AlreadyRegistered);
+        return tell(draft, session, Numeric::AlreadyRegistered);
     }
     Ok(())
 }
@@ -139,11 +142,20 @@ fn abort(draft: &mut Draft, session: SessionId) -> Result<(), AllocError>
     if draft.exchange_of(session).is_none() {
         return Ok(());
     }
-    tell(draft, session, &Numeric::SaslAborted)?;
+    tell(draft, session, Numeric::SaslAborted)?;
     draft.establish(Deed::ExchangeSet {
         session,
         exchange: None,
     })
+}
+
+/// A session is welcomed.
+fn greet(draft: &mut Draft, session: SessionId) -> Result<(), AllocError>
+    ensures { OnOk result (draft.new ≡ grown draft.old (tells_all draft.old.settings draft.old.facts session (welcome_numerics draft.old.settings (prefix draft.old.facts session)))) }
+{
+    let source = prefix_of(draft, session)?;
+    let numerics = welcome(draft.alloc(), draft.before().settings(), source)?;
+    tell_all(draft, session, &numerics)
 }
 
 /// A session is welcomed, and registered from then on.
@@ -152,9 +164,7 @@ fn enroll(draft: &mut Draft, session: SessionId) -> Result<(), AllocError>
     requires { IsOpened draft.old.facts session }
     ensures { OnOk result (draft.new ≡ grown draft.old (enrolls draft.old.settings draft.old.facts session)) }
 {
-    let source = prefix_of(draft, session)?;
-    let numerics = welcome(draft.alloc(), draft.before().settings(), source)?;
-    tell_all(draft, session, &numerics)?;
+    greet(draft, session)?;
     draft.establish(Deed::Enrolled { session })
 }
 
