@@ -171,8 +171,7 @@ fn pieces_are_answered(rt: HostRuntime) -> Result<(), Fail> {
     let own = copied(alloc, b"al")?;
     for (place, (sasl, sent, piece, want)) in PIECES.iter().enumerate() {
         let so_far = copied(alloc, sent.unwrap_or(b""))?;
-        let exchange = if sent.is_some() { Some(&so_far) } else { None };
-        let enrol = enrol_of(&own, *sasl, exchange);
+        let enrol = enrol_of(&own, *sasl, sent.map(|_| &so_far));
         let answer = twice(|| enrol.authenticate(alloc, &accounts, piece))?;
         assert_eq!(rt; told(&answer), *want, "{place}");
     }
