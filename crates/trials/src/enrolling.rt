@@ -65,20 +65,26 @@ fn passwords_are_checked(rt: HostRuntime) -> Result<(), Fail> {
     Ok(())
 }
 
-const LONG: [u8; 401] = [b'x'; 401];
+const INFO: &[u8] = &[b'x'; 100];
 
-/// A server's name and version, octets of what is told of it and of a line of its message of the day, when it was created,
-/// how many sessions it has, and whether it is well set.
-const SETTINGS: [(&str, &str, usize, usize, i64, usize, bool); 9] = [
-    ("irc.example", "halld-1", 100, 400, 0, 1024, true),
-    ("irc.example", "v", 0, 0, 253_370_764_799_999, 1, true),
-    ("irc example", "v", 0, 0, 0, 1, false),
-    ("irc.example", "v 1", 0, 0, 0, 1, false),
-    ("irc.example", "v", 101, 0, 0, 1, false),
-    ("irc.example", "v", 0, 401, 0, 1, false),
-    ("irc.example", "v", 0, 0, -1, 1, false),
-    ("irc.example", "v", 0, 0, 0, 0, false),
-    ("irc.example", "v", 0, 0, 0, 1025, false),
+const LONG_INFO: &[u8] = &[b'x'; 101];
+
+const LINE: &[u8] = &[b'x'; 400];
+
+const LONG_LINE: &[u8] = &[b'x'; 401];
+
+/// A server's name and version, what is told of it, a line of its message of the day, when it was created, how many sessions
+/// it has, and whether it is well set.
+const SETTINGS: [(&str, &str, &[u8], &[u8], i64, usize, bool); 9] = [
+    ("irc.example", "halld-1", INFO, LINE, 0, 1024, true),
+    ("irc.example", "v", b"", b"", 253_370_764_799_999, 1, true),
+    ("irc example", "v", b"", b"", 0, 1, false),
+    ("irc.example", "v 1", b"", b"", 0, 1, false),
+    ("irc.example", "v", LONG_INFO, b"", 0, 1, false),
+    ("irc.example", "v", b"", LONG_LINE, 0, 1, false),
+    ("irc.example", "v", b"", b"", -1, 1, false),
+    ("irc.example", "v", b"", b"", 0, 0, false),
+    ("irc.example", "v", b"", b"", 0, 1025, false),
 ];
 
 fn motd_of(alloc: Global, line: &[u8]) -> Result<Motd, AllocError> {
@@ -93,10 +99,10 @@ fn settings_have_limits(rt: HostRuntime) -> Result<(), Fail> {
     for (server, version, info, line, created, sessions, want) in &SETTINGS {
         let settings = Settings {
             server: copied(alloc, server.as_bytes())?,
-            info: copied(alloc, &LONG[..*info])?,
+            info: copied(alloc, info)?,
             version: copied(alloc, version.as_bytes())?,
             created: Moment::new(*created),
-            motd: Some(twice(|| motd_of(alloc, &LONG[..*line]))?),
+            motd: Some(twice(|| motd_of(alloc, line))?),
             accounts: Accounts::new(alloc),
             sessions: *sessions,
         };
