@@ -20,7 +20,7 @@ pub struct Who {
 /// What the server answers or tells: a reply or an error of RFC 2812, section 5, or of IRCv3.
 ///
 /// A word that can't stand as a middle parameter (it is empty, has a space or begins with a colon) is shown as `*`.
-#[derive(Debug, Drop)]
+#[derive(Drop)]
 pub enum Numeric {
     /// 001. Who has registered, as `nick!user@host`.
     Welcome(Octets),
