@@ -30,7 +30,7 @@ pub enum Numeric {
     Created(Octets),
     /// 004. The version, with the modes of users and channels that the server knows.
     MyInfo(Octets),
-    /// 005. What the server supports: RPL_ISUPPORT, in no RFC. See [`isupport`].
+    /// 005. What the server supports: RPL_ISUPPORT, in no RFC. See [`tokens`](crate::tokens).
     ISupport(Words),
     /// 221. The receiver's user modes.
     UModeIs(Octets),

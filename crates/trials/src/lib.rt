@@ -15,4 +15,6 @@ mod outboxes;
 #[cfg(test)]
 mod rosters;
 #[cfg(test)]
+mod spelling_out;
+#[cfg(test)]
 mod tags;
