@@ -1,10 +1,10 @@
 //! What numerics, moments, names in lines and commands are spelled out as.
 use crate::again::{copied, twice};
-use commands::{ReadFault, read, read_piece};
-use line_grammar::{Piece, parse};
+use commands::{Asked, Command, ReadFault, read, read_piece};
+use line_grammar::{Octets, Piece, parse};
 use numerics::{
-    Numeric, Prefix, TimeFault, Words, copied_all, prefixed, split_names, split_tokens, time_text,
-    tokens,
+    Numeric, Out, Prefix, TimeFault, Words, copied_all, prefixed, split_names, split_tokens,
+    time_text, tokens,
 };
 use std::alloc::{AllocError, Global};
 use std::test::Fail;
@@ -44,11 +44,22 @@ const NUMERICS: [(u16, &[u8]); 5] = [
     (451, b":s 451 al :You have not registered\r\n"),
 ];
 
+/// The octets of a line, and the room that it has.
+fn spelled(alloc: Global, line: &Out) -> Result<(Octets, usize), AllocError> {
+    let room = line.room(alloc)?;
+    Ok((line.octets(alloc)?, room))
+}
+
+fn line_of(alloc: Global, code: u16) -> Result<Out, AllocError> {
+    let numeric = numeric(alloc, code)?;
+    numeric.line(alloc, b"s", b"al")
+}
+
 /// Whether a numeric's line is spelled so, and has the room that is left of 510 octets.
 fn is_line(alloc: Global, code: u16, want: &[u8]) -> Result<bool, AllocError> {
-    let line = numeric(alloc, code)?.line(alloc, b"s", b"al")?;
-    let room = 512usize.saturating_sub(want.len());
-    Ok(line.octets(alloc)?.as_slice() == want && line.room(alloc)? == room)
+    let line = line_of(alloc, code)?;
+    let (octets, room) = spelled(alloc, &line)?;
+    Ok(octets.as_slice() == want && room == 512usize.saturating_sub(want.len()))
 }
 
 #[test]
@@ -149,15 +160,22 @@ const LINES: [(&[u8], &str); 37] = [
     (b"MOTD", "Ok(Motd { server: None })"),
 ];
 
+fn begins(
+    alloc: Global,
+    read: &Result<Command, ReadFault>,
+    want: &str,
+) -> Result<bool, AllocError> {
+    match read {
+        Err(ReadFault::Memory) => Err(AllocError),
+        read => Ok(format!(in alloc; "{read:?}")?.starts_with(want)),
+    }
+}
+
 fn is_read(alloc: Global, line: &[u8], want: &str) -> Result<bool, AllocError> {
     let Ok(message) = parse(alloc, line) else {
         return Err(AllocError);
     };
-    let read = read(alloc, &message);
-    if read == Err(ReadFault::Memory) {
-        return Err(AllocError);
-    }
-    Ok(format!(in alloc; "{read:?}")?.starts_with(want))
+    begins(alloc, &read(alloc, &message), want)
 }
 
 #[test]
@@ -178,11 +196,15 @@ const ASKED: [(&[u8], &str); 6] = [
     (b"quit", "Command(Quit"),
 ];
 
-/// Whether this is asked, and the end of the session only by the last line.
-fn is_asked(alloc: Global, line: &[u8], want: &str) -> Result<bool, AllocError> {
-    let asked = read_piece(alloc, &Piece::Line(copied(alloc, line)?))?;
-    let quits = line == b"quit".as_slice();
+/// Whether it begins so, and asks for the end of the session where it should.
+fn asks(alloc: Global, asked: &Asked, quits: bool, want: &str) -> Result<bool, AllocError> {
     Ok(asked.is_quit() == quits && format!(in alloc; "{asked:?}")?.starts_with(want))
+}
+
+fn is_asked(alloc: Global, line: &[u8], want: &str) -> Result<bool, AllocError> {
+    let piece = Piece::Line(copied(alloc, line)?);
+    let asked = read_piece(alloc, &piece)?;
+    asks(alloc, &asked, line == b"quit".as_slice(), want)
 }
 
 #[test]
