@@ -20,7 +20,7 @@ pub struct Who {
 /// What the server answers or tells: a reply or an error of RFC 2812, section 5, or of IRCv3.
 ///
 /// A word that can't stand as a middle parameter (it is empty, has a space or begins with a colon) is shown as `*`.
-#[derive(Debug, Drop)]
+#[derive(Drop)]
 pub enum Numeric {
     /// 001. Who has registered, as `nick!user@host`.
     Welcome(Octets),
@@ -30,7 +30,7 @@ pub enum Numeric {
     Created(Octets),
     /// 004. The version, with the modes of users and channels that the server knows.
     MyInfo(Octets),
-    /// 005. What the server supports: RPL_ISUPPORT, in no RFC. See [`isupport`].
+    /// 005. What the server supports: RPL_ISUPPORT, in no RFC. See [`tokens`](crate::tokens).
     ISupport(Words),
     /// 221. The receiver's user modes.
     UModeIs(Octets),

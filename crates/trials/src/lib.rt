@@ -17,4 +17,6 @@ mod outboxes;
 #[cfg(test)]
 mod rosters;
 #[cfg(test)]
+mod spelling_out;
+#[cfg(test)]
 mod tags;
