@@ -7,6 +7,7 @@ use Rattle.chronicle.specs.declared.record.Kind.TheVariants as kind
 use Rattle.chronicle.specs.History.{Rec, sessions, said_by, accepted, misses, ends, shut, leaves, gone}
 use Rattle.outbox.specs.declared.item.Item.{Item}
 use Rattle.deeds.specs.Deeds.{facts, lines}
+use Rattle.registration.specs.declared.settings.Settings.{Settings}
 use Rattle.book.specs.Owed.{item, delivery, owed}
 use Rattle.book.specs.Legal.{IsKind, AreMissed, IsLegal}
 
@@ -24,35 +25,35 @@ leaves-none h (kind.Hung s w) t i l = refl
 leaves-none h (kind.Gone s) t i l = let ne : s ≢ t = let j = i.1 in omega arith in ne_eqb s t ne
 
 -- a record gives nothing to who was never opened
-delivery-none : (h : List Rec) (k : Kind) (t : ℕ) → IsKind h k → sessions h < t → delivery h k t ≡ []
-delivery-none h k t ik before =
+delivery-none : (g : Settings) (h : List Rec) (k : Kind) (t : ℕ) → IsKind h k → sessions h < t → delivery g h k t ≡ []
+delivery-none g h k t ik before =
     let late : nat_le t (sessions h) ≡ false = grind (arith, nat_tests) in
-    rw (ends-none h k t ik before) (ap (λ b. item (length h + 1) (cond b (lines (facts h) k t) [])) late)
+    rw (ends-none h k t ik before) (ap (λ b. item (length h + 1) (cond b (lines g (facts g h) k t) [])) late)
 
 -- nothing is owed to who was never opened
-pub not_owed : (h : List Rec) (t : ℕ) → IsLegal h → sessions h < t → owed h t ≡ []
-not_owed [] t i l = refl
-not_owed (r ∷ h) t i l =
+pub not_owed : (g : Settings) (h : List Rec) (t : ℕ) → IsLegal g h → sessions h < t → owed g h t ≡ []
+not_owed g [] t i l = refl
+not_owed g (r ∷ h) t i l =
     let before : sessions h < t = omega arith in let E : List Item = [] in
-    let d = delivery-none h r.kind t i.2 before in
-    rw (not_owed h t i.4 before) (rw d (elim (misses r t || shut h t) as (λ b. cond b E E ≡ E) [ true ↦ refl | false ↦ refl ]))
+    let d = delivery-none g h r.kind t i.2 before in
+    rw (not_owed g h t i.4 before) (rw d (elim (misses r t || shut h t) as (λ b. cond b E E ≡ E) [ true ↦ refl | false ↦ refl ]))
 
 -- nor is it shut, and nothing of it was accepted
-missed_not : (h : List Rec) (k : Kind) (ts : List ℕ) (t : ℕ) → delivery h k t ≡ [] → AreMissed h k ts → list_any (λ u. u == t) ts ≡ false
-missed_not h k [] t d a = refl
-missed_not h k (u ∷ ts) t d a =
+missed_not : (g : Settings) (h : List Rec) (k : Kind) (ts : List ℕ) (t : ℕ) → delivery g h k t ≡ [] → AreMissed g h k ts → list_any (λ u. u == t) ts ≡ false
+missed_not g h k [] t d a = refl
+missed_not g h k (u ∷ ts) t d a =
     elim (eqb_tells u t) [
-      | inl same ↦ absurd (a.0 (ap (delivery h k) same.1 ∙ d))
-      | inr other ↦ rw other.0 (missed_not h k ts t d a.3)
+      | inl same ↦ absurd (a.0 (ap (delivery g h k) same.1 ∙ d))
+      | inr other ↦ rw other.0 (missed_not g h k ts t d a.3)
     ]
 
-pub not_shut : (h : List Rec) (t : ℕ) → IsLegal h → sessions h < t → shut h t ≡ false
-not_shut [] t i l = refl
-not_shut (r ∷ h) t i l = let before : sessions h < t = omega arith in rw (missed_not h r.kind r.missed t (delivery-none h r.kind t i.2 before) i.3) (rw (ends-none h r.kind t i.2 before) (not_shut h t i.4 before))
+pub not_shut : (g : Settings) (h : List Rec) (t : ℕ) → IsLegal g h → sessions h < t → shut h t ≡ false
+not_shut g [] t i l = refl
+not_shut g (r ∷ h) t i l = let before : sessions h < t = omega arith in rw (missed_not g h r.kind r.missed t (delivery-none g h r.kind t i.2 before) i.3) (rw (ends-none h r.kind t i.2 before) (not_shut g h t i.4 before))
 
-pub not_gone : (h : List Rec) (t : ℕ) → IsLegal h → sessions h < t → gone h t ≡ false
-not_gone [] t i l = refl
-not_gone (r ∷ h) t i l = let before : sessions h < t = omega arith in rw (leaves-none h r.kind t i.2 before) (not_gone h t i.4 before)
+pub not_gone : (g : Settings) (h : List Rec) (t : ℕ) → IsLegal g h → sessions h < t → gone h t ≡ false
+not_gone g [] t i l = refl
+not_gone g (r ∷ h) t i l = let before : sessions h < t = omega arith in rw (leaves-none h r.kind t i.2 before) (not_gone g h t i.4 before)
 
 said_not : (h : List Rec) (k : Kind) (t : ℕ) → IsKind h k → sessions h < t → said_by k t ≡ []
 said_not h (kind.Opened s host) t i l = refl
@@ -60,9 +61,9 @@ said_not h (kind.Hung s w) t i l = refl
 said_not h (kind.Gone s) t i l = refl
 said_not h (kind.Said s n piece) t i l = let ne : s ≢ t = let j = i.1 in omega arith in rw (ne_eqb s t ne) refl
 
-pub not_accepted : (h : List Rec) (t : ℕ) → IsLegal h → sessions h < t → accepted h t ≡ []
-not_accepted [] t i l = refl
-not_accepted (r ∷ h) t i l = let before : sessions h < t = omega arith in rw (not_accepted h t i.4 before) (said_not h r.kind t i.2 before)
+pub not_accepted : (g : Settings) (h : List Rec) (t : ℕ) → IsLegal g h → sessions h < t → accepted h t ≡ []
+not_accepted g [] t i l = refl
+not_accepted g (r ∷ h) t i l = let before : sessions h < t = omega arith in rw (not_accepted g h t i.4 before) (said_not h r.kind t i.2 before)
 
 -- ---- who is gone was shut before
 
@@ -85,14 +86,14 @@ gone_by : (r : Rec) (h : List Rec) (t : ℕ) (b : Bool) → leaves r.kind t ≡ 
 gone_by r h t true eb i f e = left_by h r.kind t i eb
 gone_by r h t false eb i f e = f e
 
-pub gone_shut : (h : List Rec) (t : ℕ) → IsLegal h → gone h t ≡ true → shut h t ≡ true
-gone_shut [] t i e = absurd (let f : false ≡ true = e in cc)
-gone_shut (r ∷ h) t i e = shut_more (misses r t) (ends r.kind t) (shut h t) (gone_by r h t (leaves r.kind t) refl i.2 (gone_shut h t i.4) e)
+pub gone_shut : (g : Settings) (h : List Rec) (t : ℕ) → IsLegal g h → gone h t ≡ true → shut h t ≡ true
+gone_shut g [] t i e = absurd (let f : false ≡ true = e in cc)
+gone_shut g (r ∷ h) t i e = shut_more (misses r t) (ends r.kind t) (shut h t) (gone_by r h t (leaves r.kind t) refl i.2 (gone_shut g h t i.4) e)
 
 -- who isn't shut isn't gone
-open_not_gone : (h : List Rec) (t : ℕ) (b : Bool) → gone h t ≡ b → IsLegal h → shut h t ≡ false → gone h t ≡ false
-open_not_gone h t true e i open_ = absurd (let f : true ≡ false = sym (gone_shut h t i e) ∙ open_ in cc)
-open_not_gone h t false e i open_ = e
+open_not_gone : (g : Settings) (h : List Rec) (t : ℕ) (b : Bool) → gone h t ≡ b → IsLegal g h → shut h t ≡ false → gone h t ≡ false
+open_not_gone g h t true e i open_ = absurd (let f : true ≡ false = sym (gone_shut g h t i e) ∙ open_ in cc)
+open_not_gone g h t false e i open_ = e
 
-pub not_gone_yet : (h : List Rec) (t : ℕ) → IsLegal h → shut h t ≡ false → gone h t ≡ false
-not_gone_yet h t i open_ = open_not_gone h t (gone h t) refl i open_
+pub not_gone_yet : (g : Settings) (h : List Rec) (t : ℕ) → IsLegal g h → shut h t ≡ false → gone h t ≡ false
+not_gone_yet g h t i open_ = open_not_gone g h t (gone h t) refl i open_

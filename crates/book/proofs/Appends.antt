@@ -11,12 +11,13 @@ use Rattle.chronicle.specs.Journal as journal
 use Rattle.outbox.specs.Ring.{Waiting, has_room, with_put}
 use Rattle.outbox.specs.declared.item.Item.TheVariants.{Last}
 use Rattle.roster.specs.declared.deed.Deed.{Deed}
-use Rattle.deeds.specs.Commands.{command_of}
+use Rattle.commands.specs.Asked.{asked_of}
 use Rattle.roster.specs.LookBack.{after, opened}
 use Rattle.roster.specs.Legal.{IsOpened}
-use Rattle.deeds.specs.Rows.{of_command}
+use Rattle.deeds.specs.Rows.{of_asked}
 use Rattle.deeds.specs.Departure.{departs}
 use Rattle.deeds.specs.Effects.{deeds_of}
+use Rattle.registration.specs.declared.settings.Settings.{Settings}
 use Rattle.book.specs.declared.plan.Planned.{Planned}
 use Rattle.book.specs.declared.seat.Seat.{Seat}
 use Rattle.book.specs.Kept.{IsKept}
@@ -39,7 +40,7 @@ seat_there seats place s x e l is = let p : place ≡ s - 1 = omega arith in is 
 
 -- ---- a line
 
-module _ (j : journal.Shown) (most : ℕ) (known : List Deed) (seats : List Seat) (boxes : List (Option Waiting)) (none : List Planned) (busy : Bool) (i : IsKept j most known seats boxes none busy) where
+module _ (j : journal.Shown) (g : Settings) (known : List Deed) (seats : List Seat) (boxes : List (Option Waiting)) (none : List Planned) (busy : Bool) (i : IsKept j g known seats boxes none busy) where
   -- there are as many seats as sessions
   seated : (s : ℕ) → s ≤ sessions j.history → s ≤ length seats
   seated s l = let a = i.sound.sessions in let b = i.places in omega arith
@@ -49,22 +50,22 @@ module _ (j : journal.Shown) (most : ℕ) (known : List Deed) (seats : List Seat
   known_opened s from to = (from, (let a = i.sound.sessions in let b = i.opened in omega arith))
 
   pub said_plan : (b : Turn) (piece : Piece) (moment : ℤ) (place number : ℕ) (quits : Bool) (plan : List Planned)
-      → MayBegin (shown j most boxes none busy) b moment → place + 1 ≡ b.session → number ≡ length j.history + 1 → quits ≡ is_quit piece
-      → plan ≡ planned_from seats (place + 1) number (of_command known (place + 1) (command_of piece)) quits
-      → plan ≡ plan_of j.history (Said b.session b.next piece) (length boxes)
+      → MayBegin (shown j g boxes none busy) b moment → place + 1 ≡ b.session → number ≡ length j.history + 1 → quits ≡ is_quit piece
+      → plan ≡ planned_from seats (place + 1) number (of_asked g known (place + 1) (asked_of piece)) quits
+      → plan ≡ plan_of g j.history (Said b.session b.next piece) (length boxes)
   said_plan b piece moment place number quits plan may ep en eq eplan =
       let h = j.history in let s = b.session in let k = Said s b.next piece in
       let from : 0 < s = may.turn.from_1 in let to : s ≤ length seats = seated s may.turn.opened in
       let own : ends k s ≡ quits = ap (λ c. c && is_quit piece) (eq-eqb s s refl) ∙ sym eq in
-      eplan ∙ ap (λ (y : ℕ). planned_from seats y number (of_command known y (command_of piece)) quits) ep ∙ ap (λ (fs : List Deed). planned_from seats s number (of_command fs s (command_of piece)) quits) i.facts
-      ∙ plan_right h seats k quits number (length boxes) i.each_seat en i.places (i.places ∙ sym i.sound.sessions) from to own refl (λ t ne. (quiet k t refl ne).0)
+      eplan ∙ ap (λ (y : ℕ). planned_from seats y number (of_asked g known y (asked_of piece)) quits) ep ∙ ap (λ (fs : List Deed). planned_from seats s number (of_asked g fs s (asked_of piece)) quits) i.facts
+      ∙ plan_right g h seats k quits number (length boxes) i.each_seat en i.places (i.places ∙ sym i.sound.sessions) from to own refl (λ t ne. (quiet k t refl ne).0)
 
   pub said_kept : (k : journal.Shown) (more_known : List Deed) (plan : List Planned) (b : Turn) (piece : Piece) (moment : ℤ) (place : ℕ) (quits : Bool) (x : Seat)
-      → MayBegin (shown j most boxes none busy) b moment → place + 1 ≡ b.session → quits ≡ is_quit piece
-      → plan ≡ plan_of j.history (Said b.session b.next piece) (length boxes)
+      → MayBegin (shown j g boxes none busy) b moment → place + 1 ≡ b.session → quits ≡ is_quit piece
+      → plan ≡ plan_of g j.history (Said b.session b.next piece) (length boxes)
       → k.history ≡ fresh_record j.history moment (Said b.session b.next piece) ∷ j.history → k.limit ≡ j.limit → length plan ≤ k.left → held j.history ≤ k.room
-      → more_known ≡ after known (deeds_of (of_command known (place + 1) (command_of piece))) → opened more_known ≡ opened known → x ≡ slice_index_or seats place x
-      → IsKept k most more_known (slice_set seats place (record { shut = quits; gone = x.gone; accepted = x.accepted + 1 })) boxes plan true
+      → more_known ≡ after known (deeds_of (of_asked g known (place + 1) (asked_of piece))) → opened more_known ≡ opened known → x ≡ slice_index_or seats place x
+      → IsKept k g more_known (slice_set seats place (record { shut = quits; gone = x.gone; accepted = x.accepted + 1 })) boxes plan true
   said_kept k more_known plan b piece moment place quits x may ep eq eplan eh el room free ek same_opened ex =
       let h = j.history in let s = b.session in let kind = Said s b.next piece in let r = fresh_record h moment kind in
       let from : 0 < s = may.turn.from_1 in let to : s ≤ length seats = seated s may.turn.opened in
@@ -74,10 +75,10 @@ module _ (j : journal.Shown) (most : ℕ) (known : List Deed) (seats : List Seat
       let new : Seat = record { shut = quits; gone = x.gone; accepted = x.accepted + 1 } in
       let same : said_by kind s ≡ piece ∷ [] = rw (eq-eqb s s refl) refl in
       let less = held_after h kind moment refl in
-      begun_kept j k most known more_known seats (slice_set seats place new) boxes none plan kind moment new
-      (subst (λ (c : Bool). IsKept j most known seats boxes none c) may.idle i) refl from to (from, may.turn.opened, may.turn.next, may.not_shut) may.in_time
+      begun_kept j k g known more_known seats (slice_set seats place new) boxes none plan kind moment new
+      (subst (λ (c : Bool). IsKept j g known seats boxes none c) may.idle i) refl from to (from, may.turn.opened, may.turn.next, may.not_shut) may.in_time
       (let a = may.room in let goal : length h + 1 + held (r ∷ h) ≤ j.limit = omega arith in goal)
-      eh el room (omega arith) (ek ∙ ap (λ (y : ℕ). after known (deeds_of (of_command known y (command_of piece)))) ep) same_opened (ap (λ (y : ℕ). slice_set seats y new) p)
+      eh el room (omega arith) (ek ∙ ap (λ (y : ℕ). after known (deeds_of (of_asked g known y (asked_of piece)))) ep) same_opened (ap (λ (y : ℕ). slice_set seats y new) p)
       (record {
         shut = own ∙ or-false (ends kind s) (shut h s) may.not_shut;
         gone = ap (λ (y : Seat). y.gone) seat ∙ was.gone;
@@ -87,9 +88,9 @@ module _ (j : journal.Shown) (most : ℕ) (known : List Deed) (seats : List Seat
 
   -- ---- there is room for a record that ends a session
 
-  pub hang_room : (s : ℕ) (w : Why) (moment : ℤ) → MayHang (shown j most boxes none busy) s moment → 0 < j.room
+  pub hang_room : (s : ℕ) (w : Why) (moment : ℤ) → MayHang (shown j g boxes none busy) s moment → 0 < j.room
   hang_room s w moment may =
-      let h = j.history in let less = held_less h (Hung s w) moment s refl may.known.from_1 may.known.opened (hung_less h s w moment may.not_shut (not_gone_yet h s i.sound.legal may.not_shut)) in let room = i.room in omega arith
+      let h = j.history in let less = held_less h (Hung s w) moment s refl may.known.from_1 may.known.opened (hung_less h s w moment may.not_shut (not_gone_yet g h s i.sound.legal may.not_shut)) in let room = i.room in omega arith
 
   pub sweep_room : (s : ℕ) (moment : ℤ) → to_sweep j.history ≡ Some s → (0 < held j.history) × (s ≤ length seats) × IsOpened known s × (length j.history + 1 ≤ j.limit)
   sweep_room s moment next =
@@ -100,17 +101,17 @@ module _ (j : journal.Shown) (most : ℕ) (known : List Deed) (seats : List Seat
 
   pub gone_plan : (place number : ℕ) (plan : List Planned) → to_sweep j.history ≡ Some (place + 1) → number ≡ length j.history + 1
       → plan ≡ planned_from seats (place + 1) number (departs known (place + 1)) false
-      → plan ≡ plan_of j.history (Gone (place + 1)) (length boxes)
+      → plan ≡ plan_of g j.history (Gone (place + 1)) (length boxes)
   gone_plan place number plan next en eplan =
       let h = j.history in let s = place + 1 in let k = Gone s in let is = swept_is h s next in
-      eplan ∙ ap (λ (fs : List Deed). planned_from seats s number (departs fs s) false) i.facts ∙ plan_right h seats k false number (length boxes) i.each_seat en i.places (i.places ∙ sym i.sound.sessions) is.0 (seated s is.1) refl refl (λ t ne. refl)
+      eplan ∙ ap (λ (fs : List Deed). planned_from seats s number (departs fs s) false) i.facts ∙ plan_right g h seats k false number (length boxes) i.each_seat en i.places (i.places ∙ sym i.sound.sessions) is.0 (seated s is.1) refl refl (λ t ne. refl)
 
   pub gone_kept : (k : journal.Shown) (more_known : List Deed) (plan : List Planned) (moment : ℤ) (place : ℕ) (x : Seat)
-      → MaySweep (shown j most boxes none busy) moment → to_sweep j.history ≡ Some (place + 1)
-      → plan ≡ plan_of j.history (Gone (place + 1)) (length boxes)
+      → MaySweep (shown j g boxes none busy) moment → to_sweep j.history ≡ Some (place + 1)
+      → plan ≡ plan_of g j.history (Gone (place + 1)) (length boxes)
       → k.history ≡ fresh_record j.history moment (Gone (place + 1)) ∷ j.history → k.limit ≡ j.limit → length plan ≤ k.left → held j.history ≤ k.room + 1
       → more_known ≡ after known (deeds_of (departs known (place + 1))) → opened more_known ≡ opened known → x ≡ slice_index_or seats place x
-      → IsKept k most more_known (slice_set seats place (record { shut = x.shut; gone = true; accepted = x.accepted })) boxes plan true
+      → IsKept k g more_known (slice_set seats place (record { shut = x.shut; gone = true; accepted = x.accepted })) boxes plan true
   gone_kept k more_known plan moment place x may next eplan eh el room free ek same_opened ex =
       let h = j.history in let s = place + 1 in let kind = Gone s in let r = fresh_record h moment kind in let is = swept_is h s next in
       let to : s ≤ length seats = seated s is.1 in let l : place < length seats = omega arith in let p : place ≡ s - 1 = omega arith in
@@ -118,8 +119,8 @@ module _ (j : journal.Shown) (most : ℕ) (known : List Deed) (seats : List Seat
       let new : Seat = record { shut = x.shut; gone = true; accepted = x.accepted } in
       let less = held_less h kind moment s refl is.0 is.1 (gone_less h s moment is.2 is.3) in
       let yes : (s == s) ≡ true = eq-eqb s s refl in
-      begun_kept j k most known more_known seats (slice_set seats place new) boxes none plan kind moment new
-      (subst (λ (c : Bool). IsKept j most known seats boxes none c) may.idle i) refl is.0 to is may.in_time
+      begun_kept j k g known more_known seats (slice_set seats place new) boxes none plan kind moment new
+      (subst (λ (c : Bool). IsKept j g known seats boxes none c) may.idle i) refl is.0 to is may.in_time
       (let a = i.sound.room in let goal : length h + 1 + held (r ∷ h) ≤ j.limit = omega arith in goal)
       eh el room (omega arith) ek same_opened (ap (λ (y : ℕ). slice_set seats y new) p)
       (record {
@@ -132,20 +133,20 @@ module _ (j : journal.Shown) (most : ℕ) (known : List Deed) (seats : List Seat
   -- ---- a session is hung
 
   hung_begun : (k : journal.Shown) (more_known : List Deed) (s : ℕ) (w : Why) (moment : ℤ) (place : ℕ) (x : Seat)
-      → MayHang (shown j most boxes none busy) s moment → place + 1 ≡ s
+      → MayHang (shown j g boxes none busy) s moment → place + 1 ≡ s
       → k.history ≡ fresh_record j.history moment (Hung s w) ∷ j.history → k.limit ≡ j.limit → 1 ≤ k.left → k.room + 1 ≡ j.room
       → more_known ≡ Ended s w [] ∷ known → x ≡ slice_index_or seats place x
-      → IsKept k most more_known (slice_set seats place (record { shut = true; gone = x.gone; accepted = x.accepted })) boxes (record { session = s; item = Last (length j.history + 1) w } ∷ []) true
+      → IsKept k g more_known (slice_set seats place (record { shut = true; gone = x.gone; accepted = x.accepted })) boxes (record { session = s; item = Last (length j.history + 1) w } ∷ []) true
   hung_begun k more_known s w moment place x may ep eh el room free ek ex =
       let h = j.history in let kind = Hung s w in let r = fresh_record h moment kind in
       let from : 0 < s = may.known.from_1 in let few = may.known.opened in let to : s ≤ length seats = seated s few in
       let l : place < length seats = omega arith in let p : place ≡ s - 1 = omega arith in
       let seat : x ≡ seat_at seats s = seat_there seats place s x ep l ex in let was = i.each_seat s from to in
       let new : Seat = record { shut = true; gone = x.gone; accepted = x.accepted } in
-      let less = held_less h kind moment s refl from few (hung_less h s w moment may.not_shut (not_gone_yet h s i.sound.legal may.not_shut)) in
+      let less = held_less h kind moment s refl from few (hung_less h s w moment may.not_shut (not_gone_yet g h s i.sound.legal may.not_shut)) in
       let kept = i.room in let yes : (s == s) ≡ true = eq-eqb s s refl in
-      begun_kept j k most known more_known seats (slice_set seats place new) boxes none _ kind moment new
-      (subst (λ (c : Bool). IsKept j most known seats boxes none c) may.idle i) refl from to (from, few, may.not_shut) may.in_time
+      begun_kept j k g known more_known seats (slice_set seats place new) boxes none _ kind moment new
+      (subst (λ (c : Bool). IsKept j g known seats boxes none c) may.idle i) refl from to (from, few, may.not_shut) may.in_time
       (let a = i.sound.room in let goal : length h + 1 + held (r ∷ h) ≤ j.limit = omega arith in goal)
       eh el room (omega arith) ek (ap opened ek) (ap (λ (y : ℕ). slice_set seats y new) p)
       (record {
@@ -153,30 +154,30 @@ module _ (j : journal.Shown) (most : ℕ) (known : List Deed) (seats : List Seat
         gone = ap (λ (y : Seat). y.gone) seat ∙ was.gone;
         accepted = ap (λ (y : Seat). y.accepted) seat ∙ was.accepted ∙ sym (ap length (append-nil (accepted h s)));
       })
-      (sym (plan_hung h s w (length boxes) may.not_shut))
+      (sym (plan_hung g h s w (length boxes) may.not_shut))
 
-  idle : (s : ℕ) (moment : ℤ) → MayHang (shown j most boxes none busy) s moment → none ≡ []
+  idle : (s : ℕ) (moment : ℤ) → MayHang (shown j g boxes none busy) s moment → none ≡ []
   idle s moment may = i.sound.idle may.idle
 
   pub hung_put : (k : journal.Shown) (more_known : List Deed) (more : List (Option Waiting)) (s : ℕ) (w : Why) (moment : ℤ) (place : ℕ) (x : Seat)
-      → MayHang (shown j most boxes none busy) s moment → place + 1 ≡ s
+      → MayHang (shown j g boxes none busy) s moment → place + 1 ≡ s
       → k.history ≡ fresh_record j.history moment (Hung s w) ∷ j.history → k.limit ≡ j.limit → 1 ≤ k.left → k.room + 1 ≡ j.room
       → more_known ≡ Ended s w [] ∷ known → x ≡ slice_index_or seats place x
       → has_room (outbox_at boxes s) ≡ true → more ≡ slice_set boxes (s - 1) (Some (with_put (outbox_at boxes s) (Last (length j.history + 1) w)))
-      → IsKept k most more_known (slice_set seats place (record { shut = true; gone = x.gone; accepted = x.accepted })) more none busy
+      → IsKept k g more_known (slice_set seats place (record { shut = true; gone = x.gone; accepted = x.accepted })) more none busy
   hung_put k more_known more s w moment place x may ep eh el room free ek ex has em =
       let p : Planned = record { session = s; item = Last (length j.history + 1) w } in let new : Seat = record { shut = true; gone = x.gone; accepted = x.accepted } in
       let begun_ = hung_begun k more_known s w moment place x may ep eh el room free ek ex in
-      let put = delivered_kept k most more_known (slice_set seats place new) boxes more (p ∷ []) [] true p begun_ refl has em in
-      subst (λ (c : Bool). IsKept k most more_known (slice_set seats place new) more none c) (sym may.idle)
-      (subst (λ (xs : List Planned). IsKept k most more_known (slice_set seats place new) more xs false) (sym (idle s moment may)) (finished_kept k most more_known (slice_set seats place new) more [] true put refl))
+      let put = delivered_kept k g more_known (slice_set seats place new) boxes more (p ∷ []) [] true p begun_ refl has em in
+      subst (λ (c : Bool). IsKept k g more_known (slice_set seats place new) more none c) (sym may.idle)
+      (subst (λ (xs : List Planned). IsKept k g more_known (slice_set seats place new) more xs false) (sym (idle s moment may)) (finished_kept k g more_known (slice_set seats place new) more [] true put refl))
 
   pub hung_missed : (k n : journal.Shown) (more_known : List Deed) (s : ℕ) (w : Why) (moment : ℤ) (place : ℕ) (x : Seat)
-      → MayHang (shown j most boxes none busy) s moment → place + 1 ≡ s
+      → MayHang (shown j g boxes none busy) s moment → place + 1 ≡ s
       → k.history ≡ fresh_record j.history moment (Hung s w) ∷ j.history → k.limit ≡ j.limit → 1 ≤ k.left → k.room + 1 ≡ j.room
       → more_known ≡ Ended s w [] ∷ known → x ≡ slice_index_or seats place x
       → Misses k n s
-      → IsKept n most more_known (slice_set seats place (record { shut = true; gone = x.gone; accepted = x.accepted })) boxes none busy
+      → IsKept n g more_known (slice_set seats place (record { shut = true; gone = x.gone; accepted = x.accepted })) boxes none busy
   hung_missed k n more_known s w moment place x may ep eh el room free ek ex missed =
       let p : Planned = record { session = s; item = Last (length j.history + 1) w } in let new : Seat = record { shut = true; gone = x.gone; accepted = x.accepted } in
       let places = slice_set seats place new in
@@ -187,6 +188,6 @@ module _ (j : journal.Shown) (most : ℕ) (known : List Deed) (seats : List Seat
       ap (λ (y : Seat). record { shut = true; gone = y.gone; accepted = y.accepted }) mine ∙ sym mine in
       let set : places ≡ slice_set places (s - 1) (record { shut = true; gone = (seat_at places s).gone; accepted = (seat_at places s).accepted }) =
       sym (set-get_or places (s - 1) no_seat) ∙ ap (slice_set places (s - 1)) (sym again) in
-      let put = dropped_kept k n most more_known places places boxes (p ∷ []) [] true p begun_ refl set missed in
-      subst (λ (c : Bool). IsKept n most more_known places boxes none c) (sym may.idle)
-      (subst (λ (xs : List Planned). IsKept n most more_known places boxes xs false) (sym (idle s moment may)) (finished_kept n most more_known places boxes [] true put refl))
+      let put = dropped_kept k n g more_known places places boxes (p ∷ []) [] true p begun_ refl set missed in
+      subst (λ (c : Bool). IsKept n g more_known places boxes none c) (sym may.idle)
+      (subst (λ (xs : List Planned). IsKept n g more_known places boxes xs false) (sym (idle s moment may)) (finished_kept n g more_known places boxes [] true put refl))

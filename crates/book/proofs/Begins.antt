@@ -16,6 +16,7 @@ use Rattle.numerics.specs.declared.outgoing.Out.{Out}
 use Rattle.numerics.specs.Outgoing.{octets}
 use Rattle.deeds.specs.Effects.{lines_to}
 use Rattle.deeds.specs.Deeds.{effects, facts, lines, text}
+use Rattle.registration.specs.declared.settings.Settings.{Settings}
 use Rattle.book.specs.declared.plan.Planned.{Planned}
 use Rattle.book.specs.declared.seat.Seat.{Seat}
 use Rattle.book.specs.Owed.{item, told, reason}
@@ -40,18 +41,18 @@ item_is n [] = refl
 item_is n (l ∷ ls) = let some = text_some l ls in ap (λ xs. Lines n xs ∷ []) some.2 ∙ sym (ap (text_item n) some.2)
 
 -- what a session is due that was opened before the record, which doesn't end it
-due_told : (h : List Rec) (k : Kind) (t : ℕ) → t ≤ sessions h → ends k t ≡ false → due h k t ≡ tells (shut h t) (length h + 1) (text (lines (facts h) k t))
-due_told h k t known e =
+due_told : (g : Settings) (h : List Rec) (k : Kind) (t : ℕ) → t ≤ sessions h → ends k t ≡ false → due g h k t ≡ tells (shut h t) (length h + 1) (text (lines g (facts g h) k t))
+due_told g h k t known e =
     let before : nat_le t (sessions h) ≡ true = grind (arith, nat_tests) in
-    ap (λ b. cond (shut h t) [] (cond b (Last (length h + 1) (reason k) ∷ []) (item (length h + 1) (told h k t)))) e
-    ∙ ap (λ b. cond (shut h t) [] (item (length h + 1) (cond b (lines (facts h) k t) []))) before
-    ∙ ap (λ xs. cond (shut h t) [] xs) (item_is (length h + 1) (lines (facts h) k t))
+    ap (λ b. cond (shut h t) [] (cond b (Last (length h + 1) (reason k) ∷ []) (item (length h + 1) (told g h k t)))) e
+    ∙ ap (λ b. cond (shut h t) [] (item (length h + 1) (cond b (lines g (facts g h) k t) []))) before
+    ∙ ap (λ xs. cond (shut h t) [] xs) (item_is (length h + 1) (lines g (facts g h) k t))
 
 -- what the record's own session is due
-due_own : (h : List Rec) (k : Kind) (quits : Bool) (t : ℕ) → t ≤ sessions h → ends k t ≡ quits → reason k ≡ Quit → due h k t ≡ told_own (shut h t) (length h + 1) (text (lines (facts h) k t)) quits
-due_own h k true t known e why =
-    ap (λ b. cond (shut h t) [] (cond b (Last (length h + 1) (reason k) ∷ []) (item (length h + 1) (told h k t)))) e ∙ ap (λ w. cond (shut h t) [] (Last (length h + 1) w ∷ [])) why
-due_own h k false t known e why = due_told h k t known e
+due_own : (g : Settings) (h : List Rec) (k : Kind) (quits : Bool) (t : ℕ) → t ≤ sessions h → ends k t ≡ quits → reason k ≡ Quit → due g h k t ≡ told_own (shut h t) (length h + 1) (text (lines g (facts g h) k t)) quits
+due_own g h k true t known e why =
+    ap (λ b. cond (shut h t) [] (cond b (Last (length h + 1) (reason k) ∷ []) (item (length h + 1) (told g h k t)))) e ∙ ap (λ w. cond (shut h t) [] (Last (length h + 1) w ∷ [])) why
+due_own g h k false t known e why = due_told g h k t known e
 
 pub others_same : (f g : ℕ → List Item) (s t n m : ℕ) → 0 < t → t + n ≤ m + 1 → ((u : ℕ) → 0 < u → u ≤ m → s ≢ u → f u ≡ g u) → others f s t n ≡ others g s t n
 others_same f g s t zero m from to h = refl
@@ -61,57 +62,57 @@ others_same f g s t (suc n) m from to h =
       | inr other ↦ rw (h t from (omega arith) (λ e. other.1 (sym e))) refl
     ])
 
-pub plan_right : (h : List Rec) (seats : List Seat) (k : Kind) (quits : Bool) (number n : ℕ) → ((t : ℕ) → 0 < t → t ≤ length seats → IsSeat (seat_at seats t) h t) → number ≡ length h + 1 → length seats ≡ n → length seats ≡ sessions h
+pub plan_right : (g : Settings) (h : List Rec) (seats : List Seat) (k : Kind) (quits : Bool) (number n : ℕ) → ((t : ℕ) → 0 < t → t ≤ length seats → IsSeat (seat_at seats t) h t) → number ≡ length h + 1 → length seats ≡ n → length seats ≡ sessions h
     → 0 < actor k → actor k ≤ length seats → ends k (actor k) ≡ quits → reason k ≡ Quit → ((t : ℕ) → actor k ≢ t → ends k t ≡ false)
-    → planned_from seats (actor k) number (effects (facts h) k) quits ≡ plan_of h k n
-plan_right h seats k quits number n seat en el all from to own why others_ =
-    let s = actor k in let es = effects (facts h) k in
-    let mine : told_own (seat_at seats s).shut number (text (lines_to s es s)) quits ≡ due h k s =
-    ap (λ b. told_own b number (text (lines_to s es s)) quits) (seat s from to).shut ∙ ap (λ (m : ℕ). told_own (shut h s) m (text (lines_to s es s)) quits) en ∙ sym (due_own h k quits s (omega arith) own why) in
-    let each : (u : ℕ) → 0 < u → u ≤ length seats → s ≢ u → told_to seats number s es u ≡ due h k u = λ u above below ne.
-    ap (λ b. tells b number (text (lines_to s es u))) (seat u above below).shut ∙ ap (λ (m : ℕ). tells (shut h u) m (text (lines_to s es u))) en ∙ sym (due_told h k u (omega arith) (others_ u ne)) in
+    → planned_from seats (actor k) number (effects g (facts g h) k) quits ≡ plan_of g h k n
+plan_right g h seats k quits number n seat en el all from to own why others_ =
+    let s = actor k in let es = effects g (facts g h) k in
+    let mine : told_own (seat_at seats s).shut number (text (lines_to s es s)) quits ≡ due g h k s =
+    ap (λ b. told_own b number (text (lines_to s es s)) quits) (seat s from to).shut ∙ ap (λ (m : ℕ). told_own (shut h s) m (text (lines_to s es s)) quits) en ∙ sym (due_own g h k quits s (omega arith) own why) in
+    let each : (u : ℕ) → 0 < u → u ≤ length seats → s ≢ u → told_to seats number s es u ≡ due g h k u = λ u above below ne.
+    ap (λ b. tells b number (text (lines_to s es u))) (seat u above below).shut ∙ ap (λ (m : ℕ). tells (shut h u) m (text (lines_to s es u))) en ∙ sym (due_told g h k u (omega arith) (others_ u ne)) in
     ap (λ xs. puts s xs ++ others (told_to seats number s es) s 1 (length seats)) mine
-    ∙ ap (λ ps. puts s (due h k s) ++ ps) (others_same (told_to seats number s es) (due h k) s 1 (length seats) (length seats) (lit< tt) (omega arith) each)
-    ∙ ap (λ (m : ℕ). plan_by (due h k) s m) el
+    ∙ ap (λ ps. puts s (due g h k s) ++ ps) (others_same (told_to seats number s es) (due g h k) s 1 (length seats) (length seats) (lit< tt) (omega arith) each)
+    ∙ ap (λ (m : ℕ). plan_by (due g h k) s m) el
 
 -- ---- the state
 
-pub begun_is : (j k : journal.Shown) (most : ℕ) (boxes : List (Option Waiting)) (none plan : List Planned) (busy : Bool) (kind : Kind) (moment : ℤ)
-    → k.history ≡ fresh_record j.history moment kind ∷ j.history → k.limit ≡ j.limit → plan ≡ plan_of j.history kind (length boxes)
-    → shown k most boxes plan true ≡ begun (shown j most boxes none busy) kind moment
-begun_is j k most boxes none plan busy kind moment eh el ep =
-    shown_with j k (fresh_record j.history moment kind ∷ j.history) most boxes plan true eh el
-    ∙ ap (λ (x : List Planned). record { history = fresh_record j.history moment kind ∷ j.history; limit = j.limit; most = most; outboxes = boxes; plan = x; busy = true }) ep
+pub begun_is : (j k : journal.Shown) (g : Settings) (boxes : List (Option Waiting)) (none plan : List Planned) (busy : Bool) (kind : Kind) (moment : ℤ)
+    → k.history ≡ fresh_record j.history moment kind ∷ j.history → k.limit ≡ j.limit → plan ≡ plan_of g j.history kind (length boxes)
+    → shown k g boxes plan true ≡ begun (shown j g boxes none busy) kind moment
+begun_is j k g boxes none plan busy kind moment eh el ep =
+    shown_with j k (fresh_record j.history moment kind ∷ j.history) g boxes plan true eh el
+    ∙ ap (λ (x : List Planned). record { history = fresh_record j.history moment kind ∷ j.history; limit = j.limit; settings = g; outboxes = boxes; plan = x; busy = true }) ep
 
 -- a session that is hung is told so at once, or misses it
 pub hung_is : (m : Shown) (s : ℕ) (w : Why) (moment : ℤ) → shut m.history s ≡ false
     → done m (Hung s w) moment ≡ finished (put_next (begun m (Hung s w) moment) (record { session = s; item = Last (length m.history + 1) w } ∷ []))
 hung_is m s w moment open_ =
-    let p : Planned = record { session = s; item = Last (length m.history + 1) w } in let one = plan_hung m.history s w (length m.outboxes) open_ in
+    let p : Planned = record { session = s; item = Last (length m.history + 1) w } in let one = plan_hung m.settings m.history s w (length m.outboxes) open_ in
     let b = begun m (Hung s w) moment in
     ap (λ ps. finished (put_all b ps)) one
 
-module _ (j k : journal.Shown) (most : ℕ) (boxes : List (Option Waiting)) (none : List Planned) (busy : Bool) (s : ℕ) (w : Why) (moment : ℤ) (en : none ≡ []) (eb : busy ≡ false) (open_ : shut j.history s ≡ false)
+module _ (j k : journal.Shown) (g : Settings) (boxes : List (Option Waiting)) (none : List Planned) (busy : Bool) (s : ℕ) (w : Why) (moment : ℤ) (en : none ≡ []) (eb : busy ≡ false) (open_ : shut j.history s ≡ false)
     (eh : k.history ≡ fresh_record j.history moment (Hung s w) ∷ j.history) (el : k.limit ≡ j.limit) where
   abbrev before : Shown
-  before = shown j most boxes none busy
+  before = shown j g boxes none busy
 
   abbrev last : Planned
   last = record { session = s; item = Last (length j.history + 1) w }
 
-  pub hung_put_is : (more : List (Option Waiting)) → has_room (outbox_at boxes s) ≡ true → more ≡ slice_set boxes (s - 1) (Some (with_put (outbox_at boxes s) (Last (length j.history + 1) w))) → shown k most more none busy ≡ done before (Hung s w) moment
+  pub hung_put_is : (more : List (Option Waiting)) → has_room (outbox_at boxes s) ≡ true → more ≡ slice_set boxes (s - 1) (Some (with_put (outbox_at boxes s) (Last (length j.history + 1) w))) → shown k g more none busy ≡ done before (Hung s w) moment
   hung_put_is more has em =
       let r = fresh_record j.history moment (Hung s w) in let b = begun before (Hung s w) moment in
-      shown_with j k (r ∷ j.history) most more none busy eh el
-      ∙ ap (λ xs. record { history = r ∷ j.history; limit = j.limit; most = most; outboxes = xs; plan = none; busy = busy }) em
-      ∙ ap (λ ps. record { history = r ∷ j.history; limit = j.limit; most = most; outboxes = slice_set boxes (s - 1) (Some (with_put (outbox_at boxes s) (Last (length j.history + 1) w))); plan = ps; busy = busy }) en
-      ∙ ap (λ c. record { history = r ∷ j.history; limit = j.limit; most = most; outboxes = slice_set boxes (s - 1) (Some (with_put (outbox_at boxes s) (Last (length j.history + 1) w))); plan = []; busy = c }) eb
+      shown_with j k (r ∷ j.history) g more none busy eh el
+      ∙ ap (λ xs. record { history = r ∷ j.history; limit = j.limit; settings = g; outboxes = xs; plan = none; busy = busy }) em
+      ∙ ap (λ ps. record { history = r ∷ j.history; limit = j.limit; settings = g; outboxes = slice_set boxes (s - 1) (Some (with_put (outbox_at boxes s) (Last (length j.history + 1) w))); plan = ps; busy = busy }) en
+      ∙ ap (λ c. record { history = r ∷ j.history; limit = j.limit; settings = g; outboxes = slice_set boxes (s - 1) (Some (with_put (outbox_at boxes s) (Last (length j.history + 1) w))); plan = []; busy = c }) eb
       ∙ sym (hung_is before s w moment open_ ∙ ap (λ c. finished (cond c (delivered b last []) (dropped b last []))) has)
 
-  pub hung_miss_is : (n : journal.Shown) → has_room (outbox_at boxes s) ≡ false → n.history ≡ miss k.history s → n.limit ≡ k.limit → shown n most boxes none busy ≡ done before (Hung s w) moment
+  pub hung_miss_is : (n : journal.Shown) → has_room (outbox_at boxes s) ≡ false → n.history ≡ miss k.history s → n.limit ≡ k.limit → shown n g boxes none busy ≡ done before (Hung s w) moment
   hung_miss_is n full en_ el_ =
       let r = fresh_record j.history moment (Hung s w) in let b = begun before (Hung s w) moment in let h = miss (r ∷ j.history) s in
-      shown_with j n h most boxes none busy (en_ ∙ ap (λ x. miss x s) eh) (el_ ∙ el)
-      ∙ ap (λ ps. record { history = h; limit = j.limit; most = most; outboxes = boxes; plan = ps; busy = busy }) en
-      ∙ ap (λ c. record { history = h; limit = j.limit; most = most; outboxes = boxes; plan = []; busy = c }) eb
+      shown_with j n h g boxes none busy (en_ ∙ ap (λ x. miss x s) eh) (el_ ∙ el)
+      ∙ ap (λ ps. record { history = h; limit = j.limit; settings = g; outboxes = boxes; plan = ps; busy = busy }) en
+      ∙ ap (λ c. record { history = h; limit = j.limit; settings = g; outboxes = boxes; plan = []; busy = c }) eb
       ∙ sym (hung_is before s w moment open_ ∙ ap (λ c. finished (cond c (delivered b last []) (dropped b last []))) full)

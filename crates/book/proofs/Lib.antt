@@ -11,4 +11,3 @@ pub mod Outs
 pub mod Sweeps
 pub mod Appends
 pub mod Count
-mod Examples

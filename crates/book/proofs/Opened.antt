@@ -43,9 +43,9 @@ nothing_told false c = refl
 
 pub opened_sound : (m : Shown) (host : List ℕ) (moment : ℤ) (box : Waiting) → IsSound m → MayOpen m moment → (box.queue ≡ []) × (box.taken ≡ []) → IsSound (opened m host moment box)
 opened_sound m host moment box i may fresh =
-    let h = m.history in let n = length m.outboxes in let r = fresh_record h moment (Opened (sessions h + 1) host) in
+    let h = m.history in let g = m.settings in let n = length m.outboxes in let r = fresh_record h moment (Opened (sessions h + 1) host) in
     let boxes = m.outboxes ++ Some box ∷ [] in let more : length boxes ≡ n + 1 = length-append m.outboxes (Some box ∷ []) in
-    let same : (t : ℕ) → owed (r ∷ h) t ≡ owed h t = λ t. let E : List Item = [] in ap (λ xs. owed h t ++ cond (misses r t || shut h t) [] (item (length h + 1) xs)) (nothing_told (nat_le t (sessions h)) ((sessions h + 1) == t)) ∙ ap (λ xs. owed h t ++ xs) (elim (misses r t || shut h t) as (λ b. cond b E E ≡ E) [ true ↦ refl | false ↦ refl ]) ∙ append-nil (owed h t) in
+    let same : (t : ℕ) → owed g (r ∷ h) t ≡ owed g h t = λ t. let E : List Item = [] in ap (λ xs. owed g h t ++ cond (misses r t || shut h t) [] (item (length h + 1) xs)) (nothing_told (nat_le t (sessions h)) ((sessions h + 1) == t)) ∙ ap (λ xs. owed g h t ++ xs) (elim (misses r t || shut h t) as (λ b. cond b E E ≡ E) [ true ↦ refl | false ↦ refl ]) ∙ append-nil (owed g h t) in
     let count : sessions (r ∷ h) ≡ n + 1 = let e = i.sessions in let goal : 1 + sessions h ≡ n + 1 = omega arith in goal in
     let idle : m.plan ≡ [] = i.idle may.idle in
     let last : (t : ℕ) → t ≡ n + 1 → slice_index_or boxes (t - 1) None ≡ Some box = λ t e. let p : n ≡ t - 1 = omega arith in get_or_push m.outboxes (Some box) None (t - 1) p in
@@ -55,7 +55,7 @@ opened_sound m host moment box i may fresh =
           let to' : t ≤ n + 1 = omega arith in
           elim (eqb_tells t (n + 1)) [
             | inl end ↦
-                let none : owed h t ≡ [] = not_owed h t i.legal (let e = end.1 in let s = i.sessions in omega arith) in
+                let none : owed g h t ≡ [] = not_owed g h t i.legal (let e = end.1 in let s = i.sessions in omega arith) in
                 let empty : box.taken ++ box.queue ++ planned m.plan t ≡ [] = rw fresh.1 (rw fresh.0 (ap (λ ps. planned ps t) idle)) in
                 ap (λ o. (box_of o).taken ++ (box_of o).queue ++ planned m.plan t) (last t end.1) ∙ empty ∙ sym none ∙ sym (same t)
             | inr other ↦

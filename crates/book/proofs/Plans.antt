@@ -11,10 +11,11 @@ use Rattle.deeds.specs.declared.verdict.Shown.{Shown}
 use Rattle.deeds.specs.declared.verdict.Verdict.{Verdict}
 use Rattle.deeds.specs.Effects.{heard, reply, copies, due, lines_to}
 use Rattle.deeds.specs.Deeds.{text}
-use Rattle.deeds.specs.Rows.{of_command}
-use Rattle.deeds.specs.declared.command.Command.{Command}
+use Rattle.deeds.specs.Rows.{of_asked}
+use Rattle.commands.specs.declared.asked.Asked.{Asked}
 use Rattle.roster.specs.declared.deed.Deed.{Deed}
 use Rattle.deeds.specs.Verdicts.{shown, IsVerdict}
+use Rattle.registration.specs.declared.settings.Settings.{Settings}
 use Rattle.book.specs.declared.plan.Planned.{Planned}
 use Rattle.book.specs.declared.seat.Seat.{Seat}
 use Rattle.book.specs.Book.{puts, others}
@@ -84,9 +85,9 @@ planned_same seats s number v es quits i =
     ∙ ap (λ ps. puts s (told_own (seat_at seats s).shut number (text (lines_to s es s)) quits) ++ ps)
     (others_same (λ t. told (seat_at seats t).shut number (heard_text v.others.items t)) (told_to seats number s es) s 1 (length seats) (length seats) (lit< tt) (omega arith) (λ u from to ne. ap (told (seat_at seats u).shut number) (each u ne)))
 
--- the verdict on a command of a session, by whatever names
-pub verdict_at : (v : Verdict) (s t : ℕ) (fs : List Deed) (k m : Command) → s ≡ t → k ≡ m → IsVerdict v s (of_command fs s k) → IsVerdict v t (of_command fs t m)
-verdict_at v s t fs k m es ek i = subst (λ (j : ℕ). IsVerdict v j (of_command fs j m)) es (subst (λ (c : Command). IsVerdict v s (of_command fs s c)) ek i)
+-- the verdict on a line of a session, by whatever names
+pub verdict_at : (v : Verdict) (s t : ℕ) (g : Settings) (fs : List Deed) (k m : Asked) → s ≡ t → k ≡ m → IsVerdict v s (of_asked g fs s k) → IsVerdict v t (of_asked g fs t m)
+verdict_at v s t g fs k m es ek i = subst (λ (j : ℕ). IsVerdict v j (of_asked g fs j m)) es (subst (λ (c : Asked). IsVerdict v s (of_asked g fs s c)) ek i)
 
 -- ---- from the last seat to the first
 

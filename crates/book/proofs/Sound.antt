@@ -10,6 +10,7 @@ use Rattle.std.specs.Option.{is_some}
 use Rattle.chronicle.specs.declared.record.Kind.{Kind}
 use Rattle.chronicle.specs.History.{Rec, sessions, misses, ends, shut, gone}
 use Rattle.outbox.specs.declared.item.Item.{Item}
+use Rattle.registration.specs.declared.settings.Settings.{Settings}
 use Rattle.book.specs.declared.plan.Planned.{Planned}
 use Rattle.outbox.specs.Ring.{Waiting, has_room, with_put, with_taken}
 use Rattle.book.specs.Owed.{delivery, owed}
@@ -36,37 +37,37 @@ apart q qs s e =
       | inr other ↦ ((λ i. other.1 (sym i)), rw other.0 at e)
     ]
 
-plan_after : (r : Rec) (h : List Rec) (n s : ℕ) (qs : List Planned) → planned qs s ≡ [] → IsPlan (r ∷ h) n qs → IsPlan (more r s ∷ h) n qs
-plan_after r h n s [] e p = tt
-plan_after r h n s (q ∷ qs) e p =
+plan_after : (g : Settings) (r : Rec) (h : List Rec) (n s : ℕ) (qs : List Planned) → planned qs s ≡ [] → IsPlan g (r ∷ h) n qs → IsPlan g (more r s ∷ h) n qs
+plan_after g r h n s [] e p = tt
+plan_after g r h n s (q ∷ qs) e p =
     let a = apart q qs s e in
-    (p.0, p.1, p.2, (p.3.0, p.3.1, misses_other r s q.session a.0 ∙ p.3.2), plan_after r h n s qs a.1 p.4)
+    (p.0, p.1, p.2, (p.3.0, p.3.1, misses_other r s q.session a.0 ∙ p.3.2), plan_after g r h n s qs a.1 p.4)
 
 -- the session that missed it
-owed_missed : (r : Rec) (h : List Rec) (had : List Item) (p : Planned) (ps : List Planned) → planned ps p.session ≡ [] → IsOwed (r ∷ h) p → had ++ planned (p ∷ ps) p.session ≡ owed (r ∷ h) p.session → had ++ planned ps p.session ≡ owed (more r p.session ∷ h) p.session
-owed_missed r h had p ps none own k =
-    let s = p.session in let d = delivery h r.kind s in
+owed_missed : (g : Settings) (r : Rec) (h : List Rec) (had : List Item) (p : Planned) (ps : List Planned) → planned ps p.session ≡ [] → IsOwed g (r ∷ h) p → had ++ planned (p ∷ ps) p.session ≡ owed g (r ∷ h) p.session → had ++ planned ps p.session ≡ owed g (more r p.session ∷ h) p.session
+owed_missed g r h had p ps none own k =
+    let s = p.session in let d = delivery g h r.kind s in
     let head : planned (p ∷ ps) s ≡ p.item ∷ [] = rw (eq-eqb s s refl) (ap (λ xs. p.item ∷ xs) none) in
     let last : cond (misses r s || shut h s) [] d ≡ p.item ∷ [] = rw (own.2, own.1) own.0 in
-    let got : had ++ p.item ∷ [] ≡ owed h s ++ p.item ∷ [] = ap (λ xs. had ++ xs) (sym head) ∙ k ∙ ap (λ xs. owed h s ++ xs) last in
-    ap (λ xs. had ++ xs) none ∙ append-nil had ∙ append_cancel_right had (owed h s) (p.item ∷ []) got ∙ sym (append-nil (owed h s))
-    ∙ ap (λ (c : Bool). owed h s ++ cond (c || shut h s) [] d) (sym (misses_same r s))
+    let got : had ++ p.item ∷ [] ≡ owed g h s ++ p.item ∷ [] = ap (λ xs. had ++ xs) (sym head) ∙ k ∙ ap (λ xs. owed g h s ++ xs) last in
+    ap (λ xs. had ++ xs) none ∙ append-nil had ∙ append_cancel_right had (owed g h s) (p.item ∷ []) got ∙ sym (append-nil (owed g h s))
+    ∙ ap (λ (c : Bool). owed g h s ++ cond (c || shut h s) [] d) (sym (misses_same r s))
 
 -- another session
-owed_elsewhere : (r : Rec) (h : List Rec) (had : List Item) (p : Planned) (ps : List Planned) (t : ℕ) → p.session ≢ t → had ++ planned (p ∷ ps) t ≡ owed (r ∷ h) t → had ++ planned ps t ≡ owed (more r p.session ∷ h) t
-owed_elsewhere r h had p ps t ne k =
+owed_elsewhere : (g : Settings) (r : Rec) (h : List Rec) (had : List Item) (p : Planned) (ps : List Planned) (t : ℕ) → p.session ≢ t → had ++ planned (p ∷ ps) t ≡ owed g (r ∷ h) t → had ++ planned ps t ≡ owed g (more r p.session ∷ h) t
+owed_elsewhere g r h had p ps t ne k =
     ap (λ (c : Bool). had ++ cond c (p.item ∷ planned ps t) (planned ps t)) (sym (ne_eqb p.session t ne)) ∙ k
-    ∙ ap (λ (c : Bool). owed h t ++ cond (c || shut h t) [] (delivery h r.kind t)) (sym (misses_other r p.session t ne))
+    ∙ ap (λ (c : Bool). owed g h t ++ cond (c || shut h t) [] (delivery g h r.kind t)) (sym (misses_other r p.session t ne))
 
 list_any-push_fresh : (t s : ℕ) (ts : List ℕ) → list_any (λ u. u == t) ts ≡ false → s ≢ t → list_any (λ u. u == t) (ts ++ s ∷ []) ≡ false
 list_any-push_fresh t s ts e ne = list_any-append (λ u. u == t) ts (s ∷ []) ∙ rw e (rw (ne_eqb s t ne) refl)
 
-missed_more : (h : List Rec) (k : Kind) (ts : List ℕ) (s : ℕ) → delivery h k s ≢ [] → shut h s ≡ false → list_any (λ u. u == s) ts ≡ false → AreMissed h k ts → AreMissed h k (ts ++ s ∷ [])
-missed_more h k [] s d o f a = (d, o, refl, tt)
-missed_more h k (t ∷ ts) s d o f a =
+missed_more : (g : Settings) (h : List Rec) (k : Kind) (ts : List ℕ) (s : ℕ) → delivery g h k s ≢ [] → shut h s ≡ false → list_any (λ u. u == s) ts ≡ false → AreMissed g h k ts → AreMissed g h k (ts ++ s ∷ [])
+missed_more g h k [] s d o f a = (d, o, refl, tt)
+missed_more g h k (t ∷ ts) s d o f a =
     elim (eqb_tells t s) [
       | inl same ↦ absurd (let g : true ≡ false = sym (rw same.0 refl) ∙ f in cc)
-      | inr other ↦ (a.0, a.1, list_any-push_fresh t s ts a.2 (λ e. other.1 (sym e)), missed_more h k ts s d o (let g : (false || list_any (λ u. u == s) ts) ≡ false = rw other.0 at f in g) a.3)
+      | inr other ↦ (a.0, a.1, list_any-push_fresh t s ts a.2 (λ e. other.1 (sym e)), missed_more g h k ts s d o (let g : (false || list_any (λ u. u == s) ts) ≡ false = rw other.0 at f in g) a.3)
     ]
 
 -- the sum of what is kept free falls where more is shut
@@ -96,9 +97,9 @@ pub held_missed : (r : Rec) (h : List Rec) (s : ℕ) → held (more r s ∷ h) �
 held_missed r h s =
     sum_le _ _ (numbers 1 (sessions (r ∷ h))) (λ t. kept_less (gone (r ∷ h) t) (shut (more r s ∷ h) t) (gone (r ∷ h) t) (shut (r ∷ h) t) (λ e. e) (shut_more r h s t))
 
-dropped_at : (h : List Rec) (limit most : ℕ) (boxes : List (Option Waiting)) (busy : Bool) (p : Planned) (ps : List Planned) → let m : Shown = record { history = h; limit = limit; most = most; outboxes = boxes; plan = p ∷ ps; busy = busy } in IsSound m → IsSound (dropped m p ps)
-dropped_at [] limit most boxes busy p ps i = absurd i.plan.3
-dropped_at (r ∷ h) limit most boxes busy p ps i =
+dropped_at : (h : List Rec) (limit : ℕ) (g : Settings) (boxes : List (Option Waiting)) (busy : Bool) (p : Planned) (ps : List Planned) → let m : Shown = record { history = h; limit = limit; settings = g; outboxes = boxes; plan = p ∷ ps; busy = busy } in IsSound m → IsSound (dropped m p ps)
+dropped_at [] limit g boxes busy p ps i = absurd i.plan.3
+dropped_at (r ∷ h) limit g boxes busy p ps i =
     let own = i.plan.3 in
     record {
       owed = λ t from to here.
@@ -106,13 +107,13 @@ dropped_at (r ∷ h) limit most boxes busy p ps i =
           elim (eqb_tells p.session t) [
             | inl same ↦
                 let k = i.owed p.session i.plan.0 i.plan.1 (ap (is_here boxes) same.1 ∙ here) in let was = (outbox_at boxes p.session).taken ++ (outbox_at boxes p.session).queue in
-                subst (λ (u : ℕ). (outbox_at boxes u).taken ++ (outbox_at boxes u).queue ++ planned ps u ≡ owed (more r p.session ∷ h) u) same.1 (owed_missed r h was p ps i.plan.2 own k)
-            | inr other ↦ owed_elsewhere r h had p ps t other.1 (i.owed t from to here)
+                subst (λ (u : ℕ). (outbox_at boxes u).taken ++ (outbox_at boxes u).queue ++ planned ps u ≡ owed g (more r p.session ∷ h) u) same.1 (owed_missed g r h was p ps i.plan.2 own k)
+            | inr other ↦ owed_elsewhere g r h had p ps t other.1 (i.owed t from to here)
           ];
       reaped = λ t from to away. i.reaped t from to away;
-      plan = plan_after r h (length boxes) p.session ps i.plan.2 i.plan.4;
+      plan = plan_after g r h (length boxes) p.session ps i.plan.2 i.plan.4;
       idle = λ e. absurd (let f : p ∷ ps ≡ [] = i.idle e in cc);
-      legal = (i.legal.0, i.legal.1, i.legal.2, missed_more h r.kind r.missed p.session (λ e. let f : p.item ∷ [] ≡ [] = sym own.0 ∙ e in cc) own.1 own.2 i.legal.3, i.legal.4);
+      legal = (i.legal.0, i.legal.1, i.legal.2, missed_more g h r.kind r.missed p.session (λ e. let f : p.item ∷ [] ≡ [] = sym own.0 ∙ e in cc) own.1 own.2 i.legal.3, i.legal.4);
       sessions = i.sessions;
       room =
           let less = held_missed r h p.session in let old : length (r ∷ h) + held (r ∷ h) ≤ limit = i.room in
@@ -120,7 +121,7 @@ dropped_at (r ∷ h) limit most boxes busy p ps i =
     }
 
 pub dropped_sound : (m : Shown) (p : Planned) (ps : List Planned) → m.plan ≡ p ∷ ps → IsSound m → IsSound (dropped m p ps)
-dropped_sound m p ps e i = dropped_at m.history m.limit m.most m.outboxes m.busy p ps (subst (λ qs. IsSound (record { history = m.history; limit = m.limit; most = m.most; outboxes = m.outboxes; plan = qs; busy = m.busy })) e i)
+dropped_sound m p ps e i = dropped_at m.history m.limit m.settings m.outboxes m.busy p ps (subst (λ qs. IsSound (record { history = m.history; limit = m.limit; settings = m.settings; outboxes = m.outboxes; plan = qs; busy = m.busy })) e i)
 
 -- ---- outboxes by the numbers of their sessions
 
@@ -137,9 +138,9 @@ room_here (Some b) e = refl
 
 -- ---- a delivery is put
 
-delivered_at : (h : List Rec) (limit most : ℕ) (boxes : List (Option Waiting)) (busy : Bool) (p : Planned) (ps : List Planned) → has_room (outbox_at boxes p.session) ≡ true
-    → let m : Shown = record { history = h; limit = limit; most = most; outboxes = boxes; plan = p ∷ ps; busy = busy } in IsSound m → IsSound (delivered m p ps)
-delivered_at h limit most boxes busy p ps room_ i =
+delivered_at : (h : List Rec) (limit : ℕ) (g : Settings) (boxes : List (Option Waiting)) (busy : Bool) (p : Planned) (ps : List Planned) → has_room (outbox_at boxes p.session) ≡ true
+    → let m : Shown = record { history = h; limit = limit; settings = g; outboxes = boxes; plan = p ∷ ps; busy = busy } in IsSound m → IsSound (delivered m p ps)
+delivered_at h limit g boxes busy p ps room_ i =
     let s = p.session in let b = outbox_at boxes s in let v = with_put b p.item in let new = slice_set boxes (s - 1) (Some v) in
     let len : length new ≡ length boxes = simp length-set in
     let there : is_here boxes s ≡ true = room_here (slice_index_or boxes (s - 1) None) room_ in
@@ -149,12 +150,12 @@ delivered_at h limit most boxes busy p ps room_ i =
           elim (eqb_tells s t) [
             | inl same ↦
                 let head : planned (p ∷ ps) s ≡ p.item ∷ planned ps s = rw (eq-eqb s s refl) refl in
-                let k : (b.taken ++ (b.queue ++ p.item ∷ [])) ++ planned ps s ≡ owed h s =
+                let k : (b.taken ++ (b.queue ++ p.item ∷ [])) ++ planned ps s ≡ owed g h s =
                 append_assoc b.taken (b.queue ++ p.item ∷ []) (planned ps s) ∙ ap (λ xs. b.taken ++ xs) (append_assoc b.queue (p.item ∷ []) (planned ps s)) ∙ sym (append_assoc b.taken b.queue (p.item ∷ planned ps s))
                 ∙ ap (λ xs. (b.taken ++ b.queue) ++ xs) (sym head) ∙ i.owed s i.plan.0 i.plan.1 there in
-                let here_ : (outbox_at new s).taken ++ (outbox_at new s).queue ++ planned ps s ≡ owed h s =
+                let here_ : (outbox_at new s).taken ++ (outbox_at new s).queue ++ planned ps s ≡ owed g h s =
                 ap (λ o. (box_of o).taken ++ (box_of o).queue ++ planned ps s) (box_same boxes s (Some v) i.plan.0 i.plan.1) ∙ k in
-                subst (λ (u : ℕ). (outbox_at new u).taken ++ (outbox_at new u).queue ++ planned ps u ≡ owed h u) same.1 here_
+                subst (λ (u : ℕ). (outbox_at new u).taken ++ (outbox_at new u).queue ++ planned ps u ≡ owed g h u) same.1 here_
             | inr other ↦
                 let is = box_other boxes s t (Some v) i.plan.0 from other.1 in
                 ap (λ o. (box_of o).taken ++ (box_of o).queue ++ planned ps t) is
@@ -175,7 +176,7 @@ delivered_at h limit most boxes busy p ps room_ i =
 
 pub delivered_sound : (m : Shown) (p : Planned) (ps : List Planned) → m.plan ≡ p ∷ ps → has_room (outbox_at m.outboxes p.session) ≡ true → IsSound m → IsSound (delivered m p ps)
 delivered_sound m p ps e room_ i =
-    delivered_at m.history m.limit m.most m.outboxes m.busy p ps room_ (subst (λ qs. IsSound (record { history = m.history; limit = m.limit; most = m.most; outboxes = m.outboxes; plan = qs; busy = m.busy })) e i)
+    delivered_at m.history m.limit m.settings m.outboxes m.busy p ps room_ (subst (λ qs. IsSound (record { history = m.history; limit = m.limit; settings = m.settings; outboxes = m.outboxes; plan = qs; busy = m.busy })) e i)
 
 -- ---- the plan is given back
 
@@ -198,9 +199,9 @@ taken_sound m s above below there i =
           elim (eqb_tells s t) [
             | inl same ↦
                 let all : (b.taken ++ take 1 b.queue) ++ drop 1 b.queue ≡ b.taken ++ b.queue = append_assoc b.taken (take 1 b.queue) (drop 1 b.queue) ∙ ap (λ xs. b.taken ++ xs) (take_one b.queue) in
-                let here_ : (outbox_at new s).taken ++ (outbox_at new s).queue ++ planned m.plan s ≡ owed m.history s =
+                let here_ : (outbox_at new s).taken ++ (outbox_at new s).queue ++ planned m.plan s ≡ owed m.settings m.history s =
                 ap (λ o. (box_of o).taken ++ (box_of o).queue ++ planned m.plan s) (box_same boxes s (Some v) above below) ∙ ap (λ xs. xs ++ planned m.plan s) all ∙ i.owed s above below there in
-                subst (λ (u : ℕ). (outbox_at new u).taken ++ (outbox_at new u).queue ++ planned m.plan u ≡ owed m.history u) same.1 here_
+                subst (λ (u : ℕ). (outbox_at new u).taken ++ (outbox_at new u).queue ++ planned m.plan u ≡ owed m.settings m.history u) same.1 here_
             | inr other ↦
                 let is = box_other boxes s t (Some v) above from other.1 in
                 ap (λ o. (box_of o).taken ++ (box_of o).queue ++ planned m.plan t) is ∙ i.owed t from to' (ap (λ o. is_some o) (sym is) ∙ here)

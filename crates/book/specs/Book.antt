@@ -5,6 +5,7 @@ use Rattle.chronicle.specs.declared.record.Kind.{Kind}
 use Rattle.chronicle.specs.declared.record.Kind.TheVariants.{Opened, Said, Hung, Gone}
 use Rattle.chronicle.specs.History.{Rec, IsMomentAfter, last_moment, sessions, actor, accepted, misses, shut, gone}
 use Rattle.chronicle.specs.Journal.{fresh_record, miss}
+use Rattle.registration.specs.declared.settings.Settings.{Settings}
 use Rattle.outbox.specs.declared.item.Item.{Item}
 use Rattle.book.specs.declared.plan.Planned.{Planned}
 use Rattle.book.specs.declared.refusals.OpenRefusal.{OpenRefusal}
@@ -22,12 +23,12 @@ use Rattle.book.specs.Owed.{delivery, owed}
 use Rattle.book.specs.Legal.{IsLegal}
 use Rattle.roster.specs.LookBack.{numbers}
 
--- the history, how many records and how many sessions there may be, each session's outbox until it is reaped, the deliveries
+-- the history, how many records there may be, the settings of the server, each session's outbox until it is reaped, the deliveries
 -- of the newest record that aren't put yet, and whether a plan is out
 pub record Shown : Type 0 where
   pub history : List Rec
   pub limit : ℕ
-  pub most : ℕ
+  pub settings : Settings
   pub outboxes : List (Option Waiting)
   pub plan : List Planned
   pub busy : Bool
@@ -60,8 +61,8 @@ held h = sum_by (kept_for h) (numbers 1 (sessions h))
 
 -- ---- the plan of a record: its deliveries, the actor's first, then by session number, to sessions that weren't shut before it
 
-abbrev pub due : List Rec → Kind → ℕ → List Item
-due h k t = cond (shut h t) [] (delivery h k t)
+abbrev pub due : Settings → List Rec → Kind → ℕ → List Item
+due g h k t = cond (shut h t) [] (delivery g h k t)
 
 abbrev pub puts : ℕ → List Item → List Planned
 puts t xs = map (λ x. record { session = t; item = x }) xs
@@ -74,8 +75,8 @@ others f s t (suc n) = cond (t == s) [] (puts t (f t)) ++ others f s (t + 1) n
 abbrev pub plan_by : (ℕ → List Item) → ℕ → ℕ → List Planned
 plan_by f s n = puts s (f s) ++ others f s 1 n
 
-abbrev pub plan_of : List Rec → Kind → ℕ → List Planned
-plan_of h k n = plan_by (due h k) (actor k) n
+abbrev pub plan_of : Settings → List Rec → Kind → ℕ → List Planned
+plan_of g h k n = plan_by (due g h k) (actor k) n
 
 -- what of a plan is for t
 abbrev pub planned : List Planned → ℕ → List Item
@@ -84,8 +85,8 @@ planned (p ∷ ps) t = cond (p.session == t) (p.item ∷ planned ps t) (planned 
 
 -- ---- steps
 
-abbrev pub empty_book : ℕ → ℕ → Shown
-empty_book limit most = record { history = []; limit = limit; most = most; outboxes = []; plan = []; busy = false }
+abbrev pub empty_book : ℕ → Settings → Shown
+empty_book limit settings = record { history = []; limit = limit; settings = settings; outboxes = []; plan = []; busy = false }
 
 -- one more session
 abbrev pub opened : Shown → List ℕ → ℤ → Waiting → Shown
@@ -93,7 +94,7 @@ opened m host moment box =
     record {
       history = fresh_record m.history moment (Opened (sessions m.history + 1) host) ∷ m.history;
       limit = m.limit;
-      most = m.most;
+      settings = m.settings;
       outboxes = m.outboxes ++ Some box ∷ [];
       plan = m.plan;
       busy = m.busy;
@@ -102,7 +103,7 @@ opened m host moment box =
 -- a record was appended, and its deliveries are planned
 abbrev pub begun : Shown → Kind → ℤ → Shown
 begun m k moment =
-    record { history = fresh_record m.history moment k ∷ m.history; limit = m.limit; most = m.most; outboxes = m.outboxes; plan = plan_of m.history k (length m.outboxes); busy = true }
+    record { history = fresh_record m.history moment k ∷ m.history; limit = m.limit; settings = m.settings; outboxes = m.outboxes; plan = plan_of m.settings m.history k (length m.outboxes); busy = true }
 
 -- a planned delivery was put at the end of its outbox
 abbrev pub delivered : Shown → Planned → List Planned → Shown
@@ -110,7 +111,7 @@ delivered m p ps =
     record {
       history = m.history;
       limit = m.limit;
-      most = m.most;
+      settings = m.settings;
       outboxes = slice_set m.outboxes (p.session - 1) (Some (with_put (outbox_at m.outboxes p.session) p.item));
       plan = ps;
       busy = m.busy;
@@ -118,7 +119,7 @@ delivered m p ps =
 
 -- a planned delivery found its outbox full: the newest record misses the session
 abbrev pub dropped : Shown → Planned → List Planned → Shown
-dropped m p ps = record { history = miss m.history p.session; limit = m.limit; most = m.most; outboxes = m.outboxes; plan = ps; busy = m.busy }
+dropped m p ps = record { history = miss m.history p.session; limit = m.limit; settings = m.settings; outboxes = m.outboxes; plan = ps; busy = m.busy }
 
 -- the plan's first delivery was put, or missed where its outbox was full
 abbrev pub put_next : Shown → List Planned → Shown
@@ -132,20 +133,20 @@ put_all m (p ∷ ps) = put_all (put_next m (p ∷ ps)) ps
 
 -- the plan is given back
 abbrev pub finished : Shown → Shown
-finished m = record { history = m.history; limit = m.limit; most = m.most; outboxes = m.outboxes; plan = m.plan; busy = false }
+finished m = record { history = m.history; limit = m.limit; settings = m.settings; outboxes = m.outboxes; plan = m.plan; busy = false }
 
 -- a record was appended, and all its deliveries were put or missed
 abbrev pub done : Shown → Kind → ℤ → Shown
-done m k moment = finished (put_all (begun m k moment) (plan_of m.history k (length m.outboxes)))
+done m k moment = finished (put_all (begun m k moment) (plan_of m.settings m.history k (length m.outboxes)))
 
 -- the front of a session's outbox was taken
 abbrev pub taken : Shown → ℕ → Shown
 taken m t =
-    record { history = m.history; limit = m.limit; most = m.most; outboxes = slice_set m.outboxes (t - 1) (Some (with_taken (outbox_at m.outboxes t))); plan = m.plan; busy = m.busy }
+    record { history = m.history; limit = m.limit; settings = m.settings; outboxes = slice_set m.outboxes (t - 1) (Some (with_taken (outbox_at m.outboxes t))); plan = m.plan; busy = m.busy }
 
 -- a session and its outbox were given up
 abbrev pub reaped : Shown → ℕ → Shown
-reaped m t = record { history = m.history; limit = m.limit; most = m.most; outboxes = slice_set m.outboxes (t - 1) None; plan = m.plan; busy = m.busy }
+reaped m t = record { history = m.history; limit = m.limit; settings = m.settings; outboxes = slice_set m.outboxes (t - 1) None; plan = m.plan; busy = m.busy }
 
 -- the first that f holds of
 abbrev pub first : (ℕ → Bool) → List ℕ → Option ℕ
@@ -163,22 +164,22 @@ to_sweep h = first (is_to_sweep h) (numbers 1 (sessions h))
 -- ---- what holds of every book
 
 -- p is what the newest record owes its session, which isn't shut and didn't miss it
-abbrev pub IsOwed : List Rec → Planned → Type 0
-IsOwed [] p = ⊥
-IsOwed (r ∷ h) p = (delivery h r.kind p.session ≡ p.item ∷ []) × (shut h p.session ≡ false) × (misses r p.session ≡ false)
+abbrev pub IsOwed : Settings → List Rec → Planned → Type 0
+IsOwed g [] p = ⊥
+IsOwed g (r ∷ h) p = (delivery g h r.kind p.session ≡ p.item ∷ []) × (shut h p.session ≡ false) × (misses r p.session ≡ false)
 
 -- each delivery of a plan is owed by the newest record, to one of n sessions, and no session has two
-abbrev pub IsPlan : List Rec → ℕ → List Planned → Type 0
-IsPlan h n [] = Unit {0}
-IsPlan h n (p ∷ ps) = (0 < p.session) × (p.session ≤ n) × (planned ps p.session ≡ []) × IsOwed h p × IsPlan h n ps
+abbrev pub IsPlan : Settings → List Rec → ℕ → List Planned → Type 0
+IsPlan g h n [] = Unit {0}
+IsPlan g h n (p ∷ ps) = (0 < p.session) × (p.session ≤ n) × (planned ps p.session ≡ []) × IsOwed g h p × IsPlan g h n ps
 
 -- the promise: what was taken, what waits and what is still in the plan is what the history owes
 pub record IsSound (m : Shown) : Type 0 where
-  pub owed : (t : ℕ) → 0 < t → t ≤ length m.outboxes → is_here m.outboxes t ≡ true → (outbox_at m.outboxes t).taken ++ (outbox_at m.outboxes t).queue ++ planned m.plan t ≡ owed m.history t
+  pub owed : (t : ℕ) → 0 < t → t ≤ length m.outboxes → is_here m.outboxes t ≡ true → (outbox_at m.outboxes t).taken ++ (outbox_at m.outboxes t).queue ++ planned m.plan t ≡ owed m.settings m.history t
   pub reaped : (t : ℕ) → 0 < t → t ≤ length m.outboxes → is_here m.outboxes t ≡ false → gone m.history t ≡ true
-  pub plan : IsPlan m.history (length m.outboxes) m.plan
+  pub plan : IsPlan m.settings m.history (length m.outboxes) m.plan
   pub idle : m.busy ≡ false → m.plan ≡ []
-  pub legal : IsLegal m.history
+  pub legal : IsLegal m.settings m.history
   pub sessions : sessions m.history ≡ length m.outboxes
   pub room : length m.history + held m.history ≤ m.limit
 
@@ -198,16 +199,16 @@ pub record IsTurn (m : Shown) (b : Turn) : Type 0 where
 
 pub record MayOpen (m : Shown) (moment : ℤ) : Type 0 where
   pub idle : m.busy ≡ false
-  pub few : count_here m.outboxes < m.most
+  pub few : count_here m.outboxes < m.settings.sessions
   pub room : length m.history + held m.history + 3 ≤ m.limit
   pub in_time : IsMomentAfter (last_moment m.history) moment
 
 -- the first of the refusals whose cause holds, want of memory last
 abbrev pub IsOpenRefusal : Shown → ℤ → OpenRefusal → Type 0
 IsOpenRefusal m moment opening.Busy = m.busy ≡ true
-IsOpenRefusal m moment opening.TooManySessions = (m.busy ≡ false) × (m.most ≤ count_here m.outboxes)
-IsOpenRefusal m moment opening.JournalFull = (m.busy ≡ false) × (count_here m.outboxes < m.most) × (m.limit < length m.history + held m.history + 3)
-IsOpenRefusal m moment opening.BadMoment = (m.busy ≡ false) × (count_here m.outboxes < m.most) × (length m.history + held m.history + 3 ≤ m.limit) × (IsMomentAfter (last_moment m.history) moment → ⊥)
+IsOpenRefusal m moment opening.TooManySessions = (m.busy ≡ false) × (m.settings.sessions ≤ count_here m.outboxes)
+IsOpenRefusal m moment opening.JournalFull = (m.busy ≡ false) × (count_here m.outboxes < m.settings.sessions) × (m.limit < length m.history + held m.history + 3)
+IsOpenRefusal m moment opening.BadMoment = (m.busy ≡ false) × (count_here m.outboxes < m.settings.sessions) × (length m.history + held m.history + 3 ≤ m.limit) × (IsMomentAfter (last_moment m.history) moment → ⊥)
 IsOpenRefusal m moment opening.Memory = MayOpen m moment
 
 pub record MayBegin (m : Shown) (b : Turn) (moment : ℤ) : Type 0 where

@@ -1,6 +1,7 @@
 -- How what a book keeps stands for its history.
 use Rattle.std.specs.Prelude.{◌≡◌, ℕ, ◌<◌, ◌≤◌, Bool, List, length, Option}
 use Rattle.chronicle.specs.Journal as journal
+use Rattle.registration.specs.declared.settings.Settings.{Settings}
 use Rattle.roster.specs.declared.deed.Deed.{Deed}
 use Rattle.roster.specs.LookBack.{opened}
 use Rattle.book.specs.declared.seat.Seat.{Seat}
@@ -12,9 +13,9 @@ use Rattle.book.specs.Book.{held, IsSound}
 
 -- all that a book keeps stands for its history, the facts that its roster knows are those of the history, and there is room
 -- for the records that are kept free
-pub record IsKept (j : journal.Shown) (most : ℕ) (known : List Deed) (seats : List Seat) (boxes : List (Option Waiting)) (plan : List Planned) (busy : Bool) : Type 0 where
-  pub sound : IsSound (record { history = j.history; limit = j.limit; most = most; outboxes = boxes; plan = plan; busy = busy })
-  pub facts : known ≡ facts j.history
+pub record IsKept (j : journal.Shown) (g : Settings) (known : List Deed) (seats : List Seat) (boxes : List (Option Waiting)) (plan : List Planned) (busy : Bool) : Type 0 where
+  pub sound : IsSound (record { history = j.history; limit = j.limit; settings = g; outboxes = boxes; plan = plan; busy = busy })
+  pub facts : known ≡ facts g j.history
   pub each_seat : (t : ℕ) → 0 < t → t ≤ length seats → IsSeat (seat_at seats t) j.history t
   pub opened : length (opened known) ≡ length boxes
   pub places : length seats ≡ length boxes

@@ -4,6 +4,7 @@ use Rattle.std.specs.List.{list_any}
 use Rattle.chronicle.specs.declared.record.Kind.{Kind}
 use Rattle.chronicle.specs.declared.record.Kind.TheVariants.{Opened, Said, Hung, Gone}
 use Rattle.chronicle.specs.History.{Rec, IsMomentAfter, last_moment, sessions, accepted, shut, gone}
+use Rattle.registration.specs.declared.settings.Settings.{Settings}
 use Rattle.book.specs.Owed.{delivery}
 
 -- sessions are opened as 1, 2, 3, ..; a line is of an opened session that isn't shut, and has the next index; a session is hung
@@ -15,10 +16,10 @@ IsKind h (Hung s why) = (0 < s) × (s ≤ sessions h) × (shut h s ≡ false)
 IsKind h (Gone s) = (0 < s) × (s ≤ sessions h) × (shut h s ≡ true) × (gone h s ≡ false)
 
 -- each session that missed a record was owed something by it, and stands once
-abbrev pub AreMissed : List Rec → Kind → List ℕ → Type 0
-AreMissed h k [] = Unit {0}
-AreMissed h k (t ∷ ts) = (delivery h k t ≢ []) × (shut h t ≡ false) × (list_any (λ u. u == t) ts ≡ false) × AreMissed h k ts
+abbrev pub AreMissed : Settings → List Rec → Kind → List ℕ → Type 0
+AreMissed g h k [] = Unit {0}
+AreMissed g h k (t ∷ ts) = (delivery g h k t ≢ []) × (shut h t ≡ false) × (list_any (λ u. u == t) ts ≡ false) × AreMissed g h k ts
 
-abbrev pub IsLegal : List Rec → Type 0
-IsLegal [] = Unit {0}
-IsLegal (r ∷ h) = (r.number ≡ length h + 1) × IsMomentAfter (last_moment h) r.moment × IsKind h r.kind × AreMissed h r.kind r.missed × IsLegal h
+abbrev pub IsLegal : Settings → List Rec → Type 0
+IsLegal g [] = Unit {0}
+IsLegal g (r ∷ h) = (r.number ≡ length h + 1) × IsMomentAfter (last_moment h) r.moment × IsKind h r.kind × AreMissed g h r.kind r.missed × IsLegal g h

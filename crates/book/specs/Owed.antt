@@ -5,6 +5,7 @@ use Rattle.chronicle.specs.declared.record.Kind.TheVariants as kind
 use Rattle.chronicle.specs.declared.why.Why.{Why}
 use Rattle.chronicle.specs.declared.why.Why.TheVariants.{Quit}
 use Rattle.chronicle.specs.History.{Rec, sessions, misses, ends, shut}
+use Rattle.registration.specs.declared.settings.Settings.{Settings}
 use Rattle.outbox.specs.declared.item.Item.{Item}
 use Rattle.outbox.specs.declared.item.Item.TheVariants.{Lines, Last}
 use Rattle.deeds.specs.Deeds.{facts, lines, text}
@@ -21,14 +22,14 @@ reason (kind.Hung s why) = why
 reason k = Quit
 
 -- the lines of a record of this kind after h to t, which was opened before it
-abbrev pub told : List Rec → Kind → ℕ → List Out
-told h k t = cond (nat_le t (sessions h)) (lines (facts h) k t) []
+abbrev pub told : Settings → List Rec → Kind → ℕ → List Out
+told g h k t = cond (nat_le t (sessions h)) (lines g (facts g h) k t) []
 
 -- the delivery of a record of this kind after h to t: the last one to a session that it ends
-abbrev pub delivery : List Rec → Kind → ℕ → List Item
-delivery h k t = cond (ends k t) (Last (length h + 1) (reason k) ∷ []) (item (length h + 1) (told h k t))
+abbrev pub delivery : Settings → List Rec → Kind → ℕ → List Item
+delivery g h k t = cond (ends k t) (Last (length h + 1) (reason k) ∷ []) (item (length h + 1) (told g h k t))
 
 -- the deliveries to t in order, but for each record that misses t and each after t was shut
-abbrev pub owed : List Rec → ℕ → List Item
-owed [] t = []
-owed (r ∷ h) t = owed h t ++ cond (misses r t || shut h t) [] (delivery h r.kind t)
+abbrev pub owed : Settings → List Rec → ℕ → List Item
+owed g [] t = []
+owed g (r ∷ h) t = owed g h t ++ cond (misses r t || shut h t) [] (delivery g h r.kind t)

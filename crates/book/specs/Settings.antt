@@ -1,8 +1,10 @@
--- The limits of settings: this project's own choice.
-use Rattle.std.specs.Prelude.{ℕ, Bool, nat_le, ◌&&◌}
-use Rattle.casemapping.specs.Names.{host_shape}
-use Rattle.book.specs.declared.settings.Settings.{Settings}
+-- The limits of a book: this project's own choice.
+use Rattle.std.specs.Prelude.{ℕ, ◌≤◌}
+use Rattle.registration.specs.declared.settings.Settings.{Settings}
+use Rattle.registration.specs.Settings as registration
 
--- 1 to 1,024 sessions, 1 to 10,000,000 records, and a server's name that has the shape of a host
-abbrev pub is_well_set : Settings → ℕ → Bool
-is_well_set s limit = nat_le 1 s.sessions && (nat_le s.sessions 1024 && (nat_le 1 limit && (nat_le limit 10000000 && host_shape s.server)))
+-- settings within their limits, and 1 to 10,000,000 records
+pub record IsWellSet (s : Settings) (limit : ℕ) : Type 0 where
+  pub settings : registration.IsWellSet s
+  pub some_records : 1 ≤ limit
+  pub few_records : limit ≤ 10000000

@@ -8,7 +8,7 @@ ghost use Rattle.chronicle.specs.Journal.{IsRoomier, numbered, record_at};
 ghost use Rattle.roster.specs.LookBack.{nick, on};
 ghost use Rattle.deeds.specs.Deeds.{facts};
 ghost use Rattle.outbox.specs.Ring.{has_room, with_put, with_taken};
-ghost use Rattle.book.specs.Settings.{is_well_set};
+ghost use Rattle.book.specs.Settings.{IsWellSet};
 ghost use Rattle.book.specs.Book.{outbox_at, is_here, here_by};
 
 use crate::baton::Baton;
@@ -18,10 +18,11 @@ use crate::refusals::{
     BookFault, HangRefusal, LineRefusal, OpenRefusal, ReapRefusal, SweepRefusal, TakeRefusal,
 };
 use crate::seat::{Seat, held, is_to_sweep};
-use crate::settings::{Settings, is_well_set};
+use crate::settings::is_well_set;
 use chronicle::{Journal, Kind, Moment, Record, RecordNumber, SessionId, Why};
 use line_grammar::{Octets, Piece};
 use outbox::{Item, Outbox, Ring};
+use registration::Settings;
 use roster::{Deed, Roster, Sessions};
 use std::alloc::{AllocError, Global};
 use std::collections::VecDeque;
@@ -33,7 +34,6 @@ use std::slice;
 pub struct Book {
     alloc: Global,
     journal: Journal,
-    most: usize,
     roster: Roster,
     seats: Vec<Seat>,
     outboxes: Vec<Option<Ring>>,
@@ -47,9 +47,9 @@ impl Model for Book {
 
     ghost Value = { Shown };
 
-    ghost view = { λ a. record { history = a.journal.history; limit = a.journal.limit; most = a.most; outboxes = a.outboxes.items; plan = a.plan.items; busy = a.busy } };
+    ghost view = { λ a. record { history = a.journal.history; limit = a.journal.limit; settings = a.roster.settings; outboxes = a.outboxes.items; plan = a.plan.items; busy = a.busy } };
 
-    ghost invariant = { λ a. IsKept a.journal a.most a.roster.facts a.seats.items a.outboxes.items a.plan.items a.busy };
+    ghost invariant = { λ a. IsKept a.journal a.roster.settings a.roster.facts a.seats.items a.outboxes.items a.plan.items a.busy };
 }
 
 /// One where there is an outbox.
@@ -121,9 +121,9 @@ impl Book {
 
     /// An empty book for at most `limit` records.
     pub fn new(alloc: Global, settings: Settings, limit: usize) -> Result<Book, BookFault>
-        ensures ok { IfOk result (λ b. (b ≡ empty_book limit settings.sessions) × (is_well_set settings limit ≡ true)) }
-        ensures bad { IfErr result (λ e. e ≡ BookFault.BadSettings → is_well_set settings limit ≡ false) }
-        ensures memory { IfErr result (λ e. e ≡ BookFault.Memory → is_well_set settings limit ≡ true) }
+        ensures ok { IfOk result (λ b. (b ≡ empty_book limit settings) × IsWellSet settings limit) }
+        ensures bad { IfErr result (λ e. e ≡ BookFault.BadSettings → IsWellSet settings limit → ⊥) }
+        ensures memory { IfErr result (λ e. e ≡ BookFault.Memory → IsWellSet settings limit) }
     {
         if !is_well_set(&settings, limit) {
             return Err(BookFault::BadSettings);
@@ -132,8 +132,7 @@ impl Book {
         Ok(Book {
             alloc,
             journal,
-            most: settings.sessions,
-            roster: Roster::new(alloc),
+            roster: Roster::new(alloc, settings),
             seats: Vec::new(alloc),
             outboxes: Vec::new(alloc),
             plan: VecDeque::new(alloc),
@@ -183,7 +182,7 @@ impl Book {
         if self.busy {
             return Err(OpenRefusal::Busy);
         }
-        if self.most <= count_here(&self.outboxes) {
+        if self.roster.settings().sessions <= count_here(&self.outboxes) {
             return Err(OpenRefusal::TooManySessions);
         }
         if free < 3 {
@@ -679,7 +678,7 @@ impl Book {
 
     /// The nickname that a session has by the history.
     pub fn nick_of(&self, session: SessionId) -> Option<&Octets>
-        ensures opened { 0 < session → session ≤ sessions self.now.history → option_copied result ≡ nick (facts self.now.history) session }
+        ensures opened { 0 < session → session ≤ sessions self.now.history → option_copied result ≡ nick (facts self.now.settings self.now.history) session }
         ensures none { (0 < session → session ≤ sessions self.now.history → ⊥) → result ≡ None }
     {
         self.roster.nick_of(session)
@@ -687,7 +686,7 @@ impl Book {
 
     /// Whether a session is on a channel by the history.
     pub fn is_on(&self, session: SessionId, channel: &Octets) -> bool
-        ensures { result ≡ on (facts self.now.history) session channel.now }
+        ensures { result ≡ on (facts self.now.settings self.now.history) session channel.now }
     {
         self.roster.is_on(session, channel.as_slice())
     }

@@ -16,5 +16,6 @@ pub use outbox::{Item, Outbox, PutFault, Ring};
 pub use refusals::{
     BookFault, HangRefusal, LineRefusal, OpenRefusal, ReapRefusal, SweepRefusal, TakeRefusal,
 };
+pub use registration::{MAX_SESSIONS, Settings};
 pub use roster::Sessions;
-pub use settings::{MAX_RECORDS, MAX_SESSIONS, Settings};
+pub use settings::MAX_RECORDS;

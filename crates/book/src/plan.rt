@@ -3,17 +3,18 @@ ghost use Rattle.std.specs.Prelude.{◌≡◌, ℕ, ◌<◌, ◌≤◌, ◌+◌,
 ghost use Rattle.chronicle.specs.History.{is_quit};
 ghost use Rattle.roster.specs.LookBack.{after, opened};
 ghost use Rattle.roster.specs.Legal.{IsOpened, AreNext};
-ghost use Rattle.deeds.specs.Commands.{command_of};
+ghost use Rattle.commands.specs.Asked.{asked_of};
 ghost use Rattle.deeds.specs.Effects.{deeds_of, heard};
 ghost use Rattle.deeds.specs.Departure.{departs};
-ghost use Rattle.deeds.specs.Rows.{of_command};
+ghost use Rattle.deeds.specs.Rows.{of_asked};
 ghost use Rattle.deeds.specs.Deeds.{text};
 ghost use Rattle.book.specs.Book.{puts, others};
 ghost use Rattle.book.specs.Seats.{told, told_own, heard_text, repeated, planned_for, planned_for_verdict, planned_from};
 
 use crate::seat::Seat;
 use chronicle::{Moment, RecordNumber, SessionId, Why};
-use deeds::{Shown, Verdict, decide, decide_gone, read};
+use commands::read_piece;
+use deeds::{Shown, Verdict, decide, decide_gone};
 use line_grammar::{Octets, Piece};
 use numerics::Out;
 use outbox::Item;
@@ -236,17 +237,17 @@ pub(crate) fn prepare_line(
 ) -> Result<(Prepared, bool), AllocError>
     requires seated { place < length seats.now }
     requires known { IsOpened roster.now.facts (place + 1) }
-    ensures deeds { IfOk result (λ p. p.0.deeds.items ≡ deeds_of (of_command roster.now.facts (place + 1) (command_of piece.now))) }
+    ensures deeds { IfOk result (λ p. p.0.deeds.items ≡ deeds_of (of_asked roster.now.settings roster.now.facts (place + 1) (asked_of piece.now))) }
     ensures next { IfOk result (λ p. AreNext roster.now.facts p.0.deeds.items) }
     ensures opened { IfOk result (λ p. opened (after roster.now.facts p.0.deeds.items) ≡ opened roster.now.facts) }
     ensures quits { IfOk result (λ p. p.1 ≡ is_quit piece.now) }
-    ensures plan { IfOk result (λ p. p.0.plan.items ≡ planned_from seats.now (place + 1) number (of_command roster.now.facts (place + 1) (command_of piece.now)) p.1) }
+    ensures plan { IfOk result (λ p. p.0.plan.items ≡ planned_from seats.now (place + 1) number (of_asked roster.now.settings roster.now.facts (place + 1) (asked_of piece.now)) p.1) }
     ensures missed { IfOk result (λ p. (p.0.missed.items ≡ []) × (length p.0.plan.items ≤ vec_capacity p.0.missed)) }
 {
-    let command = read(alloc, piece)?;
-    let quits = command.is_quit();
+    let asked = read_piece(alloc, piece)?;
+    let quits = asked.is_quit();
     let session = SessionId::new(place as u64 + 1);
-    let verdict = decide(alloc, roster, session, &command, moment)?;
+    let verdict = decide(alloc, roster, session, &asked, moment)?;
     let prepared = with_room(alloc, seats, place, number, verdict, quits)?;
     Ok((prepared, quits))
 }
@@ -275,7 +276,8 @@ pub(crate) fn prepare_gone(
 /// Establishes the facts of a record, for which room was made. It takes no memory.
 pub(crate) fn commit(roster: &mut Roster, deeds: Vec<Deed>)
     requires { roster.old.ready ≡ deeds.items }
-    ensures { roster.new.facts ≡ after roster.old.facts deeds.items }
+    ensures settings { roster.new.settings ≡ roster.old.settings }
+    ensures facts { roster.new.facts ≡ after roster.old.facts deeds.items }
 {
     for deed in deeds {
         roster.apply(deed);

@@ -1,15 +1,18 @@
 -- A fault of one line is a fault of the script from that line on.
-use Rattle.std.proofs.Common.{◌≡◌, ℕ, ◌+◌, true, List, [], ◌∷◌, ◌++◌, length, drop, get_or, ◌<◌, Option, Some, None, Result, Ok, Err, refl, subst, sym, ap, ◌∙◌}
-use Rattle.std.specs.Prelude.{IfErr, OnOk, codes}
+use Rattle.std.proofs.Common.{◌≡◌, ℕ, ◌+◌, ◌≤◌, ◌&&◌, Bool, true, false, nat_le, arith, List, [], ◌∷◌, ◌++◌, length, drop, get_or, ◌<◌, Option, Some, None, Result, Ok, Err, refl, subst, sym, ap, ◌∙◌}
+use Rattle.std.specs.Prelude.{IfErr, OnOk}
 use Rattle.std.specs.Option.{is_some}
+use Rattle.std.proofs.lemmas.Bool.Decides.{nat_tests}
 use Rattle.std.proofs.lemmas.List.{drop_more}
 use Rattle.halld.specs.declared.entry.PlayFault.{PlayFault}
 use Rattle.halld.specs.declared.entry.PlayFault.TheVariants.{BadLine, BadSettings, ReadFailed, WriteFailed, Memory}
 use Rattle.halld.specs.declared.header.Limits.{Limits}
 use Rattle.halld.specs.declared.script.Step.{Step}
-use Rattle.interleave.specs.Limits.{is_well_set}
+use Rattle.casemapping.specs.Names.{host_shape}
+use Rattle.registration.specs.declared.settings.Settings.{Settings}
+use Rattle.interleave.specs.Limits.{IsWellSet}
 use Rattle.halld.specs.Script.{step_of}
-use Rattle.halld.specs.Headers.{are_good}
+use Rattle.halld.specs.Headers.{settings_of, is_within, are_good}
 use Rattle.halld.specs.Lines.{lines_of, Told, is_set_after, told_after, told_ahead}
 use Rattle.halld.specs.Faults.{IsFaultOf, IsGood, IsOutside}
 use Rattle.halld.proofs.Ahead.{line_before, line_last, set_by, step_line}
@@ -77,6 +80,51 @@ pub octet_on : (block : List ℕ) (i : ℕ) (ahead before after : List ℕ → T
 octet_on block i ahead before after lt same next rest =
     next (drop (i + 1) block ++ rest) ∙ ap (λ bs. before (bs ++ rest)) (sym (drop_more block i 0 lt)) ∙ same rest
 
--- limits are good where they set up a server of this name
-pub good_by : (server : List ℕ) (l : Limits) → server ≡ codes "irc.example" → is_well_set (record { server = server; sessions = l.sessions }) l.records l.workers l.sendq ≡ true → are_good l ≡ true
-good_by server l is set = subst (λ name. is_well_set (record { server = name; sessions = l.sessions }) l.records l.workers l.sendq ≡ true) is set
+-- ---- limits are good where they set up a server
+
+both : (a b : Bool) → (a && b) ≡ true → (a ≡ true) × (b ≡ true)
+both true b e = (refl, e)
+both false b e = absurd (let f : false ≡ true = e in cc)
+
+within : (least most n : ℕ) → least ≤ n → n ≤ most → is_within least most n ≡ true
+within least most n a b =
+    let low : nat_le least n ≡ true = grind (arith, nat_tests) in let high : nat_le n most ≡ true = grind (arith, nat_tests) in
+    ap (λ x. x && nat_le n most) low ∙ high
+
+between : (least most n : ℕ) → is_within least most n ≡ true → (least ≤ n) × (n ≤ most)
+between least most n e = let p = both (nat_le least n) (nat_le n most) e in let low = p.0 in let high = p.1 in (grind (arith, nat_tests), grind (arith, nat_tests))
+
+well_set : (l : Limits) → are_good l ≡ true → IsWellSet (settings_of l) l.records l.workers l.sendq
+unfolding host_shape
+well_set l e =
+    let p = both (is_within 1 1024 l.sessions) (is_within 1 10000000 l.records && (is_within 1 64 l.workers && is_within 1 4096 l.sendq)) e in
+    let q = both (is_within 1 10000000 l.records) (is_within 1 64 l.workers && is_within 1 4096 l.sendq) p.1 in
+    let r = both (is_within 1 64 l.workers) (is_within 1 4096 l.sendq) q.1 in
+    let sessions = between 1 1024 l.sessions p.0 in let records = between 1 10000000 l.records q.0 in let workers = between 1 64 l.workers r.0 in let items = between 1 4096 l.sendq r.1 in
+    record {
+      book = record {
+        settings = record { some_sessions = sessions.0; few_sessions = sessions.1; server = refl; from_1970 = omega arith; to_9998 = omega arith; version = refl; info = refl; motd = refl };
+        some_records = records.0;
+        few_records = records.1;
+      };
+      some_workers = workers.0;
+      few_workers = workers.1;
+      some_items = items.0;
+      few_items = items.1;
+    }
+
+pub good_by : (s : Settings) (l : Limits) → s ≡ settings_of l → IsWellSet s l.records l.workers l.sendq → are_good l ≡ true
+good_by s l es i =
+    let is : IsWellSet (settings_of l) l.records l.workers l.sendq = subst (λ (x : Settings). IsWellSet x l.records l.workers l.sendq) es i in
+    let set = is.book.settings in
+    ap (λ x. x && (is_within 1 10000000 l.records && (is_within 1 64 l.workers && is_within 1 4096 l.sendq))) (within 1 1024 l.sessions set.some_sessions set.few_sessions)
+    ∙ ap (λ x. x && (is_within 1 64 l.workers && is_within 1 4096 l.sendq)) (within 1 10000000 l.records is.book.some_records is.book.few_records)
+    ∙ ap (λ x. x && is_within 1 4096 l.sendq) (within 1 64 l.workers is.some_workers is.few_workers)
+    ∙ within 1 4096 l.sendq is.some_items is.few_items
+
+isnt : (b : Bool) → (b ≡ true → ⊥) → b ≡ false
+isnt true never = absurd (never refl)
+isnt false never = refl
+
+pub bad_by : (s : Settings) (l : Limits) → s ≡ settings_of l → (IsWellSet s l.records l.workers l.sendq → ⊥) → are_good l ≡ false
+bad_by s l es never = isnt (are_good l) (λ e. never (subst (λ (x : Settings). IsWellSet x l.records l.workers l.sendq) (sym es) (well_set l e)))

@@ -1,9 +1,8 @@
 -- One put more.
-use Rattle.std.proofs.Common.{◌≡◌, ℕ, suc, ◌+◌, arith, true, false, Ok, Err, refl, sym, ◌∙◌, subst}
+use Rattle.std.proofs.Common.{◌≡◌, ℕ, suc, ◌+◌, arith, true, false, Ok, Err, refl, subst}
 use Rattle.std.specs.Prelude.{is_err}
 use Rattle.interleave.specs.declared.event.Event.TheVariants as event
 use Rattle.interleave.specs.declared.event.Note.{Note}
-use Rattle.interleave.specs.declared.event.StepRefusal.{StepRefusal}
 use Rattle.interleave.specs.State.{State}
 use Rattle.interleave.specs.Steps.{IsStep}
 use Rattle.halld.specs.Steps.{ArePut, Answer}

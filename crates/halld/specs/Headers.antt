@@ -1,8 +1,8 @@
 -- A header as a line of a script, and the limits that headers set: this project's own choice.
-use Rattle.std.specs.Prelude.{ℕ, ◌^◌, Bool, if◌then◌else◌, List, codes, Option, Some, None}
+use Rattle.std.specs.Prelude.{ℕ, pos, ◌^◌, nat_le, ◌&&◌, Bool, if◌then◌else◌, List, [], codes, Option, Some, None}
 use Rattle.std.specs.Str.{bytes_eq}
 use Rattle.line_grammar.specs.Lines.{before_space, after_space}
-use Rattle.interleave.specs.Limits.{is_well_set}
+use Rattle.registration.specs.declared.settings.Settings.{Settings}
 use Rattle.halld.specs.Numbers.{number_below}
 use Rattle.halld.specs.Script.{both}
 use Rattle.halld.specs.declared.header.Limits.{Limits}
@@ -39,6 +39,13 @@ abbrev pub with_header : Limits → Option Header → Limits
 with_header l None = l
 with_header l (Some header) = with_value l header.setting header.value
 
--- whether a server of this name may be set up so
+-- what a script's server is told when it starts
+abbrev pub settings_of : Limits → Settings
+settings_of l = record { server = codes "irc.example"; info = codes "halld"; version = codes "halld-1"; created = pos 0; motd = None; accounts = []; sessions = l.sessions }
+
+abbrev pub is_within : ℕ → ℕ → ℕ → Bool
+is_within least most n = nat_le least n && nat_le n most
+
+-- whether a script's server may be set up so
 abbrev pub are_good : Limits → Bool
-are_good l = is_well_set (record { server = codes "irc.example"; sessions = l.sessions }) l.records l.workers l.sendq
+are_good l = is_within 1 1024 l.sessions && (is_within 1 10000000 l.records && (is_within 1 64 l.workers && is_within 1 4096 l.sendq))

@@ -7,6 +7,7 @@ use Rattle.halld.specs.declared.script.Step.{Step}
 use Rattle.halld.specs.declared.reader.Stage.{Stage}
 use Rattle.halld.specs.declared.reader.Stage.TheVariants.{Head, Steps}
 use Rattle.halld.specs.Script.{step_of}
+use Rattle.halld.specs.Headers.{settings_of}
 use Rattle.halld.specs.Lines.{continued, lines_of, limits_after, limits_of}
 use Rattle.halld.specs.Steps.{IsPerformed}
 
@@ -21,7 +22,7 @@ steps_of (line ∷ more) = with_step (step_of line) (steps_of more)
 
 -- a server with these limits, before any step
 abbrev pub start_of : Limits → State
-start_of l = empty_state l.records l.sessions l.sendq l.workers
+start_of l = empty_state l.records (settings_of l) l.sendq l.workers
 
 -- steps are performed in turn, from a state with the hosts of its sessions, and print a text
 abbrev pub ArePerformed : List Step → List (List ℕ) → State → List ℕ → Type 0

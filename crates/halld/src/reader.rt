@@ -1,7 +1,7 @@
 //! The lines of a script as they come.
 ghost use Rattle.std.specs.Prelude.{◌≡◌, ◌+◌, ◌<◌, ◌≤◌, ◌^◌, ◌++◌, ◌∷◌, [], List, ℕ, None, Some, true, length, OnOk, IfOk, IfErr};
 ghost use Rattle.std.specs.Io.KnownBytes.{Appends};
-ghost use Rattle.halld.specs.Headers.{default_limits, are_good};
+ghost use Rattle.halld.specs.Headers.{default_limits, settings_of, are_good};
 ghost use Rattle.halld.specs.Script.{step_of, NamesHost};
 ghost use Rattle.halld.specs.Lines.{told_after, told_ahead, is_set_after};
 ghost use Rattle.halld.specs.Faults.{IsFaultOf, IsGood, IsOutside};
@@ -13,13 +13,20 @@ use crate::entry::PlayFault;
 use crate::header::{Limits, parse_header};
 use crate::player::Player;
 use crate::script::{Step, StepFault, parse_step};
-use interleave::{Play, PlayRefusal, Settings};
+use interleave::{Moment, Play, PlayRefusal, Settings};
 use line_grammar::Octets;
-use std::alloc::Global;
+use registration::Accounts;
+use std::alloc::{AllocError, Global};
 use std::io::Write;
 
 /// The server's name in a script.
 const SERVER: &[u8; 11] = b"irc.example";
+
+/// What is told of it.
+const INFO: &[u8; 5] = b"halld";
+
+/// The version that is told.
+const VERSION: &[u8; 7] = b"halld-1";
 
 /// How far a script has come.
 #[derive(Drop)]
@@ -39,6 +46,21 @@ pub(crate) struct Reader {
     ended: u64,
 }
 
+/// What a server with these limits is told when it starts.
+fn settings_of(alloc: Global, limits: Limits) -> Result<Settings, AllocError>
+    ensures { IfOk result (λ settings. settings ≡ settings_of limits) }
+{
+    Ok(Settings {
+        server: Octets::copied(alloc, SERVER)?,
+        info: Octets::copied(alloc, INFO)?,
+        version: Octets::copied(alloc, VERSION)?,
+        created: Moment::new(0),
+        motd: None,
+        accounts: Accounts::new(alloc),
+        sessions: limits.sessions,
+    })
+}
+
 /// A player of a server with these limits.
 fn new_player(alloc: Global, limits: Limits) -> Result<Player, PlayFault>
     ensures ok { IfOk result (λ player. are_good limits ≡ true) }
@@ -46,10 +68,7 @@ fn new_player(alloc: Global, limits: Limits) -> Result<Player, PlayFault>
     ensures hosts { IfOk result (λ player. player.hosts.items ≡ []) }
     ensures fault { IfErr result (IsFaultOf (told_after (Some limits) 1 [])) }
 {
-    let settings = Settings {
-        server: Octets::copied(alloc, SERVER)?,
-        sessions: limits.sessions,
-    };
+    let settings = settings_of(alloc, limits)?;
     match Play::new(
         alloc,
         settings,

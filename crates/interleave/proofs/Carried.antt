@@ -7,6 +7,7 @@ use Rattle.chronicle.specs.declared.record.Kind.{Kind}
 use Rattle.chronicle.specs.declared.record.Kind.TheVariants as kind
 use Rattle.chronicle.specs.History.{Rec, said_by, accepted, misses, ends, shut, leaves, gone}
 use Rattle.chronicle.specs.Journal.{fresh_record, miss}
+use Rattle.registration.specs.declared.settings.Settings.{Settings}
 use Rattle.outbox.specs.declared.item.Item.{Item}
 use Rattle.outbox.specs.Ring.{Waiting, has_room, with_put}
 use Rattle.book.specs.declared.plan.Planned.{Planned}
@@ -31,7 +32,7 @@ ShutBefore (r ∷ h) t = shut h t ≡ true
 -- from book m to book n
 pub record Carries (m n : Shown) (t : ℕ) : Type 0 where
   pub accepted : accepted n.history t ≡ accepted m.history t
-  pub box : IsKeptBox (slice_index_or m.outboxes (t - 1) None) (slice_index_or n.outboxes (t - 1) None) (owed m.history t) (owed n.history t)
+  pub box : IsKeptBox (slice_index_or m.outboxes (t - 1) None) (slice_index_or n.outboxes (t - 1) None) (owed m.settings m.history t) (owed n.settings n.history t)
   pub before : ShutBefore m.history t → ShutBefore n.history t
 
 -- ---- outboxes
@@ -72,11 +73,11 @@ carried_box None (Some w) b sendq x y k i = absurd k
 carried_box (Some v) None b sendq x y k i = absurd k
 carried_box (Some v) (Some w) b sendq x y k i = (k.0 ∙ i.0, k.1 ∙ i.1)
 
-pub carried : (m n : Shown) (b : Seen) (sendq t : ℕ) → Carries m n t → IsSoundAt m.history (slice_index_or m.outboxes (t - 1) None) b sendq t → IsSoundAt n.history (slice_index_or n.outboxes (t - 1) None) b sendq t
+pub carried : (m n : Shown) (b : Seen) (sendq t : ℕ) → Carries m n t → IsSoundAt m.settings m.history (slice_index_or m.outboxes (t - 1) None) b sendq t → IsSoundAt n.settings n.history (slice_index_or n.outboxes (t - 1) None) b sendq t
 carried m n b sendq t c i =
     record {
       accepted = ap (λ xs. xs ++ b.pending) c.accepted ∙ i.accepted;
-      box = carried_box (slice_index_or m.outboxes (t - 1) None) (slice_index_or n.outboxes (t - 1) None) b sendq (owed m.history t) (owed n.history t) c.box i.box;
+      box = carried_box (slice_index_or m.outboxes (t - 1) None) (slice_index_or n.outboxes (t - 1) None) b sendq (owed m.settings m.history t) (owed n.settings n.history t) c.box i.box;
       hand = i.hand;
     }
 
@@ -112,17 +113,17 @@ gone_by : (r : Rec) (h : List Rec) (t : ℕ) (b : Bool) → leaves r.kind t ≡ 
 gone_by r h t true eb i f e = left_by h r.kind t i eb
 gone_by r h t false eb i f e = f e
 
-gone_shut : (h : List Rec) (t : ℕ) → IsLegal h → gone h t ≡ true → shut h t ≡ true
-gone_shut [] t i e = absurd (let f : false ≡ true = e in cc)
-gone_shut (r ∷ h) t i e = shut_more (misses r t) (ends r.kind t) (shut h t) (gone_by r h t (leaves r.kind t) refl i.2 (gone_shut h t i.4) e)
+gone_shut : (g : Settings) (h : List Rec) (t : ℕ) → IsLegal g h → gone h t ≡ true → shut h t ≡ true
+gone_shut g [] t i e = absurd (let f : false ≡ true = e in cc)
+gone_shut g (r ∷ h) t i e = shut_more (misses r t) (ends r.kind t) (shut h t) (gone_by r h t (leaves r.kind t) refl i.2 (gone_shut g h t i.4) e)
 
-gone_before : (h : List Rec) (t : ℕ) → IsLegal h → gone h t ≡ true → ShutBefore h t
-gone_before [] t i e = absurd (let f : false ≡ true = e in cc)
-gone_before (r ∷ h) t i e = gone_by r h t (leaves r.kind t) refl i.2 (gone_shut h t i.4) e
+gone_before : (g : Settings) (h : List Rec) (t : ℕ) → IsLegal g h → gone h t ≡ true → ShutBefore h t
+gone_before g [] t i e = absurd (let f : false ≡ true = e in cc)
+gone_before g (r ∷ h) t i e = gone_by r h t (leaves r.kind t) refl i.2 (gone_shut g h t i.4) e
 
 -- a session that was given up was shut before the newest record
 pub away_before : (m : Shown) (t : ℕ) → book.IsSound m → 0 < t → t ≤ length m.outboxes → is_here m.outboxes t ≡ false → ShutBefore m.history t
-away_before m t i from to away = gone_before m.history t i.legal (i.reaped t from to away)
+away_before m t i from to away = gone_before m.settings m.history t i.legal (i.reaped t from to away)
 
 -- ---- who was shut before is owed nothing more
 
@@ -130,11 +131,11 @@ pub owed_by : (x : List Item) (d : List Item) (b c : Bool) → c ≡ true → x 
 owed_by x d true c e = append-nil x
 owed_by x d false c e = rw e (append-nil x)
 
-missed_owed : (h : List Rec) (s t : ℕ) → ShutBefore h t → owed (miss h s) t ≡ owed h t
-missed_owed [] s t b = absurd b
-missed_owed (r ∷ h) s t b =
+missed_owed : (g : Settings) (h : List Rec) (s t : ℕ) → ShutBefore h t → owed g (miss h s) t ≡ owed g h t
+missed_owed g [] s t b = absurd b
+missed_owed g (r ∷ h) s t b =
     let n : Rec = record { number = r.number; moment = r.moment; kind = r.kind; missed = r.missed ++ s ∷ [] } in
-    owed_by (owed h t) (delivery h r.kind t) (misses n t) (shut h t) b ∙ sym (owed_by (owed h t) (delivery h r.kind t) (misses r t) (shut h t) b)
+    owed_by (owed g h t) (delivery g h r.kind t) (misses n t) (shut h t) b ∙ sym (owed_by (owed g h t) (delivery g h r.kind t) (misses r t) (shut h t) b)
 
 missed_accepted : (h : List Rec) (s t : ℕ) → accepted (miss h s) t ≡ accepted h t
 missed_accepted [] s t = refl
@@ -156,7 +157,7 @@ begun_carries m k moment t f e =
     let r : Rec = fresh_record m.history moment k in
     record {
       accepted = ap (λ xs. accepted m.history t ++ xs) e ∙ append-nil (accepted m.history t);
-      box = same_box (slice_index_or m.outboxes (t - 1) None) (owed m.history t) (owed (r ∷ m.history) t) (λ away. owed_by (owed m.history t) (delivery m.history k t) (misses r t) (shut m.history t) (before_shut m.history t (f away)));
+      box = same_box (slice_index_or m.outboxes (t - 1) None) (owed m.settings m.history t) (owed m.settings (r ∷ m.history) t) (λ away. owed_by (owed m.settings m.history t) (delivery m.settings m.history k t) (misses r t) (shut m.history t) (before_shut m.history t (f away)));
       before = λ b. before_shut m.history t b;
     }
 
@@ -166,8 +167,8 @@ put_carries m p ps t f =
     let here : (b : Bool) → has_room (outbox_at m.outboxes p.session) ≡ b → Carries m (cond b (delivered m p ps) (dropped m p ps)) t =
     λ b.
     elim b as (λ (b : Bool). has_room (outbox_at m.outboxes p.session) ≡ b → Carries m (cond b (delivered m p ps) (dropped m p ps)) t) [
-      | true ↦ λ e. record { accepted = refl; box = set_box m.outboxes (p.session - 1) (t - 1) (with_put (outbox_at m.outboxes p.session) p.item) (owed m.history t) (put_box o p.item (owed m.history t) e); before = λ b. b }
-      | false ↦ λ e. record { accepted = missed_accepted m.history p.session t; box = same_box (slice_index_or m.outboxes (t - 1) None) (owed m.history t) (owed (miss m.history p.session) t) (λ away. missed_owed m.history p.session t (f away)); before = missed_before m.history p.session t }
+      | true ↦ λ e. record { accepted = refl; box = set_box m.outboxes (p.session - 1) (t - 1) (with_put (outbox_at m.outboxes p.session) p.item) (owed m.settings m.history t) (put_box o p.item (owed m.settings m.history t) e); before = λ b. b }
+      | false ↦ λ e. record { accepted = missed_accepted m.history p.session t; box = same_box (slice_index_or m.outboxes (t - 1) None) (owed m.settings m.history t) (owed m.settings (miss m.history p.session) t) (λ away. missed_owed m.settings m.history p.session t (f away)); before = missed_before m.history p.session t }
     ] in
     here (has_room (outbox_at m.outboxes p.session)) refl
 
@@ -176,14 +177,14 @@ puts_carry m [] t f = carries_same m t
 puts_carry m (p ∷ ps) t f =
     let n : Shown = put_next m (p ∷ ps) in
     let one : Carries m n t = put_carries m p ps t f in
-    let stays : is_here n.outboxes t ≡ is_here m.outboxes t = kept_here (slice_index_or m.outboxes (t - 1) None) (slice_index_or n.outboxes (t - 1) None) (owed m.history t) (owed n.history t) one.box in
+    let stays : is_here n.outboxes t ≡ is_here m.outboxes t = kept_here (slice_index_or m.outboxes (t - 1) None) (slice_index_or n.outboxes (t - 1) None) (owed m.settings m.history t) (owed n.settings n.history t) one.box in
     carries_then m n (put_all n ps) t one (puts_carry n ps t (λ away. one.before (f (sym stays ∙ away))))
 
 pub done_carries : (m : Shown) (k : Kind) (moment : ℤ) (t : ℕ) → (is_here m.outboxes t ≡ false → ShutBefore m.history t) → said_by k t ≡ [] → Carries m (done m k moment) t
 done_carries m k moment t f e =
     let n : Shown = begun m k moment in
     let one : Carries m n t = begun_carries m k moment t f e in
-    let all = carries_then m n (put_all n (plan_of m.history k (length m.outboxes))) t one (puts_carry n (plan_of m.history k (length m.outboxes)) t (λ away. one.before (f away))) in
+    let all = carries_then m n (put_all n (plan_of m.settings m.history k (length m.outboxes))) t one (puts_carry n (plan_of m.settings m.history k (length m.outboxes)) t (λ away. one.before (f away))) in
     record { accepted = all.accepted; box = all.box; before = all.before }
 
 -- ---- how many outboxes there are
@@ -204,22 +205,22 @@ puts_length m [] = refl
 puts_length m (p ∷ ps) = puts_length (put_next m (p ∷ ps)) ps ∙ put_length m p ps
 
 pub done_length : (m : Shown) (k : Kind) (moment : ℤ) → length (done m k moment).outboxes ≡ length m.outboxes
-done_length m k moment = puts_length (begun m k moment) (plan_of m.history k (length m.outboxes))
+done_length m k moment = puts_length (begun m k moment) (plan_of m.settings m.history k (length m.outboxes))
 
 -- ---- a plan has nothing for who was shut before
 
-shut_not_owed : (h : List Rec) (p : Planned) → ShutBefore h p.session → book.IsOwed h p → ⊥
-shut_not_owed [] p b i = i
-shut_not_owed (r ∷ h) p b i = let f : true ≡ false = sym b ∙ i.1 in cc
+shut_not_owed : (g : Settings) (h : List Rec) (p : Planned) → ShutBefore h p.session → book.IsOwed g h p → ⊥
+shut_not_owed g [] p b i = i
+shut_not_owed g (r ∷ h) p b i = let f : true ≡ false = sym b ∙ i.1 in cc
 
-none_by : (m : Shown) (p : Planned) (t : ℕ) (xs : List Item) → ShutBefore m.history t → book.IsOwed m.history p → xs ≡ [] → cond (p.session == t) (p.item ∷ xs) xs ≡ []
+none_by : (m : Shown) (p : Planned) (t : ℕ) (xs : List Item) → ShutBefore m.history t → book.IsOwed m.settings m.history p → xs ≡ [] → cond (p.session == t) (p.item ∷ xs) xs ≡ []
 none_by m p t xs b i e =
     elim (eqb_tells p.session t) [
-      | inl same ↦ absurd (shut_not_owed m.history p (subst (ShutBefore m.history) (sym same.1) b) i)
+      | inl same ↦ absurd (shut_not_owed m.settings m.history p (subst (ShutBefore m.history) (sym same.1) b) i)
       | inr other ↦ rw other.0 e
     ]
 
-pub none_planned : (m : Shown) (ps : List Planned) (t : ℕ) → ShutBefore m.history t → IsPlan m.history (length m.outboxes) ps → planned ps t ≡ []
+pub none_planned : (m : Shown) (ps : List Planned) (t : ℕ) → ShutBefore m.history t → IsPlan m.settings m.history (length m.outboxes) ps → planned ps t ≡ []
 none_planned m [] t b i = refl
 none_planned m (p ∷ ps) t b i = none_by m p t (planned ps t) b i.3 (none_planned m ps t b i.4)
 

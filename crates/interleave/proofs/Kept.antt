@@ -408,7 +408,7 @@ connected_kept m k sendq boxes jobs holder c host moment i free is e sound =
           let number : sessions m.history + 1 ≡ t = let f = last.1 in omega arith in
           let new : held_at (boxes ++ c ∷ []) t ≡ record { seen = nothing_fed; turn = Some (record { session = t; next = 0 }) } = get_or_push boxes c no_inbox (t - 1) p ∙ is ∙ ap (λ (j : ℕ). record { seen = nothing_fed; turn = Some (record { session = j; next = 0 }) }) number in
           let there : is_here g.outboxes t ≡ true = ap is_some (get_or_push m.outboxes box None (t - 1) out) in
-          let none : accepted g.history t ≡ [] = append-nil (accepted m.history t) ∙ none_accepted m.history t i.sound.book.legal later in
+          let none : accepted g.history t ≡ [] = append-nil (accepted m.history t) ∙ none_accepted m.settings m.history t i.sound.book.legal later in
           subst (λ (x : Held). x.turn ≡ baton_of (is_here g.outboxes t) (baton_at g.history t x.seen.place)) (sym new)
           (ap (λ (xs : List Piece). Some (record { session = t; next = length xs })) (sym none) ∙ ap (λ (b : Bool). baton_of b (baton_at g.history t Home)) (sym there))
       | inr other ↦

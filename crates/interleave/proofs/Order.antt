@@ -3,6 +3,7 @@ use Rattle.std.proofs.Common.{◌≡◌, ℕ, ◌+◌, ◌<◌, ◌≤◌, Bool,
 use Rattle.std.specs.Option.{is_some}
 use Rattle.chronicle.specs.declared.why.Why.{Why}
 use Rattle.chronicle.specs.History.{Rec, misses, ends, shut}
+use Rattle.registration.specs.declared.settings.Settings.{Settings}
 use Rattle.outbox.specs.declared.item.Item.{Item}
 use Rattle.outbox.specs.declared.item.Item.TheVariants.{Lines, Last}
 use Rattle.numerics.specs.declared.outgoing.Out.{Out}
@@ -57,22 +58,22 @@ item_up n xs (l ∷ ls) u =
     let y : Item = Lines (n + 1) (text (l ∷ ls)) in
     record { rises = rising_push n y xs u.rises u.most (omega arith); most = most_push n (n + 1) y xs (omega arith) u.most (omega arith) }
 
-owed_up : (h : List Rec) (t : ℕ) → IsUpTo (length h) (owed h t)
-owed_up [] t = record { rises = tt; most = tt }
-owed_up (r ∷ h) t =
+owed_up : (g : Settings) (h : List Rec) (t : ℕ) → IsUpTo (length h) (owed g h t)
+owed_up g [] t = record { rises = tt; most = tt }
+owed_up g (r ∷ h) t =
     let one : length h + 1 ≡ length (r ∷ h) = omega arith in
-    subst (λ (n : ℕ). IsUpTo n (owed (r ∷ h) t)) one
-    (elim (misses r t || shut h t) as (λ (b : Bool). IsUpTo (length h + 1) (owed h t ++ cond b [] (delivery h r.kind t))) [
-      | true ↦ item_up (length h) (owed h t) [] (owed_up h t)
+    subst (λ (n : ℕ). IsUpTo n (owed g (r ∷ h) t)) one
+    (elim (misses r t || shut h t) as (λ (b : Bool). IsUpTo (length h + 1) (owed g h t ++ cond b [] (delivery g h r.kind t))) [
+      | true ↦ item_up (length h) (owed g h t) [] (owed_up g h t)
       | false ↦
-          elim (ends r.kind t) as (λ (b : Bool). IsUpTo (length h + 1) (owed h t ++ cond b (Last (length h + 1) (reason r.kind) ∷ []) (item (length h + 1) (told h r.kind t)))) [
-            | true ↦ last_up (length h) (owed h t) (reason r.kind) (owed_up h t)
-            | false ↦ item_up (length h) (owed h t) (told h r.kind t) (owed_up h t)
+          elim (ends r.kind t) as (λ (b : Bool). IsUpTo (length h + 1) (owed g h t ++ cond b (Last (length h + 1) (reason r.kind) ∷ []) (item (length h + 1) (told g h r.kind t)))) [
+            | true ↦ last_up (length h) (owed g h t) (reason r.kind) (owed_up g h t)
+            | false ↦ item_up (length h) (owed g h t) (told g h r.kind t) (owed_up g h t)
           ]
     ])
 
 pub once_in_order : OnceInOrder
-once_in_order h t = (owed_up h t).rises
+once_in_order g h t = (owed_up g h t).rises
 
 -- ---- prefixes
 
@@ -85,25 +86,25 @@ rising_front [] ys r = tt
 rising_front (x ∷ xs) ys r = (after_front (number_of x) xs ys r.0, rising_front xs ys r.1)
 
 -- the first items of what is owed rise
-pub prefix_rises : (h : List Rec) (t : ℕ) (xs : List Item) → IsPrefix xs (owed h t) → IsRising xs
-prefix_rises h t xs p = rising_front xs p.0 (subst IsRising (sym p.1) (once_in_order h t))
+pub prefix_rises : (g : Settings) (h : List Rec) (t : ℕ) (xs : List Item) → IsPrefix xs (owed g h t) → IsRising xs
+prefix_rises g h t xs p = rising_front xs p.0 (subst IsRising (sym p.1) (once_in_order g h t))
 
 -- what was taken, what waits and what a plan still has is owed
 owed_by : (o : Option Waiting) (b : Seen) (sendq : ℕ) (ps xs : List Item) → IsBoxOf o b sendq xs → (is_some o ≡ false → ps ≡ []) → (is_some o ≡ true → (box_of o).taken ++ (box_of o).queue ++ ps ≡ xs) → b.taken ++ waits o b.left ++ ps ≡ xs
 owed_by None b sendq ps xs i none here = ap (λ qs. b.taken ++ b.left ++ qs) (none refl) ∙ append-nil (b.taken ++ b.left) ∙ i.0
 owed_by (Some w) b sendq ps xs i none here = ap (λ qs. qs ++ w.queue ++ ps) (sym i.0) ∙ here refl
 
-pub sound_owed : (m : State) → IsSound m → ForEach m (λ t. taken_of m t ++ queue_of m t ++ planned_for m t ≡ owed m.book.history t)
+pub sound_owed : (m : State) → IsSound m → ForEach m (λ t. taken_of m t ++ queue_of m t ++ planned_for m t ≡ owed m.book.settings m.book.history t)
 sound_owed m i t from to =
     let same = i.inboxes in let within : t ≤ length m.book.outboxes = omega arith in
-    owed_by (box_at m t) (inbox_at m t) m.sendq (planned_for m t) (owed m.book.history t) (i.each t from to).box
+    owed_by (box_at m t) (inbox_at m t) m.sendq (planned_for m t) (owed m.book.settings m.book.history t) (i.each t from to).box
     (λ away. none_planned m.book m.book.plan t (away_before m.book t i.book from within away) i.book.plan) (i.book.owed t from within)
 
-pub taken_is_prefix : (m : State) → IsSound m → ForEach m (λ t. IsPrefix (taken_of m t) (owed m.book.history t))
+pub taken_is_prefix : (m : State) → IsSound m → ForEach m (λ t. IsPrefix (taken_of m t) (owed m.book.settings m.book.history t))
 taken_is_prefix m i t from to = (queue_of m t ++ planned_for m t, sym (append_assoc (taken_of m t) (queue_of m t) (planned_for m t)) ∙ sound_owed m i t from to)
 
 pub taken_in_order : TakenInOrder
-taken_in_order m i t from to = (prefix_rises m.book.history t (taken_of m t) (taken_is_prefix m i t from to), taken_is_prefix m i t from to)
+taken_in_order m i t from to = (prefix_rises m.book.settings m.book.history t (taken_of m t) (taken_is_prefix m i t from to), taken_is_prefix m i t from to)
 
 -- ---- lines
 
@@ -121,23 +122,23 @@ accepted_is_prefix_of_sent m i t from to = ((inbox_at m t).pending, (i.each t fr
 
 -- ---- after the close
 
-shut_stays : (later : List Rec) (h : List Rec) (t : ℕ) → shut h t ≡ true → (shut (later ++ h) t ≡ true) × (owed (later ++ h) t ≡ owed h t)
-shut_stays [] h t e = (e, refl)
-shut_stays (r ∷ later) h t e =
-    let before = shut_stays later h t e in (
+shut_stays : (g : Settings) (later : List Rec) (h : List Rec) (t : ℕ) → shut h t ≡ true → (shut (later ++ h) t ≡ true) × (owed g (later ++ h) t ≡ owed g h t)
+shut_stays g [] h t e = (e, refl)
+shut_stays g (r ∷ later) h t e =
+    let before = shut_stays g later h t e in (
       shut_more (misses r t) (ends r.kind t) (shut (later ++ h) t) before.0,
-      owed_nothing (owed (later ++ h) t) (delivery (later ++ h) r.kind t) (misses r t) (shut (later ++ h) t) before.0 ∙ before.1,
+      owed_nothing (owed g (later ++ h) t) (delivery g (later ++ h) r.kind t) (misses r t) (shut (later ++ h) t) before.0 ∙ before.1,
     )
 
 -- what the record owes that shuts a session
-closing : (r : Rec) (h : List Rec) (t : ℕ) (b c d : Bool) → ends r.kind t ≡ c → (b || c || d) ≡ true → (end : List Item) × IsErrorAtMost end × (owed h t ++ cond (b || d) [] (cond c (Last (length h + 1) (reason r.kind) ∷ []) (item (length h + 1) (told h r.kind t))) ≡ owed h t ++ end)
-closing r h t true c d is e = ([], tt, refl)
-closing r h t false true true is e = ([], tt, refl)
-closing r h t false true false is e = (Last (length h + 1) (reason r.kind) ∷ [], tt, refl)
-closing r h t false false true is e = ([], tt, refl)
-closing r h t false false false is e = absurd (let f : false ≡ true = e in cc)
+closing : (g : Settings) (r : Rec) (h : List Rec) (t : ℕ) (b c d : Bool) → ends r.kind t ≡ c → (b || c || d) ≡ true → (end : List Item) × IsErrorAtMost end × (owed g h t ++ cond (b || d) [] (cond c (Last (length h + 1) (reason r.kind) ∷ []) (item (length h + 1) (told g h r.kind t))) ≡ owed g h t ++ end)
+closing g r h t true c d is e = ([], tt, refl)
+closing g r h t false true true is e = ([], tt, refl)
+closing g r h t false true false is e = (Last (length h + 1) (reason r.kind) ∷ [], tt, refl)
+closing g r h t false false true is e = ([], tt, refl)
+closing g r h t false false false is e = absurd (let f : false ≡ true = e in cc)
 
 pub error_at_most : ErrorAtMostAfterTheClose
-error_at_most later r h t e =
-    let one = closing r h t (misses r t) (ends r.kind t) (shut h t) refl e in
-    (one.0, one.1, (shut_stays later (r ∷ h) t e).1 ∙ one.2)
+error_at_most g later r h t e =
+    let one = closing g r h t (misses r t) (ends r.kind t) (shut h t) refl e in
+    (one.0, one.1, (shut_stays g later (r ∷ h) t e).1 ∙ one.2)

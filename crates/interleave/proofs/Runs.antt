@@ -155,7 +155,7 @@ run_gains m k (e ∷ es) (r ∷ rs) t from h =
       taken = more.taken ∙ ap (λ xs. xs ++ took t es rs) one.taken ∙ append_assoc (taken_of m t) (took_by t e r) (took t es rs);
     }
 
-pub run_taken : (m k : State) (es : List Event) (rs : List (Result Note StepRefusal)) → IsSound k → IsRun m es rs k → ForEach k (λ t. (taken_of m t ++ took t es rs) ++ queue_of k t ++ planned_for k t ≡ owed k.book.history t)
+pub run_taken : (m k : State) (es : List Event) (rs : List (Result Note StepRefusal)) → IsSound k → IsRun m es rs k → ForEach k (λ t. (taken_of m t ++ took t es rs) ++ queue_of k t ++ planned_for k t ≡ owed k.book.settings k.book.history t)
 run_taken m k es rs i h t from to = ap (λ xs. xs ++ queue_of k t ++ planned_for k t) (sym (run_gains m k es rs t from h).taken) ∙ sound_owed k i t from to
 
 pub run_accepted : (m k : State) (es : List Event) (rs : List (Result Note StepRefusal)) → IsSound k → IsRun m es rs k → ForEach k (λ t. accepted k.book.history t ++ in_hand k t ++ unread k t ≡ lines ((inbox_at m t).fed ++ sent t es rs))

@@ -8,6 +8,7 @@ use Rattle.line_grammar.specs.Lines.{lines}
 use Rattle.chronicle.specs.declared.record.Kind.TheVariants as kind
 use Rattle.chronicle.specs.declared.why.Why.{Why}
 use Rattle.chronicle.specs.History.{Rec, sessions, accepted}
+use Rattle.registration.specs.declared.settings.Settings.{Settings}
 use Rattle.outbox.specs.declared.item.Item.{Item}
 use Rattle.outbox.specs.Ring.{Waiting, empty_ring, with_taken as ring_taken}
 use Rattle.book.specs.Owed.{owed}
@@ -166,7 +167,7 @@ book_sound m n holder i sound lock len c jobs who =
     }
 
 one_sound : (m : State) (n : Shown) (s : ℕ) (b : Seen) (jobs : List (Option ℕ)) (holder : Option ℕ) → IsSound m → book.IsSound n → 0 < s → s ≤ length m.inboxes → n.busy ≡ is_some holder → length n.outboxes ≡ length m.book.outboxes
-    → ((t : ℕ) → t ≢ s → 0 < t → t ≤ length m.inboxes → Carries m.book n t) → IsSoundAt n.history (slice_index_or n.outboxes (s - 1) None) b m.sendq s → HasBatons jobs (slice_set m.inboxes (s - 1) b) holder → ((w : ℕ) → holder ≡ Some w → (0 < w) × (w ≤ length jobs))
+    → ((t : ℕ) → t ≢ s → 0 < t → t ≤ length m.inboxes → Carries m.book n t) → IsSoundAt n.settings n.history (slice_index_or n.outboxes (s - 1) None) b m.sendq s → HasBatons jobs (slice_set m.inboxes (s - 1) b) holder → ((w : ℕ) → holder ≡ Some w → (0 < w) × (w ≤ length jobs))
     → IsSound (record { book = n; sendq = m.sendq; inboxes = slice_set m.inboxes (s - 1) b; jobs = jobs; holder = holder })
 one_sound m n s b jobs holder i sound above below lock len c here batons who =
     let size = set_length m.inboxes (s - 1) b in
@@ -179,11 +180,11 @@ one_sound m n s b jobs holder i sound above below lock len c here batons who =
           elim (eqb_tells t s) [
             | inl is ↦
                 let same : b ≡ slice_index_or (slice_set m.inboxes (s - 1) b) (t - 1) nothing_fed = sym (get_or-set_same m.inboxes (s - 1) b nothing_fed within) ∙ ap (λ (j : ℕ). slice_index_or (slice_set m.inboxes (s - 1) b) (j - 1) nothing_fed) (sym is.1) in
-                subst (λ (x : Seen). IsSoundAt n.history (slice_index_or n.outboxes (t - 1) None) x m.sendq t) same
-                (subst (λ (j : ℕ). IsSoundAt n.history (slice_index_or n.outboxes (j - 1) None) b m.sendq j) (sym is.1) here)
+                subst (λ (x : Seen). IsSoundAt n.settings n.history (slice_index_or n.outboxes (t - 1) None) x m.sendq t) same
+                (subst (λ (j : ℕ). IsSoundAt n.settings n.history (slice_index_or n.outboxes (j - 1) None) b m.sendq j) (sym is.1) here)
             | inr other ↦
                 let same : inbox_at m t ≡ slice_index_or (slice_set m.inboxes (s - 1) b) (t - 1) nothing_fed = sym (set_place m.inboxes s t b above from below other.1) in
-                subst (λ (x : Seen). IsSoundAt n.history (slice_index_or n.outboxes (t - 1) None) x m.sendq t) same
+                subst (λ (x : Seen). IsSoundAt n.settings n.history (slice_index_or n.outboxes (t - 1) None) x m.sendq t) same
                 (carried m.book n (inbox_at m t) m.sendq t (c t other.1 from top) (i.each t from top))
           ]);
       jobs = batons;
@@ -213,7 +214,7 @@ fed_sound m s octets added i above below adds =
     one_sound m m.book s (with_fed b octets added) m.jobs m.holder i i.book above below i.lock refl (λ t ne from to. carries_same m.book t)
     (record {
       accepted = sym (append_assoc (accepted m.book.history s) b.pending added) ∙ ap (λ xs. xs ++ added) was.accepted ∙ sym adds;
-      box = box_like (box_at m s) b (with_fed b octets added) m.sendq (owed m.book.history s) refl refl refl was.box;
+      box = box_like (box_at m s) b (with_fed b octets added) m.sendq (owed m.book.settings m.book.history s) refl refl refl was.box;
       hand = λ w e f. was.hand w e (no_front b.pending added f);
     })
     (same_batons m.jobs m.inboxes m.holder s (with_fed b octets added) above below refl i.jobs) i.holder
@@ -223,7 +224,7 @@ picked_sound m w s i a l above below here free home some =
     let b = inbox_at m s in let was = i.each s above below in
     let desks : length (with_job m w (Some s)) ≡ length m.jobs = set_length m.jobs (w - 1) (Some s) in
     one_sound m m.book s (moved b (Hand w)) (with_job m w (Some s)) m.holder i i.book above below i.lock refl (λ t ne from to. carries_same m.book t)
-    (record { accepted = was.accepted; box = box_here (box_at m s) b (moved b (Hand w)) m.sendq (owed m.book.history s) (owed m.book.history s) here refl was.box; hand = λ v e. some })
+    (record { accepted = was.accepted; box = box_here (box_at m s) b (moved b (Hand w)) m.sendq (owed m.book.settings m.book.history s) (owed m.book.settings m.book.history s) here refl was.box; hand = λ v e. some })
     (pick_batons m.jobs m.inboxes m.holder w s (moved b (Hand w)) a l above below free home refl i.jobs)
     (λ v e. let old = i.holder v e in (old.0, let f = old.1 in omega arith))
 
@@ -245,7 +246,7 @@ begun_sound m w s piece rest moment i free a l has here next sound =
     (λ t ne from to. begun_carries m.book (kind.Said s said piece) moment t (λ gone. away_before m.book t i.book from (omega arith) gone) (rw (ne_eqb s t (λ e. ne (sym e))) refl))
     (record {
       accepted = ap (λ xs. (accepted h s ++ xs) ++ rest) (rw (eq-eqb s s refl) refl) ∙ append_assoc (accepted h s) (piece ∷ []) rest ∙ ap (λ xs. accepted h s ++ xs) (sym next) ∙ was.accepted;
-      box = box_here (box_at m s) b (with_begun b w rest) m.sendq (owed h s) (owed n.history s) here refl was.box;
+      box = box_here (box_at m s) b (with_begun b w rest) m.sendq (owed m.book.settings h s) (owed n.settings n.history s) here refl was.box;
       hand = λ v e. absurd (place_apart w v e);
     })
     (begin_batons m.jobs m.inboxes w s (with_begun b w rest) a has refl jobs)
@@ -276,7 +277,7 @@ line_ended_sound m w s i held has here sound =
     let mine = jobs (w - 1) s has in let above = mine.0 in let below = mine.1 in
     let b = inbox_at m s in let was = i.each s above below in
     one_sound m (book.finished m.book) s (moved b Home) (with_job m w None) None i sound above below refl refl (λ t ne from to. finish_carries m.book t)
-    (record { accepted = was.accepted; box = box_here (box_at m s) b (moved b Home) m.sendq (owed m.book.history s) (owed m.book.history s) here refl was.box; hand = λ v e. absurd (place_home v e) })
+    (record { accepted = was.accepted; box = box_here (box_at m s) b (moved b Home) m.sendq (owed m.book.settings m.book.history s) (owed m.book.settings m.book.history s) here refl was.box; hand = λ v e. absurd (place_home v e) })
     (home_batons m.jobs m.inboxes (Some w) None w s (moved b Home) who.0 who.1 has (like_without w) jobs)
     (λ v e. absurd (let f : None ≡ Some v = e in cc))
 
@@ -286,7 +287,7 @@ back_sound m w s i a l has here =
     let b = inbox_at m s in let was = i.each s above below in
     let desks : length (with_job m w None) ≡ length m.jobs = set_length m.jobs (w - 1) None in
     one_sound m m.book s (moved b Home) (with_job m w None) m.holder i i.book above below i.lock refl (λ t ne from to. carries_same m.book t)
-    (record { accepted = was.accepted; box = box_here (box_at m s) b (moved b Home) m.sendq (owed m.book.history s) (owed m.book.history s) here refl was.box; hand = λ v e. absurd (place_home v e) })
+    (record { accepted = was.accepted; box = box_here (box_at m s) b (moved b Home) m.sendq (owed m.book.settings m.book.history s) (owed m.book.settings m.book.history s) here refl was.box; hand = λ v e. absurd (place_home v e) })
     (home_batons m.jobs m.inboxes m.holder m.holder w s (moved b Home) a l has (λ v ne. refl) i.jobs)
     (λ v e. let old = i.holder v e in (old.0, let f = old.1 in omega arith))
 
@@ -294,13 +295,14 @@ back_sound m w s i a l has here =
 box_set : (boxes : List (Option Waiting)) (s t : ℕ) (o : Option Waiting) → 0 < s → 0 < t → t ≢ s → slice_index_or (slice_set boxes (s - 1) o) (t - 1) None ≡ slice_index_or boxes (t - 1) None
 box_set boxes s t o a b ne = get_or-set_other boxes (s - 1) (t - 1) o None (λ e. ne (omega arith))
 
-other_carries : (m : Shown) (s t : ℕ) (o : Option Waiting) (n : Shown) → 0 < s → 0 < t → t ≢ s → n.history ≡ m.history → n.outboxes ≡ slice_set m.outboxes (s - 1) o → Carries m n t
-other_carries m s t o n a b ne history boxes =
+other_carries : (m : Shown) (s t : ℕ) (o : Option Waiting) (n : Shown) → 0 < s → 0 < t → t ≢ s → n.settings ≡ m.settings → n.history ≡ m.history → n.outboxes ≡ slice_set m.outboxes (s - 1) o → Carries m n t
+other_carries m s t o n a b ne settings history boxes =
     let c = carries_same m t in
     record {
       accepted = ap (λ (h : List Rec). accepted h t) history;
-      box = subst (λ (p : Option Waiting). IsKeptBox (slice_index_or m.outboxes (t - 1) None) p (owed m.history t) (owed n.history t)) (sym (ap (λ (xs : List (Option Waiting)). slice_index_or xs (t - 1) None) boxes ∙ box_set m.outboxes s t o a b ne))
-          (subst (λ (h : List Rec). IsKeptBox (slice_index_or m.outboxes (t - 1) None) (slice_index_or m.outboxes (t - 1) None) (owed m.history t) (owed h t)) (sym history) c.box);
+      box = subst (λ (p : Option Waiting). IsKeptBox (slice_index_or m.outboxes (t - 1) None) p (owed m.settings m.history t) (owed n.settings n.history t)) (sym (ap (λ (xs : List (Option Waiting)). slice_index_or xs (t - 1) None) boxes ∙ box_set m.outboxes s t o a b ne))
+          (subst (λ (h : List Rec). IsKeptBox (slice_index_or m.outboxes (t - 1) None) (slice_index_or m.outboxes (t - 1) None) (owed m.settings m.history t) (owed n.settings h t)) (sym history)
+          (subst (λ (g : Settings). IsKeptBox (slice_index_or m.outboxes (t - 1) None) (slice_index_or m.outboxes (t - 1) None) (owed m.settings m.history t) (owed g m.history t)) (sym settings) c.box));
       before = subst (λ (h : List Rec). ShutBefore m.history t → ShutBefore h t) (sym history) (λ x. x);
     }
 
@@ -321,10 +323,10 @@ took_sound m s x i above below here e sound =
     let o : Option Waiting = Some (ring_taken (book.outbox_at m.book.outboxes s)) in
     let new : slice_index_or n.outboxes (s - 1) None ≡ o = get_or-set_same m.book.outboxes (s - 1) o None within in
     one_sound m n s (with_taken b x) m.jobs m.holder i sound above below i.lock (set_length m.book.outboxes (s - 1) o)
-    (λ t ne from to. other_carries m.book s t o n above from ne refl refl)
+    (λ t ne from to. other_carries m.book s t o n above from ne refl refl refl)
     (record {
       accepted = was.accepted;
-      box = subst (λ (p : Option Waiting). IsBoxOf p (with_taken b x) m.sendq (owed m.book.history s)) (sym new) (took_box (box_at m s) b m.sendq b.left (owed m.book.history s) (owed m.book.history s) x here e was.box);
+      box = subst (λ (p : Option Waiting). IsBoxOf p (with_taken b x) m.sendq (owed m.book.settings m.book.history s)) (sym new) (took_box (box_at m s) b m.sendq b.left (owed m.book.settings m.book.history s) (owed m.book.settings m.book.history s) x here e was.box);
       hand = was.hand;
     })
     (same_batons m.jobs m.inboxes m.holder s (with_taken b x) above below refl i.jobs) i.holder
@@ -361,13 +363,13 @@ reaped_sound m s i free above below here home sound =
     let n : Shown = (reaped m s).book in
     let idle : m.book.plan ≡ [] = i.book.idle (i.lock ∙ ap is_some free) in
     let new : slice_index_or n.outboxes (s - 1) None ≡ None = get_or-set_same m.book.outboxes (s - 1) None None within in
-    let all : (book.outbox_at m.book.outboxes s).taken ++ (book.outbox_at m.book.outboxes s).queue ++ [] ≡ owed m.book.history s =
+    let all : (book.outbox_at m.book.outboxes s).taken ++ (book.outbox_at m.book.outboxes s).queue ++ [] ≡ owed m.book.settings m.book.history s =
     ap (λ ps. (book.outbox_at m.book.outboxes s).taken ++ (book.outbox_at m.book.outboxes s).queue ++ book.planned ps s) (sym idle) ∙ i.book.owed s above below_too here in
     one_sound m n s (with_left b (queue_of m s)) m.jobs m.holder i sound above below i.lock (set_length m.book.outboxes (s - 1) None)
-    (λ t ne from to. other_carries m.book s t None n above from ne refl refl)
+    (λ t ne from to. other_carries m.book s t None n above from ne refl refl refl)
     (record {
       accepted = was.accepted;
-      box = subst (λ (p : Option Waiting). IsBoxOf p (with_left b (queue_of m s)) m.sendq (owed m.book.history s)) (sym new) (reaped_box (box_at m s) b m.sendq (owed m.book.history s) here was.box all (is_at_home b.place home));
+      box = subst (λ (p : Option Waiting). IsBoxOf p (with_left b (queue_of m s)) m.sendq (owed m.book.settings m.book.history s)) (sym new) (reaped_box (box_at m s) b m.sendq (owed m.book.settings m.book.history s) here was.box all (is_at_home b.place home));
       hand = was.hand;
     })
     (same_batons m.jobs m.inboxes m.holder s (with_left b (queue_of m s)) above below refl i.jobs) i.holder
@@ -381,7 +383,7 @@ open_carries m t host moment box from to f =
     let c = begun_carries m k moment t f refl in
     record {
       accepted = c.accepted;
-      box = subst (λ (o : Option Waiting). IsKeptBox (slice_index_or m.outboxes (t - 1) None) o (owed m.history t) (owed (book.opened m host moment box).history t)) (sym (get_or_append_left m.outboxes (Some box ∷ []) None (t - 1) within)) c.box;
+      box = subst (λ (o : Option Waiting). IsKeptBox (slice_index_or m.outboxes (t - 1) None) o (owed m.settings m.history t) (owed m.settings (book.opened m host moment box).history t)) (sym (get_or_append_left m.outboxes (Some box ∷ []) None (t - 1) within)) c.box;
       before = c.before;
     }
 
@@ -410,17 +412,17 @@ connected_sound m host moment i sound =
                 let out : length m.book.outboxes ≡ t - 1 = omega arith in
                 let here : slice_index_or (m.inboxes ++ nothing_fed ∷ []) (t - 1) nothing_fed ≡ nothing_fed = get_or_push m.inboxes nothing_fed nothing_fed (t - 1) last in
                 let new : slice_index_or n.outboxes (t - 1) None ≡ Some box = get_or_push m.book.outboxes (Some box) None (t - 1) out in
-                subst (λ (x : Seen). IsSoundAt n.history (slice_index_or n.outboxes (t - 1) None) x m.sendq t) (sym here)
+                subst (λ (x : Seen). IsSoundAt n.settings n.history (slice_index_or n.outboxes (t - 1) None) x m.sendq t) (sym here)
                 (record {
-                  accepted = append-nil _ ∙ append-nil _ ∙ none_accepted m.book.history t i.book.legal later;
-                  box = subst (λ (o : Option Waiting). IsBoxOf o nothing_fed m.sendq (owed n.history t)) (sym new) (refl, refl);
+                  accepted = append-nil _ ∙ append-nil _ ∙ none_accepted m.book.settings m.book.history t i.book.legal later;
+                  box = subst (λ (o : Option Waiting). IsBoxOf o nothing_fed m.sendq (owed n.settings n.history t)) (sym new) (refl, refl);
                   hand = λ w e. absurd (place_home w e);
                 })
             | inr other ↦
                 let below : t ≤ length m.inboxes = let ne = other.1 in omega arith in
                 let within : t - 1 < length m.inboxes = omega arith in
                 let here : slice_index_or (m.inboxes ++ nothing_fed ∷ []) (t - 1) nothing_fed ≡ inbox_at m t = get_or_append_left m.inboxes (nothing_fed ∷ []) nothing_fed (t - 1) within in
-                subst (λ (x : Seen). IsSoundAt n.history (slice_index_or n.outboxes (t - 1) None) x m.sendq t) (sym here)
+                subst (λ (x : Seen). IsSoundAt n.settings n.history (slice_index_or n.outboxes (t - 1) None) x m.sendq t) (sym here)
                 (carried m.book n (inbox_at m t) m.sendq t (open_carries m.book t host moment box from (omega arith) (λ gone. away_before m.book t i.book from (omega arith) gone)) (i.each t from below))
           ];
       jobs = new_batons m.jobs m.inboxes m.holder nothing_fed i.jobs;

@@ -1,8 +1,12 @@
 -- The limits of what a server is told when it starts: this project's own choice.
-use Rattle.std.specs.Prelude.{ℕ, Bool, nat_le, ◌&&◌}
-use Rattle.book.specs.declared.settings.Settings.{Settings}
+use Rattle.std.specs.Prelude.{ℕ, ◌≤◌}
+use Rattle.registration.specs.declared.settings.Settings.{Settings}
 use Rattle.book.specs.Settings as book
 
 -- the book's limits, 1 to 64 workers, and outboxes for 1 to 4,096 items
-abbrev pub is_well_set : Settings → ℕ → ℕ → ℕ → Bool
-is_well_set s limit workers sendq = book.is_well_set s limit && (nat_le 1 workers && (nat_le workers 64 && (nat_le 1 sendq && nat_le sendq 4096)))
+pub record IsWellSet (s : Settings) (limit workers sendq : ℕ) : Type 0 where
+  pub book : book.IsWellSet s limit
+  pub some_workers : 1 ≤ workers
+  pub few_workers : workers ≤ 64
+  pub some_items : 1 ≤ sendq
+  pub few_items : sendq ≤ 4096

@@ -4,6 +4,7 @@ use Rattle.std.specs.Option.{is_some}
 use Rattle.line_grammar.specs.declared.splitter.Piece.{Piece}
 use Rattle.line_grammar.specs.Lines.{lines}
 use Rattle.chronicle.specs.History.{Rec, accepted}
+use Rattle.registration.specs.declared.settings.Settings.{Settings}
 use Rattle.outbox.specs.declared.item.Item.{Item}
 use Rattle.outbox.specs.Ring.{Waiting}
 use Rattle.book.specs.Owed.{owed}
@@ -107,8 +108,8 @@ is_home (Begun w) = false
 -- ---- the promise
 
 -- with no sessions, and so many workers who have nothing to do
-abbrev pub empty_state : ℕ → ℕ → ℕ → ℕ → State
-empty_state limit most sendq workers = record { book = book.empty_book limit most; sendq = sendq; inboxes = []; jobs = replicate workers None; holder = None }
+abbrev pub empty_state : ℕ → Settings → ℕ → ℕ → State
+empty_state limit settings sendq workers = record { book = book.empty_book limit settings; sendq = sendq; inboxes = []; jobs = replicate workers None; holder = None }
 
 -- an outbox has room for sendq items, and what was taken of the session was taken of it; where it was given up, what was taken
 -- and what was left is what the history owes, and no worker has the baton
@@ -117,9 +118,9 @@ IsBoxOf None b sendq owes = (b.taken ++ b.left ≡ owes) × (b.place ≡ Home)
 IsBoxOf (Some w) b sendq owes = (w.taken ≡ b.taken) × (w.cap ≡ sendq)
 
 -- of session t with this outbox: the accepted lines and those that no worker has begun are the lines of what was fed
-pub record IsSoundAt (h : List Rec) (o : Option Waiting) (b : Seen) (sendq t : ℕ) : Type 0 where
+pub record IsSoundAt (g : Settings) (h : List Rec) (o : Option Waiting) (b : Seen) (sendq t : ℕ) : Type 0 where
   pub accepted : accepted h t ++ b.pending ≡ lines b.fed
-  pub box : IsBoxOf o b sendq (owed h t)
+  pub box : IsBoxOf o b sendq (owed g h t)
   pub hand : (w : ℕ) → b.place ≡ Hand w → b.pending ≢ []
 
 -- the book's own promise, and each session's; a worker who has a session's line has its baton; the lock is held where a plan is
@@ -127,7 +128,7 @@ pub record IsSoundAt (h : List Rec) (o : Option Waiting) (b : Seen) (sendq t : �
 pub record IsSound (m : State) : Type 0 where
   pub book : book.IsSound m.book
   pub inboxes : length m.inboxes ≡ length m.book.outboxes
-  pub each : (t : ℕ) → 0 < t → t ≤ length m.inboxes → IsSoundAt m.book.history (box_at m t) (inbox_at m t) m.sendq t
+  pub each : (t : ℕ) → 0 < t → t ≤ length m.inboxes → IsSoundAt m.book.settings m.book.history (box_at m t) (inbox_at m t) m.sendq t
   pub jobs : (i s : ℕ) → slice_index_or m.jobs i None ≡ Some s → (0 < s) × (s ≤ length m.inboxes) × ((inbox_at m s).place ≡ place_with m.holder (i + 1))
   pub lock : m.book.busy ≡ is_some m.holder
   pub holder : (w : ℕ) → m.holder ≡ Some w → (0 < w) × (w ≤ length m.jobs)

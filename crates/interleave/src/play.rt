@@ -1,12 +1,12 @@
 //! Steps, and whole runs.
-ghost use Rattle.std.specs.Prelude.{◌≡◌, ◌<◌, ◌≤◌, ◌+◌, ◌-◌, ◌++◌, ◌∷◌, [], ℕ, true, false, length, replicate, slice_set, Some, None, IfOk, IfErr, IfSome, OnErr, All, nat_le, ◌&&◌, ◌||◌};
+ghost use Rattle.std.specs.Prelude.{◌≡◌, ◌<◌, ◌≤◌, ◌+◌, ◌-◌, ◌++◌, ◌∷◌, [], ℕ, true, false, length, replicate, slice_set, Some, None, IfOk, IfErr, IfSome, IsTrue, OnErr, All, ◌||◌, ◌↔◌};
 ghost use Rattle.std.specs.Option.{is_some};
 ghost use Rattle.chronicle.specs.History.{accepted};
 ghost use Rattle.line_grammar.specs.Lines.{lines};
 ghost use Rattle.book.specs.Legal.{IsLegal};
 ghost use Rattle.book.specs.Owed.{owed};
 ghost use Rattle.casemapping.specs.Names.{host_shape};
-ghost use Rattle.interleave.specs.Limits.{is_well_set};
+ghost use Rattle.interleave.specs.Limits.{IsWellSet};
 
 use crate::event::{BookRefusal, Event, Note, PlayRefusal, StepRefusal, of_open, of_put, of_sweep};
 use crate::inbox;
@@ -55,7 +55,7 @@ impl Model for Play {
 
 /// Whether so many workers and items are within their limits.
 fn are_well_set(workers: usize, sendq: usize) -> bool
-    ensures { result ≡ (nat_le 1 workers && (nat_le workers 64 && (nat_le 1 sendq && nat_le sendq 4096))) }
+    ensures { IsTrue result ↔ ((1 ≤ workers) × (workers ≤ 64) × (1 ≤ sendq) × (sendq ≤ 4096)) }
 {
     1 <= workers && workers <= MAX_WORKERS && 1 <= sendq && sendq <= MAX_SENDQ
 }
@@ -92,9 +92,9 @@ impl Play {
         workers: usize,
         sendq: usize,
     ) -> Result<Play, PlayRefusal>
-        ensures ok { IfOk result (λ p. (p ≡ empty_state limit settings.sessions sendq workers) × (is_well_set settings limit workers sendq ≡ true)) }
-        ensures bad { IfErr result (λ e. e ≡ PlayRefusal.BadSettings → is_well_set settings limit workers sendq ≡ false) }
-        ensures memory { IfErr result (λ e. e ≡ PlayRefusal.Memory → is_well_set settings limit workers sendq ≡ true) }
+        ensures ok { IfOk result (λ p. (p ≡ empty_state limit settings sendq workers) × IsWellSet settings limit workers sendq) }
+        ensures bad { IfErr result (λ e. e ≡ PlayRefusal.BadSettings → IsWellSet settings limit workers sendq → ⊥) }
+        ensures memory { IfErr result (λ e. e ≡ PlayRefusal.Memory → IsWellSet settings limit workers sendq) }
     {
         if !are_well_set(workers, sendq) {
             return Err(PlayRefusal::BadSettings);
@@ -527,8 +527,8 @@ impl Play {
         requires { IsWellShaped event.now }
         ensures step { IsStep self.old event.now result self.new }
         ensures sound { IsSound self.new }
-        ensures legal { IsLegal self.new.book.history }
-        ensures taken_is_owed { ForEach self.new (λ t. taken_of self.new t ++ queue_of self.new t ++ planned_for self.new t ≡ owed self.new.book.history t) }
+        ensures legal { IsLegal self.new.book.settings self.new.book.history }
+        ensures taken_is_owed { ForEach self.new (λ t. taken_of self.new t ++ queue_of self.new t ++ planned_for self.new t ≡ owed self.new.book.settings self.new.book.history t) }
         ensures accepted_is_sent { ForEach self.new (λ t. accepted self.new.book.history t ++ in_hand self.new t ++ unread self.new t ≡ lines (inbox_at self.new t).fed) }
     {
         let answer = match self.refuses(event) {
@@ -546,10 +546,10 @@ impl Play {
         ensures run { IfOk result (λ notes. IsRun self.old events.now notes.items self.new) }
         ensures err { OnErr result (self.new ≡ self.old) }
         ensures sound { IsSound self.new }
-        ensures legal { IsLegal self.new.book.history }
-        ensures taken_is_owed { IfOk result (λ notes. ForEach self.new (λ t. (taken_of self.old t ++ took t events.now notes.items) ++ queue_of self.new t ++ planned_for self.new t ≡ owed self.new.book.history t)) }
+        ensures legal { IsLegal self.new.book.settings self.new.book.history }
+        ensures taken_is_owed { IfOk result (λ notes. ForEach self.new (λ t. (taken_of self.old t ++ took t events.now notes.items) ++ queue_of self.new t ++ planned_for self.new t ≡ owed self.new.book.settings self.new.book.history t)) }
         ensures accepted_is_sent { IfOk result (λ notes. ForEach self.new (λ t. accepted self.new.book.history t ++ in_hand self.new t ++ unread self.new t ≡ lines ((inbox_at self.old t).fed ++ sent t events.now notes.items))) }
-        ensures taken_is_prefix { IfOk result (λ notes. ForEach self.new (λ t. IsPrefix (taken_of self.old t ++ took t events.now notes.items) (owed self.new.book.history t))) }
+        ensures taken_is_prefix { IfOk result (λ notes. ForEach self.new (λ t. IsPrefix (taken_of self.old t ++ took t events.now notes.items) (owed self.new.book.settings self.new.book.history t))) }
         ensures accepted_is_prefix { IfOk result (λ notes. ForEach self.new (λ t. IsPrefix (accepted self.new.book.history t) (lines ((inbox_at self.old t).fed ++ sent t events.now notes.items)))) }
         ensures in_order { IfOk result (λ notes. ForEach self.new (λ t. IsRising (taken_of self.old t ++ took t events.now notes.items))) }
     {

@@ -7,5 +7,6 @@ use Rattle.book.proofs.plan.commit.Given as goal
 abbrev pub invariant-loop-deed : goal.invariant-loop-deed
 invariant-loop-deed l = record {
   ready : l.roster.ready ≡ into_iter_items l.deed-iterator;
+  settings : l.roster.settings ≡ l.fn.roster.settings;
   facts : after l.roster.facts (into_iter_items l.deed-iterator) ≡ after l.fn.roster.facts l.fn.deeds.items;
 }

@@ -1,4 +1,4 @@
-use Rattle.std.proofs.Common.{arith, ◌≡◌, false, Ok}
+use Rattle.std.proofs.Common.{arith, ◌≡◌, false}
 use Rattle.std.specs.Prelude.{is_err}
 use Rattle.std.proofs.lemmas.Grind.{common_steps}
 use Rattle.halld.proofs.Puts.{put_more, not_err}

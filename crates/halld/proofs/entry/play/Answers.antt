@@ -1,4 +1,4 @@
-use Rattle.std.proofs.Common.{arith, ◌≡◌, List, ℕ, Option, Some, Err, sym, subst}
+use Rattle.std.proofs.Common.{arith, ◌≡◌, Err, sym, subst}
 use Rattle.std.proofs.lemmas.Grind.{common_steps}
 use Rattle.std.specs.Prelude.{IfSome, IfErr}
 use Rattle.halld.specs.Lines.{Told, told_of}

@@ -1,16 +1,18 @@
-use Rattle.std.proofs.Common.{arith, ◌≡◌, ◌+◌, ◌<◌, ◌≤◌, ◌∷◌, length, List, ap, sym, ◌∙◌, subst}
+use Rattle.std.proofs.Common.{arith, ◌≡◌, ◌+◌, ◌<◌, ◌≤◌, ◌∷◌, length, slice_set, true, List, ap, sym, ◌∙◌, subst}
 use Rattle.std.proofs.lemmas.Grind.{common_steps}
 use Rattle.line_grammar.specs.declared.splitter.Piece.{Piece}
 use Rattle.chronicle.specs.declared.record.Kind.TheVariants.{Said}
 use Rattle.chronicle.specs.History.{accepted}
 use Rattle.chronicle.specs.Journal.{fresh_record}
+use Rattle.registration.specs.declared.settings.Settings.{Settings}
 use Rattle.roster.specs.declared.deed.Deed.{Deed}
 use Rattle.roster.specs.LookBack.{after, opened}
 use Rattle.deeds.specs.Effects.{deeds_of}
-use Rattle.deeds.specs.Commands.{command_of}
-use Rattle.deeds.specs.Rows.{of_command}
+use Rattle.commands.specs.Asked.{asked_of}
+use Rattle.deeds.specs.Rows.{of_asked}
 use Rattle.book.specs.Seats.{planned_from}
 use Rattle.book.specs.declared.seat.Seat.{Seat}
+use Rattle.book.specs.Kept.{IsKept}
 use Rattle.book.specs.Book.{Turn, MayBegin, plan_of, begun, held}
 use Rattle.book.proofs.KeptSteps.{shown}
 use Rattle.book.proofs.Opened.{accepted_le}
@@ -19,12 +21,12 @@ use Rattle.book.proofs.Appends.{seat_there, said_plan, said_kept}
 use Rattle.book.proofs.book.Book.begin.Goals as goal
 
 -- where a line may be accepted
-may : (c : goal.After-result-1) → MayBegin (shown c.self.inside.journal c.self.inside.most c.self.inside.outboxes.items c.self.inside.plan.items c.self.inside.busy) c.args.baton.now c.args.moment
+may : (c : goal.After-result-1) → MayBegin (shown c.self.inside.journal c.self.inside.roster.settings c.self.inside.outboxes.items c.self.inside.plan.items c.self.inside.busy) c.args.baton.now c.args.moment
 may c = subst (λ m. MayBegin m c.args.baton.now c.args.moment) (sym c.self.view_is) c.in_ok-place.ensures.ok
 
 pub overflow_add-seat : goal.overflow_add-seat
 overflow_add-seat c =
-    let may : MayBegin (shown c.self.inside.journal c.self.inside.most c.self.inside.outboxes.items c.self.inside.plan.items c.self.inside.busy) c.args.baton.now c.args.moment = subst (λ m. MayBegin m c.args.baton.now c.args.moment) (sym c.self.view_is) c.in_ok-place.ensures.ok in
+    let may : MayBegin (shown c.self.inside.journal c.self.inside.roster.settings c.self.inside.outboxes.items c.self.inside.plan.items c.self.inside.busy) c.args.baton.now c.args.moment = subst (λ m. MayBegin m c.args.baton.now c.args.moment) (sym c.self.view_is) c.in_ok-place.ensures.ok in
     let h = c.self.inside.journal.history in let s = c.args.baton.now.session in
     let limit : c.self.inside.journal.limit < 18446744073709551616 = subst (λ m. m.limit < 18446744073709551616) (sym c.self.view_is) c.in_ok-place.ensures.fits in
     let from = may.turn.from_1 in let few = may.turn.opened in let a = c.self.invariant.sound.sessions in let b = c.self.invariant.places in let room = may.room in
@@ -37,7 +39,7 @@ overflow_add-seat c =
 
 pub overflow_add-result : goal.overflow_add-result
 overflow_add-result c =
-    let may : MayBegin (shown c.self.inside.journal c.self.inside.most c.self.inside.outboxes.items c.self.inside.plan.items c.self.inside.busy) c.args.baton.now c.args.moment = subst (λ m. MayBegin m c.args.baton.now c.args.moment) (sym c.self.view_is) c.in_ok-place.ensures.ok in
+    let may : MayBegin (shown c.self.inside.journal c.self.inside.roster.settings c.self.inside.outboxes.items c.self.inside.plan.items c.self.inside.busy) c.args.baton.now c.args.moment = subst (λ m. MayBegin m c.args.baton.now c.args.moment) (sym c.self.view_is) c.in_ok-place.ensures.ok in
     let h = c.self.inside.journal.history in let s = c.args.baton.now.session in
     let limit : c.self.inside.journal.limit < 18446744073709551616 = subst (λ m. m.limit < 18446744073709551616) (sym c.self.view_is) c.in_ok-place.ensures.fits in
     let room = may.room in let few_lines = accepted_le h s in
@@ -56,32 +58,38 @@ history c =
 limit : (c : goal.After-result-1) → c.append.new.self.limit ≡ c.self.inside.journal.limit
 limit c = c.append.ensures.appended.limit ∙ c.reserve.ensures.same.limit
 
-plan : (c : goal.After-result-1) → c.in_ok-prepared.prepared.plan.items ≡ plan_of c.self.inside.journal.history (Said c.args.baton.now.session c.args.baton.now.next c.args.piece.now) (length c.self.inside.outboxes.items)
+plan : (c : goal.After-result-1) → c.in_ok-prepared.prepared.plan.items ≡ plan_of c.self.inside.roster.settings c.self.inside.journal.history (Said c.args.baton.now.session c.args.baton.now.next c.args.piece.now) (length c.self.inside.outboxes.items)
 plan c =
-    let a = c.self.inside in let q = c.in_ok-prepared.quits in let es = of_command a.roster.facts (c.in_ok-place.place + 1) (command_of c.args.piece.now) in
+    let a = c.self.inside in let q = c.in_ok-prepared.quits in let es = of_asked a.roster.settings a.roster.facts (c.in_ok-place.place + 1) (asked_of c.args.piece.now) in
     let number : c.new-number.result ≡ length a.journal.history + 1 = grind (arith, common_steps) in
     let seats : c.deref.result.now ≡ a.seats.items = c.deref.ensures.value in
     let made : c.in_ok-prepared.prepared.plan.items ≡ planned_from a.seats.items (c.in_ok-place.place + 1) c.new-number.result es q =
     c.in_ok-prepared.ensures.plan ∙ ap (λ (xs : List Seat). planned_from xs (c.in_ok-place.place + 1) c.new-number.result es q) seats in
-    said_plan a.journal a.most a.roster.facts a.seats.items a.outboxes.items a.plan.items a.busy c.self.invariant c.args.baton.now c.args.piece.now c.args.moment c.in_ok-place.place
+    said_plan a.journal a.roster.settings a.roster.facts a.seats.items a.outboxes.items a.plan.items a.busy c.self.invariant c.args.baton.now c.args.piece.now c.args.moment c.in_ok-place.place
     c.new-number.result q c.in_ok-prepared.prepared.plan.items (may c) c.in_ok-place.ensures.place number c.in_ok-prepared.ensures.quits made
+
+settings : (c : goal.After-result-1) → c.commit.new.roster.settings ≡ c.self.inside.roster.settings
+settings c = c.commit.ensures.settings ∙ c.prepare.ensures.settings
 
 pub invariant_of-self-3 : goal.invariant_of-self-3
 invariant_of-self-3 c =
-    let a = c.self.inside in let es = of_command a.roster.facts (c.in_ok-place.place + 1) (command_of c.args.piece.now) in
+    let a = c.self.inside in let es = of_asked a.roster.settings a.roster.facts (c.in_ok-place.place + 1) (asked_of c.args.piece.now) in
     let room : length c.in_ok-prepared.prepared.plan.items ≤ c.append.new.self.left = grind (arith, common_steps) in
     let kept : c.held-room.result ≡ held a.journal.history = c.held-room.ensures.kept in
     let ok = c.reserve.ensures.ok in let more = c.append.ensures.appended.room in
     let free : held a.journal.history ≤ c.append.new.self.room = grind (arith, common_steps) in
-    let more : c.commit.new.roster.facts ≡ after a.roster.facts c.in_ok-prepared.prepared.deeds.items = c.commit.ensures ∙ ap (λ (fs : List Deed). after fs c.in_ok-prepared.prepared.deeds.items) c.prepare.ensures.facts in
+    let more : c.commit.new.roster.facts ≡ after a.roster.facts c.in_ok-prepared.prepared.deeds.items = c.commit.ensures.facts ∙ ap (λ (fs : List Deed). after fs c.in_ok-prepared.prepared.deeds.items) c.prepare.ensures.facts in
     let known : c.commit.new.roster.facts ≡ after a.roster.facts (deeds_of es) = more ∙ ap (after a.roster.facts) c.in_ok-prepared.ensures.deeds in
     let same : opened c.commit.new.roster.facts ≡ opened a.roster.facts = ap opened more ∙ c.in_ok-prepared.ensures.opened in
-    said_kept a.journal a.most a.roster.facts a.seats.items a.outboxes.items a.plan.items a.busy c.self.invariant c.append.new.self c.commit.new.roster.facts
+    let x = c.index_mut-seat.result.now in let places = slice_set a.seats.items c.in_ok-place.place (record { shut = c.in_ok-prepared.quits; gone = x.gone; accepted = x.accepted + 1 }) in
+    subst (λ (g : Settings). IsKept c.append.new.self g c.commit.new.roster.facts places a.outboxes.items c.in_ok-prepared.prepared.plan.items true) (sym (settings c))
+    (said_kept a.journal a.roster.settings a.roster.facts a.seats.items a.outboxes.items a.plan.items a.busy c.self.invariant c.append.new.self c.commit.new.roster.facts
     c.in_ok-prepared.prepared.plan.items c.args.baton.now c.args.piece.now c.args.moment c.in_ok-place.place c.in_ok-prepared.quits c.index_mut-seat.result.now
-    (may c) c.in_ok-place.ensures.place c.in_ok-prepared.ensures.quits (plan c) (history c) (limit c) room free known same c.index_mut-seat.ensures.value
+    (may c) c.in_ok-place.ensures.place c.in_ok-prepared.ensures.quits (plan c) (history c) (limit c) room free known same c.index_mut-seat.ensures.value)
 
 pub returns-clause-ok : goal.returns-clause-ok
 returns-clause-ok c =
     let a = c.self.inside in let b = c.args.baton.now in
-    begun_is a.journal c.append.new.self a.most a.outboxes.items a.plan.items c.in_ok-prepared.prepared.plan.items a.busy (Said b.session b.next c.args.piece.now) c.args.moment (history c) (limit c) (plan c)
+    ap (λ (g : Settings). shown c.append.new.self g a.outboxes.items c.in_ok-prepared.prepared.plan.items true) (settings c)
+    ∙ begun_is a.journal c.append.new.self a.roster.settings a.outboxes.items a.plan.items c.in_ok-prepared.prepared.plan.items a.busy (Said b.session b.next c.args.piece.now) c.args.moment (history c) (limit c) (plan c)
     ∙ ap (λ m. begun m (Said b.session b.next c.args.piece.now) c.args.moment) c.self.view_is

@@ -2,9 +2,11 @@ use Rattle.std.proofs.Common.{arith, ◌≡◌, ◌+◌, ◌≤◌, ◌∷◌, [
 use Rattle.std.proofs.lemmas.Grind.{common_steps}
 use Rattle.chronicle.specs.declared.record.Kind.TheVariants.{Opened}
 use Rattle.chronicle.specs.Journal.{fresh_record}
+use Rattle.registration.specs.declared.settings.Settings.{Settings}
 use Rattle.roster.specs.declared.deed.Deed.{Deed}
 use Rattle.roster.specs.declared.deed.Deed.TheVariants as deed
 use Rattle.book.specs.Seats.{no_seat}
+use Rattle.book.specs.Kept.{IsKept}
 use Rattle.book.specs.Book.{MayOpen, held}
 use Rattle.book.proofs.KeptSteps.{shown, opened_kept}
 use Rattle.book.proofs.book.Book.open.Goals as goal
@@ -12,7 +14,7 @@ use Rattle.book.proofs.book.Book.open.Goals as goal
 pub invariant_of-self-2 : goal.invariant_of-self-2
 invariant_of-self-2 c =
     let a = c.self.inside in
-    let may : MayOpen (shown a.journal a.most a.outboxes.items a.plan.items a.busy) c.args.moment = subst (λ m. MayOpen m c.args.moment) (sym c.self.view_is) (c.in-Ok.ensures.ok) in
+    let may : MayOpen (shown a.journal a.roster.settings a.outboxes.items a.plan.items a.busy) c.args.moment = subst (λ m. MayOpen m c.args.moment) (sym c.self.view_is) (c.in-Ok.ensures.ok) in
     let session : c.new-session.result ≡ length a.seats.items + 1 = grind (arith, common_steps) in
     let told : c.in-Ok-clone.told ≡ c.args.host = grind (arith, common_steps) in
     let seats : c.push_reserved.new.self.items ≡ a.seats.items ++ no_seat ∷ [] = grind (arith, common_steps) in
@@ -24,5 +26,7 @@ invariant_of-self-2 c =
     let kept : c.held-room.result ≡ held a.journal.history = c.held-room.ensures.kept ∙ ap (λ m. held m.history) (sym c.self.view_is) in
     let free : held a.journal.history + 2 ≤ c.append.new.self.room = let ok = c.reserve-else-is_err-3.ensures.ok in let more = app.room in grind (arith, common_steps) in
     let known : c.apply.new.self.facts ≡ deed.Opened c.new-session.result c.args.host ∷ a.roster.facts = c.apply.ensures.facts ∙ ap (λ (fs : List Deed). deed.Opened c.new-session.result c.args.host ∷ fs) c.prepare.ensures.facts in
-    opened_kept a.journal c.append.new.self a.most a.roster.facts c.apply.new.self.facts a.seats.items c.push_reserved.new.self.items
-    a.outboxes.items c.push_reserved-2.new.self.items a.plan.items a.busy c.args.host c.in-Ok-clone.told c.args.moment c.new-session.result c.args.outbox c.self.invariant may c.requires.fresh session told history limit free known seats boxes
+    let settings : c.apply.new.self.settings ≡ a.roster.settings = c.apply.ensures.settings ∙ c.prepare.ensures.settings in
+    subst (λ (g : Settings). IsKept c.append.new.self g c.apply.new.self.facts c.push_reserved.new.self.items c.push_reserved-2.new.self.items a.plan.items a.busy) (sym settings)
+    (opened_kept a.journal c.append.new.self a.roster.settings a.roster.facts c.apply.new.self.facts a.seats.items c.push_reserved.new.self.items
+    a.outboxes.items c.push_reserved-2.new.self.items a.plan.items a.busy c.args.host c.in-Ok-clone.told c.args.moment c.new-session.result c.args.outbox c.self.invariant may c.requires.fresh session told history limit free known seats boxes)

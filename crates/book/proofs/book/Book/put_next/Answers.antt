@@ -13,7 +13,7 @@ invariant_of-self-then-offer c =
     let a = c.self.inside in let p = c.in_ok-put.put in let qs = c.pop_front.new.self.items in
     let plan : a.plan.items ≡ p ∷ qs = grind (arith, common_steps) in
     let room : has_room (outbox_at a.outboxes.items p.session) ≡ true = sym c.offer.ensures.room ∙ c.if-offer.true in
-    delivered_kept a.journal a.most a.roster.facts a.seats.items a.outboxes.items _ a.plan.items qs a.busy p c.self.invariant plan room (c.offer.ensures.put c.if-offer.true)
+    delivered_kept a.journal a.roster.settings a.roster.facts a.seats.items a.outboxes.items _ a.plan.items qs a.busy p c.self.invariant plan room (c.offer.ensures.put c.if-offer.true)
 
 pub invariant_of-self-2 : goal.invariant_of-self-2
 invariant_of-self-2 c =
@@ -22,6 +22,6 @@ invariant_of-self-2 c =
     let below : c.number.result - 1 < length a.seats.items = grind (arith, common_steps) in
     let seat : c.index_mut-seat.result.now ≡ seat_at a.seats.items p.session = seat_is a.seats.items c.number.result p.session c.index_mut-seat.result.now c.number.ensures below c.index_mut-seat.ensures.value in
     let places = slice_set a.seats.items (c.number.result - 1) (record { shut = true; gone = c.index_mut-seat.result.now.gone; accepted = c.index_mut-seat.result.now.accepted }) in
-    subst (λ xs. IsKept c.miss.new.self a.most a.roster.facts places xs qs a.busy) (sym (c.offer.ensures.full c.if-offer.false))
-    (dropped_kept a.journal c.miss.new.self a.most a.roster.facts a.seats.items places a.outboxes.items a.plan.items qs a.busy p c.self.invariant plan
+    subst (λ xs. IsKept c.miss.new.self a.roster.settings a.roster.facts places xs qs a.busy) (sym (c.offer.ensures.full c.if-offer.false))
+    (dropped_kept a.journal c.miss.new.self a.roster.settings a.roster.facts a.seats.items places a.outboxes.items a.plan.items qs a.busy p c.self.invariant plan
     (seats_shut a.seats.items c.number.result p.session c.index_mut-seat.result.now c.number.ensures seat) c.miss.ensures)

@@ -1,7 +1,8 @@
-use Rattle.std.proofs.Common.{arith, ◌≡◌, ◌+◌, ◌<◌, ◌≤◌, ◌∷◌, false, length, vec_len, Some, ℕ, List, [], zero-add, refl, ap, sym, ◌∙◌, subst}
+use Rattle.std.proofs.Common.{arith, ◌≡◌, ◌+◌, ◌<◌, ◌≤◌, ◌∷◌, true, false, length, slice_set, vec_len, Some, ℕ, List, [], zero-add, refl, ap, sym, ◌∙◌, subst}
 use Rattle.std.proofs.lemmas.Grind.{common_steps}
 use Rattle.chronicle.specs.declared.record.Kind.TheVariants.{Gone}
 use Rattle.chronicle.specs.Journal.{fresh_record}
+use Rattle.registration.specs.declared.settings.Settings.{Settings}
 use Rattle.roster.specs.declared.deed.Deed.{Deed}
 use Rattle.roster.specs.LookBack.{after, opened}
 use Rattle.deeds.specs.Effects.{deeds_of}
@@ -9,6 +10,7 @@ use Rattle.deeds.specs.Departure.{departs}
 use Rattle.book.specs.Seats.{planned_from}
 use Rattle.book.specs.declared.seat.Seat.{Seat}
 use Rattle.chronicle.specs.History.{sessions}
+use Rattle.book.specs.Kept.{IsKept}
 use Rattle.book.specs.Book.{MaySweep, to_sweep, plan_of, begun, held, newest_actor, newest_next, newest_missed}
 use Rattle.book.proofs.Sweeps.{swept_is}
 use Rattle.book.proofs.KeptSteps.{shown}
@@ -20,42 +22,42 @@ pub overflow_add-place : goal.overflow_add-place
 overflow_add-place c =
     let a = c.self.inside in let next = subst (λ m. to_sweep m.history ≡ Some (c.args.place + 1)) (sym c.self.view_is) c.requires.next in
     let limit : a.journal.limit < 18446744073709551616 = subst (λ m. m.limit < 18446744073709551616) (sym c.self.view_is) c.held-room.ensures.fits in
-    let few = sweep_room a.journal a.most a.roster.facts a.seats.items a.outboxes.items a.plan.items a.busy c.self.invariant (c.args.place + 1) c.args.moment next in let some = few.0 in let seated = few.1 in let known = few.2 in let room = few.3 in
+    let few = sweep_room a.journal a.roster.settings a.roster.facts a.seats.items a.outboxes.items a.plan.items a.busy c.self.invariant (c.args.place + 1) c.args.moment next in let some = few.0 in let seated = few.1 in let known = few.2 in let room = few.3 in
     omega arith
 
 pub overflow_add-len : goal.overflow_add-len
 overflow_add-len c =
     let a = c.self.inside in let next = subst (λ m. to_sweep m.history ≡ Some (c.args.place + 1)) (sym c.self.view_is) c.requires.next in
     let limit : a.journal.limit < 18446744073709551616 = subst (λ m. m.limit < 18446744073709551616) (sym c.self.view_is) c.held-room.ensures.fits in
-    let few = sweep_room a.journal a.most a.roster.facts a.seats.items a.outboxes.items a.plan.items a.busy c.self.invariant (c.args.place + 1) c.args.moment next in let some = few.0 in let seated = few.1 in let known = few.2 in let room = few.3 in
+    let few = sweep_room a.journal a.roster.settings a.roster.facts a.seats.items a.outboxes.items a.plan.items a.busy c.self.invariant (c.args.place + 1) c.args.moment next in let some = few.0 in let seated = few.1 in let known = few.2 in let room = few.3 in
     let len : c.len.result ≡ length a.journal.history = c.len.ensures in omega arith
 
 pub prepare_gone-requires-clause-seated : goal.prepare_gone-requires-clause-seated
 prepare_gone-requires-clause-seated c =
     let a = c.self.inside in let next = subst (λ m. to_sweep m.history ≡ Some (c.args.place + 1)) (sym c.self.view_is) c.requires.next in
     let limit : a.journal.limit < 18446744073709551616 = subst (λ m. m.limit < 18446744073709551616) (sym c.self.view_is) c.held-room.ensures.fits in
-    let few = sweep_room a.journal a.most a.roster.facts a.seats.items a.outboxes.items a.plan.items a.busy c.self.invariant (c.args.place + 1) c.args.moment next in let some = few.0 in let seated = few.1 in let known = few.2 in let room = few.3 in
+    let few = sweep_room a.journal a.roster.settings a.roster.facts a.seats.items a.outboxes.items a.plan.items a.busy c.self.invariant (c.args.place + 1) c.args.moment next in let some = few.0 in let seated = few.1 in let known = few.2 in let room = few.3 in
     let len : length c.deref.result.now ≡ length a.seats.items = ap length c.deref.ensures.value in omega arith
 
 pub prepare_gone-requires-clause-known : goal.prepare_gone-requires-clause-known
 prepare_gone-requires-clause-known c =
     let a = c.self.inside in let next = subst (λ m. to_sweep m.history ≡ Some (c.args.place + 1)) (sym c.self.view_is) c.requires.next in
     let limit : a.journal.limit < 18446744073709551616 = subst (λ m. m.limit < 18446744073709551616) (sym c.self.view_is) c.held-room.ensures.fits in
-    let few = sweep_room a.journal a.most a.roster.facts a.seats.items a.outboxes.items a.plan.items a.busy c.self.invariant (c.args.place + 1) c.args.moment next in let some = few.0 in let seated = few.1 in let known = few.2 in let room = few.3 in
+    let few = sweep_room a.journal a.roster.settings a.roster.facts a.seats.items a.outboxes.items a.plan.items a.busy c.self.invariant (c.args.place + 1) c.args.moment next in let some = few.0 in let seated = few.1 in let known = few.2 in let room = few.3 in
     known
 
 pub append-requires : goal.append-requires
 append-requires c =
     let a = c.self.inside in let next = subst (λ m. to_sweep m.history ≡ Some (c.args.place + 1)) (sym c.self.view_is) c.requires.next in
     let limit : a.journal.limit < 18446744073709551616 = subst (λ m. m.limit < 18446744073709551616) (sym c.self.view_is) c.held-room.ensures.fits in
-    let few = sweep_room a.journal a.most a.roster.facts a.seats.items a.outboxes.items a.plan.items a.busy c.self.invariant (c.args.place + 1) c.args.moment next in let some = few.0 in let seated = few.1 in let known = few.2 in let room = few.3 in
+    let few = sweep_room a.journal a.roster.settings a.roster.facts a.seats.items a.outboxes.items a.plan.items a.busy c.self.invariant (c.args.place + 1) c.args.moment next in let some = few.0 in let seated = few.1 in let known = few.2 in let room = few.3 in
     let kept : c.held-room.result ≡ held a.journal.history = c.held-room.ensures.kept ∙ ap (λ m. held m.history) (sym c.self.view_is) in let ok = c.reserve.ensures.ok in grind (arith, common_steps)
 
 pub index_mut-seat-requires : goal.index_mut-seat-requires
 index_mut-seat-requires c =
     let a = c.self.inside in let next = subst (λ m. to_sweep m.history ≡ Some (c.args.place + 1)) (sym c.self.view_is) c.requires.next in
     let limit : a.journal.limit < 18446744073709551616 = subst (λ m. m.limit < 18446744073709551616) (sym c.self.view_is) c.held-room.ensures.fits in
-    let few = sweep_room a.journal a.most a.roster.facts a.seats.items a.outboxes.items a.plan.items a.busy c.self.invariant (c.args.place + 1) c.args.moment next in let some = few.0 in let seated = few.1 in let known = few.2 in let room = few.3 in
+    let few = sweep_room a.journal a.roster.settings a.roster.facts a.seats.items a.outboxes.items a.plan.items a.busy c.self.invariant (c.args.place + 1) c.args.moment next in let some = few.0 in let seated = few.1 in let known = few.2 in let room = few.3 in
     let len : vec_len a.seats ≡ length a.seats.items = grind (arith, common_steps) in omega arith
 
 -- the record that was appended, and the plan of its deliveries
@@ -67,34 +69,40 @@ history c =
 limit : (c : goal.After-self-2-1) → c.append.new.self.limit ≡ c.self.inside.journal.limit
 limit c = c.append.ensures.appended.limit ∙ c.reserve.ensures.same.limit
 
-plan : (c : goal.After-self-2-1) → c.in_ok-prepared.prepared.plan.items ≡ plan_of c.self.inside.journal.history (Gone (c.args.place + 1)) (length c.self.inside.outboxes.items)
+plan : (c : goal.After-self-2-1) → c.in_ok-prepared.prepared.plan.items ≡ plan_of c.self.inside.roster.settings c.self.inside.journal.history (Gone (c.args.place + 1)) (length c.self.inside.outboxes.items)
 plan c =
     let a = c.self.inside in let es = departs a.roster.facts (c.args.place + 1) in let next = subst (λ m. to_sweep m.history ≡ Some (c.args.place + 1)) (sym c.self.view_is) c.requires.next in
     let number : c.new-number.result ≡ length a.journal.history + 1 = grind (arith, common_steps) in
     let seats : c.deref.result.now ≡ a.seats.items = c.deref.ensures.value in
     let made : c.in_ok-prepared.prepared.plan.items ≡ planned_from a.seats.items (c.args.place + 1) c.new-number.result es false =
     c.in_ok-prepared.ensures.plan ∙ ap (λ (xs : List Seat). planned_from xs (c.args.place + 1) c.new-number.result es false) seats in
-    gone_plan a.journal a.most a.roster.facts a.seats.items a.outboxes.items a.plan.items a.busy c.self.invariant c.args.place c.new-number.result c.in_ok-prepared.prepared.plan.items
+    gone_plan a.journal a.roster.settings a.roster.facts a.seats.items a.outboxes.items a.plan.items a.busy c.self.invariant c.args.place c.new-number.result c.in_ok-prepared.prepared.plan.items
     next number made
+
+settings : (c : goal.After-self-2-1) → c.commit.new.roster.settings ≡ c.self.inside.roster.settings
+settings c = c.commit.ensures.settings ∙ c.prepare.ensures.settings
 
 pub invariant_of-self-2 : goal.invariant_of-self-2
 invariant_of-self-2 c =
     let a = c.self.inside in let es = departs a.roster.facts (c.args.place + 1) in let next = subst (λ m. to_sweep m.history ≡ Some (c.args.place + 1)) (sym c.self.view_is) c.requires.next in
-    let may : MaySweep (shown a.journal a.most a.outboxes.items a.plan.items a.busy) c.args.moment = subst (λ m. MaySweep m c.args.moment) (sym c.self.view_is) c.requires.may in
+    let may : MaySweep (shown a.journal a.roster.settings a.outboxes.items a.plan.items a.busy) c.args.moment = subst (λ m. MaySweep m c.args.moment) (sym c.self.view_is) c.requires.may in
     let room : length c.in_ok-prepared.prepared.plan.items ≤ c.append.new.self.left = grind (arith, common_steps) in
     let kept : c.held-room.result ≡ held a.journal.history = c.held-room.ensures.kept ∙ ap (λ m. held m.history) (sym c.self.view_is) in
     let ok = c.reserve.ensures.ok in let more = c.append.ensures.appended.room in
     let free : held a.journal.history ≤ c.append.new.self.room + 1 = grind (arith, common_steps) in
-    let more_known : c.commit.new.roster.facts ≡ after a.roster.facts c.in_ok-prepared.prepared.deeds.items = c.commit.ensures ∙ ap (λ (fs : List Deed). after fs c.in_ok-prepared.prepared.deeds.items) c.prepare.ensures.facts in
+    let more_known : c.commit.new.roster.facts ≡ after a.roster.facts c.in_ok-prepared.prepared.deeds.items = c.commit.ensures.facts ∙ ap (λ (fs : List Deed). after fs c.in_ok-prepared.prepared.deeds.items) c.prepare.ensures.facts in
     let known : c.commit.new.roster.facts ≡ after a.roster.facts (deeds_of es) = more_known ∙ ap (after a.roster.facts) c.in_ok-prepared.ensures.deeds in
     let same : opened c.commit.new.roster.facts ≡ opened a.roster.facts = ap opened more_known ∙ c.in_ok-prepared.ensures.opened in
-    gone_kept a.journal a.most a.roster.facts a.seats.items a.outboxes.items a.plan.items a.busy c.self.invariant c.append.new.self c.commit.new.roster.facts
-    c.in_ok-prepared.prepared.plan.items c.args.moment c.args.place c.index_mut-seat.result.now may next (plan c) (history c) (limit c) room free known same c.index_mut-seat.ensures.value
+    let x = c.index_mut-seat.result.now in let places = slice_set a.seats.items c.args.place (record { shut = x.shut; gone = true; accepted = x.accepted }) in
+    subst (λ (g : Settings). IsKept c.append.new.self g c.commit.new.roster.facts places a.outboxes.items c.in_ok-prepared.prepared.plan.items true) (sym (settings c))
+    (gone_kept a.journal a.roster.settings a.roster.facts a.seats.items a.outboxes.items a.plan.items a.busy c.self.invariant c.append.new.self c.commit.new.roster.facts
+    c.in_ok-prepared.prepared.plan.items c.args.moment c.args.place c.index_mut-seat.result.now may next (plan c) (history c) (limit c) room free known same c.index_mut-seat.ensures.value)
 
 pub returns-clause-ok : goal.returns-clause-ok
 returns-clause-ok c =
     let a = c.self.inside in
-    begun_is a.journal c.append.new.self a.most a.outboxes.items a.plan.items c.in_ok-prepared.prepared.plan.items a.busy (Gone (c.args.place + 1)) c.args.moment (history c) (limit c) (plan c)
+    ap (λ (g : Settings). shown c.append.new.self g a.outboxes.items c.in_ok-prepared.prepared.plan.items true) (settings c)
+    ∙ begun_is a.journal c.append.new.self a.roster.settings a.outboxes.items a.plan.items c.in_ok-prepared.prepared.plan.items a.busy (Gone (c.args.place + 1)) c.args.moment (history c) (limit c) (plan c)
     ∙ ap (λ m. begun m (Gone (c.args.place + 1)) c.args.moment) c.self.view_is
 
 pub returns-clause-out : goal.returns-clause-out
