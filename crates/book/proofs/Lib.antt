@@ -11,3 +11,4 @@ pub mod Outs
 pub mod Sweeps
 pub mod Appends
 pub mod Count
+pub mod Examples
