@@ -1,5 +1,5 @@
 //! Headers, and what they set.
-use crate::shared::{played, tell_after, tell_steps};
+use crate::shared::{START, Story, played, tell_steps};
 use halld::PlayFault;
 use std::alloc::{AllocError, Global};
 use std::process::Abort;
@@ -164,28 +164,26 @@ fn each_header_sets_its_limit(rt: HostRuntime) -> Result<(), Fail> {
     Ok(())
 }
 
-const A_FULL_OUTBOX: [(&str, &str); 14] = [
-    ("sendq 1", ""),
-    ("connect h1 0", "session 1"),
-    ("connect h2 0", "session 2"),
-    (
-        "feed 1 \"NICK al\\r\\nUSER a 0 * :Al\\r\\nJOIN #a\\r\\n\"",
-        "read 3",
-    ),
-    (
-        "feed 2 \"NICK bo\\r\\nUSER b 0 * :Bo\\r\\nJOIN #a\\r\\n\"",
-        "read 3",
-    ),
-    ("do 1 0", "record 3"),
-    ("do 1 0", "record 4"),
-    ("do 2 0", "record 5"),
-    ("do 2 0", "record 6"),
+/// Al and Bo have registered, and join a channel. Bo doesn't take his line, and Al is about to tell something.
+const A_FULL_OUTBOX: [(&str, &str); 7] = [
+    ("feed 1 \"JOIN #a\\r\\n\"", "read 1"),
+    ("feed 2 \"JOIN #a\\r\\n\"", "read 1"),
     ("do 1 0", "record 7"),
     ("drain 1", "1> :al!a@h1 JOIN #a\nempty"),
     ("do 2 0", "record 8"),
     ("drain 1", "1> :bo!b@h2 JOIN #a\nempty"),
     ("feed 1 \"PRIVMSG #a :hi\\r\\n\"", "read 1"),
 ];
+
+/// Plays steps where each outbox holds one item, and Bo's is full.
+fn tell_full(rt: &impl Abort, alloc: Global, steps: &[(&str, &str)]) -> Result<(), AllocError> {
+    let mut story = Story::new(alloc)?;
+    story.step(b"sendq 1")?;
+    story.add(&START)?;
+    story.add(&A_FULL_OUTBOX)?;
+    story.add(steps)?;
+    story.tell(rt, alloc)
+}
 
 const IT_IS_FULL: [(&str, &str); 6] = [
     ("do 1 0", "record 9\nmissed 2"),
@@ -198,7 +196,7 @@ const IT_IS_FULL: [(&str, &str); 6] = [
 
 #[test]
 fn an_outbox_for_one_item_is_full(rt: HostRuntime) -> Result<(), Fail> {
-    tell_after(&rt, rt.alloc(), &A_FULL_OUTBOX, &IT_IS_FULL)?;
+    tell_full(&rt, rt.alloc(), &IT_IS_FULL)?;
     Ok(())
 }
 
@@ -211,6 +209,6 @@ const IT_IS_TAKEN: [(&str, &str); 4] = [
 
 #[test]
 fn an_item_is_taken_before_the_next_is_put(rt: HostRuntime) -> Result<(), Fail> {
-    tell_after(&rt, rt.alloc(), &A_FULL_OUTBOX, &IT_IS_TAKEN)?;
+    tell_full(&rt, rt.alloc(), &IT_IS_TAKEN)?;
     Ok(())
 }

@@ -6,10 +6,16 @@ mod headers;
 #[cfg(test)]
 mod lines;
 #[cfg(test)]
+mod registering;
+#[cfg(test)]
 mod shared;
+#[cfg(test)]
+mod spelling;
 #[cfg(test)]
 mod stories;
 #[cfg(test)]
 mod streams;
+#[cfg(test)]
+mod talk;
 #[cfg(test)]
 mod workers;
