@@ -10,9 +10,10 @@ use Rattle.halld.specs.declared.header.Limits.{Limits}
 use Rattle.halld.specs.declared.script.Step.{Step}
 use Rattle.casemapping.specs.Names.{host_shape}
 use Rattle.registration.specs.declared.settings.Settings.{Settings}
+use Rattle.registration.specs.Settings.{is_motd}
 use Rattle.interleave.specs.Limits.{IsWellSet}
 use Rattle.halld.specs.Script.{step_of}
-use Rattle.halld.specs.Headers.{settings_of, is_within, are_good}
+use Rattle.halld.specs.Headers.{motd_of, settings_of, is_within, are_good}
 use Rattle.halld.specs.Lines.{lines_of, Told, is_set_after, told_after, told_ahead}
 use Rattle.halld.specs.Faults.{IsFaultOf, IsGood, IsOutside}
 use Rattle.halld.proofs.Ahead.{line_before, line_last, set_by, step_line}
@@ -97,13 +98,14 @@ between least most n e = let p = both (nat_le least n) (nat_le n most) e in let 
 well_set : (l : Limits) → are_good l ≡ true → IsWellSet (settings_of l) l.records l.workers l.sendq
 unfolding host_shape
 well_set l e =
-    let p = both (is_within 1 1024 l.sessions) (is_within 1 10000000 l.records && (is_within 1 64 l.workers && is_within 1 4096 l.sendq)) e in
-    let q = both (is_within 1 10000000 l.records) (is_within 1 64 l.workers && is_within 1 4096 l.sendq) p.1 in
-    let r = both (is_within 1 64 l.workers) (is_within 1 4096 l.sendq) q.1 in
-    let sessions = between 1 1024 l.sessions p.0 in let records = between 1 10000000 l.records q.0 in let workers = between 1 64 l.workers r.0 in let items = between 1 4096 l.sendq r.1 in
+    let p = both (is_within 1 1024 l.sessions) (is_within 1 10000000 l.records && (is_within 1 64 l.workers && (is_within 1 4096 l.sendq && is_motd (motd_of l.motd)))) e in
+    let q = both (is_within 1 10000000 l.records) (is_within 1 64 l.workers && (is_within 1 4096 l.sendq && is_motd (motd_of l.motd))) p.1 in
+    let r = both (is_within 1 64 l.workers) ((is_within 1 4096 l.sendq && is_motd (motd_of l.motd))) q.1 in
+    let t = both (is_within 1 4096 l.sendq) (is_motd (motd_of l.motd)) r.1 in
+    let sessions = between 1 1024 l.sessions p.0 in let records = between 1 10000000 l.records q.0 in let workers = between 1 64 l.workers r.0 in let items = between 1 4096 l.sendq t.0 in
     record {
       book = record {
-        settings = record { some_sessions = sessions.0; few_sessions = sessions.1; server = refl; from_1970 = omega arith; to_9998 = omega arith; version = refl; info = refl; motd = refl };
+        settings = record { some_sessions = sessions.0; few_sessions = sessions.1; server = refl; from_1970 = omega arith; to_9998 = omega arith; version = refl; info = refl; motd = t.1 };
         some_records = records.0;
         few_records = records.1;
       };
@@ -117,10 +119,11 @@ pub good_by : (s : Settings) (l : Limits) → s ≡ settings_of l → IsWellSet 
 good_by s l es i =
     let is : IsWellSet (settings_of l) l.records l.workers l.sendq = subst (λ (x : Settings). IsWellSet x l.records l.workers l.sendq) es i in
     let set = is.book.settings in
-    ap (λ x. x && (is_within 1 10000000 l.records && (is_within 1 64 l.workers && is_within 1 4096 l.sendq))) (within 1 1024 l.sessions set.some_sessions set.few_sessions)
-    ∙ ap (λ x. x && (is_within 1 64 l.workers && is_within 1 4096 l.sendq)) (within 1 10000000 l.records is.book.some_records is.book.few_records)
-    ∙ ap (λ x. x && is_within 1 4096 l.sendq) (within 1 64 l.workers is.some_workers is.few_workers)
-    ∙ within 1 4096 l.sendq is.some_items is.few_items
+    ap (λ x. x && (is_within 1 10000000 l.records && (is_within 1 64 l.workers && (is_within 1 4096 l.sendq && is_motd (motd_of l.motd))))) (within 1 1024 l.sessions set.some_sessions set.few_sessions)
+    ∙ ap (λ x. x && (is_within 1 64 l.workers && (is_within 1 4096 l.sendq && is_motd (motd_of l.motd)))) (within 1 10000000 l.records is.book.some_records is.book.few_records)
+    ∙ ap (λ x. x && (is_within 1 4096 l.sendq && is_motd (motd_of l.motd))) (within 1 64 l.workers is.some_workers is.few_workers)
+    ∙ ap (λ x. x && is_motd (motd_of l.motd)) (within 1 4096 l.sendq is.some_items is.few_items)
+    ∙ set.motd
 
 isnt : (b : Bool) → (b ≡ true → ⊥) → b ≡ false
 isnt true never = absurd (never refl)

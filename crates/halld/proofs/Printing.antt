@@ -6,13 +6,12 @@ use Rattle.std.specs.Prelude.{OnOk}
 use Rattle.std.specs.Option.{is_some}
 use Rattle.std.specs.Io.KnownBytes.{Appends, Consumes, Keeps, IsAtEnd, ReadConsumes}
 use Rattle.halld.specs.declared.header.Limits.{Limits}
-use Rattle.halld.specs.declared.header.Header.{Header}
 use Rattle.halld.specs.declared.script.Step.{Step}
 use Rattle.halld.specs.declared.entry.PlayFault.{PlayFault}
 use Rattle.halld.specs.declared.reader.Stage.{Stage}
 use Rattle.halld.specs.declared.reader.Stage.TheVariants.{Head, Steps}
 use Rattle.halld.specs.Script.{step_of}
-use Rattle.halld.specs.Headers.{default_limits, header_of, with_header, with_value}
+use Rattle.halld.specs.Headers.{default_limits, with_header, unless_none, after_line}
 use Rattle.halld.specs.Lines.{continued, lines_of, is_step, limits_after}
 use Rattle.halld.specs.Stages.{head_of}
 use Rattle.halld.specs.Steps.{IsPerformed}
@@ -30,13 +29,13 @@ pub empty_prints : (s : Stage) (more : List (List ℕ)) (text : List ℕ) → Pr
 empty_prints (Head l) more text prints = prints
 empty_prints (Steps player) more text prints = prints
 
-pub header_prints : (l : Limits) (line : List ℕ) (header : Header) (more : List (List ℕ)) (text : List ℕ) → step_of line ≡ None → header_of line ≡ Some header → Prints (Head (with_value l header.setting header.value)) more text → Prints (Head l) (line ∷ more) text
-header_prints l line header more text none is prints =
-    let server : start_of (limits_after l (line ∷ more)) ≡ start_of (limits_after (with_value l header.setting header.value) more) = ap (λ t. start_of (cond t l (limits_after (with_header l (header_of line)) more))) (ap is_some none) ∙ ap (λ o. start_of (limits_after (with_header l o) more)) is in
+pub header_prints : (l k : Limits) (line : List ℕ) (more : List (List ℕ)) (text : List ℕ) → step_of line ≡ None → with_header l line ≡ Some k → Prints (Head k) more text → Prints (Head l) (line ∷ more) text
+header_prints l k line more text none is prints =
+    let server : start_of (limits_after l (line ∷ more)) ≡ start_of (limits_after k more) = ap (λ t. start_of (cond t l (limits_after (after_line l line) more))) (ap is_some none) ∙ ap (λ o. start_of (limits_after (unless_none l o) more)) is in
     subst (λ o. ArePerformed (with_step o (steps_of more)) [] (start_of (limits_after l (line ∷ more))) text) (sym none) (subst (λ m. ArePerformed (steps_of more) [] m text) (sym server) prints)
 
 server_by : (s : Stage) (line : List ℕ) (more : List (List ℕ)) → is_step line ≡ true → server_of s (line ∷ more) ≡ server_of s []
-server_by (Head l) line more is = ap (λ t. start_of (cond t l (limits_after (with_header l (header_of line)) more))) is
+server_by (Head l) line more is = ap (λ t. start_of (cond t l (limits_after (after_line l line) more))) is
 server_by (Steps player) line more is = refl
 
 server_on : (s : Stage) (more : List (List ℕ)) → head_of s ≡ None → server_of s more ≡ server_of s []

@@ -2,6 +2,7 @@ pub mod Numbers
 pub mod Escapes
 pub mod Script
 pub mod Headers
+pub mod HeaderFaults
 pub mod Lines
 pub mod Faults
 pub mod Refusals

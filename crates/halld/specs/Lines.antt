@@ -1,9 +1,9 @@
 -- The lines of a script, the first that may not stand there, and the limits: this project's own choice.
-use Rattle.std.specs.Prelude.{ℕ, ◌+◌, ◌==◌, Bool, false, true, ◌&&◌, ◌||◌, if◌then◌else◌, List, [], ◌∷◌, ◌++◌, Option, Some, None, is_none}
+use Rattle.std.specs.Prelude.{ℕ, ◌+◌, ◌==◌, Bool, false, true, ◌&&◌, if◌then◌else◌, List, [], ◌∷◌, ◌++◌, Option, Some, None, is_none}
 use Rattle.std.specs.Option.{is_some}
 use Rattle.halld.specs.declared.header.Limits.{Limits}
 use Rattle.halld.specs.Script.{step_of}
-use Rattle.halld.specs.Headers.{header_of, default_limits, with_header, are_good}
+use Rattle.halld.specs.Headers.{default_limits, with_header, after_line, are_good}
 
 -- a text stands before the first line
 abbrev pub continued : List ℕ → List (List ℕ) → List (List ℕ)
@@ -18,24 +18,34 @@ lines_of (b ∷ bs) = if b == 10 then [] ∷ lines_of bs else continued (b ∷ [
 abbrev pub is_step : List ℕ → Bool
 is_step line = is_some (step_of line)
 
--- a line that is not empty has to be a step, or a header where no step came before it
-abbrev pub is_bad : Bool → List ℕ → Bool
-is_bad began [] = false
-is_bad began (b ∷ bs) = is_none (step_of (b ∷ bs)) && (began || is_none (header_of (b ∷ bs)))
+-- what headers set up to a line that is a header; no line is one after a step
+abbrev pub header_by : Option Limits → List ℕ → Option Limits
+header_by None line = None
+header_by (Some l) line = with_header l line
 
--- the number of the first bad line, where the first line has this number, and a step came before it or none did
-abbrev pub first_bad : Bool → ℕ → List (List ℕ) → Option ℕ
-first_bad began n [] = None
-first_bad began n (line ∷ more) = if is_bad began line then Some n else first_bad (began || is_step line) (n + 1) more
+-- a line that is not empty has to be a step, or a header where no step came before it
+abbrev pub is_bad : Option Limits → List ℕ → Bool
+is_bad head [] = false
+is_bad head (b ∷ bs) = is_none (step_of (b ∷ bs)) && is_none (header_by head (b ∷ bs))
+
+-- what headers have set after a line; nothing after a step
+abbrev pub head_after : Option Limits → List ℕ → Option Limits
+head_after None line = None
+head_after (Some l) line = if is_step line then None else Some (after_line l line)
+
+-- the number of the first bad line, where the first line has this number
+abbrev pub first_bad : Option Limits → ℕ → List (List ℕ) → Option ℕ
+first_bad head n [] = None
+first_bad head n (line ∷ more) = if is_bad head line then Some n else first_bad (head_after head line) (n + 1) more
 
 -- the number of a script's first bad line, from 1
 abbrev pub bad_line_of : List ℕ → Option ℕ
-bad_line_of script = first_bad false 1 (lines_of script)
+bad_line_of script = first_bad (Some default_limits) 1 (lines_of script)
 
 -- the limits that headers before the first step change these into
 abbrev pub limits_after : Limits → List (List ℕ) → Limits
 limits_after l [] = l
-limits_after l (line ∷ more) = if is_step line then l else limits_after (with_header l (header_of line)) more
+limits_after l (line ∷ more) = if is_step line then l else limits_after (after_line l line) more
 
 -- the limits that a script sets
 abbrev pub limits_of : List ℕ → Limits
@@ -56,7 +66,7 @@ is_set_after (Some l) lines = are_good (limits_after l lines)
 
 -- the same of lines, where the first one has this number
 abbrev pub told_after : Option Limits → ℕ → List (List ℕ) → Told
-told_after head n lines = record { bad = first_bad (is_none head) n lines; is_set = is_set_after head lines }
+told_after head n lines = record { bad = first_bad head n lines; is_set = is_set_after head lines }
 
 -- the same where some lines have ended, the present line has begun, and this rest of the script comes
 abbrev pub told_ahead : Option Limits → ℕ → List ℕ → List ℕ → Told

@@ -3,12 +3,17 @@
 //! A script is this project's own form: a line for each header and each step, parted by LF. An empty line says nothing. Words are
 //! parted by one space, and numbers are decimal digits.
 //!
-//! Headers stand before the first step. Of one that stands twice the last counts:
+//! Headers stand before the first step. Of one of these that stands twice the last counts:
 //!
 //! - `limit N`: how many records the journal may have, 1 to 10,000,000; 1,000,000 where no header says it;
 //! - `sendq N`: how many items may wait for a session, 1 to 4,096; 256 where no header says it;
 //! - `workers N`: how many workers there are, 1 to 64; 2 where no header says it;
 //! - `sessions N`: how many sessions may be open, 1 to 1,024; 1,024 where no header says it.
+//!
+//! Two add up, in their order:
+//!
+//! - `motd TEXT`: a line of the message of the day, which is all that follows the space: at most 400 octets, none of them NUL or CR;
+//! - `account NAME SALT DIGEST`: a line of an accounts file, by which a user logs in.
 //!
 //! The server is set up when the first step comes, or at the end where there is none. What can't be set up is a fault.
 //!

@@ -10,12 +10,11 @@ ghost use Rattle.halld.specs.Steps.{IsPerformed};
 ghost use Rattle.halld.specs.Printed.{start_of, hosts_of, server_of, Prints, PrintsAhead, Writes, GoesOn};
 
 use crate::entry::PlayFault;
-use crate::header::{Limits, parse_header};
+use crate::header::{HeaderFault, Limits};
 use crate::player::Player;
 use crate::script::{Step, StepFault, parse_step};
 use interleave::{Moment, Play, PlayRefusal, Settings};
 use line_grammar::Octets;
-use registration::Accounts;
 use std::alloc::{AllocError, Global};
 use std::io::Write;
 
@@ -47,26 +46,26 @@ pub(crate) struct Reader {
 }
 
 /// What a server with these limits is told when it starts.
-fn settings_of(alloc: Global, limits: Limits) -> Result<Settings, AllocError>
-    ensures { IfOk result (λ settings. settings ≡ settings_of limits) }
+fn settings_of(alloc: Global, limits: &Limits) -> Result<Settings, AllocError>
+    ensures { IfOk result (λ settings. settings ≡ settings_of limits.now) }
 {
     Ok(Settings {
         server: Octets::copied(alloc, SERVER)?,
         info: Octets::copied(alloc, INFO)?,
         version: Octets::copied(alloc, VERSION)?,
         created: Moment::new(0),
-        motd: None,
-        accounts: Accounts::new(alloc),
+        motd: limits.motd.copy()?,
+        accounts: limits.accounts.clone()?,
         sessions: limits.sessions,
     })
 }
 
 /// A player of a server with these limits.
-fn new_player(alloc: Global, limits: Limits) -> Result<Player, PlayFault>
-    ensures ok { IfOk result (λ player. are_good limits ≡ true) }
-    ensures play { IfOk result (λ player. player.play ≡ start_of limits) }
+fn new_player(alloc: Global, limits: &Limits) -> Result<Player, PlayFault>
+    ensures ok { IfOk result (λ player. are_good limits.now ≡ true) }
+    ensures play { IfOk result (λ player. player.play ≡ start_of limits.now) }
     ensures hosts { IfOk result (λ player. player.hosts.items ≡ []) }
-    ensures fault { IfErr result (IsFaultOf (told_after (Some limits) 1 [])) }
+    ensures fault { IfErr result (IsFaultOf (told_after (Some limits.now) 1 [])) }
 {
     let settings = settings_of(alloc, limits)?;
     match Play::new(
@@ -91,7 +90,7 @@ impl Reader {
     {
         Reader {
             alloc,
-            stage: Stage::Head(Limits::new()),
+            stage: Stage::Head(Limits::new(alloc)),
             line: Vec::new(alloc),
             ended: 0,
         }
@@ -111,7 +110,7 @@ impl Reader {
         match &mut self.stage {
             Stage::Steps(player) => player.perform(step, output),
             Stage::Head(limits) => {
-                let mut player = new_player(self.alloc, *limits)?;
+                let mut player = new_player(self.alloc, limits)?;
                 player.perform(step, output)?;
                 self.stage = Stage::Steps(player);
                 Ok(())
@@ -133,10 +132,11 @@ impl Reader {
         let Stage::Head(limits) = &mut self.stage else {
             return Err(PlayFault::BadLine(self.ended));
         };
-        let Some(header) = parse_header(&self.line) else {
-            return Err(PlayFault::BadLine(self.ended));
-        };
-        *limits = limits.with(header);
+        match limits.take(self.alloc, &self.line) {
+            Ok(()) => {}
+            Err(HeaderFault::Bad) => return Err(PlayFault::BadLine(self.ended)),
+            Err(HeaderFault::Memory) => return Err(PlayFault::Memory),
+        }
         self.line.clear();
         Ok(())
     }
@@ -200,7 +200,7 @@ impl Reader {
         ensures fault { IfErr result (IsFaultOf (told_after (head_of self.now.stage) 1 [])) }
     {
         if let Stage::Head(limits) = &self.stage {
-            new_player(self.alloc, *limits)?;
+            new_player(self.alloc, limits)?;
         }
         Ok(())
     }

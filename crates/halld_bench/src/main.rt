@@ -5,6 +5,7 @@ ghost use Rattle.interleave.specs.Steps.{IsWellShaped};
 
 use casemapping::is_host;
 use interleave::{Event, Moment, Note, Octets, Play, SessionId, Settings, WorkerId};
+use registration::Accounts;
 use std::alloc::Global;
 use std::process::ExitCode;
 use std::rt::{Clock, Files};
@@ -75,9 +76,13 @@ fn empty(play: &mut Play, members: u64) -> Option<()> {
 
 /// A play in which so many sessions are on one channel.
 fn room(alloc: Global, members: u64, limit: usize) -> Option<Play> {
-    let server = Octets::copied(alloc, b"irc.example").ok()?;
     let settings = Settings {
-        server,
+        server: Octets::copied(alloc, b"irc.example").ok()?,
+        info: Octets::copied(alloc, b"halld").ok()?,
+        version: Octets::copied(alloc, b"halld-1").ok()?,
+        created: Moment::new(0),
+        motd: None,
+        accounts: Accounts::new(alloc),
         sessions: 100,
     };
     let mut play = Play::new(alloc, settings, limit, 1, 200).ok()?;

@@ -22,6 +22,9 @@ const SCRIPT: &str = "Headers, before the first step:
   sendq N             items that wait for a session, 1 to 4096 (256)
   workers N           workers, 1 to 64 (2)
   sessions N          open sessions, 1 to 1024 (1024)
+  motd TEXT           one more line of the message of the day
+  account NAME SALT DIGEST
+                      one more account, as a line of an accounts file
 
 Steps of a session S, a worker W and a moment MS:
   connect HOST MS     open a session
