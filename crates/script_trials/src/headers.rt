@@ -1,5 +1,6 @@
 //! Headers, and what they set.
-use crate::shared::{START, Story, played, tell_steps};
+use crate::shared::{START, Story, played, room, tell_steps};
+use crate::spelling::write_spelled;
 use halld::PlayFault;
 use std::alloc::{AllocError, Global};
 use std::process::Abort;
@@ -112,6 +113,78 @@ const BAD_SETTINGS: [(&[u8], PlayFault); 22] = [
 fn bad_settings(rt: HostRuntime) -> Result<(), Fail> {
     for (script, end) in &BAD_SETTINGS {
         assert!(rt; is_refused(rt.alloc(), script, *end)?, "{script:?}");
+    }
+    Ok(())
+}
+
+/// Scripts of a server's message of the day and its accounts, and what is wrong with each.
+const BAD_TEXTS: [(&str, PlayFault); 18] = [
+    ("motd", PlayFault::BadLine(1)),
+    ("motds x", PlayFault::BadLine(1)),
+    ("Motd x", PlayFault::BadLine(1)),
+    ("motd x\nmotd", PlayFault::BadLine(2)),
+    ("motd %401", PlayFault::BadSettings),
+    ("motd %401\ntake 1", PlayFault::BadSettings),
+    ("motd\x20\nmotd %401\nmotd", PlayFault::BadLine(3)),
+    ("motd a\rb\ntake 1", PlayFault::BadSettings),
+    ("motd \0\ntake 1", PlayFault::BadSettings),
+    ("account", PlayFault::BadLine(1)),
+    ("account al a", PlayFault::BadLine(1)),
+    (
+        "account al a ba7816bf8f01cfea414140de5dae2223b00361a396177a9cb410ff61f20015ad ",
+        PlayFault::BadLine(1),
+    ),
+    (
+        "account  al a ba7816bf8f01cfea414140de5dae2223b00361a396177a9cb410ff61f20015ad",
+        PlayFault::BadLine(1),
+    ),
+    (
+        "account 1al a ba7816bf8f01cfea414140de5dae2223b00361a396177a9cb410ff61f20015ad",
+        PlayFault::BadLine(1),
+    ),
+    (
+        "account al a ba7816bf8f01cfea414140de5dae2223b00361a396177a9cb410ff61f20015a",
+        PlayFault::BadLine(1),
+    ),
+    (
+        "account al a ba7816bf8f01cfea414140de5dae2223b00361a396177a9cb410ff61f20015ag",
+        PlayFault::BadLine(1),
+    ),
+    (
+        "account al a ba7816bf8f01cfea414140de5dae2223b00361a396177a9cb410ff61f20015ad\n\n\
+         account AL b ba7816bf8f01cfea414140de5dae2223b00361a396177a9cb410ff61f20015ad",
+        PlayFault::BadLine(3),
+    ),
+    ("limit 0\naccount al\ntake 1", PlayFault::BadLine(2)),
+];
+
+/// Whether a script of lines that are spelled out ends with this fault before its first note.
+fn is_refused_spelled(alloc: Global, script: &str, fault: PlayFault) -> Result<bool, AllocError> {
+    let mut spelled = room(alloc)?;
+    write_spelled(&mut spelled, script.as_bytes())?;
+    is_refused(alloc, &spelled, fault)
+}
+
+#[test]
+fn bad_texts_of_headers(rt: HostRuntime) -> Result<(), Fail> {
+    for (script, end) in &BAD_TEXTS {
+        assert!(rt; is_refused_spelled(rt.alloc(), script, *end)?, "{script}");
+    }
+    Ok(())
+}
+
+/// Texts of headers after the first step.
+const LATE_TEXTS: [&[u8]; 2] = [
+    b"take 1\nmotd hello\n",
+    b"take 1\naccount al a ba7816bf8f01cfea414140de5dae2223b00361a396177a9cb410ff61f20015ad\n",
+];
+
+#[test]
+fn texts_of_headers_come_first(rt: HostRuntime) -> Result<(), Fail> {
+    for script in &LATE_TEXTS {
+        let (result, notes) = played(rt.alloc(), script)?;
+        assert_eq!(rt; result, Err(PlayFault::BadLine(2)), "{script:?}");
+        assert_eq!(rt; notes.as_slice(), b"refused NoSession\n".as_slice());
     }
     Ok(())
 }

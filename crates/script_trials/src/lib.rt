@@ -2,9 +2,17 @@
 #![tactic(auto)]
 
 #[cfg(test)]
+mod answering;
+#[cfg(test)]
 mod headers;
 #[cfg(test)]
 mod lines;
+#[cfg(test)]
+mod logging_in;
+#[cfg(test)]
+mod negotiating;
+#[cfg(test)]
+mod nicknames;
 #[cfg(test)]
 mod registering;
 #[cfg(test)]
