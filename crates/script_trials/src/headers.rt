@@ -1,5 +1,6 @@
 //! Headers, and what they set.
-use crate::shared::{played, tell_after, tell_steps};
+use crate::shared::{START, Story, played, room, tell_steps};
+use crate::spelling::write_spelled;
 use halld::PlayFault;
 use std::alloc::{AllocError, Global};
 use std::process::Abort;
@@ -116,6 +117,78 @@ fn bad_settings(rt: HostRuntime) -> Result<(), Fail> {
     Ok(())
 }
 
+/// Scripts of a server's message of the day and its accounts, and what is wrong with each.
+const BAD_TEXTS: [(&str, PlayFault); 18] = [
+    ("motd", PlayFault::BadLine(1)),
+    ("motds x", PlayFault::BadLine(1)),
+    ("Motd x", PlayFault::BadLine(1)),
+    ("motd x\nmotd", PlayFault::BadLine(2)),
+    ("motd %401", PlayFault::BadSettings),
+    ("motd %401\ntake 1", PlayFault::BadSettings),
+    ("motd\x20\nmotd %401\nmotd", PlayFault::BadLine(3)),
+    ("motd a\rb\ntake 1", PlayFault::BadSettings),
+    ("motd \0\ntake 1", PlayFault::BadSettings),
+    ("account", PlayFault::BadLine(1)),
+    ("account al a", PlayFault::BadLine(1)),
+    (
+        "account al a ba7816bf8f01cfea414140de5dae2223b00361a396177a9cb410ff61f20015ad ",
+        PlayFault::BadLine(1),
+    ),
+    (
+        "account  al a ba7816bf8f01cfea414140de5dae2223b00361a396177a9cb410ff61f20015ad",
+        PlayFault::BadLine(1),
+    ),
+    (
+        "account 1al a ba7816bf8f01cfea414140de5dae2223b00361a396177a9cb410ff61f20015ad",
+        PlayFault::BadLine(1),
+    ),
+    (
+        "account al a ba7816bf8f01cfea414140de5dae2223b00361a396177a9cb410ff61f20015a",
+        PlayFault::BadLine(1),
+    ),
+    (
+        "account al a ba7816bf8f01cfea414140de5dae2223b00361a396177a9cb410ff61f20015ag",
+        PlayFault::BadLine(1),
+    ),
+    (
+        "account al a ba7816bf8f01cfea414140de5dae2223b00361a396177a9cb410ff61f20015ad\n\n\
+         account AL b ba7816bf8f01cfea414140de5dae2223b00361a396177a9cb410ff61f20015ad",
+        PlayFault::BadLine(3),
+    ),
+    ("limit 0\naccount al\ntake 1", PlayFault::BadLine(2)),
+];
+
+/// Whether a script of lines that are spelled out ends with this fault before its first note.
+fn is_refused_spelled(alloc: Global, script: &str, fault: PlayFault) -> Result<bool, AllocError> {
+    let mut spelled = room(alloc)?;
+    write_spelled(&mut spelled, script.as_bytes())?;
+    is_refused(alloc, &spelled, fault)
+}
+
+#[test]
+fn bad_texts_of_headers(rt: HostRuntime) -> Result<(), Fail> {
+    for (script, end) in &BAD_TEXTS {
+        assert!(rt; is_refused_spelled(rt.alloc(), script, *end)?, "{script}");
+    }
+    Ok(())
+}
+
+/// Texts of headers after the first step.
+const LATE_TEXTS: [&[u8]; 2] = [
+    b"take 1\nmotd hello\n",
+    b"take 1\naccount al a ba7816bf8f01cfea414140de5dae2223b00361a396177a9cb410ff61f20015ad\n",
+];
+
+#[test]
+fn texts_of_headers_come_first(rt: HostRuntime) -> Result<(), Fail> {
+    for script in &LATE_TEXTS {
+        let (result, notes) = played(rt.alloc(), script)?;
+        assert_eq!(rt; result, Err(PlayFault::BadLine(2)), "{script:?}");
+        assert_eq!(rt; notes.as_slice(), b"refused NoSession\n".as_slice());
+    }
+    Ok(())
+}
+
 const LAST_HEADERS: [(&str, &str); 7] = [
     ("limit 0", ""),
     ("sessions 1", ""),
@@ -164,28 +237,26 @@ fn each_header_sets_its_limit(rt: HostRuntime) -> Result<(), Fail> {
     Ok(())
 }
 
-const A_FULL_OUTBOX: [(&str, &str); 14] = [
-    ("sendq 1", ""),
-    ("connect h1 0", "session 1"),
-    ("connect h2 0", "session 2"),
-    (
-        "feed 1 \"NICK al\\r\\nUSER a 0 * :Al\\r\\nJOIN #a\\r\\n\"",
-        "read 3",
-    ),
-    (
-        "feed 2 \"NICK bo\\r\\nUSER b 0 * :Bo\\r\\nJOIN #a\\r\\n\"",
-        "read 3",
-    ),
-    ("do 1 0", "record 3"),
-    ("do 1 0", "record 4"),
-    ("do 2 0", "record 5"),
-    ("do 2 0", "record 6"),
+/// Al and Bo have registered, and join a channel. Bo doesn't take his line, and Al is about to tell something.
+const A_FULL_OUTBOX: [(&str, &str); 7] = [
+    ("feed 1 \"JOIN #a\\r\\n\"", "read 1"),
+    ("feed 2 \"JOIN #a\\r\\n\"", "read 1"),
     ("do 1 0", "record 7"),
     ("drain 1", "1> :al!a@h1 JOIN #a\nempty"),
     ("do 2 0", "record 8"),
     ("drain 1", "1> :bo!b@h2 JOIN #a\nempty"),
     ("feed 1 \"PRIVMSG #a :hi\\r\\n\"", "read 1"),
 ];
+
+/// Plays steps where each outbox holds one item, and Bo's is full.
+fn tell_full(rt: &impl Abort, alloc: Global, steps: &[(&str, &str)]) -> Result<(), AllocError> {
+    let mut story = Story::new(alloc)?;
+    story.step(b"sendq 1")?;
+    story.add(&START)?;
+    story.add(&A_FULL_OUTBOX)?;
+    story.add(steps)?;
+    story.tell(rt, alloc)
+}
 
 const IT_IS_FULL: [(&str, &str); 6] = [
     ("do 1 0", "record 9\nmissed 2"),
@@ -198,7 +269,7 @@ const IT_IS_FULL: [(&str, &str); 6] = [
 
 #[test]
 fn an_outbox_for_one_item_is_full(rt: HostRuntime) -> Result<(), Fail> {
-    tell_after(&rt, rt.alloc(), &A_FULL_OUTBOX, &IT_IS_FULL)?;
+    tell_full(&rt, rt.alloc(), &IT_IS_FULL)?;
     Ok(())
 }
 
@@ -211,6 +282,6 @@ const IT_IS_TAKEN: [(&str, &str); 4] = [
 
 #[test]
 fn an_item_is_taken_before_the_next_is_put(rt: HostRuntime) -> Result<(), Fail> {
-    tell_after(&rt, rt.alloc(), &A_FULL_OUTBOX, &IT_IS_TAKEN)?;
+    tell_full(&rt, rt.alloc(), &IT_IS_TAKEN)?;
     Ok(())
 }

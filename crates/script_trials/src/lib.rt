@@ -2,14 +2,28 @@
 #![tactic(auto)]
 
 #[cfg(test)]
+mod answering;
+#[cfg(test)]
 mod headers;
 #[cfg(test)]
 mod lines;
 #[cfg(test)]
+mod logging_in;
+#[cfg(test)]
+mod negotiating;
+#[cfg(test)]
+mod nicknames;
+#[cfg(test)]
+mod registering;
+#[cfg(test)]
 mod shared;
+#[cfg(test)]
+mod spelling;
 #[cfg(test)]
 mod stories;
 #[cfg(test)]
 mod streams;
+#[cfg(test)]
+mod talk;
 #[cfg(test)]
 mod workers;

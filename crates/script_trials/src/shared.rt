@@ -1,4 +1,5 @@
 //! Playing scripts in tests, in which one growth is refused at most.
+use crate::spelling::{write_note, write_spelled};
 use halld::{PlayFault, play};
 use std::alloc::{AllocError, Global};
 use std::cell::Cell;
@@ -149,14 +150,24 @@ impl Story {
     /// Adds steps, each with its notes. A header has none.
     pub(crate) fn add(&mut self, steps: &[(&str, &str)]) -> Result<(), AllocError> {
         for (step, notes) in steps {
-            self.script.extend_from_slice(step.as_bytes())?;
-            self.script.push(b'\n')?;
-            if !notes.is_empty() {
-                self.notes.extend_from_slice(notes.as_bytes())?;
-                self.notes.push(b'\n')?;
+            self.step(step.as_bytes())?;
+            for note in notes.lines() {
+                self.note(note.as_bytes())?;
             }
         }
         Ok(())
+    }
+
+    /// Adds a step.
+    pub(crate) fn step(&mut self, step: &[u8]) -> Result<(), AllocError> {
+        write_spelled(&mut self.script, step)?;
+        self.script.push(b'\n')?;
+        Ok(())
+    }
+
+    /// Adds a note, or those of a welcome.
+    pub(crate) fn note(&mut self, note: &[u8]) -> Result<(), AllocError> {
+        write_note(&mut self.notes, note)
     }
 
     /// Adds steps as they are written, and their notes.
@@ -179,6 +190,26 @@ impl Story {
     }
 }
 
+/// Al and Bo register, and are welcomed.
+pub(crate) const START: [(&str, &str); 10] = [
+    ("connect h1 0", "session 1"),
+    ("connect h2 0", "session 2"),
+    ("feed 1 \"NICK al\\r\\nUSER a 0 * :Al\\r\\n\"", "read 2"),
+    ("feed 2 \"NICK bo\\r\\nUSER b 0 * :Bo\\r\\n\"", "read 2"),
+    ("do 1 0", "record 3"),
+    ("do 1 0", "record 4"),
+    ("do 2 0", "record 5"),
+    ("do 2 0", "record 6"),
+    (
+        "drain 1",
+        "1> welcome al!a@h1\n1> :~ 422 al :MOTD File is missing\nempty",
+    ),
+    (
+        "drain 2",
+        "2> welcome bo!b@h2\n2> :~ 422 bo :MOTD File is missing\nempty",
+    ),
+];
+
 /// Plays these steps, each with its notes.
 pub(crate) fn tell_steps(
     rt: &impl Abort,
@@ -190,15 +221,14 @@ pub(crate) fn tell_steps(
     story.tell(rt, alloc)
 }
 
-/// Plays steps after others, each with its notes.
-pub(crate) fn tell_after(
+/// Plays steps once Al and Bo have registered, each with its notes.
+pub(crate) fn tell_started(
     rt: &impl Abort,
     alloc: Global,
-    before: &[(&str, &str)],
     steps: &[(&str, &str)],
 ) -> Result<(), AllocError> {
     let mut story = Story::new(alloc)?;
-    story.add(before)?;
+    story.add(&START)?;
     story.add(steps)?;
     story.tell(rt, alloc)
 }

@@ -1,26 +1,14 @@
 //! What people see, and sessions that end.
-use crate::shared::{Story, room, tell_after, tell_steps};
+use crate::shared::{START, Story, room, tell_started, tell_steps};
 use halld::PlayFault;
 use std::alloc::{AllocError, Global};
 use std::process::Abort;
 use std::test::Fail;
 
-const TWO_PEOPLE: [(&str, &str); 13] = [
-    ("connect h1 0", "session 1"),
-    ("connect h2 0", "session 2"),
-    (
-        "feed 1 \"NICK al\\r\\nUSER a 0 * :Al\\r\\nJOIN #a\\r\\n\"",
-        "read 3",
-    ),
-    (
-        "feed 2 \"NICK bo\\r\\nUSER b 0 * :Bo\\r\\nJOIN #a\\r\\nPRIVMSG #a :hi\\r\\n\"",
-        "read 4",
-    ),
-    ("do 1 0", "record 3"),
-    ("do 1 0", "record 4"),
-    ("do 1 0", "record 5"),
-    ("do 2 0", "record 6"),
-    ("do 2 0", "record 7"),
+const TWO_PEOPLE: [(&str, &str); 7] = [
+    ("feed 1 \"JOIN #a\\r\\n\"", "read 1"),
+    ("feed 2 \"JOIN #a\\r\\nPRIVMSG #a :hi\\r\\n\"", "read 2"),
+    ("do 1 0", "record 7"),
     ("do 2 0", "record 8"),
     ("do 2 0", "record 9"),
     (
@@ -32,113 +20,93 @@ const TWO_PEOPLE: [(&str, &str); 13] = [
 
 #[test]
 fn two_people(rt: HostRuntime) -> Result<(), Fail> {
-    tell_steps(&rt, rt.alloc(), &TWO_PEOPLE)?;
+    tell_started(&rt, rt.alloc(), &TWO_PEOPLE)?;
     Ok(())
 }
 
 /// A line that comes in two pieces is one, and a moment never goes back.
-const A_ROOM: [(&str, &str); 20] = [
-    ("connect one.example 1000", "session 1"),
-    ("connect two.example 1001", "session 2"),
-    (
-        "feed 1 \"NICK anna\\r\\nUSER a 0 * :Anna\\r\\nJOIN #room\\r\\n\"",
-        "read 3",
-    ),
-    ("do 1 2000", "record 3"),
-    ("do 1 2000", "record 4"),
-    ("do 1 2000", "record 5"),
-    (
-        "feed 2 \"NICK bob\\r\\nUSER b 0 * :Bob\\r\\nJOIN #room\\r\\n\"",
-        "read 3",
-    ),
-    ("do 2 2000", "record 6"),
-    ("do 2 2000", "record 7"),
-    ("do 2 2000", "record 8"),
+const A_ROOM: [(&str, &str); 15] = [
+    ("connect three.example 1000", "session 3"),
+    ("feed 1 \"JOIN #room\\r\\n\"", "read 1"),
+    ("do 1 2000", "record 8"),
+    ("feed 2 \"JOIN #room\\r\\n\"", "read 1"),
+    ("do 2 2000", "record 9"),
     ("feed 1 \"PRIVMSG #room :h\"", "read 0"),
     ("feed 1 \"i\\r\\n\"", "read 1"),
-    ("do 1 2000", "record 9"),
-    ("take 1", "1> :anna!a@one.example JOIN #room"),
-    ("take 1", "1> :bob!b@two.example JOIN #room"),
+    ("do 1 2000", "record 10"),
+    ("take 1", "1> :al!a@h1 JOIN #room"),
+    ("take 1", "1> :bo!b@h2 JOIN #room"),
     ("take 1", "empty"),
-    ("take 2", "2> :bob!b@two.example JOIN #room"),
-    ("take 2", "2> :anna!a@one.example PRIVMSG #room :hi"),
+    ("take 2", "2> :bo!b@h2 JOIN #room"),
+    ("take 2", "2> :al!a@h1 PRIVMSG #room :hi"),
     ("take 2", "empty"),
-    ("connect three.example 1999", "refused BadMoment"),
+    ("connect four.example 1999", "refused BadMoment"),
 ];
 
 #[test]
 fn two_people_in_a_room(rt: HostRuntime) -> Result<(), Fail> {
-    tell_steps(&rt, rt.alloc(), &A_ROOM)?;
+    tell_started(&rt, rt.alloc(), &A_ROOM)?;
     Ok(())
 }
 
-const A_QUIT: [(&str, &str); 9] = [
-    ("connect h1 0", "session 1"),
-    ("connect h2.example 0", "session 2"),
-    (
-        "feed 2 \"NICK bo\\r\\nUSER b 0 * :Bo\\r\\nQUIT :bye\\r\\nNICK al\\r\\n\"",
-        "read 4",
-    ),
-    ("do 2 0", "record 3"),
-    ("do 2 0", "record 4"),
-    ("do 2 0", "record 5"),
+const A_QUIT: [(&str, &str); 5] = [
+    ("feed 2 \"QUIT :bye\\r\\nNICK cy\\r\\n\"", "read 2"),
+    ("do 2 0", "record 7"),
     ("do 2 0", "refused Shut"),
-    (
-        "drain 2",
-        "2> ERROR :Closing Link: h2.example (Client Quit)\nempty",
-    ),
+    ("drain 2", "2> ERROR :Closing Link: h2 (Client Quit)\nempty"),
     ("drain 1", "empty"),
 ];
 
 #[test]
 fn who_quits_is_told(rt: HostRuntime) -> Result<(), Fail> {
-    tell_steps(&rt, rt.alloc(), &A_QUIT)?;
+    tell_started(&rt, rt.alloc(), &A_QUIT)?;
     Ok(())
 }
 
-const NAMES: [(&str, &str); 12] = [
-    ("connect h1 0", "session 1"),
-    ("connect h2 0", "session 2"),
-    (
-        "feed 1 \"NICK al\\r\\nUSER a 0 * :Al\\r\\nJOIN #A[1]\\r\\n\"",
-        "read 3",
-    ),
-    (
-        "feed 2 \"NICK AL\\r\\nNICK bo\\r\\nUSER b 0 * :Bo\\r\\nJOIN #a{1}\\r\\n\"",
-        "read 4",
-    ),
-    ("do 1 0", "record 3"),
-    ("do 1 0", "record 4"),
-    ("do 1 0", "record 5"),
-    ("do 2 0", "record 6"),
-    ("do 2 0", "record 7"),
+const NAMES: [(&str, &str); 7] = [
+    ("feed 1 \"JOIN #A[1]\\r\\n\"", "read 1"),
+    ("feed 2 \"NICK AL\\r\\nJOIN #a{1}\\r\\n\"", "read 2"),
+    ("do 1 0", "record 7"),
     ("do 2 0", "record 8"),
     ("do 2 0", "record 9"),
     (
         "drain 1",
         "1> :al!a@h1 JOIN #A[1]\n1> :bo!b@h2 JOIN #A[1]\nempty",
     ),
+    (
+        "drain 2",
+        "2> :~ 433 bo AL :Nickname is already in use\n2> :bo!b@h2 JOIN #A[1]\nempty",
+    ),
 ];
 
 #[test]
 fn names_that_differ_by_case_are_one(rt: HostRuntime) -> Result<(), Fail> {
-    tell_steps(&rt, rt.alloc(), &NAMES)?;
+    tell_started(&rt, rt.alloc(), &NAMES)?;
     Ok(())
 }
 
-/// Two people join a channel.
-const MEETING: [(&str, &str); 10] = [
-    ("connect h1 0", "session 1"),
-    ("connect h2 0", "session 2"),
-    ("feed 1 \"NICK al\\nUSER a 0 * :Al\\nJOIN #a\\n\"", "read 3"),
-    ("feed 2 \"NICK bo\\nUSER b 0 * :Bo\\nJOIN #a\\n\"", "read 3"),
-    ("do 1 0", "record 3"),
-    ("do 1 0", "record 4"),
-    ("do 1 0", "record 5"),
-    ("do 2 0", "record 6"),
-    ("do 2 0", "record 7"),
+/// Two people who have registered join a channel.
+const MEETING: [(&str, &str); 4] = [
+    ("feed 1 \"JOIN #a\\n\"", "read 1"),
+    ("feed 2 \"JOIN #a\\n\"", "read 1"),
+    ("do 1 0", "record 7"),
     ("do 2 0", "record 8"),
 ];
+
+/// A story in which two people have met.
+fn met(alloc: Global) -> Result<Story, AllocError> {
+    let mut story = Story::new(alloc)?;
+    story.add(&START)?;
+    story.add(&MEETING)?;
+    Ok(story)
+}
+
+/// Plays steps once two people have met, each with its notes.
+fn tell_met(rt: &impl Abort, alloc: Global, steps: &[(&str, &str)]) -> Result<(), AllocError> {
+    let mut story = met(alloc)?;
+    story.add(steps)?;
+    story.tell(rt, alloc)
+}
 
 const TAKEN: [(&str, &str); 5] = [
     ("take 2", "2> :bo!b@h2 JOIN #a"),
@@ -150,7 +118,7 @@ const TAKEN: [(&str, &str); 5] = [
 
 #[test]
 fn what_is_taken_is_its_sessions(rt: HostRuntime) -> Result<(), Fail> {
-    tell_after(&rt, rt.alloc(), &MEETING, &TAKEN)?;
+    tell_met(&rt, rt.alloc(), &TAKEN)?;
     Ok(())
 }
 
@@ -167,7 +135,7 @@ const OCTETS: [(&str, &str); 4] = [
 
 #[test]
 fn octets_are_spelled_and_printed(rt: HostRuntime) -> Result<(), Fail> {
-    tell_after(&rt, rt.alloc(), &MEETING, &OCTETS)?;
+    tell_met(&rt, rt.alloc(), &OCTETS)?;
     Ok(())
 }
 
@@ -200,8 +168,7 @@ fn long_notes(alloc: Global) -> Result<Vec<u8>, AllocError> {
 
 #[test]
 fn a_line_is_cut_to_510_octets(rt: HostRuntime) -> Result<(), Fail> {
-    let mut story = Story::new(rt.alloc())?;
-    story.add(&MEETING)?;
+    let mut story = met(rt.alloc())?;
     story.extend(&long_script(rt.alloc())?, &long_notes(rt.alloc())?)?;
     story.tell(&rt, rt.alloc())?;
     Ok(())
@@ -216,8 +183,7 @@ const THE_LAST_THREE: &[u8] =
 
 /// The notes of a meeting and 257 messages.
 fn notes_of_messages(alloc: Global) -> Result<(Result<(), PlayFault>, Vec<u8>), AllocError> {
-    let mut story = Story::new(alloc)?;
-    story.add(&MEETING)?;
+    let mut story = met(alloc)?;
     for _ in 0..257u16 {
         story.extend(A_MESSAGE, b"")?;
     }
@@ -226,7 +192,7 @@ fn notes_of_messages(alloc: Global) -> Result<(Result<(), PlayFault>, Vec<u8>), 
 
 #[test]
 fn an_outbox_holds_256_deliveries(rt: HostRuntime) -> Result<(), Fail> {
-    // The second session's own JOIN is its first delivery, so it misses message 256.
+    // After the start the second session's own JOIN is its first delivery, so it misses message 256.
     let (result, notes) = notes_of_messages(rt.alloc())?;
     assert_eq!(rt; result, Ok(()));
     let before = notes.strip_suffix(THE_LAST_THREE).ok_or("the end")?;
@@ -257,7 +223,7 @@ const SWEPT: [(&str, &str); 10] = [
 
 #[test]
 fn who_quit_is_swept(rt: HostRuntime) -> Result<(), Fail> {
-    tell_after(&rt, rt.alloc(), &MEETING, &SWEPT)?;
+    tell_met(&rt, rt.alloc(), &SWEPT)?;
     Ok(())
 }
 
@@ -363,16 +329,18 @@ fn there_is_nobody_to_sweep(rt: HostRuntime) -> Result<(), Fail> {
     Ok(())
 }
 
-const NO_LAST_ITEM: [(&str, &str); 10] = [
+const NO_LAST_ITEM: [(&str, &str); 9] = [
     ("sendq 1", ""),
     ("connect h1 0", "session 1"),
-    ("feed 1 \"NICK al\\nUSER a 0 * :Al\\nJOIN #a\\n\"", "read 3"),
+    ("feed 1 \"NICK al\\nUSER a 0 * :Al\\n\"", "read 2"),
     ("do 1 0", "record 2"),
     ("do 1 0", "record 3"),
-    ("do 1 0", "record 4"),
-    ("hang 2 1 quit 0", "hung 5 missed"),
-    ("drain 1", "1> :al!a@h1 JOIN #a\nempty"),
-    ("tidy 0", "sweep 6"),
+    ("hang 2 1 quit 0", "hung 4 missed"),
+    (
+        "drain 1",
+        "1> welcome al!a@h1\n1> :~ 422 al :MOTD File is missing\nempty",
+    ),
+    ("tidy 0", "sweep 5"),
     ("reap 1", "left 0"),
 ];
 

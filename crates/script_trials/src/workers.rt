@@ -1,35 +1,23 @@
 //! Workers, the lock, and what each is refused.
-use crate::shared::{Story, tell_after, tell_steps};
+use crate::shared::{START, Story, tell_started};
 use std::alloc::{AllocError, Global};
 use std::process::Abort;
 use std::test::Fail;
 
-/// Al and Bo have registered.
-const REGISTERED: [(&str, &str); 8] = [
-    ("connect h1 0", "session 1"),
-    ("connect h2 0", "session 2"),
-    ("feed 1 \"NICK al\\r\\nUSER a 0 * :Al\\r\\n\"", "read 2"),
-    ("feed 2 \"NICK bo\\r\\nUSER b 0 * :Bo\\r\\n\"", "read 2"),
-    ("do 1 0", "record 3"),
-    ("do 1 0", "record 4"),
-    ("do 2 0", "record 5"),
-    ("do 2 0", "record 6"),
-];
-
-/// Al and Bo are about to join a channel each.
+/// Al and Bo are about to be answered.
 const TWO_LINES: [(&str, &str); 2] = [
-    ("feed 1 \"JOIN #a\\r\\n\"", "read 1"),
-    ("feed 2 \"JOIN #b\\r\\n\"", "read 1"),
+    ("feed 1 \"PING x\\r\\n\"", "read 1"),
+    ("feed 2 \"PING y\\r\\n\"", "read 1"),
 ];
 
-/// Tells a story of workers once Al and Bo have registered and are about to join a channel each.
+/// Tells a story of workers once Al and Bo have registered and are about to be answered.
 fn tell_of_workers(
     rt: &impl Abort,
     alloc: Global,
     steps: &[(&str, &str)],
 ) -> Result<(), AllocError> {
     let mut story = Story::new(alloc)?;
-    story.add(&REGISTERED)?;
+    story.add(&START)?;
     story.add(&TWO_LINES)?;
     story.add(steps)?;
     story.tell(rt, alloc)
@@ -64,8 +52,8 @@ const SHARED_LOCK: [(&str, &str); 30] = [
     ("reap 9", "refused NoSession"),
     ("feed 9 \"\"", "refused NoSession"),
     ("hang 1 9 quit 0", "refused NoSession"),
-    ("take 1", "1> :al!a@h1 JOIN #a"),
-    ("take 2", "2> :bo!b@h2 JOIN #b"),
+    ("take 1", "1> :~ PONG ~ x"),
+    ("take 2", "2> :~ PONG ~ y"),
 ];
 
 #[test]
@@ -74,19 +62,14 @@ fn two_workers_share_the_lock(rt: HostRuntime) -> Result<(), Fail> {
     Ok(())
 }
 
-const SHUT_IN_HAND: [(&str, &str); 15] = [
-    ("connect h1 0", "session 1"),
-    ("feed 1 \"NICK al\\r\\nUSER a 0 * :Al\\r\\n\"", "read 2"),
-    ("do 1 0", "record 2"),
-    ("do 1 0", "record 3"),
-    ("drain 1", "empty"),
+const SHUT_IN_HAND: [(&str, &str); 10] = [
     ("feed 1 \"PING x\\r\\n\"", "read 1"),
     ("pick 1 1", "picked"),
-    ("hang 2 1 ended 0", "hung 4"),
+    ("hang 2 1 ended 0", "hung 7"),
     ("begin 1 0", "refused Shut"),
-    ("sweep 2 0", "sweep 5"),
+    ("sweep 2 0", "sweep 8"),
     ("pick 2 1", "refused HasJob"),
-    ("end 2", "done 5"),
+    ("end 2", "done 8"),
     ("reap 1", "refused InFlight"),
     ("back 1", "back"),
     ("reap 1", "left 1"),
@@ -94,7 +77,7 @@ const SHUT_IN_HAND: [(&str, &str); 15] = [
 
 #[test]
 fn a_line_is_given_back_where_its_session_is_shut(rt: HostRuntime) -> Result<(), Fail> {
-    tell_steps(&rt, rt.alloc(), &SHUT_IN_HAND)?;
+    tell_started(&rt, rt.alloc(), &SHUT_IN_HAND)?;
     Ok(())
 }
 
@@ -129,7 +112,7 @@ const ENDS_IN_HAND: [(&str, &str); 26] = [
 
 #[test]
 fn a_session_ends_while_its_line_is_in_a_hand(rt: HostRuntime) -> Result<(), Fail> {
-    tell_after(&rt, rt.alloc(), &REGISTERED, &ENDS_IN_HAND)?;
+    tell_started(&rt, rt.alloc(), &ENDS_IN_HAND)?;
     Ok(())
 }
 
@@ -169,7 +152,7 @@ const GIVEN_BACK: [(&str, &str); 11] = [
     ("hang 1 2 quit 4", "refused BadMoment"),
     ("sweep 1 4", "refused BadMoment"),
     ("tidy 4", "refused BadMoment"),
-    ("drain 1", "1> :al!a@h1 JOIN #a\nempty"),
+    ("drain 1", "1> :~ PONG ~ x\nempty"),
 ];
 
 #[test]

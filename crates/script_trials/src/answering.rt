@@ -1,0 +1,256 @@
+//! Commands that are answered alone, those that aren't served, and lines that are none.
+use crate::talk::{AL, BO, tell_talk};
+use std::test::Fail;
+
+const PING: &str = "\
+1 PING x y
+1> :~ PONG ~ x
+1 ping :x
+1> :~ PONG ~ x
+1 PING :a b
+1> :~ PONG ~ :a b
+1 PING ::a
+1> :~ PONG ~ ::a
+1 PING
+1> :~ 409 al :No origin specified
+1 PING :
+1> :~ 409 al :No origin specified
+1 PONG
+1 pong x y
+1 PONG :
+1 PING %505
+1> :~ PONG ~ %480
+1 PING %506
+1> :~ 417 al :Input line was too long
+connect h2
+2 PING x
+2> :~ PONG ~ x
+2 PING
+2> :~ 409 * :No origin specified
+2 PING %506
+2> :~ 417 * :Input line was too long
+2 PONG x
+";
+
+#[test]
+fn pings(rt: HostRuntime) -> Result<(), Fail> {
+    tell_talk(&rt, rt.alloc(), &[AL, PING])?;
+    Ok(())
+}
+
+const QUITS: &str = "\
+connect one.example
+connect h2
+2 NICK bo
+1 QUIT :bye
+1> ERROR :Closing Link: one.example (Client Quit)
+2 quit
+2> ERROR :Closing Link: h2 (Client Quit)
+tidy
+tidy
+connect h3
+3 NICK bo
+";
+
+/// Two people are on a channel, and one quits with an empty text.
+const AN_EMPTY_TEXT: &str = "\
+1 JOIN #a
+1> :al!a@h1 JOIN #a
+2 JOIN #a
+1> :bo!b@h2 JOIN #a
+2> :bo!b@h2 JOIN #a
+2 QUIT :
+2> ERROR :Closing Link: h2 (Client Quit)
+tidy
+1> :bo!b@h2 QUIT :Client Quit
+";
+
+const THE_FIRST_WORD: &str = "\
+1 JOIN #a
+1> :al!a@h1 JOIN #a
+2 JOIN #a
+1> :bo!b@h2 JOIN #a
+2> :bo!b@h2 JOIN #a
+2 QUIT so long
+2> ERROR :Closing Link: h2 (Client Quit)
+tidy
+1> :bo!b@h2 QUIT :so
+";
+
+#[test]
+fn quits(rt: HostRuntime) -> Result<(), Fail> {
+    tell_talk(&rt, rt.alloc(), &[QUITS])?;
+    tell_talk(&rt, rt.alloc(), &[AL, BO, AN_EMPTY_TEXT])?;
+    tell_talk(&rt, rt.alloc(), &[AL, BO, THE_FIRST_WORD])?;
+    Ok(())
+}
+
+const UNKNOWN: &str = "\
+connect h1
+1 FOO
+1> :~ 421 * FOO :Unknown command
+1 foo bar :baz
+1> :~ 421 * foo :Unknown command
+1 001 x
+1> :~ 421 * 001 :Unknown command
+1 OPER a b
+1> :~ 421 * OPER :Unknown command
+1 Version
+1> :~ 421 * Version :Unknown command
+";
+
+/// Commands that are to come, with and without their parameters.
+const NOT_SERVED: &str = "\
+1 PART #a
+1> :~ 421 al PART :Unknown command
+1 part
+1> :~ 421 al part :Unknown command
+1 KICK #a bo
+1> :~ 421 al KICK :Unknown command
+1 INVITE
+1> :~ 421 al INVITE :Unknown command
+1 Topic #a
+1> :~ 421 al Topic :Unknown command
+1 MODE
+1> :~ 421 al MODE :Unknown command
+1 @+a=b TAGMSG #a
+1> :~ 421 al TAGMSG :Unknown command
+1 AWAY :x
+1> :~ 421 al AWAY :Unknown command
+1 NAMES
+1> :~ 421 al NAMES :Unknown command
+1 LIST
+1> :~ 421 al LIST :Unknown command
+1 WHO #a
+1> :~ 421 al WHO :Unknown command
+1 WHOIS
+1> :~ 421 al WHOIS :Unknown command
+1 NOTICE
+1 NOTICE #a
+1 notice al :hi
+";
+
+#[test]
+fn commands_that_are_not_served(rt: HostRuntime) -> Result<(), Fail> {
+    tell_talk(&rt, rt.alloc(), &[UNKNOWN])?;
+    tell_talk(&rt, rt.alloc(), &[AL, NOT_SERVED])?;
+    Ok(())
+}
+
+/// Lines that hold NUL or no command are answered with nothing.
+const NO_COMMANDS: &str = "\
+connect h1
+1 PING\\x00 x
+1 PING x\\x00
+1 FOO :a\\x00b
+1 PING1 x
+1 12 x
+1 1234
+1 #a
+1 :src
+1 @a=b
+1 :
+1 NOTICE
+1 NOTICE al :hi
+1 @a=b PING x
+1> :~ PONG ~ x
+1 :src PING x
+1> :~ PONG ~ x
+1   @a=b
+1   PING   x \x20
+1> :~ PONG ~ x
+";
+
+#[test]
+fn lines_that_are_no_commands(rt: HostRuntime) -> Result<(), Fail> {
+    tell_talk(&rt, rt.alloc(), &[NO_COMMANDS])?;
+    Ok(())
+}
+
+/// Names that are no channel's, and texts to where the sender isn't.
+const NOWHERE: &str = "\
+1 JOIN a
+1 JOIN :
+1 JOIN #a,#b
+1 JOIN
+1> :~ 461 al JOIN :Not enough parameters
+1 PRIVMSG #a :hi
+1 PRIVMSG , :hi
+1 PRIVMSG bo :hi
+1 PRIVMSG #a
+1> :~ 412 al :No text to send
+1 PRIVMSG
+1> :~ 411 al :No recipient given (PRIVMSG)
+1 JOIN #c
+1> :al!a@h1 JOIN #c
+1 JOIN #C
+2 PRIVMSG #c :hi
+";
+
+#[test]
+fn channels_that_are_none(rt: HostRuntime) -> Result<(), Fail> {
+    tell_talk(&rt, rt.alloc(), &[AL, BO, NOWHERE])?;
+    Ok(())
+}
+
+const NO_MESSAGE: &str = "\
+1 MOTD
+1> :~ 422 al :MOTD File is missing
+1 motd Irc.EXAMPLE x
+1> :~ 422 al :MOTD File is missing
+1 MOTD irc.other
+1> :~ 402 al irc.other :No such server
+1 MOTD :
+1> :~ 402 al * :No such server
+1 MOTD :~ x
+1> :~ 402 al * :No such server
+";
+
+const A_MESSAGE: &str = "\
+motd hello
+motd\x20
+motd  %399
+connect h1
+1 NICK al
+1 USER a 0 * :Al
+1> welcome al!a@h1
+1> :~ 375 al :- ~ Message of the day -\x20
+1> :~ 372 al :- hello
+1> :~ 372 al :-\x20
+1> :~ 372 al :-  %399
+1> :~ 376 al :End of MOTD command
+1 MOTD
+1> :~ 375 al :- ~ Message of the day -\x20
+1> :~ 372 al :- hello
+1> :~ 372 al :-\x20
+1> :~ 372 al :-  %399
+1> :~ 376 al :End of MOTD command
+1 MOTD IRC.Example
+1> :~ 375 al :- ~ Message of the day -\x20
+1> :~ 372 al :- hello
+1> :~ 372 al :-\x20
+1> :~ 372 al :-  %399
+1> :~ 376 al :End of MOTD command
+1 MOTD irc.example.org
+1> :~ 402 al irc.example.org :No such server
+";
+
+/// A message whose only line is empty is one.
+const AN_EMPTY_LINE: &str = "\
+motd\x20
+connect h1
+1 USER a 0 * :Al
+1 NICK al
+1> welcome al!a@h1
+1> :~ 375 al :- ~ Message of the day -\x20
+1> :~ 372 al :-\x20
+1> :~ 376 al :End of MOTD command
+";
+
+#[test]
+fn messages_of_the_day(rt: HostRuntime) -> Result<(), Fail> {
+    tell_talk(&rt, rt.alloc(), &[AL, NO_MESSAGE])?;
+    tell_talk(&rt, rt.alloc(), &[A_MESSAGE])?;
+    tell_talk(&rt, rt.alloc(), &[AN_EMPTY_LINE])?;
+    Ok(())
+}
