@@ -38,6 +38,27 @@ fn pings(rt: HostRuntime) -> Result<(), Fail> {
     Ok(())
 }
 
+/// Tags of 4,094 octets, and of one more. The rest of the line is counted apart.
+const TAGS: &str = "\
+connect h1
+1 @k=%999%999%999%999%096 PING x
+1> :~ PONG ~ x
+1 @k=%999%999%999%999%097 PING x
+1> :~ 417 * :Input line was too long
+1 @k=%999 PING %505
+1> :~ PONG ~ %480
+1 @k=%999 PING %506
+1> :~ 417 * :Input line was too long
+1 @ PING x
+1> :~ PONG ~ x
+";
+
+#[test]
+fn tags_and_the_rest_of_a_line_have_limits(rt: HostRuntime) -> Result<(), Fail> {
+    tell_talk(&rt, rt.alloc(), &[TAGS])?;
+    Ok(())
+}
+
 const QUITS: &str = "\
 connect one.example
 connect h2

@@ -4,7 +4,7 @@ use halld::{PlayFault, play};
 use std::alloc::{AllocError, Global};
 use std::cell::Cell;
 use std::io;
-use std::io::{ErrorKind, Read, Write};
+use std::io::{Read, Write};
 use std::process::Abort;
 
 /// The note of a step that was refused for want of memory.
@@ -55,25 +55,25 @@ pub(crate) fn played(
 #[derive(Drop)]
 struct Lines<'a> {
     line: &'a [u8],
+    // What is left of the line, and what comes after it.
+    left: &'a [u8],
     rest: &'a [u8],
     is_refused: &'a Cell<bool>,
 }
 
 impl Read for Lines<'_> {
     fn read(&mut self, buf: &mut [u8]) -> io::Result<usize> {
-        if !self.is_refused.replace(false) {
+        if self.is_refused.replace(false) {
+            self.left = self.line;
+        } else if self.left.is_empty() {
             let end = match self.rest.iter().position(|octet| *octet == b'\n') {
                 Some(place) => place + 1,
                 None => self.rest.len(),
             };
             (self.line, self.rest) = self.rest.split_at(end);
+            self.left = self.line;
         }
-        let count = self.line.len();
-        let Some(given) = buf.get_mut(..count) else {
-            return Err(io::Error::from(ErrorKind::InvalidInput));
-        };
-        given.copy_from_slice(self.line);
-        Ok(count)
+        self.left.read(buf)
     }
 }
 
@@ -113,6 +113,7 @@ pub(crate) fn tell(
         let is_refused = Cell::new(false);
         let mut input = Lines {
             line: &[],
+            left: &[],
             rest: script,
             is_refused: &is_refused,
         };
