@@ -12,7 +12,7 @@ pub enum Fact {
     NickSet(SessionId, Octets),
     /// A session gave this user name.
     UserSet(SessionId, Octets),
-    /// A session has a nickname and a user name, so it may join channels.
+    /// A session has a nickname and a user name, so it is registered.
     Enrolled(SessionId),
     /// A channel of this name was made.
     ChannelMade(Octets),
@@ -86,11 +86,12 @@ pub(crate) fn is_enrolled(facts: &[Fact], session: SessionId) -> bool {
     enrolled
 }
 
-/// Whether some session has a nickname.
-pub(crate) fn is_held(facts: &[Fact], nick: &[u8]) -> bool {
+/// Whether a session other than this one has a nickname.
+pub(crate) fn is_held(facts: &[Fact], by: SessionId, nick: &[u8]) -> bool {
     let mut held = false;
     for fact in facts {
         if let Fact::Opened(session, _) = fact
+            && *session != by
             && let Some(own) = slow_nick(facts, *session)
         {
             held = held || same(own.as_slice(), nick);

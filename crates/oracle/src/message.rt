@@ -32,17 +32,21 @@ pub(crate) fn param(message: &Message, place: usize) -> &[u8] {
     }
 }
 
-/// At most so many octets of a user name or a real name.
-pub(crate) fn cut(
-    alloc: Global,
-    octets: &[u8],
-    most: usize,
-    is_user: bool,
-) -> Result<Octets, AllocError> {
+/// Whether an octet may stand in a user name.
+fn is_fit(octet: u8) -> bool {
+    octet > 32 && octet != b'!' && octet != b'@'
+}
+
+/// Whether some octet of a parameter may stand in a user name.
+pub(crate) fn has_fit(octets: &[u8]) -> bool {
+    octets.iter().any(|octet| is_fit(*octet))
+}
+
+/// The user name of a parameter: at most 16 of its octets that may stand in one.
+pub(crate) fn user_name(alloc: Global, octets: &[u8]) -> Result<Octets, AllocError> {
     let mut kept = Vec::new(alloc);
     for octet in octets {
-        let is_fit = *octet > 32 && *octet != b'!' && *octet != b'@';
-        if kept.len() < most && (is_fit || !is_user) {
+        if kept.len() < 16 && is_fit(*octet) {
             kept.push(*octet)?;
         }
     }

@@ -1,40 +1,16 @@
 //! What is owed to a session.
-use crate::facts::{Fact, farewell, host_of, share, slow_nick, slow_on, spelled, user_of};
+use crate::facts::{Fact, farewell, is_enrolled, share, slow_nick, slow_on, spelled};
+use crate::lines::{pong, refusing, sent, welcome};
 use crate::message::{is_command, message_of, param};
 use crate::records::{establish, record_at};
+use crate::refusals::{Refusal, refused};
 use book::Book;
 use chronicle::{Kind, Record, SessionId, Why};
-use line_grammar::{Message, Octets};
+use line_grammar::{Message, Octets, Piece};
 use outbox::Item;
 use std::alloc::{AllocError, Global};
 
-/// A line as it is sent, after `:nick!user@host`.
-fn sent(
-    alloc: Global,
-    facts: &[Fact],
-    by: SessionId,
-    rest: [&[u8]; 4],
-) -> Result<Octets, AllocError> {
-    let mut line = Vec::new(alloc);
-    line.extend_from_slice(b":")?;
-    if let Some(nick) = slow_nick(facts, by) {
-        line.extend_from_slice(nick.as_slice())?;
-    }
-    line.extend_from_slice(b"!")?;
-    if let Some(user) = user_of(facts, by) {
-        line.extend_from_slice(user.as_slice())?;
-    }
-    line.extend_from_slice(b"@")?;
-    line.extend_from_slice(host_of(facts, by))?;
-    for part in rest {
-        line.extend_from_slice(part)?;
-    }
-    line.truncate(510);
-    line.extend_from_slice(b"\r\n")?;
-    Ok(Octets::from_vec(line))
-}
-
-/// The line of a text to a channel, to one who is on it with its sender.
+/// The line of a text to a channel, to another who is on it with its sender.
 fn of_text(
     alloc: Global,
     facts: &[Fact],
@@ -43,15 +19,93 @@ fn of_text(
     to: SessionId,
 ) -> Result<Option<Octets>, AllocError> {
     let channel = param(message, 0);
-    let text = param(message, 1);
-    if !is_command(message, b"PRIVMSG") || text.is_empty() || by == to {
+    if by == to || !slow_on(facts, by, channel) || !slow_on(facts, to, channel) {
         return Ok(None);
     }
-    if !slow_on(facts, by, channel) || !slow_on(facts, to, channel) {
-        return Ok(None);
-    }
-    let rest = [b" PRIVMSG ", spelled(facts, channel), b" :", text];
+    let name = spelled(facts, channel);
+    let rest = [b" PRIVMSG ", name, b" :", param(message, 1)];
     Ok(Some(sent(alloc, facts, by, rest)?))
+}
+
+/// Whether a session has just this nickname.
+fn is_called(facts: &[Fact], session: SessionId, nick: &[u8]) -> bool {
+    match slow_nick(facts, session) {
+        Some(own) => own.as_slice() == nick,
+        None => false,
+    }
+}
+
+/// The line of a new nickname, to its session and to each that shares a channel with it.
+fn of_nick(
+    alloc: Global,
+    facts: &[Fact],
+    by: SessionId,
+    nick: &[u8],
+    to: SessionId,
+) -> Result<Option<Octets>, AllocError> {
+    let is_shown = is_enrolled(facts, by) && !is_called(facts, by, nick);
+    if !is_shown || by != to && !share(facts, by, to) {
+        return Ok(None);
+    }
+    Ok(Some(sent(alloc, facts, by, [b" NICK ", nick, b"", b""])?))
+}
+
+/// The line of a message to a session.
+fn of_message(
+    alloc: Global,
+    facts: &[Fact],
+    by: SessionId,
+    message: &Message,
+    to: SessionId,
+) -> Result<Option<Octets>, AllocError> {
+    if let Some(refusal) = refused(facts, by, message) {
+        return if by == to {
+            Ok(Some(refusing(alloc, facts, to, &refusal)?))
+        } else {
+            Ok(None)
+        };
+    }
+    if is_command(message, b"PING") && by == to {
+        return Ok(Some(pong(alloc, param(message, 0))?));
+    }
+    if is_command(message, b"PRIVMSG") {
+        return of_text(alloc, facts, by, message, to);
+    }
+    if is_command(message, b"NICK") {
+        return of_nick(alloc, facts, by, param(message, 0), to);
+    }
+    Ok(None)
+}
+
+/// The answer to a line that is too long.
+const TOO_LONG: Refusal<'static> = Refusal {
+    code: "417",
+    name: None,
+    text: "Input line was too long",
+};
+
+/// The line of a piece to a session.
+fn of_piece(
+    alloc: Global,
+    facts: &[Fact],
+    by: SessionId,
+    record: &Record,
+    to: SessionId,
+) -> Result<Option<Octets>, AllocError> {
+    if let Some(message) = message_of(alloc, record)? {
+        return of_message(alloc, facts, by, &message, to);
+    }
+    let is_long = matches!(
+        &record.kind,
+        Kind::Said {
+            piece: Piece::TooLong,
+            ..
+        }
+    );
+    if is_long && by == to {
+        return Ok(Some(refusing(alloc, facts, to, &TOO_LONG)?));
+    }
+    Ok(None)
 }
 
 /// The line of a record to a session, by the facts before it.
@@ -62,10 +116,7 @@ fn of_record(
     to: SessionId,
 ) -> Result<Option<Octets>, AllocError> {
     match &record.kind {
-        Kind::Said { session, .. } => match message_of(alloc, record)? {
-            Some(message) => of_text(alloc, facts, *session, &message, to),
-            None => Ok(None),
-        },
+        Kind::Said { session, .. } => of_piece(alloc, facts, *session, record, to),
         Kind::Gone { session } if *session != to && share(facts, *session, to) => {
             let rest = [b" QUIT :", farewell(facts, *session), b"", b""];
             Ok(Some(sent(alloc, facts, *session, rest)?))
@@ -74,23 +125,25 @@ fn of_record(
     }
 }
 
-/// The line of a join, one of the facts after so many, to one who is on the channel then.
-fn of_join(
+/// The lines of a join, one of the facts after so many, to one who is on the channel then, or of a registration.
+fn of_new(
     alloc: Global,
     facts: &[Fact],
     before: usize,
     to: SessionId,
 ) -> Result<Option<Octets>, AllocError> {
-    let mut line = None;
+    let mut lines = None;
     for fact in facts.iter().skip(before) {
-        if let Fact::Joined(by, name) = fact
-            && slow_on(facts, to, name.as_slice())
-        {
-            let rest = [b" JOIN ", name.as_slice(), b"", b""];
-            line = Some(sent(alloc, facts, *by, rest)?);
+        match fact {
+            Fact::Joined(by, name) if slow_on(facts, to, name.as_slice()) => {
+                let rest = [b" JOIN ", name.as_slice(), b"", b""];
+                lines = Some(sent(alloc, facts, *by, rest)?);
+            }
+            Fact::Enrolled(by) if *by == to => lines = Some(welcome(alloc, facts, to)?),
+            _ => {}
         }
     }
-    Ok(line)
+    Ok(lines)
 }
 
 /// Why a record ends a session by what it says.
@@ -134,11 +187,11 @@ fn told_by(
     let before = facts.len();
     let earlier = of_record(alloc, facts, record, to)?;
     establish(alloc, facts, record)?;
-    let joined = of_join(alloc, facts, before, to)?;
+    let later = of_new(alloc, facts, before, to)?;
     if let Some(why) = end_of(alloc, record, to)? {
         return Ok(Some(Item::Last { number, why }));
     }
-    Ok(earlier.or(joined).map(|text| Item::Lines { number, text }))
+    Ok(earlier.or(later).map(|text| Item::Lines { number, text }))
 }
 
 /// All that the records of the book owe to a session, in their order, but for each record that it missed and each after it was shut.

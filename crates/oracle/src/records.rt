@@ -1,8 +1,9 @@
 //! What each record establishes after those before it.
-use crate::facts::{Fact, has_member, is_enrolled, is_held, slow_nick, slow_on, spelled, user_of};
-use crate::message::{cut, is_command, message_of, param};
+use crate::facts::{Fact, has_member, is_enrolled, slow_nick, slow_on, spelled, user_of};
+use crate::message::{is_command, message_of, param, user_name};
+use crate::refusals::refused;
 use book::Book;
-use casemapping::{is_channel, is_nick};
+use casemapping::is_channel;
 use chronicle::{Kind, Record, RecordNumber, SessionId, Why};
 use line_grammar::{Message, Octets};
 use std::alloc::{AllocError, Global};
@@ -13,7 +14,7 @@ fn join(
     by: SessionId,
     channel: &[u8],
 ) -> Result<(), AllocError> {
-    if !is_channel(channel) || !is_enrolled(facts, by) || slow_on(facts, by, channel) {
+    if !is_channel(channel) || slow_on(facts, by, channel) {
         return Ok(());
     }
     if !has_member(facts, channel) {
@@ -24,19 +25,7 @@ fn join(
     Ok(())
 }
 
-fn take_user(
-    alloc: Global,
-    facts: &mut Vec<Fact>,
-    by: SessionId,
-    message: &Message,
-) -> Result<(), AllocError> {
-    let name = cut(alloc, param(message, 0), 16, true)?;
-    if message.params.len() >= 4 && !name.is_empty() && user_of(facts, by).is_none() {
-        facts.push(Fact::UserSet(by, name))?;
-    }
-    Ok(())
-}
-
+/// Adds what a message establishes that isn't refused.
 fn obey(
     alloc: Global,
     facts: &mut Vec<Fact>,
@@ -48,16 +37,12 @@ fn obey(
         facts.push(Fact::Ended(by, Why::Quit, Octets::copied(alloc, first)?))?;
     }
     if is_command(message, b"USER") {
-        take_user(alloc, facts, by, message)?;
+        facts.push(Fact::UserSet(by, user_name(alloc, first)?))?;
     }
     if is_command(message, b"JOIN") {
         join(alloc, facts, by, first)?;
     }
-    if is_command(message, b"NICK")
-        && is_nick(first)
-        && slow_nick(facts, by).is_none()
-        && !is_held(facts, first)
-    {
+    if is_command(message, b"NICK") {
         facts.push(Fact::NickSet(by, Octets::copied(alloc, first)?))?;
     }
     if slow_nick(facts, by).is_some() && user_of(facts, by).is_some() && !is_enrolled(facts, by) {
@@ -80,7 +65,9 @@ pub(crate) fn establish(
         }
         Kind::Gone { session } => facts.push(Fact::Gone(*session))?,
         Kind::Said { session, .. } => {
-            if let Some(message) = message_of(alloc, record)? {
+            if let Some(message) = message_of(alloc, record)?
+                && refused(facts, *session, &message).is_none()
+            {
                 obey(alloc, facts, *session, &message)?;
             }
         }

@@ -7,6 +7,7 @@ use interleave::{
     Done, Event, Item, Moment, Note, Play, PlayRefusal, SessionId, Settings, StepRefusal, Why,
     WorkerId,
 };
+use registration::Accounts;
 use std::alloc::{AllocError, Global};
 use std::process::Abort;
 use std::test::Fail;
@@ -46,9 +47,15 @@ pub(crate) enum Told {
     Refused(StepRefusal),
 }
 
+/// The settings that the oracle knows, for so many sessions.
 pub(crate) fn settings(alloc: Global, sessions: usize) -> Result<Settings, AllocError> {
     Ok(Settings {
         server: copied(alloc, b"irc.example")?,
+        info: copied(alloc, b"")?,
+        version: copied(alloc, b"halld-1")?,
+        created: Moment::new(0),
+        motd: None,
+        accounts: Accounts::new(alloc),
         sessions,
     })
 }

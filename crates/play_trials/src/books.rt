@@ -1,8 +1,8 @@
 //! What no clause says: that calls succeed, and what a session's end looks like.
+use crate::acts::settings;
 use crate::again::copied;
 use book::{
-    Baton, Book, Done, HangRefusal, Item, LineRefusal, OpenRefusal, ReapRefusal, Ring, Settings,
-    Step,
+    Baton, Book, Done, HangRefusal, Item, LineRefusal, OpenRefusal, ReapRefusal, Ring, Step,
 };
 use casemapping::is_host;
 use chronicle::{Moment, SessionId, Why};
@@ -14,10 +14,7 @@ use std::test::Fail;
 const NOON: i64 = 43_200_000;
 
 fn book(alloc: Global, limit: usize) -> Result<Book, Fail> {
-    let settings = Settings {
-        server: copied(alloc, b"irc.example")?,
-        sessions: 2,
-    };
+    let settings = settings(alloc, 2)?;
     Ok(Book::new(alloc, settings, limit).ok().ok_or("a book")?)
 }
 
@@ -183,14 +180,26 @@ fn hang_and_sweep(rt: &impl Abort, book: &mut Book, baton: Baton) -> Result<Bato
     Ok(baton)
 }
 
-/// Takes the lines that bo is due: of its own join, and of the end of al.
+/// The lines that bo is due: of its registration, of its own join, and of the end of al.
+const LINES: [&str; 3] = [
+    "\
+:irc.example 001 bo :Welcome to the Internet Relay Network bo!a@h2\r
+:irc.example 002 bo :Your host is irc.example, running version halld-1\r
+:irc.example 003 bo :This server was created 1970-01-01T00:00:00.000Z\r
+:irc.example 004 bo irc.example halld-1 i biklmnostv\r
+:irc.example 005 bo AWAYLEN=200 CASEMAPPING=rfc1459 CHANLIMIT=#&:20 CHANMODES=b,k,l,imnst CHANNELLEN=50 \
+CHANTYPES=#& KICKLEN=200 MAXLIST=b:60 MODES=4 NICKLEN=30 PREFIX=(ov)@+ TOPICLEN=300 \
+:are supported by this server\r
+:irc.example 422 bo :MOTD File is missing\r
+",
+    ":bo!a@h2 JOIN #a\r\n",
+    ":al!a@h1 QUIT :Connection closed\r\n",
+];
+
 fn take_lines(rt: &impl Abort, book: &mut Book) -> Result<(), Fail> {
-    for want in [
-        b":bo!a@h2 JOIN #a\r\n".as_slice(),
-        b":al!a@h1 QUIT :Connection closed\r\n",
-    ] {
+    for want in &LINES {
         match book.take(SessionId::new(2)) {
-            Ok(Item::Lines { text, .. }) => assert_eq!(rt; text.as_slice(), want),
+            Ok(Item::Lines { text, .. }) => assert_eq!(rt; text.as_slice(), want.as_bytes()),
             _ => return Err("a line".into()),
         }
     }
@@ -207,7 +216,7 @@ fn a_session_ends(rt: HostRuntime) -> Result<(), Fail> {
     known(&rt, &book, 2, b"bo", true, &channel);
     take_lines(&rt, &mut book)?;
     let left = book.reap(first).ok().ok_or("left")?;
-    assert_eq!(rt; (left.session.number(), left.count), (1, 3));
+    assert_eq!(rt; (left.session.number(), left.count), (1, 4));
     Ok(())
 }
 

@@ -11,17 +11,17 @@ use std::test::Fail;
 
 const STEPS: usize = 1000;
 
-const LIMIT: usize = 60;
+const LIMIT: usize = 40;
 
 const WORKERS: usize = 3;
 
-const SENDQ: usize = 3;
+const SENDQ: usize = 5;
 
-/// What clients send.
-const TEXTS: [&str; 12] = [
+/// What clients send: first what registers each of five, and then what any may send at any time.
+const TEXTS: [&str; 19] = [
     "NICK al\r\nUSER a 0 * :Al\r\nJOIN #a\r\n",
     "NICK Bo[\r\nuser b@c 0 * :Bo\r\nJOIN #b\r\nJOIN #a\r\n",
-    "nick bO{\r\nJOIN #A\r\n",
+    "JOIN #A\r\nUSER f 0 * :F\r\nnick bO{\r\nJOIN #A\r\n",
     "NICK cy\r\nUSER c 0 * :Cy\r\nJOIN #A\r\n",
     "NICK dee\r\nUSER dee 0 * :Dee\r\nJOIN #a\r\nJOIN #B\r\n",
     "PRIVMSG #A :hello\r\n",
@@ -31,6 +31,43 @@ const TEXTS: [&str; 12] = [
     "NICK 1\r\nUSER @ 0 * :No\r\nUSER e 0 *\r\nNICK ed\r\nUSER e 0 * :Ed\r\nJOIN #b\r\n",
     "JOIN #a\r\nPRIVMSG #a :again\r\n",
     "PRIVMSG #a :bye\r\nQUIT :tired\r\n",
+    "NICK AL\r\n",
+    "nick cy\r\nNICK Cy\r\n",
+    "NICK\r\nNICK :a b\r\nUSER g 0 * :G\r\n",
+    "PING\r\nPING x\r\nping :a b\r\nPONG\r\n",
+    "JOIN\r\nPRIVMSG\r\nPRIVMSG #a\r\nNOTICE #a :no\r\n",
+    "PING ____________________________________________________________________________________________________\
+____________________________________________________________________________________________________\
+____________________________________________________________________________________________________\
+____________________________________________________________________________________________________\
+___________________________________________________________________________________________________\r\n",
+    "NICK ____________________________________________________________________________________________________\
+____________________________________________________________________________________________________\
+____________________________________________________________________________________________________\
+____________________________________________________________________________________________________\
+____________________________________________________________________________________________________\
+____________________________________________________________________________________________________\r\n",
+];
+
+/// What some session is told at least once.
+const WORDS: [&str; 17] = [
+    " 001 ",
+    " 409 ",
+    " 411 ",
+    " 412 ",
+    " 417 ",
+    " 421 ",
+    " 431 ",
+    " 432 ",
+    " 433 ",
+    " 451 ",
+    " 461 ",
+    " 462 ",
+    " JOIN ",
+    " NICK ",
+    " PONG ",
+    " PRIVMSG ",
+    " QUIT ",
 ];
 
 /// The kinds of notes and refusals that come at least once, and at last all others.
@@ -161,7 +198,7 @@ fn text_of(draw: u64, session: u64) -> &'static str {
     if draw % 2 == 0 {
         TEXTS[(session % 5) as usize]
     } else {
-        TEXTS[(draw / 2 % 12) as usize]
+        TEXTS[(draw / 2 % 19) as usize]
     }
 }
 
@@ -500,6 +537,23 @@ fn take_steps(
     Ok(counts)
 }
 
+/// Whether a line of what is owed has this word.
+fn has_word(owed: &[Item], word: &[u8]) -> bool {
+    owed.iter().any(|item| match item {
+        Item::Lines { text, .. } => text.as_slice().windows(word.len()).any(|part| part == word),
+        Item::Last { .. } => false,
+    })
+}
+
+/// Whether some session is told this word.
+fn is_some_told(seen: &Seen, word: &str) -> bool {
+    let mut told = false;
+    for watched in &seen.sessions {
+        told = told || has_word(&watched.owed, word.as_bytes());
+    }
+    told
+}
+
 #[test]
 fn a_thousand_steps(rt: HostRuntime) -> Result<(), Fail> {
     let channels = [copied(rt.alloc(), b"#a")?, copied(rt.alloc(), b"#B")?];
@@ -508,6 +562,9 @@ fn a_thousand_steps(rt: HostRuntime) -> Result<(), Fail> {
     let counts = take_steps(&rt, rt.alloc(), &mut play, &mut seen, &channels)?;
     for (count, kind) in counts.iter().zip(KINDS.iter()) {
         assert!(rt; *count > 0, "{kind} in {counts:?}");
+    }
+    for word in &WORDS {
+        assert!(rt; is_some_told(&seen, word), "{word}");
     }
     Ok(())
 }

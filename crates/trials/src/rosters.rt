@@ -5,9 +5,11 @@ ghost use Rattle.roster.specs.LookBack.{after};
 
 use crate::again::copied;
 use chronicle::{Moment, SessionId, Why};
-use deeds::{Shown, Verdict, decide, decide_gone, read};
+use commands::read_piece;
+use deeds::{Shown, Verdict, decide, decide_gone};
 use line_grammar::{Octets, Piece};
 use numerics::Out;
+use registration::{Accounts, Settings, is_well_set};
 use roster::{Deed, Roster};
 use std::alloc::{AllocError, Global};
 use std::process::Abort;
@@ -57,13 +59,13 @@ fn decided(
     ensures { IfOk result (λ v. AreNext roster.now.facts v.deeds.items) }
 {
     let piece = Piece::Line(copied(alloc, line)?);
-    let command = match read(alloc, &piece) {
-        Ok(command) => command,
-        Err(_) => read(alloc, &piece)?,
+    let asked = match read_piece(alloc, &piece) {
+        Ok(asked) => asked,
+        Err(_) => read_piece(alloc, &piece)?,
     };
-    match decide(alloc, roster, session, &command, Moment::new(5)) {
+    match decide(alloc, roster, session, &asked, Moment::new(5)) {
         Ok(verdict) => Ok(verdict),
-        Err(_) => decide(alloc, roster, session, &command, Moment::new(5)),
+        Err(_) => decide(alloc, roster, session, &asked, Moment::new(5)),
     }
 }
 
@@ -110,44 +112,151 @@ fn is_shown(
     }
 }
 
-/// Lines of two sessions, whom a line is shown by each, and that line.
-const STORY: [(u64, &[u8], &[u64], &[u8]); 9] = [
-    (1, b"NICK al", &[], b""),
-    (1, b"USER a 0 * :Al", &[], b""),
-    (1, b"JOIN #a", &[1], b":al!a@h1 JOIN #a\r\n"),
-    (2, b"NICK bo", &[], b""),
-    (2, b"USER b 0 * :Bo", &[], b""),
-    (2, b"JOIN #A", &[1, 2], b":bo!b@h2 JOIN #a\r\n"),
-    (1, b"PRIVMSG #A :hi", &[2], b":al!a@h1 PRIVMSG #a :hi\r\n"),
-    (2, b"NICK AL", &[], b""),
-    (1, b"QUIT :bye", &[], b""),
+/// A line of one of two sessions, whom another line is shown by it, that line, and how its own session's answer begins.
+type Row = (
+    u64,
+    &'static [u8],
+    &'static [u64],
+    &'static [u8],
+    &'static [u8],
+);
+
+const STORY: [Row; 17] = [
+    (1, b"NICK al", &[], b"", b""),
+    (
+        1,
+        b"JOIN #a",
+        &[],
+        b"",
+        b":irc.example 451 al :You have not registered\r\n",
+    ),
+    (
+        1,
+        b"USER @ 0 * :Al",
+        &[],
+        b"",
+        b":irc.example 461 al USER :Not enough parameters\r\n",
+    ),
+    (
+        1,
+        b"USER a 0 * :Al",
+        &[],
+        b"",
+        b":irc.example 001 al :Welcome to the Internet Relay Network al!a@h1\r\n",
+    ),
+    (
+        1,
+        b"JOIN #a",
+        &[1],
+        b":al!a@h1 JOIN #a\r\n",
+        b":al!a@h1 JOIN #a\r\n",
+    ),
+    (
+        2,
+        b"NICK AL",
+        &[],
+        b"",
+        b":irc.example 433 * AL :Nickname is already in use\r\n",
+    ),
+    (2, b"NICK b", &[], b"", b""),
+    (
+        2,
+        b"USER b 0 * :Bo",
+        &[],
+        b"",
+        b":irc.example 001 b :Welcome to the Internet Relay Network b!b@h2\r\n",
+    ),
+    (2, b"PRIVMSG #a :hi", &[], b"", b""),
+    (
+        2,
+        b"JOIN #A",
+        &[1, 2],
+        b":b!b@h2 JOIN #a\r\n",
+        b":b!b@h2 JOIN #a\r\n",
+    ),
+    (
+        2,
+        b"NICK bo",
+        &[1, 2],
+        b":b!b@h2 NICK bo\r\n",
+        b":b!b@h2 NICK bo\r\n",
+    ),
+    (
+        2,
+        b"USER b 0 * :Bo",
+        &[],
+        b"",
+        b":irc.example 462 bo :Unauthorized command (already registered)\r\n",
+    ),
+    (
+        1,
+        b"PRIVMSG #A :hi",
+        &[2],
+        b":al!a@h1 PRIVMSG #a :hi\r\n",
+        b"",
+    ),
+    (
+        1,
+        b"PART #a",
+        &[],
+        b"",
+        b":irc.example 421 al PART :Unknown command\r\n",
+    ),
+    (1, b"NOTICE #a :hi", &[], b"", b""),
+    (
+        1,
+        b"PING x",
+        &[],
+        b"",
+        b":irc.example PONG irc.example x\r\n",
+    ),
+    (1, b"QUIT :bye", &[], b"", b""),
 ];
 
-/// Has a line accepted, and compares what it shows.
-fn say(
-    rt: &impl Abort,
-    roster: &mut Roster,
-    alloc: Global,
-    row: &(u64, &[u8], &[u64], &[u8]),
-) -> Result<(), AllocError> {
-    let (number, line, hearers, want) = *row;
+/// Whether an answer begins with this line, or is none where the line is empty.
+fn is_answered(alloc: Global, reply: &[Out], want: &[u8]) -> Result<bool, AllocError> {
+    match reply {
+        [] => Ok(want.is_empty()),
+        [first, ..] => is_spelled(alloc, first, want),
+    }
+}
+
+/// Has a line accepted, and compares what it shows and answers.
+fn say(rt: &impl Abort, roster: &mut Roster, alloc: Global, row: &Row) -> Result<(), AllocError> {
+    let (number, line, hearers, shown, want) = *row;
     assert!(rt; 0 < number && number as usize <= roster.opened());
     let verdict = decided(alloc, roster, SessionId::new(number), line)?;
     let Verdict {
         deeds,
-        reply: _,
+        reply,
         copies,
         others,
     } = verdict;
     establish(roster, deeds)?;
     assert!(rt; copies.is_empty());
-    assert!(rt; is_shown(alloc, &others, hearers, want)?);
+    assert!(rt; is_answered(alloc, &reply, want)?);
+    assert!(rt; is_shown(alloc, &others, hearers, shown)?);
     Ok(())
+}
+
+/// A server's settings.
+fn settings(alloc: Global) -> Result<Settings, AllocError> {
+    Ok(Settings {
+        server: copied(alloc, b"irc.example")?,
+        info: copied(alloc, b"")?,
+        version: copied(alloc, b"halld-1")?,
+        created: Moment::new(0),
+        motd: None,
+        accounts: Accounts::new(alloc),
+        sessions: 2,
+    })
 }
 
 /// A roster after the story.
 fn told(rt: &impl Abort, alloc: Global) -> Result<Roster, AllocError> {
-    let mut roster = Roster::new(alloc);
+    let settings = settings(alloc)?;
+    assert!(rt; is_well_set(&settings));
+    let mut roster = Roster::new(alloc, settings);
     open(alloc, &mut roster, b"h1")?;
     open(alloc, &mut roster, b"h2")?;
     for row in &STORY {
