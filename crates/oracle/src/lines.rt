@@ -19,21 +19,14 @@ const WELCOME: [(&str, &str); 6] = [
     ("422", ":MOTD File is missing"),
 ];
 
-/// Adds a line of these parts, cut to 510 octets.
-fn add_line(lines: &mut Vec<u8>, parts: &[&[u8]]) -> Result<(), AllocError> {
-    let most = lines.len().saturating_add(510);
-    for part in parts {
-        lines.extend_from_slice(part)?;
-    }
-    lines.truncate(most);
-    lines.extend_from_slice(b"\r\n")?;
-    Ok(())
-}
-
 /// A line of these parts, cut to 510 octets.
 pub(crate) fn line_of(alloc: Global, parts: &[&[u8]]) -> Result<Octets, AllocError> {
     let mut line = Vec::new(alloc);
-    add_line(&mut line, parts)?;
+    for part in parts {
+        line.extend_from_slice(part)?;
+    }
+    line.truncate(510);
+    line.extend_from_slice(b"\r\n")?;
     Ok(Octets::from_vec(line))
 }
 
@@ -71,32 +64,23 @@ pub(crate) fn sent(
 }
 
 /// The line of a numeric that refuses a line of a session. A name that no word can be is shown as a star.
-pub(crate) fn refusing(
+pub(crate) fn refusing<'x>(
     alloc: Global,
-    facts: &[Fact],
+    facts: &'x [Fact],
     to: SessionId,
-    refusal: &Refusal<'_>,
+    refusal: &'x Refusal<'x>,
 ) -> Result<Octets, AllocError> {
-    let (space, name): (&[u8], &[u8]) = match refusal.name {
-        None => (b"", b""),
-        Some(name) if needs_colon(name) => (b" ", b"*"),
-        Some(name) => (b" ", name),
-    };
-    let code = refusal.code.as_bytes();
-    let text = refusal.text.as_bytes();
-    line_of(
-        alloc,
-        &[
-            b":irc.example ",
-            code,
-            b" ",
-            title(facts, to),
-            space,
-            name,
-            b" :",
-            text,
-        ],
-    )
+    let mut line = Vec::new(alloc);
+    line.extend_from_slice(b":irc.example ")?;
+    line.extend_from_slice(refusal.code.as_bytes())?;
+    line.extend_from_slice(b" ")?;
+    line.extend_from_slice(title(facts, to))?;
+    if let Some(name) = refusal.name {
+        line.extend_from_slice(b" ")?;
+        line.extend_from_slice(if needs_colon(name) { b"*" } else { name })?;
+    }
+    line.extend_from_slice(b" :")?;
+    line_of(alloc, &[&line, refusal.text.as_bytes()])
 }
 
 /// The answer to a PING.
@@ -105,25 +89,20 @@ pub(crate) fn pong(alloc: Global, token: &[u8]) -> Result<Octets, AllocError> {
     line_of(alloc, &[b":irc.example PONG irc.example ", colon, token])
 }
 
-/// The lines that welcome a session, by the facts with its registration.
+/// The lines that welcome a session, by the facts with its registration. None is so long that it is cut.
 pub(crate) fn welcome(alloc: Global, facts: &[Fact], to: SessionId) -> Result<Octets, AllocError> {
-    let source = source(alloc, facts, to)?;
+    let mut source = source(alloc, facts, to)?;
     let mut lines = Vec::new(alloc);
     for (code, text) in &WELCOME {
-        let last: &[u8] = if *code == "001" { &source } else { b"" };
-        let code = code.as_bytes();
-        add_line(
-            &mut lines,
-            &[
-                b":irc.example ",
-                code,
-                b" ",
-                title(facts, to),
-                b" ",
-                text.as_bytes(),
-                last,
-            ],
-        )?;
+        lines.extend_from_slice(b":irc.example ")?;
+        lines.extend_from_slice(code.as_bytes())?;
+        lines.extend_from_slice(b" ")?;
+        lines.extend_from_slice(title(facts, to))?;
+        lines.extend_from_slice(b" ")?;
+        lines.extend_from_slice(text.as_bytes())?;
+        lines.extend_from_slice(&source)?;
+        lines.extend_from_slice(b"\r\n")?;
+        source.clear();
     }
     Ok(Octets::from_vec(lines))
 }

@@ -11,7 +11,7 @@ use std::test::Fail;
 
 const STEPS: usize = 1000;
 
-const LIMIT: usize = 40;
+const LIMIT: usize = 80;
 
 const WORKERS: usize = 3;
 
@@ -22,7 +22,7 @@ const TEXTS: [&str; 19] = [
     "NICK al\r\nUSER a 0 * :Al\r\nJOIN #a\r\n",
     "NICK Bo[\r\nuser b@c 0 * :Bo\r\nJOIN #b\r\nJOIN #a\r\n",
     "JOIN #A\r\nUSER f 0 * :F\r\nnick bO{\r\nJOIN #A\r\n",
-    "NICK cy\r\nUSER c 0 * :Cy\r\nJOIN #A\r\n",
+    "NICK cy\r\nPRIVMSG\r\nUSER c 0 * :Cy\r\nJOIN #A\r\nPRIVMSG #a\r\n",
     "NICK dee\r\nUSER dee 0 * :Dee\r\nJOIN #a\r\nJOIN #B\r\n",
     "PRIVMSG #A :hello\r\n",
     "PRIVMSG #b :hi\r\nFOO\r\n",
@@ -225,7 +225,7 @@ fn free_act(draw: u64, session: u64, worker: u64, seen: &Seen) -> Act {
         21..=26 => Act::Take(session),
         27 => Act::Hang(worker, session, Why::ReadEnded),
         28..=30 => Act::Sweep(worker),
-        31..=34 => Act::Reap(session),
+        31..=34 => Act::Reap(alive(seen, draw / 100 % 2, true)),
         place => next_act(place, session, worker, seen),
     }
 }
@@ -244,12 +244,12 @@ fn held_act(draw: u64, session: u64, worker: u64, holder: u64) -> Act {
     }
 }
 
-/// The session at a place among those that aren't reaped, from 0.
-fn alive(seen: &Seen, place: u64) -> u64 {
+/// The session at a place, from 0, among those that are shut and not reaped, or among those that aren't shut.
+fn alive(seen: &Seen, place: u64, is_shut: bool) -> u64 {
     let mut before = 0u64;
     let mut found = 1;
     for (at, watched) in seen.sessions.iter().enumerate() {
-        if !watched.is_reaped && before <= place {
+        if !watched.is_reaped && watched.is_shut == is_shut && before <= place {
             found = at as u64 + 1;
             before = before.saturating_add(1);
         }
@@ -264,7 +264,8 @@ fn act_of(number: u64, seen: &Seen) -> Act {
     let session = match draw / 300 % 8 {
         0 => opened,
         1 => 1 + draw / 2400 % 9,
-        place => alive(seen, place % 4),
+        2 => alive(seen, 0, true),
+        place => alive(seen, place % 4, false),
     };
     let worker = 1 + draw / 100 % 3;
     match seen.holder {
