@@ -143,7 +143,7 @@ owed_to_who_leaves : owed (server []) (records story) 1
 unfolding reading parameters with_command asked_of command_of with_params named nick_answer fold_of nick_shape channel_shape is_same same_target is_quit prefix octets untagged numeric row_line cut time_text civil_date falls_in
 owed_to_who_leaves = refl
 
-shown_to_who_stays : owed (server []) (records story) 2 
+shown_to_who_stays : owed (server []) (records story) 2
     ≡ Lines 7 (greets (codes "bo") (codes "!b@h2")) ∷ Lines 8 (codes ":bo!b@h2 JOIN #a" ++ crlf) ∷ Lines 11 (codes ":al!a@h1 NICK alf" ++ crlf) ∷ Lines 13 (codes ":alf!a@h1 QUIT :bye" ++ crlf) ∷ []
 unfolding reading parameters with_command asked_of command_of with_params named nick_answer fold_of nick_shape channel_shape is_same same_target is_quit prefix octets untagged numeric row_line cut time_text civil_date falls_in
 shown_to_who_stays = refl

@@ -21,11 +21,7 @@ pub(crate) fn title_of(alloc: Global, name: Option<&Octets>) -> Result<Octets, A
 }
 
 /// Answers a session with a numeric that is lent.
-fn tell_lent(
-    draft: &mut Draft,
-    session: SessionId,
-    numeric: &Numeric,
-) -> Result<(), AllocError>
+fn tell_lent(draft: &mut Draft, session: SessionId, numeric: &Numeric) -> Result<(), AllocError>
     ensures { OnOk result (draft.new ≡ grown draft.old (tells draft.old.settings draft.old.facts session numeric.now ∷ [])) }
 {
     let to = title_of(draft.alloc(), draft.nick_of(session))?;

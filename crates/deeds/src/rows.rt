@@ -12,9 +12,9 @@ ghost use Rattle.deeds.specs.Verdicts.{IsVerdict};
 
 use crate::channels::join;
 use crate::draft::Draft;
+use crate::enrolling::{complete, introduce, pass, quit, take_nick};
 use crate::lines::{pong_line, prefix_of};
 use crate::negotiation::{authenticate, negotiate};
-use crate::enrolling::{complete, introduce, pass, quit, take_nick};
 use crate::replies::{tell, tell_all};
 use crate::talking::send;
 use crate::verdict::{Verdict, verdict_of};
@@ -28,11 +28,7 @@ use roster::Roster;
 use std::alloc::{AllocError, Global};
 
 /// Joins a channel, where one is named.
-fn join_one(
-    draft: &mut Draft,
-    session: SessionId,
-    targets: &[JoinTarget],
-) -> Result<(), AllocError>
+fn join_one(draft: &mut Draft, session: SessionId, targets: &[JoinTarget]) -> Result<(), AllocError>
     ensures { OnOk result (draft.new ≡ grown draft.old (joins_one draft.old.facts session targets.now)) }
 {
     let [target] = targets else {
