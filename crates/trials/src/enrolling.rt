@@ -1,15 +1,11 @@
-//! What accounts, settings and sessions that register are answered, and that calls succeed.
+//! What files of accounts and settings are answered, and that calls succeed.
 use crate::again::{copied, twice};
 use chronicle::Moment;
 use line_grammar::Octets;
-use registration::{
-    AccountFault, Accounts, Cap, CapAnswer, Caps, Enrol, Motd, NickAnswer, SaslAnswer, Settings,
-    UserAnswer, is_well_set,
-};
+use registration::{AccountFault, Accounts, Motd, Settings, is_well_set};
 use std::alloc::{AllocError, Global};
 use std::test::Fail;
 
-/// The passwords are `bc`, and one that no one knows.
 const FILE: &str = "\
 al a ba7816bf8f01cfea414140de5dae2223b00361a396177a9cb410ff61f20015ad
 
@@ -44,25 +40,6 @@ fn files_are_read(rt: HostRuntime) {
         let fault = accounts_of(rt.alloc(), file).err();
         assert_eq!(rt; fault, *want, "{file}");
     }
-}
-
-/// A user, a password, and the account by which they log in.
-const PASSWORDS: [(&str, &str, &str); 4] = [
-    ("AL", "bc", "al"),
-    ("al", "bd", ""),
-    ("bo", "", ""),
-    ("cy", "bc", ""),
-];
-
-#[test]
-fn passwords_are_checked(rt: HostRuntime) -> Result<(), Fail> {
-    let accounts = accounts_of(rt.alloc(), FILE).ok().ok_or("accounts")?;
-    for (user, password, want) in &PASSWORDS {
-        let name = twice(|| accounts.check(user.as_bytes(), password.as_bytes()))?;
-        let name = name.as_ref().map_or(b"".as_slice(), |name| name.as_slice());
-        assert_eq!(rt; name, want.as_bytes(), "{user}");
-    }
-    Ok(())
 }
 
 const INFO: &[u8] = &[b'x'; 100];
@@ -108,93 +85,5 @@ fn settings_have_limits(rt: HostRuntime) -> Result<(), Fail> {
         };
         assert_eq!(rt; is_well_set(&settings), *want, "{server} {version}");
     }
-    Ok(())
-}
-
-/// Who has a nickname and a user name, and asks for capabilities.
-fn enrol_of<'a>(own: &'a Octets, sasl: bool, exchange: Option<&'a Octets>) -> Enrol<'a> {
-    Enrol {
-        nick: Some(own),
-        user: Some(own),
-        hold: false,
-        caps: if sasl {
-            Caps::none().with(Cap::Sasl)
-        } else {
-            Caps::none()
-        },
-        exchange,
-        account: None,
-        registered: false,
-    }
-}
-
-const PIECE: &[u8] = &[b'A'; 400];
-
-const LONGER: &[u8] = &[b'A'; 401];
-
-const FULL: &[u8] = &[b'A'; 1200];
-
-/// Whether `sasl` is on, what was sent so far, a piece, and what tells its answer.
-const PIECES: [(bool, Option<&[u8]>, &[u8], &[u8]); 12] = [
-    (false, None, b"PLAIN", b"904"),
-    (true, None, b"plain", b"+"),
-    (true, None, b"EXTERNAL", b"908"),
-    (true, Some(b""), b"*", b"906"),
-    (true, Some(b""), b"+", b"904"),
-    (true, Some(b"AGFs"), b"AGJj", b"al"),
-    (true, Some(b"AGFsAGJj"), b"+", b"al"),
-    (true, Some(b""), b"AGFsAGJk", b"904"),
-    (true, Some(b""), PIECE, PIECE),
-    (true, Some(b""), LONGER, b"905"),
-    (true, Some(FULL), b"A", b"905"),
-    (true, Some(FULL), b"", b"904"),
-];
-
-/// A numeric, what was sent so far, or an account.
-fn told(answer: &SaslAnswer) -> &[u8] {
-    match answer {
-        SaslAnswer::AlreadyLoggedIn => b"907",
-        SaslAnswer::Failed => b"904",
-        SaslAnswer::Opened => b"+",
-        SaslAnswer::UnknownMechanism => b"908",
-        SaslAnswer::Aborted => b"906",
-        SaslAnswer::TooLong => b"905",
-        SaslAnswer::Waits { exchange } => exchange.as_slice(),
-        SaslAnswer::LoggedIn { account } => account.as_slice(),
-    }
-}
-
-#[test]
-fn pieces_are_answered(rt: HostRuntime) -> Result<(), Fail> {
-    let alloc = rt.alloc();
-    let accounts = accounts_of(alloc, FILE).ok().ok_or("accounts")?;
-    let own = copied(alloc, b"al")?;
-    for (place, (sasl, sent, piece, want)) in PIECES.iter().enumerate() {
-        let so_far = copied(alloc, sent.unwrap_or(b""))?;
-        let enrol = enrol_of(&own, *sasl, sent.map(|_| &so_far));
-        let answer = twice(|| enrol.authenticate(alloc, &accounts, piece))?;
-        assert_eq!(rt; told(&answer), *want, "{place}");
-    }
-    Ok(())
-}
-
-/// Whether a session is answered that has told all and isn't registered yet.
-fn is_answered(enrol: &Enrol, words: &[Octets]) -> bool {
-    enrol.ready()
-        && enrol.holds()
-        && enrol.nick(b"al", false) == NickAnswer::Same
-        && enrol.user() == UserAnswer::AlreadyTold
-        && enrol.cap(words) == CapAnswer::Refused
-}
-
-#[test]
-fn commands_are_answered(rt: HostRuntime) -> Result<(), Fail> {
-    let alloc = rt.alloc();
-    let own = copied(alloc, b"al")?;
-    let word = copied(alloc, b"cap-notify")?;
-    let enrol = enrol_of(&own, true, None);
-    let list = twice(|| enrol.caps.list(alloc))?;
-    assert_eq!(rt; list.as_slice(), [Cap::Sasl].as_slice());
-    assert!(rt; is_answered(&enrol, &[word]));
     Ok(())
 }

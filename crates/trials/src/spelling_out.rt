@@ -1,7 +1,7 @@
 //! What numerics, moments, names in lines and commands are spelled out as.
 use crate::again::{copied, twice};
-use commands::{Asked, Command, ReadFault, read, read_piece};
-use line_grammar::{Octets, Piece, parse};
+use commands::{Command, ReadFault, read};
+use line_grammar::{Octets, parse};
 use numerics::{
     Numeric, Out, Prefix, TimeFault, Words, copied_all, prefixed, split_names, split_tokens,
     time_text, tokens,
@@ -182,35 +182,6 @@ fn is_read(alloc: Global, line: &[u8], want: &str) -> Result<bool, AllocError> {
 fn commands_are_read(rt: HostRuntime) -> Result<(), Fail> {
     for (line, want) in &LINES {
         assert!(rt; twice(|| is_read(rt.alloc(), line, want))?, "{want}");
-    }
-    Ok(())
-}
-
-/// Lines, and how what is asked by each begins.
-const ASKED: [(&[u8], &str); 6] = [
-    (b"", "Nothing"),
-    (b"NOTICE", "Nothing"),
-    (b"part", "Fault(UnknownCommand"),
-    (b"JOIN", "Fault(NeedMoreParams { command: Join })"),
-    (b"JOIN #a", "Command(Join"),
-    (b"quit", "Command(Quit"),
-];
-
-/// Whether it begins so, and asks for the end of the session where it should.
-fn asks(alloc: Global, asked: &Asked, quits: bool, want: &str) -> Result<bool, AllocError> {
-    Ok(asked.is_quit() == quits && format!(in alloc; "{asked:?}")?.starts_with(want))
-}
-
-fn is_asked(alloc: Global, line: &[u8], want: &str) -> Result<bool, AllocError> {
-    let piece = Piece::Line(copied(alloc, line)?);
-    let asked = read_piece(alloc, &piece)?;
-    asks(alloc, &asked, line == b"quit".as_slice(), want)
-}
-
-#[test]
-fn pieces_ask(rt: HostRuntime) -> Result<(), Fail> {
-    for (line, want) in &ASKED {
-        assert!(rt; twice(|| is_asked(rt.alloc(), line, want))?, "{want}");
     }
     Ok(())
 }
