@@ -105,6 +105,12 @@ impl Talk {
         Ok(())
     }
 
+    /// Nobody is told anything more.
+    fn end_all(&mut self) -> Result<(), AllocError> {
+        let opened = self.opened;
+        self.end(opened)
+    }
+
     /// Adds a line.
     fn hear(&mut self, line: &str) -> Result<(), AllocError> {
         let (word, rest) = line.split_once(' ').unwrap_or((line, ""));
@@ -115,7 +121,7 @@ impl Talk {
             self.end(session.wrapping_sub(1))?;
             return self.story.note(line.as_bytes());
         }
-        self.end(self.opened)?;
+        self.end_all()?;
         match session {
             Some(session) => self.say(session, rest),
             None if word == "connect" => self.open(line),
@@ -135,7 +141,7 @@ fn story_of(alloc: Global, talks: &[&str]) -> Result<Story, AllocError> {
             talk.hear(line)?;
         }
     }
-    talk.end(talk.opened)?;
+    talk.end_all()?;
     Ok(talk.story)
 }
 
