@@ -49,27 +49,6 @@ ________________________________________________________________________________
 ____________________________________________________________________________________________________\r\n",
 ];
 
-/// What some session is told at least once.
-const WORDS: [&str; 17] = [
-    " 001 ",
-    " 409 ",
-    " 411 ",
-    " 412 ",
-    " 417 ",
-    " 421 ",
-    " 431 ",
-    " 432 ",
-    " 433 ",
-    " 451 ",
-    " 461 ",
-    " 462 ",
-    " JOIN ",
-    " NICK ",
-    " PONG ",
-    " PRIVMSG ",
-    " QUIT ",
-];
-
 /// The kinds of notes and refusals that come at least once, and at last all others.
 const KINDS: [&str; 27] = [
     "Session",
@@ -538,23 +517,6 @@ fn take_steps(
     Ok(counts)
 }
 
-/// Whether a line of what is owed has this word.
-fn has_word(owed: &[Item], word: &[u8]) -> bool {
-    owed.iter().any(|item| match item {
-        Item::Lines { text, .. } => text.as_slice().windows(word.len()).any(|part| part == word),
-        Item::Last { .. } => false,
-    })
-}
-
-/// Whether some session is told this word.
-fn is_some_told(seen: &Seen, word: &str) -> bool {
-    let mut told = false;
-    for watched in &seen.sessions {
-        told = told || has_word(&watched.owed, word.as_bytes());
-    }
-    told
-}
-
 #[test]
 fn a_thousand_steps(rt: HostRuntime) -> Result<(), Fail> {
     let channels = [copied(rt.alloc(), b"#a")?, copied(rt.alloc(), b"#B")?];
@@ -563,9 +525,6 @@ fn a_thousand_steps(rt: HostRuntime) -> Result<(), Fail> {
     let counts = take_steps(&rt, rt.alloc(), &mut play, &mut seen, &channels)?;
     for (count, kind) in counts.iter().zip(KINDS.iter()) {
         assert!(rt; *count > 0, "{kind} in {counts:?}");
-    }
-    for word in &WORDS {
-        assert!(rt; is_some_told(&seen, word), "{word}");
     }
     Ok(())
 }
