@@ -16,7 +16,7 @@ use Rattle.roster.specs.LookBack.{after, opened}
 use Rattle.roster.specs.Legal.{IsOpened}
 use Rattle.deeds.specs.Rows.{of_asked}
 use Rattle.deeds.specs.Departure.{departs}
-use Rattle.deeds.specs.Effects.{deeds_of}
+use Rattle.drafts.specs.Effects.{deeds_of}
 use Rattle.registration.specs.declared.settings.Settings.{Settings}
 use Rattle.book.specs.declared.plan.Planned.{Planned}
 use Rattle.book.specs.declared.seat.Seat.{Seat}

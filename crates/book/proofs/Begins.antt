@@ -14,7 +14,7 @@ use Rattle.outbox.specs.Ring.{Waiting, has_room, with_put}
 use Rattle.line_grammar.specs.Spelling.{untagged}
 use Rattle.numerics.specs.declared.outgoing.Out.{Out}
 use Rattle.numerics.specs.Outgoing.{octets}
-use Rattle.deeds.specs.Effects.{lines_to}
+use Rattle.drafts.specs.Effects.{lines_to}
 use Rattle.deeds.specs.Deeds.{effects, facts, lines, text}
 use Rattle.registration.specs.declared.settings.Settings.{Settings}
 use Rattle.book.specs.declared.plan.Planned.{Planned}

@@ -28,7 +28,7 @@ use Rattle.commands.specs.Lists.{is_same as same_target}
 use Rattle.commands.specs.Names.{named}
 use Rattle.roster.specs.LookBack.{is_same, members, registered}
 use Rattle.deeds.specs.Deeds.{facts}
-use Rattle.deeds.specs.Lines.{prefix}
+use Rattle.drafts.specs.Lines.{prefix}
 use Rattle.outbox.specs.declared.item.Item.{Item}
 use Rattle.outbox.specs.declared.item.Item.TheVariants.{Lines, Last}
 use Rattle.book.specs.Owed.{owed}

@@ -5,11 +5,11 @@ use Rattle.std.specs.List.{flat_map}
 use Rattle.numerics.specs.declared.outgoing.Out.{Out}
 use Rattle.numerics.specs.Outgoing.{octets}
 use Rattle.outbox.specs.declared.item.Item.{Item}
-use Rattle.deeds.specs.declared.effect.Effect.{Effect}
-use Rattle.deeds.specs.declared.effect.Effect.TheVariants.{Establish, Answer, Show, Copy}
+use Rattle.drafts.specs.declared.effect.Effect.{Effect}
+use Rattle.drafts.specs.declared.effect.Effect.TheVariants.{Establish, Answer, Show, Copy}
 use Rattle.deeds.specs.declared.verdict.Shown.{Shown}
 use Rattle.deeds.specs.declared.verdict.Verdict.{Verdict}
-use Rattle.deeds.specs.Effects.{heard, reply, copies, due, lines_to}
+use Rattle.drafts.specs.Effects.{heard, reply, copies, due, lines_to}
 use Rattle.deeds.specs.Deeds.{text}
 use Rattle.deeds.specs.Rows.{of_asked}
 use Rattle.commands.specs.declared.asked.Asked.{Asked}

@@ -9,9 +9,9 @@ use Rattle.book.specs.declared.plan.Planned.{Planned}
 use Rattle.deeds.specs.declared.verdict.Verdict.{Verdict}
 use Rattle.book.specs.Book.{puts, others}
 use Rattle.std.specs.List.{flat_map}
-use Rattle.deeds.specs.declared.effect.Effect.{Effect}
+use Rattle.drafts.specs.declared.effect.Effect.{Effect}
 use Rattle.deeds.specs.declared.verdict.Shown.{Shown}
-use Rattle.deeds.specs.Effects.{heard, lines_to}
+use Rattle.drafts.specs.Effects.{heard, lines_to}
 use Rattle.deeds.specs.Deeds.{text}
 
 abbrev pub no_seat : Seat

@@ -4,7 +4,7 @@ ghost use Rattle.chronicle.specs.History.{is_quit};
 ghost use Rattle.roster.specs.LookBack.{after, opened};
 ghost use Rattle.roster.specs.Legal.{IsOpened, AreNext};
 ghost use Rattle.commands.specs.Asked.{asked_of};
-ghost use Rattle.deeds.specs.Effects.{deeds_of, heard};
+ghost use Rattle.drafts.specs.Effects.{deeds_of, heard};
 ghost use Rattle.deeds.specs.Departure.{departs};
 ghost use Rattle.deeds.specs.Rows.{of_asked};
 ghost use Rattle.deeds.specs.Deeds.{text};

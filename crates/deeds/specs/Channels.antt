@@ -3,9 +3,9 @@ use Rattle.std.specs.Prelude.{ℕ, List, [], ◌∷◌, Option, Some, None, if�
 use Rattle.roster.specs.declared.deed.Deed.{Deed}
 use Rattle.roster.specs.declared.deed.Deed.TheVariants.{ChannelMade, Joined}
 use Rattle.roster.specs.LookBack.{on, members, name_of}
-use Rattle.deeds.specs.declared.effect.Effect.{Effect}
-use Rattle.deeds.specs.declared.effect.Effect.TheVariants.{Establish, Show}
-use Rattle.deeds.specs.Lines.{join_line}
+use Rattle.drafts.specs.declared.effect.Effect.{Effect}
+use Rattle.drafts.specs.declared.effect.Effect.TheVariants.{Establish, Show}
+use Rattle.drafts.specs.Lines.{join_line}
 
 -- a fact that puts a session on a channel; it is shown to the members after it
 abbrev pub entered : List ℕ → List Deed → List ℕ → Deed → List Effect

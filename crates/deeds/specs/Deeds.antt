@@ -11,9 +11,9 @@ use Rattle.numerics.specs.Outgoing.{octets}
 use Rattle.roster.specs.declared.deed.Deed.{Deed}
 use Rattle.roster.specs.declared.deed.Deed.TheVariants.{Opened, Ended}
 use Rattle.roster.specs.LookBack.{after}
-use Rattle.deeds.specs.declared.effect.Effect.{Effect}
-use Rattle.deeds.specs.declared.effect.Effect.TheVariants.{Establish}
-use Rattle.deeds.specs.Effects.{deeds_of, lines_to}
+use Rattle.drafts.specs.declared.effect.Effect.{Effect}
+use Rattle.drafts.specs.declared.effect.Effect.TheVariants.{Establish}
+use Rattle.drafts.specs.Effects.{deeds_of, lines_to}
 use Rattle.deeds.specs.Departure.{departs}
 use Rattle.deeds.specs.Rows.{of_asked}
 

@@ -5,9 +5,9 @@ use Rattle.chronicle.specs.Reasons.{text}
 use Rattle.roster.specs.declared.deed.Deed.{Deed}
 use Rattle.roster.specs.declared.deed.Deed.TheVariants.{Gone}
 use Rattle.roster.specs.LookBack.{why, parting, sharers}
-use Rattle.deeds.specs.declared.effect.Effect.{Effect}
-use Rattle.deeds.specs.declared.effect.Effect.TheVariants.{Establish, Show}
-use Rattle.deeds.specs.Lines.{prefix, quit_line}
+use Rattle.drafts.specs.declared.effect.Effect.{Effect}
+use Rattle.drafts.specs.declared.effect.Effect.TheVariants.{Establish, Show}
+use Rattle.drafts.specs.Lines.{prefix, quit_line}
 
 -- what others are told of its end: the text that its client gave, or the reason's own
 abbrev pub farewell : Why → List ℕ → List ℕ

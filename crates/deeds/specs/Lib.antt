@@ -1,6 +1,3 @@
-pub mod Effects
-pub mod Lines
-pub mod Replies
 pub mod Welcome
 pub mod Registration
 pub mod Negotiation
@@ -10,5 +7,3 @@ pub mod Departure
 pub mod Rows
 pub mod Deeds
 pub mod Verdicts
-pub mod Drafted
-pub mod Tells

@@ -1,5 +1,5 @@
 -- What CAP and AUTHENTICATE do: IRCv3 Capability Negotiation and SASL 3.1.
-use Rattle.std.specs.Prelude.{ℕ, Bool, true, false, ◌&&◌, List, [], ◌∷◌, ◌++◌, map, codes, Some, None, if◌then◌else◌}
+use Rattle.std.specs.Prelude.{ℕ, Bool, true, false, List, [], ◌∷◌, ◌++◌, map, codes, Some, None, if◌then◌else◌}
 use Rattle.numerics.specs.declared.numeric.Numeric.TheVariants as numeric
 use Rattle.numerics.specs.Numerics.{spaced}
 use Rattle.registration.specs.declared.settings.Settings.{Settings}
@@ -16,10 +16,10 @@ use Rattle.commands.specs.declared.command.CapSubcommand.TheVariants.{Ls, List a
 use Rattle.roster.specs.declared.deed.Deed.{Deed}
 use Rattle.roster.specs.declared.deed.Deed.TheVariants as deed
 use Rattle.roster.specs.LookBack.{nick, caps, enrol}
-use Rattle.deeds.specs.declared.effect.Effect.{Effect}
-use Rattle.deeds.specs.declared.effect.Effect.TheVariants.{Establish, Answer}
-use Rattle.deeds.specs.Lines.{title, prefix, cap_line, go_on_line}
-use Rattle.deeds.specs.Replies.{tells}
+use Rattle.drafts.specs.declared.effect.Effect.{Effect}
+use Rattle.drafts.specs.declared.effect.Effect.TheVariants.{Establish, Answer}
+use Rattle.drafts.specs.Lines.{title, prefix, cap_line, go_on_line}
+use Rattle.drafts.specs.Replies.{tells}
 
 -- ---- CAP
 

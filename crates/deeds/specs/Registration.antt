@@ -11,11 +11,11 @@ use Rattle.registration.specs.Enrol.{nick_answer, user_answer, is_ready}
 use Rattle.roster.specs.declared.deed.Deed.{Deed}
 use Rattle.roster.specs.declared.deed.Deed.TheVariants.{NickSet, UserSet, ExchangeSet, Enrolled, Ended}
 use Rattle.roster.specs.LookBack.{after, registered, exchange, enrol, holder, sharers}
-use Rattle.deeds.specs.declared.effect.Effect.{Effect}
-use Rattle.deeds.specs.declared.effect.Effect.TheVariants.{Establish, Show}
-use Rattle.deeds.specs.Effects.{deeds_of}
-use Rattle.deeds.specs.Lines.{prefix, nick_line}
-use Rattle.deeds.specs.Replies.{tells, tells_all}
+use Rattle.drafts.specs.declared.effect.Effect.{Effect}
+use Rattle.drafts.specs.declared.effect.Effect.TheVariants.{Establish, Show}
+use Rattle.drafts.specs.Effects.{deeds_of}
+use Rattle.drafts.specs.Lines.{prefix, nick_line}
+use Rattle.drafts.specs.Replies.{tells, tells_all}
 use Rattle.deeds.specs.Welcome.{welcome_numerics}
 
 -- ---- NICK

@@ -14,11 +14,11 @@ use Rattle.commands.specs.declared.command.ReadFault.{ReadFault}
 use Rattle.commands.specs.declared.command.ReadFault.TheVariants.{UnknownCommand, NeedMoreParams, NoNicknameGiven, NoRecipient, NoTextToSend, NoOrigin, InvalidCapSubcommand, Memory}
 use Rattle.commands.specs.declared.join_targets.JoinTarget.{JoinTarget}
 use Rattle.commands.specs.Names.{name_text}
-use Rattle.deeds.specs.declared.effect.Effect.{Effect}
-use Rattle.deeds.specs.declared.effect.Effect.TheVariants.{Answer}
-use Rattle.deeds.specs.Effects.{deeds_of}
-use Rattle.deeds.specs.Lines.{prefix, pong_line}
-use Rattle.deeds.specs.Replies.{tells, tells_all}
+use Rattle.drafts.specs.declared.effect.Effect.{Effect}
+use Rattle.drafts.specs.declared.effect.Effect.TheVariants.{Answer}
+use Rattle.drafts.specs.Effects.{deeds_of}
+use Rattle.drafts.specs.Lines.{prefix, pong_line}
+use Rattle.drafts.specs.Replies.{tells, tells_all}
 use Rattle.deeds.specs.Welcome.{motd_asked}
 use Rattle.deeds.specs.Registration.{takes_nick, introduces, passes, quits, completed}
 use Rattle.deeds.specs.Negotiation.{negotiates, authenticates}

@@ -2,9 +2,9 @@
 use Rattle.std.specs.Prelude.{ℕ, List, [], ◌∷◌, Option, Some, None, if◌then◌else◌}
 use Rattle.roster.specs.declared.deed.Deed.{Deed}
 use Rattle.roster.specs.LookBack.{on, without, members, name_of}
-use Rattle.deeds.specs.declared.effect.Effect.{Effect}
-use Rattle.deeds.specs.declared.effect.Effect.TheVariants.{Show}
-use Rattle.deeds.specs.Lines.{privmsg_line}
+use Rattle.drafts.specs.declared.effect.Effect.{Effect}
+use Rattle.drafts.specs.declared.effect.Effect.TheVariants.{Show}
+use Rattle.drafts.specs.Lines.{privmsg_line}
 
 -- to the other members of a channel that is there
 abbrev pub sends_there : ℕ → List ℕ → List Deed → List ℕ → List ℕ → Option (List ℕ) → List Effect

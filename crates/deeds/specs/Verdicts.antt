@@ -1,10 +1,10 @@
 -- A verdict is just what effects do.
 use Rattle.std.specs.Prelude.{◌≡◌, ℕ, List, [], ◌∷◌}
-use Rattle.deeds.specs.declared.effect.Effect.{Effect}
-use Rattle.deeds.specs.declared.effect.Effect.TheVariants.{Show}
+use Rattle.drafts.specs.declared.effect.Effect.{Effect}
+use Rattle.drafts.specs.declared.effect.Effect.TheVariants.{Show}
 use Rattle.deeds.specs.declared.verdict.Shown.{Shown}
 use Rattle.deeds.specs.declared.verdict.Verdict.{Verdict}
-use Rattle.deeds.specs.Effects.{deeds_of, reply, copies}
+use Rattle.drafts.specs.Effects.{deeds_of, reply, copies}
 
 -- the lines that effects show, with their hearers, in order
 abbrev pub shown : List Effect → List Shown

@@ -2,18 +2,17 @@
 ghost use Rattle.std.specs.Prelude.{◌≡◌, ◌∷◌, false, OnOk, IfSome};
 ghost use Rattle.roster.specs.LookBack.{opened, on, name_of};
 ghost use Rattle.roster.specs.Legal.{IsNext};
-ghost use Rattle.deeds.specs.Drafted.{grown, IsSpelling};
+ghost use Rattle.drafts.specs.Drafted.{grown, IsSpelling};
 ghost use Rattle.deeds.specs.Channels.{entered, join_there, joins};
 
-use crate::draft::Draft;
-use crate::lines::join_line;
 use chronicle::SessionId;
+use drafts::{Draft, join_line};
 use line_grammar::Octets;
 use roster::Deed;
 use std::alloc::AllocError;
 
 /// A session comes onto a channel by this fact, which is shown to all who are on it then.
-#[tactic(auto, using(crate::proofs::Replay::grown_grown))]
+#[tactic(auto, using(drafts::proofs::Replay::grown_grown))]
 fn enter(draft: &mut Draft, from: &[u8], name: &[u8], deed: Deed) -> Result<(), AllocError>
     requires next { IsNext draft.old.facts deed }
     requires opened { opened (deed ∷ draft.old.facts) ≡ opened draft.old.facts }

@@ -3,13 +3,12 @@ ghost use Rattle.std.specs.Prelude.{◌≡◌, IfOk, OnOk};
 ghost use Rattle.roster.specs.LookBack.{after, opened};
 ghost use Rattle.roster.specs.Legal.{IsOpened, AreNext};
 ghost use Rattle.deeds.specs.Departure.{farewell, departs};
-ghost use Rattle.deeds.specs.Drafted.{grown};
+ghost use Rattle.drafts.specs.Drafted.{grown};
 ghost use Rattle.deeds.specs.Verdicts.{IsVerdict};
 
-use crate::draft::Draft;
-use crate::lines::{prefix_of, quit_line};
 use crate::verdict::{Verdict, verdict_of};
 use chronicle::{SessionId, Why};
+use drafts::{Draft, prefix_of, quit_line};
 use roster::{Deed, Roster};
 use std::alloc::{AllocError, Global};
 
@@ -24,7 +23,7 @@ fn farewell<'a>(why: Why, parting: &'a [u8]) -> &'a [u8]
 }
 
 /// A session leaves its channels, which each that shares one with it is shown, and gives its nickname back.
-#[tactic(auto, using(crate::proofs::Replay::grown_grown))]
+#[tactic(auto, using(drafts::proofs::Replay::grown_grown))]
 fn depart(draft: &mut Draft, session: SessionId) -> Result<(), AllocError>
     requires opened { IsOpened draft.old.facts session }
     requires first { draft.old.facts ≡ draft.old.base }

@@ -2,17 +2,15 @@
 ghost use Rattle.std.specs.Prelude.{◌≡◌, ◌∷◌, [], OnOk};
 ghost use Rattle.roster.specs.LookBack.{exchange};
 ghost use Rattle.roster.specs.Legal.{IsOpened};
-ghost use Rattle.deeds.specs.Drafted.{grown};
-ghost use Rattle.deeds.specs.Lines.{prefix};
-ghost use Rattle.deeds.specs.Replies.{tells_all};
+ghost use Rattle.drafts.specs.Drafted.{grown};
+ghost use Rattle.drafts.specs.Lines.{prefix};
+ghost use Rattle.drafts.specs.Replies.{tells_all};
 ghost use Rattle.deeds.specs.Welcome.{welcome_numerics};
 ghost use Rattle.deeds.specs.Registration.{is_held, shows_nick, renames, takes_nick, introduces, passes, quits, aborts, enrolls, registers, completed};
 
-use crate::draft::Draft;
-use crate::lines::{nick_line, prefix_of};
-use crate::replies::{tell, tell_all};
 use crate::welcome::welcome;
 use chronicle::{SessionId, Why};
+use drafts::{Draft, nick_line, prefix_of, tell, tell_all};
 use line_grammar::Octets;
 use numerics::Numeric;
 use registration::{NickAnswer, UserAnswer};
@@ -44,7 +42,7 @@ fn show_nick(draft: &mut Draft, session: SessionId, nick: &Octets) -> Result<(),
 }
 
 /// A session takes a nickname, which is shown once it is registered.
-#[tactic(auto, using(crate::proofs::Replay::grown_grown))]
+#[tactic(auto, using(drafts::proofs::Replay::grown_grown))]
 fn rename(draft: &mut Draft, session: SessionId, nick: &Octets) -> Result<(), AllocError>
     requires opened { IsOpened draft.old.facts session }
     requires first { draft.old.facts ≡ draft.old.base }
@@ -134,7 +132,7 @@ pub(crate) fn quit(draft: &mut Draft, session: SessionId, text: &Octets) -> Resu
 // ---- registration
 
 /// An exchange of SASL that is open is aborted.
-#[tactic(auto, using(crate::proofs::Replay::grown_grown))]
+#[tactic(auto, using(drafts::proofs::Replay::grown_grown))]
 fn abort(draft: &mut Draft, session: SessionId) -> Result<(), AllocError>
     requires { IsOpened draft.old.facts session }
     ensures done { OnOk result (draft.new ≡ grown draft.old (aborts draft.old.settings draft.old.facts session (exchange draft.old.facts session))) }
@@ -159,7 +157,7 @@ fn greet(draft: &mut Draft, session: SessionId) -> Result<(), AllocError>
 }
 
 /// A session is welcomed, and registered from then on.
-#[tactic(auto, using(crate::proofs::Replay::grown_grown))]
+#[tactic(auto, using(drafts::proofs::Replay::grown_grown))]
 fn enroll(draft: &mut Draft, session: SessionId) -> Result<(), AllocError>
     requires { IsOpened draft.old.facts session }
     ensures { OnOk result (draft.new ≡ grown draft.old (enrolls draft.old.settings draft.old.facts session)) }
@@ -169,7 +167,7 @@ fn enroll(draft: &mut Draft, session: SessionId) -> Result<(), AllocError>
 }
 
 /// A session is registered, and an exchange that is open aborted before.
-#[tactic(auto, using(crate::proofs::Replay::grown_grown))]
+#[tactic(auto, using(drafts::proofs::Replay::grown_grown))]
 fn register(draft: &mut Draft, session: SessionId) -> Result<(), AllocError>
     requires { IsOpened draft.old.facts session }
     ensures { OnOk result (draft.new ≡ grown draft.old (registers draft.old.settings draft.old.facts session)) }

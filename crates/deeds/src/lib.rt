@@ -3,18 +3,14 @@
 
 mod channels;
 mod departure;
-mod draft;
-mod effect;
 mod enrolling;
-mod lines;
 mod negotiation;
-mod replies;
 mod rows;
 mod talking;
 mod verdict;
 mod welcome;
 
 pub use departure::decide_gone;
-pub use effect::Effect;
+pub use drafts::Effect;
 pub use rows::decide;
 pub use verdict::{Shown, Verdict};

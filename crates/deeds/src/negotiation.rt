@@ -6,16 +6,14 @@ ghost use Rattle.registration.specs.Enrol.{cap_answer};
 ghost use Rattle.roster.specs.LookBack.{caps, enrol};
 ghost use Rattle.roster.specs.Legal.{IsOpened};
 ghost use Rattle.roster.specs.declared.deed.Deed.TheVariants.{HoldSet};
-ghost use Rattle.deeds.specs.declared.effect.Effect.TheVariants.{Establish};
-ghost use Rattle.deeds.specs.Drafted.{grown};
-ghost use Rattle.deeds.specs.Replies.{tells};
+ghost use Rattle.drafts.specs.declared.effect.Effect.TheVariants.{Establish};
+ghost use Rattle.drafts.specs.Drafted.{grown};
+ghost use Rattle.drafts.specs.Replies.{tells};
 ghost use Rattle.deeds.specs.Negotiation.{cap_text, cap_list, lists, requested, negotiates, closes, sasl_answered, authenticates};
 
-use crate::draft::Draft;
-use crate::lines::{cap_line, go_on_line, prefix_of};
-use crate::replies::{tell, title_of};
 use chronicle::SessionId;
 use commands::CapSubcommand;
+use drafts::{Draft, cap_line, go_on_line, prefix_of, tell, title_of};
 use line_grammar::Octets;
 use numerics::{Numeric, spaced};
 use registration::{Cap, CapAnswer, SaslAnswer};
@@ -82,7 +80,7 @@ fn wait(draft: &mut Draft, session: SessionId, is_to: bool) -> Result<(), AllocE
 }
 
 /// Answers `CAP REQ`.
-#[tactic(auto, using(crate::proofs::Replay::grown_grown))]
+#[tactic(auto, using(drafts::proofs::Replay::grown_grown))]
 fn request(draft: &mut Draft, session: SessionId, words: &[Octets]) -> Result<(), AllocError>
     requires { IsOpened draft.old.facts session }
     ensures { OnOk result (draft.new ≡ grown draft.old (requested draft.old.settings draft.old.facts session words.now (cap_answer (enrol draft.old.facts session) words.now))) }
@@ -116,7 +114,7 @@ fn list_on(draft: &mut Draft, session: SessionId) -> Result<(), AllocError>
 }
 
 /// Negotiates capabilities.
-#[tactic(auto, using(crate::proofs::Replay::grown_grown))]
+#[tactic(auto, using(drafts::proofs::Replay::grown_grown))]
 pub(crate) fn negotiate(
     draft: &mut Draft,
     session: SessionId,
@@ -146,7 +144,7 @@ pub(crate) fn negotiate(
 // ---- AUTHENTICATE
 
 /// Answers a session with a numeric, and its exchange ends.
-#[tactic(auto, using(crate::proofs::Replay::grown_grown))]
+#[tactic(auto, using(drafts::proofs::Replay::grown_grown))]
 fn close(draft: &mut Draft, session: SessionId, numeric: Numeric) -> Result<(), AllocError>
     requires { IsOpened draft.old.facts session }
     ensures { OnOk result (draft.new ≡ grown draft.old (tells draft.old.settings draft.old.facts session numeric ∷ closes session ∷ [])) }
@@ -159,7 +157,7 @@ fn close(draft: &mut Draft, session: SessionId, numeric: Numeric) -> Result<(), 
 }
 
 /// An exchange is open.
-#[tactic(auto, using(crate::proofs::Replay::grown_grown))]
+#[tactic(auto, using(drafts::proofs::Replay::grown_grown))]
 fn open(draft: &mut Draft, session: SessionId) -> Result<(), AllocError>
     requires { IsOpened draft.old.facts session }
     ensures { OnOk result (draft.new ≡ grown draft.old (sasl_answered draft.old.settings draft.old.facts session Opened)) }
@@ -174,7 +172,7 @@ fn open(draft: &mut Draft, session: SessionId) -> Result<(), AllocError>
 }
 
 /// A session is logged in by an account.
-#[tactic(auto, using(crate::proofs::Replay::grown_grown))]
+#[tactic(auto, using(drafts::proofs::Replay::grown_grown))]
 fn log_in(draft: &mut Draft, session: SessionId, account: Octets) -> Result<(), AllocError>
     requires { IsOpened draft.old.facts session }
     ensures { OnOk result (draft.new ≡ grown draft.old (sasl_answered draft.old.settings draft.old.facts session (LoggedIn account))) }
@@ -198,7 +196,7 @@ fn log_in(draft: &mut Draft, session: SessionId, account: Octets) -> Result<(), 
 }
 
 /// Names a mechanism, or sends a piece of an exchange.
-#[tactic(auto, using(crate::proofs::Replay::grown_grown))]
+#[tactic(auto, using(drafts::proofs::Replay::grown_grown))]
 pub(crate) fn authenticate(
     draft: &mut Draft,
     session: SessionId,

@@ -2,26 +2,24 @@
 ghost use Rattle.std.specs.Prelude.{◌≡◌, ◌∷◌, [], option_copied, IfOk, OnOk};
 ghost use Rattle.roster.specs.LookBack.{after, opened};
 ghost use Rattle.roster.specs.Legal.{IsOpened, AreNext};
-ghost use Rattle.deeds.specs.declared.effect.Effect.TheVariants.{Answer};
-ghost use Rattle.deeds.specs.Drafted.{grown};
-ghost use Rattle.deeds.specs.Lines.{pong_line};
-ghost use Rattle.deeds.specs.Replies.{tells_all};
+ghost use Rattle.drafts.specs.declared.effect.Effect.TheVariants.{Answer};
+ghost use Rattle.drafts.specs.Drafted.{grown};
+ghost use Rattle.drafts.specs.Lines.{pong_line};
+ghost use Rattle.drafts.specs.Replies.{tells_all};
 ghost use Rattle.deeds.specs.Welcome.{motd_asked};
 ghost use Rattle.deeds.specs.Rows.{asked, fault_numeric, is_for_registered, joins_one, of_asked, of_command, refused, sends_one, served};
 ghost use Rattle.deeds.specs.Verdicts.{IsVerdict};
 
 use crate::channels::join;
-use crate::draft::Draft;
 use crate::enrolling::{complete, introduce, pass, quit, take_nick};
-use crate::lines::{pong_line, prefix_of};
 use crate::negotiation::{authenticate, negotiate};
-use crate::replies::{tell, tell_all};
 use crate::talking::send;
 use crate::verdict::{Verdict, verdict_of};
 use crate::welcome::motd_asked;
 use casemapping::is_channel;
 use chronicle::{Moment, SessionId};
 use commands::{Asked, Command, JoinTarget, ReadFault};
+use drafts::{Draft, pong_line, prefix_of, tell, tell_all};
 use line_grammar::Octets;
 use numerics::Numeric;
 use roster::Roster;
@@ -129,7 +127,7 @@ fn obey(draft: &mut Draft, session: SessionId, command: &Command) -> Result<(), 
 }
 
 /// Does what a command asks for, and registers a session that is complete by it.
-#[tactic(auto, using(crate::proofs::Replay::grown_grown))]
+#[tactic(auto, using(drafts::proofs::Replay::grown_grown))]
 fn perform(draft: &mut Draft, session: SessionId, command: &Command) -> Result<(), AllocError>
     requires opened { IsOpened draft.old.facts session }
     requires first { draft.old.facts ≡ draft.old.base }

@@ -1,11 +1,10 @@
 //! PRIVMSG (RFC 2812, section 3.3.1).
 ghost use Rattle.std.specs.Prelude.{◌≡◌, OnOk};
-ghost use Rattle.deeds.specs.Drafted.{grown};
+ghost use Rattle.drafts.specs.Drafted.{grown};
 ghost use Rattle.deeds.specs.Talking.{sends};
 
-use crate::draft::Draft;
-use crate::lines::privmsg_line;
 use chronicle::SessionId;
+use drafts::{Draft, privmsg_line};
 use line_grammar::Octets;
 use std::alloc::AllocError;
 

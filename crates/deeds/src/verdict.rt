@@ -1,10 +1,10 @@
 //! What comes of a record's effects.
 ghost use Rattle.std.specs.Prelude.{◌≡◌, ◌==◌, ◌++◌, ◌∷◌, [], cond, IfOk, OnOk};
-ghost use Rattle.deeds.specs.Effects.{deeds_of, heard, replied, copied};
+ghost use Rattle.drafts.specs.Effects.{deeds_of, heard, replied, copied};
 ghost use Rattle.deeds.specs.Verdicts.{shown, IsVerdict};
 
-use crate::effect::Effect;
 use chronicle::SessionId;
+use drafts::Effect;
 use numerics::Out;
 use roster::{Deed, Sessions};
 use std::alloc::{AllocError, Global};

@@ -1,7 +1,7 @@
 use Rattle.std.proofs.Common.{arith, ◌≡◌, ◌+◌, ◌<◌, ◌++◌, [], List, length, take, slice_index_or, sym, ap, ◌∙◌, append-nil}
 use Rattle.std.proofs.lemmas.Grind.{common_steps}
 use Rattle.deeds.specs.declared.verdict.Shown.{Shown}
-use Rattle.deeds.specs.Effects.{heard}
+use Rattle.drafts.specs.Effects.{heard}
 use Rattle.deeds.specs.Deeds.{text}
 use Rattle.book.specs.Seats.{heard_text}
 use Rattle.book.proofs.Plans.{heard_more, hears_more}

@@ -1,12 +1,16 @@
-use Rattle.std.proofs.Common.{arith, ◌≡◌, true, false, List, sym, ap, ◌∙◌, subst}
+use Rattle.std.proofs.Common.{arith, ◌≡◌, ℕ, false, List, refl, sym, ap, ◌∙◌, subst}
 use Rattle.std.proofs.lemmas.Grind.{common_steps}
 use Rattle.std.specs.Result.{OnOk}
+use Rattle.roster.specs.declared.deed.Deed.{Deed}
 use Rattle.roster.specs.LookBack.{on, name_of}
-use Rattle.deeds.specs.declared.effect.Effect.{Effect}
+use Rattle.drafts.specs.declared.effect.Effect.{Effect}
 use Rattle.deeds.specs.Channels.{join_there, joins}
-use Rattle.deeds.specs.Drafted.{grown}
-use Rattle.deeds.proofs.Named.{joins_there}
+use Rattle.drafts.specs.Drafted.{grown}
 use Rattle.deeds.proofs.channels.join.Goals as goal
+
+-- a session that isn't on a channel joins it
+joins_there : (fs : List Deed) (s : ℕ) (from c : List ℕ) → on fs s c ≡ false → joins fs s from c ≡ join_there s from fs c (name_of fs c)
+joins_there fs s from c away = rw away refl
 
 pub returns : goal.returns
 returns c =

@@ -1,8 +1,8 @@
 use Rattle.std.proofs.Common.{◌≡◌, ℕ, true, false, List, Option, sym, ◌∙◌, subst}
 use Rattle.std.specs.Option.{IfSome}
 use Rattle.roster.specs.LookBack.{has_member, on}
-use Rattle.deeds.specs.Drafted.{IsSpelling}
-use Rattle.deeds.proofs.Named.{join_next}
+use Rattle.drafts.specs.Drafted.{IsSpelling}
+use Rattle.drafts.proofs.Named.{join_next}
 use Rattle.deeds.proofs.channels.join_there.Goals as goal
 
 pub enter-requires-clause-next : goal.enter-requires-clause-next

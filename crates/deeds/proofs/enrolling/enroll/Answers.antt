@@ -1,10 +1,10 @@
 use Rattle.std.proofs.Common.{◌∷◌, []}
 use Rattle.roster.specs.declared.deed.Deed.TheVariants.{Enrolled}
-use Rattle.deeds.specs.declared.effect.Effect.TheVariants.{Establish}
-use Rattle.deeds.specs.Lines.{prefix}
-use Rattle.deeds.specs.Replies.{tells_all}
+use Rattle.drafts.specs.declared.effect.Effect.TheVariants.{Establish}
+use Rattle.drafts.specs.Lines.{prefix}
+use Rattle.drafts.specs.Replies.{tells_all}
 use Rattle.deeds.specs.Welcome.{welcome_numerics}
-use Rattle.deeds.proofs.Replay.{on_grown, opened_grown}
+use Rattle.drafts.proofs.Replay.{on_grown, opened_grown}
 use Rattle.deeds.proofs.enrolling.enroll.Goals as goal
 
 pub establish-requires-clause-next : goal.establish-requires-clause-next

@@ -1,5 +1,5 @@
 use Rattle.deeds.specs.Rows.{asked}
-use Rattle.deeds.proofs.Replay.{opened_grown}
+use Rattle.drafts.proofs.Replay.{opened_grown}
 use Rattle.deeds.proofs.rows.perform.Goals as goal
 
 pub complete-requires : goal.complete-requires

@@ -1,6 +1,6 @@
 use Rattle.std.proofs.Common.{◌+◌, ◌==◌, ◌++◌, ◌∷◌, [], cond, List, drop, ap, ◌∙◌, append_assoc}
 use Rattle.numerics.specs.declared.outgoing.Out.{Out}
-use Rattle.deeds.specs.Effects.{heard}
+use Rattle.drafts.specs.Effects.{heard}
 use Rattle.deeds.proofs.Sorted.{heard_more}
 use Rattle.deeds.proofs.verdict.push_heard.Goals as goal
 

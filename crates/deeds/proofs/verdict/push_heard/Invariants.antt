@@ -1,5 +1,5 @@
 use Rattle.std.proofs.Common.{◌≡◌, ◌++◌, drop}
-use Rattle.deeds.specs.Effects.{heard}
+use Rattle.drafts.specs.Effects.{heard}
 use Rattle.deeds.proofs.verdict.push_heard.Given as goal
 
 abbrev pub invariant-loop-hearer : goal.invariant-loop-hearer

@@ -1,6 +1,6 @@
 use Rattle.std.proofs.Common.{◌≡◌, ◌++◌}
 use Rattle.std.specs.Vec.Iter.{into_iter_items}
-use Rattle.deeds.specs.Effects.{deeds_of, reply, copies}
+use Rattle.drafts.specs.Effects.{deeds_of, reply, copies}
 use Rattle.deeds.specs.Verdicts.{shown}
 use Rattle.deeds.proofs.verdict.verdict_of.Given as goal
 

@@ -7,7 +7,7 @@ use Rattle.chronicle.specs.Journal.{fresh_record}
 use Rattle.registration.specs.declared.settings.Settings.{Settings}
 use Rattle.roster.specs.declared.deed.Deed.{Deed}
 use Rattle.roster.specs.LookBack.{after, opened}
-use Rattle.deeds.specs.Effects.{deeds_of}
+use Rattle.drafts.specs.Effects.{deeds_of}
 use Rattle.commands.specs.Asked.{asked_of}
 use Rattle.deeds.specs.Rows.{of_asked}
 use Rattle.book.specs.Seats.{planned_from}

@@ -5,7 +5,7 @@ use Rattle.chronicle.specs.Journal.{fresh_record}
 use Rattle.registration.specs.declared.settings.Settings.{Settings}
 use Rattle.roster.specs.declared.deed.Deed.{Deed}
 use Rattle.roster.specs.LookBack.{after, opened}
-use Rattle.deeds.specs.Effects.{deeds_of}
+use Rattle.drafts.specs.Effects.{deeds_of}
 use Rattle.deeds.specs.Departure.{departs}
 use Rattle.book.specs.Seats.{planned_from}
 use Rattle.book.specs.declared.seat.Seat.{Seat}

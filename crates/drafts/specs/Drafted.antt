@@ -1,0 +1,31 @@
+-- What clauses see of a draft.
+use Rattle.std.specs.Prelude.{◌≡◌, ℕ, List, ◌++◌}
+use Rattle.registration.specs.declared.settings.Settings.{Settings}
+use Rattle.roster.specs.declared.deed.Deed.{Deed}
+use Rattle.roster.specs.LookBack.{after, opened, on, has_member}
+use Rattle.roster.specs.Legal.{AreNext}
+use Rattle.drafts.specs.declared.effect.Effect.{Effect}
+use Rattle.drafts.specs.Effects.{deeds_of}
+
+pub record Drafted : Type 0 where
+  -- the server's
+  pub settings : Settings
+  -- the facts of the roster
+  pub base : List Deed
+  -- and with those that were established since
+  pub facts : List Deed
+  pub effects : List Effect
+
+-- a draft with these effects more
+abbrev pub grown : Drafted → List Effect → Drafted
+grown d es = record { settings = d.settings; base = d.base; facts = after d.facts (deeds_of es); effects = d.effects ++ es }
+
+-- facts that a draft may establish: they may come next, and open no session
+pub record IsDraft (fs ds : List Deed) : Type 0 where
+  pub next : AreNext fs ds
+  pub opened : opened (after fs ds) ≡ opened fs
+
+-- two spellings of one channel's name
+pub record IsSpelling (fs : List Deed) (n c : List ℕ) : Type 0 where
+  pub there : has_member fs n ≡ has_member fs c
+  pub on : (s : ℕ) → on fs s n ≡ on fs s c

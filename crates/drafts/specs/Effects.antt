@@ -1,0 +1,53 @@
+-- What a record does is a list of effects, in order; what follows from them for its own session and for each other (this project's own promise).
+use Rattle.std.specs.Prelude.{ℕ, ◌==◌, cond, List, [], ◌∷◌, ◌++◌, filter, map}
+use Rattle.numerics.specs.declared.outgoing.Out.{Out}
+use Rattle.roster.specs.declared.deed.Deed.{Deed}
+use Rattle.drafts.specs.declared.effect.Effect.{Effect}
+use Rattle.drafts.specs.declared.effect.Effect.TheVariants.{Establish, Answer, Show, Copy}
+
+-- the facts that effects establish, in order
+abbrev pub deeds_of : List Effect → List Deed
+deeds_of [] = []
+deeds_of (Establish d ∷ es) = d ∷ deeds_of es
+deeds_of (e ∷ es) = deeds_of es
+
+-- a line, as often as t is among its hearers: a list of members or of sharers has each once
+abbrev pub heard : List ℕ → Out → ℕ → List Out
+heard hearers line t = map (λ h. line) (filter (λ h. h == t) hearers)
+
+-- the lines of an effect to the record's session s
+abbrev pub replied : ℕ → Effect → List Out
+replied s (Establish d) = []
+replied s (Answer line) = line ∷ []
+replied s (Show hearers line) = heard hearers line s
+replied s (Copy line) = []
+
+abbrev pub reply : ℕ → List Effect → List Out
+reply s [] = []
+reply s (e ∷ es) = replied s e ++ reply s es
+
+-- what the record's session sent to itself
+abbrev pub copied : Effect → List Out
+copied (Establish d) = []
+copied (Answer line) = []
+copied (Show hearers line) = []
+copied (Copy line) = line ∷ []
+
+abbrev pub copies : List Effect → List Out
+copies [] = []
+copies (e ∷ es) = copied e ++ copies es
+
+-- the lines of an effect to another session t
+abbrev pub shown_by : Effect → ℕ → List Out
+shown_by (Establish d) t = []
+shown_by (Answer line) t = []
+shown_by (Show hearers line) t = heard hearers line t
+shown_by (Copy line) t = []
+
+abbrev pub due : List Effect → ℕ → List Out
+due [] t = []
+due (e ∷ es) t = shown_by e t ++ due es t
+
+-- all lines of effects of s to t: its reply and what it sent to itself besides, or what another is shown
+abbrev pub lines_to : ℕ → List Effect → ℕ → List Out
+lines_to s es t = cond (s == t) (reply s es ++ copies es) (due es t)

@@ -1,0 +1,77 @@
+//! What a record does, one thing after another.
+ghost use Rattle.std.specs.Prelude.{◌≡◌, option_copied, OnOk};
+ghost use Rattle.std.specs.Option.{option_map};
+ghost use Rattle.registration.specs.Enrol.{enrolment};
+ghost use Rattle.drafts.specs.Tells.{effect_host, effect_enrolled, effect_on, effect_name, effect_seated};
+
+use chronicle::SessionId;
+use line_grammar::Octets;
+use numerics::Out;
+use registration::Enrol;
+use roster::{Deed, Sessions};
+use std::alloc::AllocError;
+
+/// One thing that a record does.
+#[derive(Debug, Drop)]
+pub enum Effect {
+    /// A fact is established, and known to the effects after it.
+    Establish { deed: Deed },
+    /// The record's session is answered.
+    Answer { line: Out },
+    /// Sessions are shown a line, the record's own perhaps among them.
+    Show { hearers: Sessions, line: Out },
+    /// The record's session is given what it sent to itself, besides the answer.
+    Copy { line: Out },
+}
+
+impl Effect {
+    /// What it tells of the host of a session, if anything.
+    pub(crate) fn tells_host(&self, session: SessionId) -> Option<&[u8]>
+        ensures { option_map (λ h. h.now) result ≡ effect_host session self.now }
+    {
+        match self {
+            Effect::Establish { deed } => deed.tells_host(session),
+            _ => None,
+        }
+    }
+
+    /// What is known of a session while it registers, after this.
+    pub(crate) fn enroll<'a>(&'a self, session: SessionId, enrol: Enrol<'a>) -> Enrol<'a>
+        ensures { enrolment result ≡ effect_enrolled session self.now (enrolment enrol.entry) }
+    {
+        match self {
+            Effect::Establish { deed } => deed.enroll(session, enrol),
+            _ => enrol,
+        }
+    }
+
+    /// What it tells of whether a session is on a channel, if anything.
+    pub(crate) fn tells_on(&self, session: SessionId, channel: &[u8]) -> Option<bool>
+        ensures { result ≡ effect_on session channel.now self.now }
+    {
+        match self {
+            Effect::Establish { deed } => deed.tells_on(session, channel),
+            _ => None,
+        }
+    }
+
+    /// What it tells of the name of a channel, if anything.
+    pub(crate) fn tells_name(&self, channel: &[u8]) -> Option<&Octets>
+        ensures { option_copied result ≡ effect_name channel.now self.now }
+    {
+        match self {
+            Effect::Establish { deed } => deed.tells_name(channel),
+            _ => None,
+        }
+    }
+
+    /// Makes the members of a channel those after it.
+    pub(crate) fn seat(&self, channel: &[u8], members: &mut Sessions) -> Result<(), AllocError>
+        ensures { OnOk result (members.new ≡ effect_seated self.now channel.now members.old) }
+    {
+        match self {
+            Effect::Establish { deed } => deed.seat(channel, members),
+            _ => Ok(()),
+        }
+    }
+}

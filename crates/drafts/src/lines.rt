@@ -1,0 +1,103 @@
+//! The lines that are shown, and those that answer without a number (RFC 2812, sections 2.3.1, 3.1.2, 3.1.7, 3.2.1, 3.3.1 and
+//! 3.7.3; IRCv3 Capability Negotiation and SASL 3.1).
+ghost use Rattle.std.specs.Prelude.{◌≡◌, ◌++◌, [], option_copied, OnOk, IfOk};
+ghost use Rattle.drafts.specs.Lines.{title, prefix, join_line, privmsg_line, quit_line, nick_line, pong_line, cap_line, go_on_line};
+
+use crate::draft::Draft;
+use chronicle::SessionId;
+use line_grammar::{Octets, Parameters, needs_colon};
+use numerics::{Out, copied_all};
+use std::alloc::{AllocError, Global};
+
+/// Adds a name, or a star before it is known.
+fn push_title(text: &mut Vec<u8>, name: Option<&Octets>) -> Result<(), AllocError>
+    ensures { OnOk result (text.new.items ≡ text.old.items ++ title (option_copied name.entry)) }
+{
+    match name {
+        Some(name) => text.extend_from_slice(name.as_slice()),
+        None => text.extend_from_slice(b"*"),
+    }
+}
+
+/// Whom the lines of a session come from: `nick!user@host`, with a star for a name that isn't known yet.
+#[tactic(auto, unfolding(crate::specs::Lines::prefix))]
+pub fn prefix_of(draft: &Draft<'_>, session: SessionId) -> Result<Octets, AllocError>
+    ensures { IfOk result (λ p. p ≡ prefix draft.now.facts session) }
+{
+    let mut text = Vec::new(draft.alloc());
+    push_title(&mut text, draft.nick_of(session))?;
+    text.extend_from_slice(b"!")?;
+    push_title(&mut text, draft.user_of(session))?;
+    text.extend_from_slice(b"@")?;
+    text.extend_from_slice(draft.host_of(session))?;
+    Ok(Octets::from_vec(text))
+}
+
+/// The line that shows a join of a channel.
+pub fn join_line(alloc: Global, from: &[u8], channel: &[u8]) -> Result<Out, AllocError>
+    ensures { IfOk result (λ l. l ≡ join_line from.now channel.now) }
+{
+    Out::new(alloc, from, b"JOIN", copied_all(alloc, &[channel])?, false)
+}
+
+/// The line that carries a text to a channel.
+pub fn privmsg_line(
+    alloc: Global,
+    from: &[u8],
+    target: &[u8],
+    text: &[u8],
+) -> Result<Out, AllocError>
+    ensures { IfOk result (λ l. l ≡ privmsg_line from.now target.now text.now) }
+{
+    let params = copied_all(alloc, &[target, text])?;
+    Out::new(alloc, from, b"PRIVMSG", params, true)
+}
+
+/// The line that shows that a session is gone.
+pub fn quit_line(alloc: Global, from: &[u8], text: &[u8]) -> Result<Out, AllocError>
+    ensures { IfOk result (λ l. l ≡ quit_line from.now text.now) }
+{
+    Out::new(alloc, from, b"QUIT", copied_all(alloc, &[text])?, true)
+}
+
+/// The line that shows a change of nickname.
+pub fn nick_line(alloc: Global, from: &[u8], new: &[u8]) -> Result<Out, AllocError>
+    ensures { IfOk result (λ l. l ≡ nick_line from.now new.now) }
+{
+    Out::new(alloc, from, b"NICK", copied_all(alloc, &[new])?, false)
+}
+
+/// The line that answers PING with its token.
+pub fn pong_line(alloc: Global, server: &[u8], token: &[u8]) -> Result<Out, AllocError>
+    ensures { IfOk result (λ l. l ≡ pong_line server.now token.now) }
+{
+    let params = copied_all(alloc, &[server, token])?;
+    Out::new(alloc, server, b"PONG", params, needs_colon(token))
+}
+
+/// The line that answers CAP with a list of capabilities, after the subcommand that it belongs to.
+pub fn cap_line(
+    alloc: Global,
+    server: &[u8],
+    to: &[u8],
+    subcommand: &[u8],
+    list: &[u8],
+) -> Result<Out, AllocError>
+    ensures { IfOk result (λ l. l ≡ cap_line server.now to.now subcommand.now list.now) }
+{
+    let params = copied_all(alloc, &[to, subcommand, list])?;
+    Out::new(alloc, server, b"CAP", params, true)
+}
+
+/// The line by which a client is to go on with its exchange of SASL.
+pub fn go_on_line(alloc: Global) -> Result<Out, AllocError>
+    ensures { IfOk result (λ l. l ≡ go_on_line) }
+{
+    Ok(Out {
+        tags: Octets::from_vec(Vec::new(alloc)),
+        source: None,
+        command: Octets::copied(alloc, b"AUTHENTICATE")?,
+        params: Parameters::from_vec(copied_all(alloc, &[b"+"])?),
+        colon: false,
+    })
+}

@@ -1,0 +1,52 @@
+//! How a session is answered (RFC 2812, section 2.4).
+ghost use Rattle.std.specs.Prelude.{◌≡◌, ◌∷◌, [], option_copied, IfOk, OnOk};
+ghost use Rattle.drafts.specs.Drafted.{grown};
+ghost use Rattle.drafts.specs.Lines.{title};
+ghost use Rattle.drafts.specs.Replies.{tells, tells_all};
+
+use crate::draft::Draft;
+use chronicle::SessionId;
+use line_grammar::Octets;
+use numerics::Numeric;
+use std::alloc::{AllocError, Global};
+
+/// A name, or a star before it is known.
+pub fn title_of(alloc: Global, name: Option<&Octets>) -> Result<Octets, AllocError>
+    ensures { IfOk result (λ t. t ≡ title (option_copied name.entry)) }
+{
+    match name {
+        Some(name) => name.clone(),
+        None => Octets::copied(alloc, b"*"),
+    }
+}
+
+/// Answers a session with a numeric that is lent.
+fn tell_lent(draft: &mut Draft, session: SessionId, numeric: &Numeric) -> Result<(), AllocError>
+    ensures { OnOk result (draft.new ≡ grown draft.old (tells draft.old.settings draft.old.facts session numeric.now ∷ [])) }
+{
+    let to = title_of(draft.alloc(), draft.nick_of(session))?;
+    let server = draft.before().settings().server.as_slice();
+    let line = numeric.line(draft.alloc(), server, to.as_slice())?;
+    draft.answer(line)
+}
+
+/// Answers a session with a numeric, from the server and to the session's nickname.
+pub fn tell(draft: &mut Draft, session: SessionId, numeric: Numeric) -> Result<(), AllocError>
+    ensures { OnOk result (draft.new ≡ grown draft.old (tells draft.old.settings draft.old.facts session numeric ∷ [])) }
+{
+    tell_lent(draft, session, &numeric)
+}
+
+/// Answers a session with several numerics, in order.
+pub fn tell_all(
+    draft: &mut Draft,
+    session: SessionId,
+    numerics: &[Numeric],
+) -> Result<(), AllocError>
+    ensures { OnOk result (draft.new ≡ grown draft.old (tells_all draft.old.settings draft.old.facts session numerics.now)) }
+{
+    for numeric in numerics {
+        tell_lent(draft, session, numeric)?;
+    }
+    Ok(())
+}
