@@ -11,7 +11,7 @@ use Rattle.chronicle.specs.declared.record.Kind.{Kind}
 use Rattle.chronicle.specs.declared.record.Kind.TheVariants.{Opened, Said, Gone}
 use Rattle.chronicle.specs.declared.why.Why.TheVariants.{Quit}
 use Rattle.chronicle.specs.History.{Rec, is_quit}
-use Rattle.numerics.specs.Outgoing.{octets}
+use Rattle.numerics.specs.Outgoing.{octets, room}
 use Rattle.numerics.specs.Numerics.{numeric, row_line}
 use Rattle.numerics.specs.Cut.{cut}
 use Rattle.numerics.specs.CivilTime.{falls_in, civil_date, time_text}
@@ -26,7 +26,11 @@ use Rattle.commands.specs.Asked.{asked_of}
 use Rattle.commands.specs.Commands.{command_of, with_params}
 use Rattle.commands.specs.Lists.{is_same as same_target}
 use Rattle.commands.specs.Names.{named}
-use Rattle.roster.specs.LookBack.{is_same, members, registered}
+use Rattle.casemapping.specs.Fold.{is_same}
+use Rattle.roster.specs.LookBack.{members, registered}
+use Rattle.channel_commands.specs.Found.{channel_of}
+use Rattle.channel_commands.specs.Joining.{bar_of}
+use Rattle.channel_commands.specs.Names.{member_name}
 use Rattle.deeds.specs.Deeds.{facts}
 use Rattle.drafts.specs.Lines.{prefix}
 use Rattle.outbox.specs.declared.item.Item.{Item}
@@ -75,9 +79,9 @@ unfolding reading parameters with_command asked_of command_of with_params named 
 registers = refl
 
 -- before it is registered it may not join; a message of too few parameters is told so first, and an unknown command whoever sends it
-is_refused : owes [] (codes "JOIN #a" ∷ codes "JOIN" ∷ codes "FOO" ∷ codes "part" ∷ codes "NOTICE" ∷ [])
+is_refused : owes [] (codes "JOIN #a" ∷ codes "JOIN" ∷ codes "FOO" ∷ codes "names" ∷ codes "NOTICE" ∷ [])
     ≡ Lines 2 (codes ":irc.example 451 * :You have not registered" ++ crlf) ∷ Lines 3 (codes ":irc.example 461 * JOIN :Not enough parameters" ++ crlf) ∷ Lines 4 (codes ":irc.example 421 * FOO :Unknown command" ++ crlf)
-    ∷ Lines 5 (codes ":irc.example 421 * part :Unknown command" ++ crlf) ∷ []
+    ∷ Lines 5 (codes ":irc.example 421 * names :Unknown command" ++ crlf) ∷ []
 unfolding reading parameters with_command asked_of command_of with_params named fold_of same_target is_quit prefix octets untagged numeric row_line
 is_refused = refl
 
@@ -127,6 +131,9 @@ within_one = refl
 
 -- ---- two people in a channel, one of whom has another name then and leaves
 
+abbrev names : List ℕ → List ℕ → List ℕ
+names to those = codes ":irc.example 353 " ++ to ++ codes " = #a :" ++ those ++ crlf ++ codes ":irc.example 366 " ++ to ++ codes " #a :End of NAMES list" ++ crlf
+
 abbrev meets : List Kind
 meets = says 2 0 (codes "NICK bo" ∷ codes "USER b 0 * :Bo" ∷ codes "JOIN #A" ∷ []) (Opened 2 (codes "h2") ∷ says 1 0 (starts ++ codes "JOIN #a" ∷ []) (Opened 1 (codes "h1") ∷ []))
 
@@ -134,16 +141,16 @@ abbrev story : List Kind
 story = Gone 1 ∷ says 1 3 (codes "NICK BO" ∷ codes "NICK alf" ∷ codes "QUIT :bye" ∷ []) (says 2 3 (codes "PRIVMSG #a :hi" ∷ []) meets)
 
 members_then : members (facts (server []) (records meets)) (codes "#a") ≡ 1 ∷ 2 ∷ []
-unfolding reading parameters with_command asked_of command_of with_params named nick_answer fold_of nick_shape channel_shape is_same same_target is_quit cut
+unfolding reading parameters with_command asked_of command_of with_params named nick_answer fold_of nick_shape channel_shape is_same same_target is_quit cut channel_of bar_of member_name room numeric row_line untagged prefix octets
 members_then = refl
 
 owed_to_who_leaves : owed (server []) (records story) 1
-    ≡ Lines 3 welcome ∷ Lines 4 (codes ":al!a@h1 JOIN #a" ++ crlf) ∷ Lines 8 (codes ":bo!b@h2 JOIN #a" ++ crlf) ∷ Lines 9 (codes ":bo!b@h2 PRIVMSG #a :hi" ++ crlf)
+    ≡ Lines 3 welcome ∷ Lines 4 (codes ":al!a@h1 JOIN #a" ++ crlf ++ names (codes "al") (codes "@al")) ∷ Lines 8 (codes ":bo!b@h2 JOIN #a" ++ crlf) ∷ Lines 9 (codes ":bo!b@h2 PRIVMSG #a :hi" ++ crlf)
     ∷ Lines 10 (codes ":irc.example 433 al BO :Nickname is already in use" ++ crlf) ∷ Lines 11 (codes ":al!a@h1 NICK alf" ++ crlf) ∷ Last 12 Quit ∷ []
-unfolding reading parameters with_command asked_of command_of with_params named nick_answer fold_of nick_shape channel_shape is_same same_target is_quit prefix octets untagged numeric row_line cut time_text civil_date falls_in
+unfolding reading parameters with_command asked_of command_of with_params named nick_answer fold_of nick_shape channel_shape is_same same_target is_quit prefix octets untagged numeric row_line cut time_text civil_date falls_in channel_of bar_of member_name room
 owed_to_who_leaves = refl
 
 shown_to_who_stays : owed (server []) (records story) 2
-    ≡ Lines 7 (greets (codes "bo") (codes "!b@h2")) ∷ Lines 8 (codes ":bo!b@h2 JOIN #a" ++ crlf) ∷ Lines 11 (codes ":al!a@h1 NICK alf" ++ crlf) ∷ Lines 13 (codes ":alf!a@h1 QUIT :bye" ++ crlf) ∷ []
-unfolding reading parameters with_command asked_of command_of with_params named nick_answer fold_of nick_shape channel_shape is_same same_target is_quit prefix octets untagged numeric row_line cut time_text civil_date falls_in
+    ≡ Lines 7 (greets (codes "bo") (codes "!b@h2")) ∷ Lines 8 (codes ":bo!b@h2 JOIN #a" ++ crlf ++ names (codes "bo") (codes "@al bo")) ∷ Lines 11 (codes ":al!a@h1 NICK alf" ++ crlf) ∷ Lines 13 (codes ":alf!a@h1 QUIT :bye" ++ crlf) ∷ []
+unfolding reading parameters with_command asked_of command_of with_params named nick_answer fold_of nick_shape channel_shape is_same same_target is_quit prefix octets untagged numeric row_line cut time_text civil_date falls_in channel_of bar_of member_name room
 shown_to_who_stays = refl

@@ -1,2 +1,4 @@
 pub mod FoldLemmas
+pub mod SameNames
+pub mod Fits
 pub mod MaskLemmas

@@ -1,5 +1,6 @@
 -- The lower case of octets and of names (RFC 2812, section 2.2; the case mapping `rfc1459`).
-use Rattle.std.specs.Prelude.{ℕ, ◌+◌, ◌==◌, nat_le, ◌&&◌, List, map, if◌then◌else◌}
+use Rattle.std.specs.Prelude.{ℕ, Bool, ◌+◌, ◌==◌, nat_le, ◌&&◌, List, map, if◌then◌else◌}
+use Rattle.std.specs.Str.{bytes_eq}
 
 -- `A` to `Z` become `a` to `z`, and `[`, `]`, `\` and `~` become `{`, `}`, `|` and `^`.
 unfoldable pub fold_of : ℕ → ℕ
@@ -14,3 +15,7 @@ fold_of octet =
 -- A name octet by octet.
 abbrev pub folded : List ℕ → List ℕ
 folded name = map fold_of name
+
+-- Whether two names differ in case at most.
+unfoldable pub is_same : List ℕ → List ℕ → Bool
+is_same a b = bytes_eq (folded a) (folded b)

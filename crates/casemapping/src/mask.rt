@@ -1,6 +1,6 @@
 //! Masks (RFC 2812, section 2.5, without its escape).
 ghost use Rattle.std.specs.Prelude.{◌≡◌, ◌≢◌, ◌↔◌, List, ℕ, ◌∷◌, IsTrue, MatchOption};
-ghost use Rattle.casemapping.specs.Mask.{Matches};
+ghost use Rattle.casemapping.specs.Mask.{Matches, fits};
 ghost use Rattle.casemapping.specs.MaskSteps.{AgreesOnFirst, DiffersOnFirst};
 
 use crate::fold;
@@ -28,11 +28,7 @@ fn after_octet<'a>(mask: &'a [u8], text: &'a [u8]) -> Option<(&'a [u8], &'a [u8]
     }
 }
 
-/// Whether a mask fits a text. In the mask `*` stands for any octets, none too, `?` for any one octet,
-/// and another octet for itself in either case (RFC 2812, section 2.5, without its escape).
-///
-/// It takes no memory, and at most about as many steps as the mask's length times the text's.
-pub fn matches(mask: &[u8], text: &[u8]) -> bool
+fn is_match(mask: &[u8], text: &[u8]) -> bool
     ensures { IsTrue result ↔ Matches mask.now text.now }
 {
     let mut pattern = mask;
@@ -57,4 +53,15 @@ pub fn matches(mask: &[u8], text: &[u8]) -> bool
             return false;
         }
     }
+}
+
+/// Whether a mask fits a text. In the mask `*` stands for any octets, none too, `?` for any one octet,
+/// and another octet for itself in either case (RFC 2812, section 2.5, without its escape).
+///
+/// It takes no memory, and at most about as many steps as the mask's length times the text's.
+pub fn matches(mask: &[u8], text: &[u8]) -> bool
+    ensures relation { IsTrue result ↔ Matches mask.now text.now }
+    ensures test { result ≡ fits mask.now text.now }
+{
+    is_match(mask, text)
 }

@@ -112,10 +112,6 @@ quit_read : (m : Message) → is_quit_read (command_of m) ≡ str_eq_ignore_asci
 unfolding command_of named
 quit_read m = found_first (λ known. str_eq_ignore_ascii_case m.command (name_text known)) m names_but_quit refl
 
-not_served-quits : (name : CommandName) (m : Message) → asks_for_quit (not_served name m) ≡ false
-not_served-quits Notice m = refl
-not_served-quits other m = refl
-
 -- QUIT is served
 not_served-other : (name : CommandName) → is_served name ≡ false → is_other name ≡ true
 not_served-other Quit e = cc
@@ -129,7 +125,7 @@ asked-quits (Some name) m e =
       | inl is ↦ rw is (quit_read m)
       | inr isnt ↦
           let read : is_quit_read (command_of m) ≡ false = rw e (not_quit name (not_served-other name isnt) m.params) in
-          rw isnt (not_served-quits name m ∙ sym read ∙ quit_read m)
+          rw isnt (sym read ∙ quit_read m)
     ]
 
 of_message : (m : Option Message) → asks_for_quit (asked_by m) ≡ asks_to_quit m

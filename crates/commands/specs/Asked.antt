@@ -7,7 +7,6 @@ use Rattle.line_grammar.specs.Reading.{reading}
 use Rattle.commands.specs.declared.asked.Asked.{Asked}
 use Rattle.commands.specs.declared.asked.Asked.TheVariants.{Nothing, TooLong, Command as Asks, Fault as Fails}
 use Rattle.commands.specs.declared.names.CommandName.{CommandName}
-use Rattle.commands.specs.declared.names.CommandName.TheVariants.{Notice}
 use Rattle.commands.specs.declared.command.Command.{Command}
 use Rattle.commands.specs.declared.command.Command.TheVariants.{Quit}
 use Rattle.commands.specs.declared.command.ReadFault.{ReadFault}
@@ -19,14 +18,13 @@ abbrev pub read_as : Result Command ReadFault → Asked
 read_as (Ok command) = Asks command
 read_as (Err fault) = Fails fault
 
--- a command that isn't served is unknown, whatever its shape; NOTICE is never answered
-abbrev pub not_served : CommandName → Message → Asked
-not_served Notice m = Nothing
-not_served other m = Fails (UnknownCommand m.command)
+-- a command that isn't served is unknown, whatever its shape
+abbrev pub not_served : Message → Asked
+not_served m = Fails (UnknownCommand m.command)
 
 abbrev pub served_or_not : Option CommandName → Message → Asked
 served_or_not None m = read_as (command_of m)
-served_or_not (Some name) m = cond (is_served name) (read_as (command_of m)) (not_served name m)
+served_or_not (Some name) m = cond (is_served name) (read_as (command_of m)) (not_served m)
 
 abbrev pub asked_by : Option Message → Asked
 asked_by None = Nothing

@@ -11,7 +11,7 @@ use std::alloc::{AllocError, Global};
 /// What a piece asks for.
 #[derive(Clone, Debug, Drop, PartialEq)]
 pub enum Asked {
-    /// Nothing: the line holds NUL, has no command, or is a NOTICE that isn't served.
+    /// Nothing: the line holds NUL, or has no command.
     Nothing,
     /// Nothing, since the line was too long: 417 answers it.
     TooLong,
@@ -30,13 +30,10 @@ impl Asked {
     }
 }
 
-/// What a command asks for that isn't served: an unknown command, but nothing where it is NOTICE.
-fn not_served(name: CommandName, message: &Message) -> Result<Asked, AllocError>
-    ensures { IfOk result (λ asked. asked ≡ not_served name message.now) }
+/// What a command asks for that isn't served: an unknown command.
+fn not_served(message: &Message) -> Result<Asked, AllocError>
+    ensures { IfOk result (λ asked. asked ≡ not_served message.now) }
 {
-    if name == CommandName::Notice {
-        return Ok(Asked::Nothing);
-    }
     let name = message.command.clone()?;
     Ok(Asked::Fault(ReadFault::UnknownCommand { name }))
 }
@@ -46,7 +43,7 @@ fn asked_by(alloc: Global, message: &Message) -> Result<Asked, AllocError>
 {
     if let Some(name) = CommandName::read(message.command.as_slice()) {
         if !name.is_served() {
-            return not_served(name, message);
+            return not_served(message);
         }
     }
     match read(alloc, message) {

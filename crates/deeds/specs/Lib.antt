@@ -1,8 +1,6 @@
 pub mod Welcome
 pub mod Registration
 pub mod Negotiation
-pub mod Channels
-pub mod Talking
 pub mod Departure
 pub mod Rows
 pub mod Deeds

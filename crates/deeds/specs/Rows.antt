@@ -1,6 +1,5 @@
 -- What each command does, by the facts before it: RFC 2812, section 3.
 use Rattle.std.specs.Prelude.{ℕ, Bool, true, false, not, ◌&&◌, List, [], ◌∷◌, ◌++◌, Option, Some, None, if◌then◌else◌}
-use Rattle.casemapping.specs.Names.{channel_shape}
 use Rattle.numerics.specs.declared.numeric.Numeric.{Numeric}
 use Rattle.numerics.specs.declared.numeric.Numeric.TheVariants as numeric
 use Rattle.registration.specs.declared.settings.Settings.{Settings}
@@ -9,31 +8,26 @@ use Rattle.roster.specs.LookBack.{after, registered}
 use Rattle.commands.specs.declared.asked.Asked.{Asked}
 use Rattle.commands.specs.declared.asked.Asked.TheVariants.{Nothing, TooLong, Command as Asks, Fault as Fails}
 use Rattle.commands.specs.declared.command.Command.{Command}
-use Rattle.commands.specs.declared.command.Command.TheVariants.{Cap, Authenticate, Pass, Nick, User, Ping, Pong, Quit, Join, Privmsg, Motd}
+use Rattle.commands.specs.declared.command.Command.TheVariants.{Cap, Authenticate, Pass, Nick, User, Ping, Pong, Quit, Join, Part, Kick, Invite, Topic, Mode, Privmsg, Notice, Away, Motd}
 use Rattle.commands.specs.declared.command.ReadFault.{ReadFault}
 use Rattle.commands.specs.declared.command.ReadFault.TheVariants.{UnknownCommand, NeedMoreParams, NoNicknameGiven, NoRecipient, NoTextToSend, NoOrigin, InvalidCapSubcommand, Memory}
-use Rattle.commands.specs.declared.join_targets.JoinTarget.{JoinTarget}
 use Rattle.commands.specs.Names.{name_text}
 use Rattle.drafts.specs.declared.effect.Effect.{Effect}
 use Rattle.drafts.specs.declared.effect.Effect.TheVariants.{Answer}
 use Rattle.drafts.specs.Effects.{deeds_of}
-use Rattle.drafts.specs.Lines.{prefix, pong_line}
+use Rattle.drafts.specs.Lines.{pong_line}
 use Rattle.drafts.specs.Replies.{tells, tells_all}
 use Rattle.deeds.specs.Welcome.{motd_asked}
 use Rattle.deeds.specs.Registration.{takes_nick, introduces, passes, quits, completed}
 use Rattle.deeds.specs.Negotiation.{negotiates, authenticates}
-use Rattle.deeds.specs.Channels.{joins}
-use Rattle.deeds.specs.Talking.{sends}
-
--- one channel
-abbrev pub joins_one : List Deed → ℕ → List JoinTarget → List Effect
-joins_one fs s (t ∷ []) = if channel_shape t.channel then joins fs s (prefix fs s) t.channel else []
-joins_one fs s ts = []
-
--- one target
-abbrev pub sends_one : List Deed → ℕ → List (List ℕ) → List ℕ → List Effect
-sends_one fs s (c ∷ []) text = sends fs s (prefix fs s) c text
-sends_one fs s cs text = []
+use Rattle.channel_commands.specs.Joining.{joins}
+use Rattle.channel_commands.specs.Leaving.{parts, kicks}
+use Rattle.channel_commands.specs.Inviting.{invites}
+use Rattle.channel_commands.specs.Topics.{topics}
+use Rattle.mode_commands.specs.Modes.{modes}
+use Rattle.talk_commands.specs.declared.verb.Verb.TheVariants as verb
+use Rattle.talk_commands.specs.Talking.{sends}
+use Rattle.talk_commands.specs.Away.{goes_away}
 
 -- whether a command is for those alone who are registered
 abbrev pub is_for_registered : Command → Bool
@@ -47,6 +41,19 @@ is_for_registered Pong = false
 is_for_registered (Quit text) = false
 is_for_registered k = true
 
+-- what a command about channels and texts does
+abbrev pub converses : Settings → List Deed → ℕ → Command → List Effect
+converses g fs s (Join targets) = joins g fs s targets
+converses g fs s (Part channels text) = parts g fs s channels text
+converses g fs s (Kick channel nicks text) = kicks g fs s channel nicks text
+converses g fs s (Invite nick channel) = invites g fs s nick channel
+converses g fs s (Topic channel text) = topics g fs s channel text
+converses g fs s (Mode target changes) = modes g fs s target changes
+converses g fs s (Privmsg targets text) = sends g fs s verb.Privmsg targets text
+converses g fs s (Notice targets text) = sends g fs s verb.Notice targets text
+converses g fs s (Away text) = goes_away g fs s text
+converses g fs s k = []
+
 -- what a command of a session does by itself
 abbrev pub served : Settings → List Deed → ℕ → Command → List Effect
 served g fs s (Cap subcommand) = negotiates g fs s subcommand
@@ -56,13 +63,16 @@ served g fs s (Nick n) = takes_nick g fs s n
 served g fs s (User u r) = introduces g fs s u r
 served g fs s (Ping token) = Answer (pong_line g.server token) ∷ []
 served g fs s (Quit text) = quits s text
-served g fs s (Join ts) = joins_one fs s ts
-served g fs s (Privmsg cs text) = sends_one fs s cs text
 served g fs s (Motd server) = tells_all g fs s (motd_asked g server)
-served g fs s k = []
+served g fs s k = converses g fs s k
+
+-- who isn't registered is told so, but not after NOTICE
+abbrev pub turned_away : Settings → List Deed → ℕ → Command → List Effect
+turned_away g fs s (Notice targets text) = []
+turned_away g fs s k = tells g fs s numeric.NotRegistered ∷ []
 
 abbrev pub asked : Settings → List Deed → ℕ → Command → List Effect
-asked g fs s k = if is_for_registered k && not (registered fs s) then tells g fs s numeric.NotRegistered ∷ [] else served g fs s k
+asked g fs s k = if is_for_registered k && not (registered fs s) then turned_away g fs s k else served g fs s k
 
 -- and then the session is registered, if it is complete by it
 abbrev pub of_command : Settings → List Deed → ℕ → Command → List Effect

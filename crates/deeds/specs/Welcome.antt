@@ -6,7 +6,7 @@ use Rattle.numerics.specs.CivilTime.{time_text}
 use Rattle.numerics.specs.Cut.{cut}
 use Rattle.numerics.specs.Support.{tokens}
 use Rattle.registration.specs.declared.settings.Settings.{Settings}
-use Rattle.roster.specs.LookBack.{is_same}
+use Rattle.casemapping.specs.Fold.{is_same}
 
 -- the message of the day, line by line
 abbrev pub motd_numerics : Option (List (List ℕ)) → List Numeric

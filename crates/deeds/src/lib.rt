@@ -1,12 +1,10 @@
 //! What a record does: facts that it establishes, and lines that it shows.
 #![tactic(auto)]
 
-mod channels;
 mod departure;
 mod enrolling;
 mod negotiation;
 mod rows;
-mod talking;
 mod verdict;
 mod welcome;
 

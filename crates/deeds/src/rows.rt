@@ -7,53 +7,23 @@ ghost use Rattle.drafts.specs.Drafted.{grown};
 ghost use Rattle.drafts.specs.Lines.{pong_line};
 ghost use Rattle.drafts.specs.Replies.{tells_all};
 ghost use Rattle.deeds.specs.Welcome.{motd_asked};
-ghost use Rattle.deeds.specs.Rows.{asked, fault_numeric, is_for_registered, joins_one, of_asked, of_command, refused, sends_one, served};
+ghost use Rattle.deeds.specs.Rows.{asked, converses, fault_numeric, is_for_registered, of_asked, of_command, refused, served, turned_away};
 ghost use Rattle.deeds.specs.Verdicts.{IsVerdict};
 
-use crate::channels::join;
 use crate::enrolling::{complete, introduce, pass, quit, take_nick};
 use crate::negotiation::{authenticate, negotiate};
-use crate::talking::send;
 use crate::verdict::{Verdict, verdict_of};
 use crate::welcome::motd_asked;
-use casemapping::is_channel;
+use channel_commands::{invite, join, kick, part, set_topic};
 use chronicle::{Moment, SessionId};
-use commands::{Asked, Command, JoinTarget, ReadFault};
-use drafts::{Draft, pong_line, prefix_of, tell, tell_all};
+use commands::{Asked, Command, ReadFault};
+use drafts::{Draft, pong_line, tell, tell_all};
 use line_grammar::Octets;
+use mode_commands::change_modes;
 use numerics::Numeric;
 use roster::Roster;
 use std::alloc::{AllocError, Global};
-
-/// Joins a channel, where one is named.
-fn join_one(draft: &mut Draft, session: SessionId, targets: &[JoinTarget]) -> Result<(), AllocError>
-    ensures { OnOk result (draft.new ≡ grown draft.old (joins_one draft.old.facts session targets.now)) }
-{
-    let [target] = targets else {
-        return Ok(());
-    };
-    if !is_channel(target.channel.as_slice()) {
-        return Ok(());
-    }
-    let from = prefix_of(draft, session)?;
-    join(draft, session, from.as_slice(), &target.channel)
-}
-
-/// Sends a text to a channel, where one is named.
-fn send_one(
-    draft: &mut Draft,
-    session: SessionId,
-    targets: &[Octets],
-    text: &Octets,
-) -> Result<(), AllocError>
-    ensures { OnOk result (draft.new ≡ grown draft.old (sends_one draft.old.facts session targets.now text.now)) }
-{
-    let [target] = targets else {
-        return Ok(());
-    };
-    let from = prefix_of(draft, session)?;
-    send(draft, session, from.as_slice(), target, text)
-}
+use talk_commands::{Verb, go_away, send};
 
 /// Answers PING.
 fn pong(draft: &mut Draft, token: &[u8]) -> Result<(), AllocError>
@@ -93,6 +63,36 @@ fn is_for_registered(command: &Command) -> bool
     )
 }
 
+/// Does what a command about channels and texts asks for.
+fn converse(draft: &mut Draft, session: SessionId, command: &Command) -> Result<(), AllocError>
+    requires opened { IsOpened draft.old.facts session }
+    requires first { draft.old.facts ≡ draft.old.base }
+    ensures { OnOk result (draft.new ≡ grown draft.old (converses draft.old.settings draft.old.facts session command.now)) }
+{
+    match command {
+        Command::Join { targets } => join(draft, session, targets.as_slice()),
+        Command::Part { channels, text } => part(draft, session, channels.as_slice(), text),
+        Command::Kick {
+            channel,
+            nicks,
+            text,
+        } => kick(draft, session, channel, nicks.as_slice(), text),
+        Command::Invite { nick, channel } => invite(draft, session, nick, channel),
+        Command::Topic { channel, text } => set_topic(draft, session, channel, text),
+        Command::Mode { target, changes } => {
+            change_modes(draft, session, target, changes.as_slice())
+        }
+        Command::Privmsg { targets, text } => {
+            send(draft, session, Verb::Privmsg, targets.as_slice(), text)
+        }
+        Command::Notice { targets, text } => {
+            send(draft, session, Verb::Notice, targets.as_slice(), text)
+        }
+        Command::Away { text } => go_away(draft, session, text),
+        _ => Ok(()),
+    }
+}
+
 /// Does what a command asks for by itself.
 fn serve(draft: &mut Draft, session: SessionId, command: &Command) -> Result<(), AllocError>
     requires opened { IsOpened draft.old.facts session }
@@ -107,10 +107,18 @@ fn serve(draft: &mut Draft, session: SessionId, command: &Command) -> Result<(),
         Command::User { user, real } => introduce(draft, session, user, real),
         Command::Ping { token } => pong(draft, token.as_slice()),
         Command::Quit { text } => quit(draft, session, text),
-        Command::Join { targets } => join_one(draft, session, targets.as_slice()),
-        Command::Privmsg { targets, text } => send_one(draft, session, targets.as_slice(), text),
         Command::Motd { server } => show_motd(draft, session, server),
-        _ => Ok(()),
+        other => converse(draft, session, other),
+    }
+}
+
+/// Tells a session that it isn't registered, but not after NOTICE.
+fn turn_away(draft: &mut Draft, session: SessionId, command: &Command) -> Result<(), AllocError>
+    ensures { OnOk result (draft.new ≡ grown draft.old (turned_away draft.old.settings draft.old.facts session command.now)) }
+{
+    match command {
+        Command::Notice { .. } => Ok(()),
+        _ => tell(draft, session, Numeric::NotRegistered),
     }
 }
 
@@ -121,7 +129,7 @@ fn obey(draft: &mut Draft, session: SessionId, command: &Command) -> Result<(), 
     ensures { OnOk result (draft.new ≡ grown draft.old (asked draft.old.settings draft.old.facts session command.now)) }
 {
     if is_for_registered(command) && !draft.is_registered(session) {
-        return tell(draft, session, Numeric::NotRegistered);
+        return turn_away(draft, session, command);
     }
     serve(draft, session, command)
 }

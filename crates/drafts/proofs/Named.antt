@@ -3,14 +3,19 @@ use Rattle.std.proofs.Common.{◌≡◌, inl, inr, ℕ, Bool, ◌⊎◌, true, f
 use Rattle.std.specs.Option.{option_or, option_map}
 use Rattle.roster.specs.Laws.{ChannelsHaveOneName, SpelledNamesAreNames}
 use Rattle.roster.specs.declared.deed.Deed.{Deed}
-use Rattle.roster.specs.declared.deed.Deed.TheVariants.{Opened, NickSet, UserSet, HoldSet, CapsSet, ExchangeSet, LoggedIn, Enrolled, ChannelMade, Joined, Ended, Gone}
-use Rattle.roster.specs.LookBack.{is_same, after, on, without, members, is_some_one, has_member, name, name_of}
+use Rattle.roster.specs.declared.deed.Deed.TheVariants.{Opened, NickSet, UserSet, HoldSet, CapsSet, ExchangeSet, LoggedIn, Enrolled, AwaySet, InvisibleSet, ChannelMade, Changed, Ended, Gone}
+use Rattle.casemapping.specs.Fold.{is_same}
+use Rattle.casemapping.proofs.SameNames.{is_same-refl}
+use Rattle.channel_state.specs.declared.change.Change.{Change}
+use Rattle.channel_state.specs.State.{State, is_some_one, without, made_by, changed, departed, lasting, nothing}
+use Rattle.roster.proofs.OnChannels.{members-lasting}
+use Rattle.roster.specs.LookBack.{after, state, members, has_member, name}
 use Rattle.roster.specs.Legal.{IsNext, AreNext}
 use Rattle.drafts.specs.declared.effect.Effect.{Effect}
 use Rattle.drafts.specs.declared.effect.Effect.TheVariants.{Establish, Answer, Show, Copy}
 use Rattle.drafts.specs.Effects.{deeds_of}
 use Rattle.drafts.specs.Tells.{effect_name}
-use Rattle.drafts.specs.Drafted.{IsSpelling}
+use Rattle.drafts.specs.Seen.{Seen, seen, IsSeen}
 
 -- a test is true or false
 either : (b : Bool) → (b ≡ true) ⊎ (b ≡ false)
@@ -29,16 +34,15 @@ pub copied_or : {T : Type 0} (a b : Option (Bor T)) → option_copied (option_or
 copied_or None b = refl
 copied_or (Some x) b = refl
 
--- whoever leaves was there
-left_some : (b : Bool) (t : ℕ) (ms : List ℕ) → is_some_one (cond b (without t ms) ms) ≡ true → is_some_one ms ≡ true
-left_some false t ms e = e
-left_some true t ms e = elim (either (is_some_one ms)) [
+-- whoever is left was there
+left_some : (t : ℕ) (k : State) → is_some_one (lasting (departed t k)).members ≡ true → is_some_one k.members ≡ true
+left_some t k e = elim (either (is_some_one k.members)) [
   | inl some ↦ some
-  | inr none ↦ absurd (let f : true ≡ false = sym e ∙ someone-without t ms none in cc)
+  | inr none ↦ absurd (let f : true ≡ false = sym e ∙ ap is_some_one (members-lasting (departed t k)) ∙ someone-without t k.members none in cc)
 ]
 
 same_there : ChannelsHaveOneName → (fs : List Deed) (k c : List ℕ) → is_same k c ≡ true → has_member fs k ≡ true → has_member fs c ≡ true
-same_there law fs k c e h = ap is_some_one (sym (law fs k c e).0) ∙ h
+same_there law fs k c e h = ap (λ (st : State). is_some_one st.members) (sym (law fs k c e).0) ∙ h
 
 -- a channel that is there after a deed has the name that it tells, or was there before it
 told : ChannelsHaveOneName → (fs : List Deed) (d : Deed) (c : List ℕ) (o : Option (List ℕ)) → IsNext fs d → (has_member fs c ≡ true → o ≡ Some (name fs c)) → has_member (d ∷ fs) c ≡ true → option_or (effect_name c (Establish d)) o ≡ Some (name (d ∷ fs) c)
@@ -53,13 +57,15 @@ told law fs (Enrolled t) c o may h e = h e
 told law fs (Ended t w x) c o may h e = h e
 told law fs (ChannelMade t k) c o may h e = elim (either (is_same k c)) [
   | inl same ↦ rw same refl
-  | inr other ↦ let was : has_member fs c ≡ true = sym (ap (λ b. is_some_one (cond b (t ∷ []) (members fs c))) other) ∙ e in rw other (h was)
+  | inr other ↦ let was : has_member fs c ≡ true = sym (ap (λ b. is_some_one (cond b (made_by t) (state fs c)).members) other) ∙ e in rw other (h was)
 ]
-told law fs (Joined t k) c o may h e = elim (either (is_same k c)) [
+told law fs (AwaySet t x) c o may h e = h e
+told law fs (InvisibleSet t x) c o may h e = h e
+told law fs (Changed k x) c o may h e = elim (either (is_same k c)) [
   | inl same ↦ h (same_there law fs k c same may.0)
-  | inr other ↦ h (sym (ap (λ b. is_some_one (cond b (without t (members fs c) ++ t ∷ []) (members fs c))) other) ∙ e)
+  | inr other ↦ h (sym (ap (λ b. is_some_one (cond b (lasting (changed x (state fs c))) (state fs c)).members) other) ∙ e)
 ]
-told law fs (Gone t) c o may h e = h (left_some true t (members fs c) e)
+told law fs (Gone t) c o may h e = h (left_some t (state fs c) e)
 
 pub named_step : ChannelsHaveOneName → (fs : List Deed) (x : Effect) (c : List ℕ) (o : Option (List ℕ)) → AreNext fs (deeds_of (x ∷ [])) → (has_member fs c ≡ true → o ≡ Some (name fs c)) → has_member (after fs (deeds_of (x ∷ []))) c ≡ true → option_or (effect_name c x) o ≡ Some (name (after fs (deeds_of (x ∷ []))) c)
 named_step law fs (Establish d) c o may h e = told law fs d c o may.0 h e
@@ -67,27 +73,18 @@ named_step law fs (Answer l) c o may h e = h e
 named_step law fs (Show hs l) c o may h e = h e
 named_step law fs (Copy l) c o may h e = h e
 
--- ---- the name of a channel that is there
+-- ---- a channel that is seen
 
-there : (b : Bool) (m n : List ℕ) → cond b (Some m) None ≡ Some n → (b ≡ true) × (m ≡ n)
-there true m n e = (refl, (let f : Some m ≡ Some n = e in cc))
-there false m n e = absurd (let f : None ≡ Some n = e in cc)
+-- it is what its own name says
+pub seen_is : ChannelsHaveOneName → SpelledNamesAreNames → (fs : List Deed) (c : List ℕ) → has_member fs c ≡ true → IsSeen fs (record { name = name fs c; state = state fs c })
+seen_is law spelled fs c e =
+    let same : state fs (name fs c) ≡ state fs c = (law fs (name fs c) c (spelled fs c)).0 in
+    record { there = ap (λ (st : State). is_some_one st.members) same ∙ e; state = same; lasts = e }
 
-absent : (b : Bool) (m : List ℕ) → cond b (Some m) None ≡ None → b ≡ false
-absent true m e = absurd (let f : Some m ≡ None = e in cc)
-absent false m e = refl
-
--- it is a spelling of the channel's name
-pub is_spelling : ChannelsHaveOneName → SpelledNamesAreNames → (fs : List Deed) (c n : List ℕ) → name_of fs c ≡ Some n → IsSpelling fs n c
-is_spelling law spelled fs c n e =
-    let same : is_same n c ≡ true = ap (λ m. is_same m c) (sym (there (has_member fs c) (name fs c) n e).1) ∙ spelled fs c in
-    record { there = ap is_some_one (law fs n c same).0; on = (law fs n c same).1 }
-
-module _ (fs : List Deed) (s : ℕ) (c : List ℕ) where
-  -- a channel that isn't there may be made
-  pub make_next : name_of fs c ≡ None → has_member fs c ≡ false
-  make_next e = absent (has_member fs c) (name fs c) e
-
-  -- one that is there may be joined by its name
-  pub join_next : (n : List ℕ) → name_of fs c ≡ Some n → IsSpelling fs n c → on fs s c ≡ false → (has_member fs n ≡ true) × (on fs s n ≡ false)
-  join_next n e i off = (i.there ∙ (there (has_member fs c) (name fs c) n e).0, i.on s ∙ off)
+-- and still is after a change that leaves somebody on it
+pub seen_changed : (fs : List Deed) (k : Seen) (x : Change) → IsSeen fs k → is_some_one (changed x k.state).members ≡ true → IsSeen (Changed k.name x ∷ fs) (record { name = k.name; state = changed x k.state })
+seen_changed fs k x i e =
+    let now : state (Changed k.name x ∷ fs) k.name ≡ changed x k.state =
+    ap (λ b. cond b (lasting (changed x (state fs k.name))) (state fs k.name)) (is_same-refl k.name) ∙ ap (λ st. lasting (changed x st)) i.state
+    ∙ ap (λ b. cond b (changed x k.state) nothing) e in
+    record { there = ap (λ (st : State). is_some_one st.members) now ∙ e; state = now; lasts = e }

@@ -4,13 +4,13 @@ use Rattle.std.specs.Result.{OnOk}
 use Rattle.drafts.specs.Drafted.{Drafted, IsDraft, grown}
 use Rattle.std.proofs.lemmas.List.{take_more}
 use Rattle.roster.specs.declared.deed.Deed.{Deed}
-use Rattle.roster.specs.declared.deed.Deed.TheVariants.{Opened, NickSet, UserSet, HoldSet, CapsSet, ExchangeSet, LoggedIn, Enrolled, ChannelMade, Joined, Ended, Gone}
-use Rattle.roster.specs.LookBack.{after, opened, host, enrol, on, members}
+use Rattle.roster.specs.declared.deed.Deed.TheVariants.{Opened, NickSet, UserSet, HoldSet, CapsSet, ExchangeSet, LoggedIn, Enrolled, AwaySet, InvisibleSet, ChannelMade, Changed, Ended, Gone}
+use Rattle.roster.specs.LookBack.{after, opened, host, enrol, state}
 use Rattle.roster.specs.Legal.{IsOpened, AreNext}
 use Rattle.drafts.specs.declared.effect.Effect.{Effect}
 use Rattle.drafts.specs.declared.effect.Effect.TheVariants.{Establish, Answer, Show, Copy}
 use Rattle.drafts.specs.Effects.{deeds_of}
-use Rattle.drafts.specs.Tells.{effect_host, effect_enrolled, effect_on, effect_seated}
+use Rattle.drafts.specs.Tells.{effect_host, effect_enrolled, effect_reshaped}
 
 pub after-append : (fs ds es : List Deed) → after fs (ds ++ es) ≡ after (after fs ds) es
 after-append fs [] es = refl
@@ -48,17 +48,11 @@ enrol_step s fs (Answer l) = refl
 enrol_step s fs (Show hs l) = refl
 enrol_step s fs (Copy l) = refl
 
-pub on_step : (s : ℕ) (c : List ℕ) (fs : List Deed) (e : Effect) → on (after fs (deeds_of (e ∷ []))) s c ≡ unwrap_or (effect_on s c e) (on fs s c)
-on_step s c fs (Establish d) = refl
-on_step s c fs (Answer l) = refl
-on_step s c fs (Show hs l) = refl
-on_step s c fs (Copy l) = refl
-
-pub members_step : (c : List ℕ) (fs : List Deed) (e : Effect) → members (after fs (deeds_of (e ∷ []))) c ≡ effect_seated e c (members fs c)
-members_step c fs (Establish d) = refl
-members_step c fs (Answer l) = refl
-members_step c fs (Show hs l) = refl
-members_step c fs (Copy l) = refl
+pub state_step : (c : List ℕ) (fs : List Deed) (e : Effect) → state (after fs (deeds_of (e ∷ []))) c ≡ effect_reshaped e c (state fs c)
+state_step c fs (Establish d) = refl
+state_step c fs (Answer l) = refl
+state_step c fs (Show hs l) = refl
+state_step c fs (Copy l) = refl
 
 -- ---- deeds that may come next
 
@@ -115,7 +109,9 @@ opened_one (ExchangeSet t x) fs = same (length (opened fs))
 opened_one (LoggedIn t x) fs = same (length (opened fs))
 opened_one (Enrolled t) fs = same (length (opened fs))
 opened_one (ChannelMade t c) fs = same (length (opened fs))
-opened_one (Joined t c) fs = same (length (opened fs))
+opened_one (AwaySet t x) fs = same (length (opened fs))
+opened_one (InvisibleSet t x) fs = same (length (opened fs))
+opened_one (Changed c x) fs = same (length (opened fs))
 opened_one (Ended t w x) fs = same (length (opened fs))
 opened_one (Gone t) fs = same (length (opened fs))
 

@@ -2,7 +2,7 @@
 use Rattle.std.specs.Prelude.{◌≡◌, ℕ, List, ◌++◌}
 use Rattle.registration.specs.declared.settings.Settings.{Settings}
 use Rattle.roster.specs.declared.deed.Deed.{Deed}
-use Rattle.roster.specs.LookBack.{after, opened, on, has_member}
+use Rattle.roster.specs.LookBack.{after, opened}
 use Rattle.roster.specs.Legal.{AreNext}
 use Rattle.drafts.specs.declared.effect.Effect.{Effect}
 use Rattle.drafts.specs.Effects.{deeds_of}
@@ -24,8 +24,3 @@ grown d es = record { settings = d.settings; base = d.base; facts = after d.fact
 pub record IsDraft (fs ds : List Deed) : Type 0 where
   pub next : AreNext fs ds
   pub opened : opened (after fs ds) ≡ opened fs
-
--- two spellings of one channel's name
-pub record IsSpelling (fs : List Deed) (n c : List ℕ) : Type 0 where
-  pub there : has_member fs n ≡ has_member fs c
-  pub on : (s : ℕ) → on fs s n ≡ on fs s c

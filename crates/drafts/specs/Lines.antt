@@ -1,4 +1,4 @@
--- The lines that are shown, and those that answer without a number: RFC 2812, sections 2.3.1 (prefix), 3.1.2 (NICK), 3.1.7 (QUIT), 3.2.1 (JOIN), 3.3.1 (PRIVMSG) and 3.7.3 (PONG); IRCv3 Capability Negotiation and SASL 3.1.
+-- The lines that are shown, and those that answer without a number: RFC 2812, sections 2.3.1 (prefix), 3.1.2 (NICK), 3.1.7 (QUIT), 3.2.1 (JOIN) and 3.7.3 (PONG); IRCv3 Capability Negotiation and SASL 3.1.
 use Rattle.std.specs.Prelude.{ℕ, List, [], ◌∷◌, ◌++◌, codes, unwrap_or, true, false, Option, None}
 use Rattle.line_grammar.specs.Spelling.{needs_colon}
 use Rattle.numerics.specs.declared.outgoing.Out.{Out}
@@ -16,9 +16,6 @@ prefix fs s = title (nick fs s) ++ codes "!" ++ title (user fs s) ++ codes "@" +
 
 abbrev pub join_line : List ℕ → List ℕ → Out
 join_line from channel = line from (codes "JOIN") (channel ∷ []) false
-
-abbrev pub privmsg_line : List ℕ → List ℕ → List ℕ → Out
-privmsg_line from target text = line from (codes "PRIVMSG") (target ∷ text ∷ []) true
 
 abbrev pub quit_line : List ℕ → List ℕ → Out
 quit_line from text = line from (codes "QUIT") (text ∷ []) true

@@ -1,12 +1,17 @@
 //! A draft: a roster, and what a record does to it so far.
-ghost use Rattle.std.specs.Prelude.{◌≡◌, ◌∷◌, ◌++◌, [], true, Some, option_copied, IfOk, IfSome, OnOk};
+ghost use Rattle.std.specs.Prelude.{◌≡◌, ◌∷◌, ◌++◌, [], true, false, Some, option_copied, IfOk, IfSome, OnOk};
 ghost use Rattle.registration.specs.Enrol.{enrolment};
-ghost use Rattle.roster.specs.LookBack.{after, opened, host, nick, user, caps, exchange, registered, enrol, on, members, has_member, name, name_of};
-ghost use Rattle.roster.specs.Legal.{AreNext, IsNext};
+ghost use Rattle.roster.specs.LookBack.{after, opened, host, nick, user, caps, exchange, registered, enrol, state, has_member, name};
+ghost use Rattle.roster.specs.declared.deed.Deed.TheVariants.{ChannelMade, Changed};
+ghost use Rattle.channel_state.specs.declared.change.Change.TheVariants.{Left};
+ghost use Rattle.channel_state.specs.State.{among, changed, is_some_one, made_by};
+ghost use Rattle.roster.specs.Legal.{AreNext, IsFit, IsNext};
 ghost use Rattle.drafts.specs.declared.effect.Effect.TheVariants.{Establish, Answer, Show, Copy};
 ghost use Rattle.drafts.specs.Effects.{deeds_of};
 
 use crate::effect::Effect;
+use crate::seen::Seen;
+use channel_state::{Change, ChannelState};
 use chronicle::SessionId;
 use line_grammar::Octets;
 use numerics::Out;
@@ -36,7 +41,8 @@ impl<'a> Model for Draft<'a> {
 }
 
 impl<'a> Draft<'a> {
-    ghost use Rattle.drafts.specs.Drafted.{Drafted, IsDraft, grown, IsSpelling};
+    ghost use Rattle.drafts.specs.Drafted.{Drafted, IsDraft, grown};
+    ghost use Rattle.drafts.specs.Seen.{IsSeen, seen};
 
     /// The draft of a record that does nothing yet.
     pub fn new(alloc: Global, roster: &'a Roster) -> Draft<'a>
@@ -102,6 +108,13 @@ impl<'a> Draft<'a> {
         self.add(Effect::Answer { line })
     }
 
+    /// Gives the record's session what it sent to itself, besides the answer.
+    pub fn copy(&mut self, line: Out) -> Result<(), AllocError>
+        ensures { OnOk result (self.new ≡ grown self.old (Copy line ∷ [])) }
+    {
+        self.add(Effect::Copy { line })
+    }
+
     /// The host of a session.
     pub(crate) fn host_of(&self, session: SessionId) -> &[u8]
         ensures { result.now ≡ host self.now.facts session }
@@ -159,26 +172,19 @@ impl<'a> Draft<'a> {
         self.enrol_of(session).registered
     }
 
-    /// Whether a session is on a channel.
-    pub fn is_on(&self, session: SessionId, channel: &[u8]) -> bool
-        ensures { result ≡ on self.now.facts session channel.now }
+    /// A channel, with who is on it and with which rank, its modes, topic and bans, and who is invited. Nobody is on one that
+    /// isn't there.
+    pub fn state_of(&self, channel: &[u8]) -> Result<ChannelState, AllocError>
+        ensures { IfOk result (λ k. k.state ≡ state self.now.facts channel.now) }
     {
-        let mut is_on = self.roster.is_on(session, channel);
+        let mut state = match self.roster.state_of(channel) {
+            Some(state) => state.copied()?,
+            None => ChannelState::nothing(self.alloc),
+        };
         for effect in &self.effects {
-            is_on = effect.tells_on(session, channel).unwrap_or(is_on);
+            effect.reshape(channel, &mut state)?;
         }
-        is_on
-    }
-
-    /// Those on a channel, in the order of joining.
-    pub fn members(&self, channel: &[u8]) -> Result<Sessions, AllocError>
-        ensures { IfOk result (λ s. s ≡ members self.now.facts channel.now) }
-    {
-        let mut members = Sessions::copied(self.alloc, self.roster.members(channel))?;
-        for effect in &self.effects {
-            effect.seat(channel, &mut members)?;
-        }
-        Ok(members)
+        Ok(state)
     }
 
     /// The name of a channel that has a member, as it was first spelled.
@@ -193,19 +199,71 @@ impl<'a> Draft<'a> {
         spelling
     }
 
-    /// The name of a channel that has a member, as it was first spelled, or nothing where it has none.
-    pub fn name_of(&self, channel: &[u8]) -> Result<Option<Octets>, AllocError>
-        ensures name { IfOk result (λ n. n ≡ name_of self.now.facts channel.now) }
-        ensures same { IfOk result (λ o. IfSome o (λ n. IsSpelling self.now.facts n channel.now)) }
+    /// The channel of a name, where it is there.
+    pub fn seen(&self, channel: &[u8]) -> Result<Option<Seen>, AllocError>
+        ensures seen { IfOk result (λ o. o ≡ seen self.now.facts channel.now) }
+        ensures known { IfOk result (λ o. IfSome o (IsSeen self.now.facts)) }
     {
         channels_have_one_name();
         spelled_names_are_names();
-        if self.members(channel)?.is_empty() {
+        let state = self.state_of(channel)?;
+        if !state.is_there() {
             return Ok(None);
         }
         match self.spelling(channel) {
-            Some(name) => Ok(Some(name.clone()?)),
+            Some(name) => {
+                let name = name.clone()?;
+                Ok(Some(Seen { name, state }))
+            }
             None => Ok(None),
         }
+    }
+
+    /// A session makes a channel that isn't there: the channel as it is then.
+    pub fn make(&mut self, session: SessionId, channel: &Octets) -> Result<Seen, AllocError>
+        requires { has_member self.old.facts channel.now ≡ false }
+        ensures grown { OnOk result (self.new ≡ grown self.old (Establish (ChannelMade session channel.now) ∷ [])) }
+        ensures seen { IfOk result (λ k. k ≡ record { name = channel.now; state = made_by session }) }
+    {
+        let mut state = ChannelState::with_room(self.alloc, 1)?;
+        state.make(session);
+        let made = channel.clone()?;
+        self.establish(Deed::ChannelMade {
+            session,
+            channel: made,
+        })?;
+        let name = channel.clone()?;
+        Ok(Seen { name, state })
+    }
+
+    /// A channel changes in a way by which nobody leaves it.
+    pub fn change(&mut self, seen: &mut Seen, change: Change) -> Result<(), AllocError>
+        requires seen { IsSeen self.old.facts seen.old }
+        requires fit { IsFit seen.old.state change }
+        requires lasts { is_some_one (changed change seen.old.state).members ≡ true }
+        ensures grown { OnOk result (self.new ≡ grown self.old (Establish (Changed seen.old.name change) ∷ [])) }
+        ensures now { OnOk result (seen.new ≡ record { name = seen.old.name; state = changed change seen.old.state }) }
+        ensures known { OnOk result (IsSeen self.new.facts seen.new) }
+    {
+        let channel = seen.name.clone()?;
+        let same = change.clone()?;
+        seen.state.reserve(1)?;
+        self.establish(Deed::Changed {
+            channel,
+            change: same,
+        })?;
+        seen.state.change(change);
+        Ok(())
+    }
+
+    /// A member leaves a channel, by itself or put out.
+    pub fn leave(&mut self, seen: &Seen, session: SessionId) -> Result<(), AllocError>
+        requires seen { IsSeen self.old.facts seen.now }
+        requires member { among session seen.now.state.members ≡ true }
+        ensures { OnOk result (self.new ≡ grown self.old (Establish (Changed seen.now.name (Left session)) ∷ [])) }
+    {
+        let channel = seen.name.clone()?;
+        let change = Change::Left { session };
+        self.establish(Deed::Changed { channel, change })
     }
 }

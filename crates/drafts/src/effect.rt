@@ -2,8 +2,9 @@
 ghost use Rattle.std.specs.Prelude.{◌≡◌, option_copied, OnOk};
 ghost use Rattle.std.specs.Option.{option_map};
 ghost use Rattle.registration.specs.Enrol.{enrolment};
-ghost use Rattle.drafts.specs.Tells.{effect_host, effect_enrolled, effect_on, effect_name, effect_seated};
+ghost use Rattle.drafts.specs.Tells.{effect_host, effect_enrolled, effect_name, effect_reshaped};
 
+use channel_state::ChannelState;
 use chronicle::SessionId;
 use line_grammar::Octets;
 use numerics::Out;
@@ -45,16 +46,6 @@ impl Effect {
         }
     }
 
-    /// What it tells of whether a session is on a channel, if anything.
-    pub(crate) fn tells_on(&self, session: SessionId, channel: &[u8]) -> Option<bool>
-        ensures { result ≡ effect_on session channel.now self.now }
-    {
-        match self {
-            Effect::Establish { deed } => deed.tells_on(session, channel),
-            _ => None,
-        }
-    }
-
     /// What it tells of the name of a channel, if anything.
     pub(crate) fn tells_name(&self, channel: &[u8]) -> Option<&Octets>
         ensures { option_copied result ≡ effect_name channel.now self.now }
@@ -65,12 +56,12 @@ impl Effect {
         }
     }
 
-    /// Makes the members of a channel those after it.
-    pub(crate) fn seat(&self, channel: &[u8], members: &mut Sessions) -> Result<(), AllocError>
-        ensures { OnOk result (members.new ≡ effect_seated self.now channel.now members.old) }
+    /// Makes a channel the one after it.
+    pub(crate) fn reshape(&self, channel: &[u8], state: &mut ChannelState) -> Result<(), AllocError>
+        ensures { OnOk result (state.new.state ≡ effect_reshaped self.now channel.now state.old.state) }
     {
         match self {
-            Effect::Establish { deed } => deed.seat(channel, members),
+            Effect::Establish { deed } => deed.reshape(channel, state),
             _ => Ok(()),
         }
     }

@@ -1,7 +1,7 @@
-//! The lines that are shown, and those that answer without a number (RFC 2812, sections 2.3.1, 3.1.2, 3.1.7, 3.2.1, 3.3.1 and
+//! The lines that are shown, and those that answer without a number (RFC 2812, sections 2.3.1, 3.1.2, 3.1.7, 3.2.1 and
 //! 3.7.3; IRCv3 Capability Negotiation and SASL 3.1).
 ghost use Rattle.std.specs.Prelude.{◌≡◌, ◌++◌, [], option_copied, OnOk, IfOk};
-ghost use Rattle.drafts.specs.Lines.{title, prefix, join_line, privmsg_line, quit_line, nick_line, pong_line, cap_line, go_on_line};
+ghost use Rattle.drafts.specs.Lines.{title, prefix, join_line, quit_line, nick_line, pong_line, cap_line, go_on_line};
 
 use crate::draft::Draft;
 use chronicle::SessionId;
@@ -38,19 +38,6 @@ pub fn join_line(alloc: Global, from: &[u8], channel: &[u8]) -> Result<Out, Allo
     ensures { IfOk result (λ l. l ≡ join_line from.now channel.now) }
 {
     Out::new(alloc, from, b"JOIN", copied_all(alloc, &[channel])?, false)
-}
-
-/// The line that carries a text to a channel.
-pub fn privmsg_line(
-    alloc: Global,
-    from: &[u8],
-    target: &[u8],
-    text: &[u8],
-) -> Result<Out, AllocError>
-    ensures { IfOk result (λ l. l ≡ privmsg_line from.now target.now text.now) }
-{
-    let params = copied_all(alloc, &[target, text])?;
-    Out::new(alloc, from, b"PRIVMSG", params, true)
 }
 
 /// The line that shows that a session is gone.

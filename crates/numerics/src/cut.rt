@@ -15,12 +15,12 @@ use std::mem;
 pub const MAX_TOKENS: usize = 13;
 
 /// Cuts names into as few lines as their order allows, where names that stand in one line have `room` octets,
-/// with a space between each two. Each line is filled before the next is begun. No names make no line.
+/// with a space between each two. Each line is filled before the next is begun. No names make no line. A name
+/// that is longer than `room` stands in a line by itself.
 pub fn split_names(alloc: Global, names: &[Octets], room: usize) -> Result<Vec<Words>, AllocError>
-    requires { All (λ name. length name ≤ room) names.now }
     ensures lines { IfOk result (λ lines. lines.items ≡ cut room (length names.now) names.now) }
     ensures joined { IfOk result (λ lines. flat_map (λ line. line) lines.items ≡ names.now) }
-    ensures fit { IfOk result (λ lines. All (IsWithin room (length names.now)) lines.items) }
+    ensures fit { All (λ name. length name ≤ room) names.now → IfOk result (λ lines. All (IsWithin room (length names.now)) lines.items) }
     ensures full { IfOk result (λ lines. AreFull room (length names.now) lines.items) }
 {
     cut(alloc, names, room, names.len())

@@ -123,6 +123,39 @@ pub(crate) fn spelled<'a>(facts: &'a [Fact], channel: &'a [u8]) -> &'a [u8] {
     spelled
 }
 
+/// Whether a session is operator of a channel: it made the channel and is on it.
+pub(crate) fn is_operator(facts: &[Fact], session: SessionId, channel: &[u8]) -> bool {
+    let mut made = false;
+    let mut is = false;
+    for fact in facts {
+        match fact {
+            Fact::ChannelMade(name) if same(name.as_slice(), channel) => made = true,
+            Fact::Joined(of, name) if same(name.as_slice(), channel) => {
+                is = *of == session && made || *of != session && is;
+                made = false;
+            }
+            Fact::Gone(of) if *of == session => is = false,
+            _ => {}
+        }
+    }
+    is
+}
+
+/// The session that is registered with a nickname.
+pub(crate) fn user_called(facts: &[Fact], nick: &[u8]) -> Option<SessionId> {
+    let mut user = None;
+    for fact in facts {
+        if let Fact::Enrolled(session) = fact
+            && is_enrolled(facts, *session)
+            && let Some(own) = slow_nick(facts, *session)
+            && same(own.as_slice(), nick)
+        {
+            user = Some(*session);
+        }
+    }
+    user
+}
+
 /// Whether two sessions share a channel.
 pub(crate) fn share(facts: &[Fact], one: SessionId, other: SessionId) -> bool {
     let mut shared = false;

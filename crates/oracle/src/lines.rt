@@ -1,6 +1,7 @@
 //! Lines as they are sent.
-use crate::facts::{Fact, host_of, slow_nick, user_of};
+use crate::facts::{Fact, host_of, is_operator, slow_nick, slow_on, user_of};
 use crate::refusals::Refusal;
+use casemapping::same;
 use chronicle::SessionId;
 use line_grammar::{Octets, needs_colon};
 use std::alloc::{AllocError, Global};
@@ -81,6 +82,49 @@ pub(crate) fn refusing<'x>(
     }
     line.extend_from_slice(b" :")?;
     line_of(alloc, &[&line, refusal.text.as_bytes()])
+}
+
+/// The nicknames of those who are on a channel, in the order in which they joined, its operator's after `@`.
+fn members(alloc: Global, facts: &[Fact], channel: &[u8]) -> Result<Vec<u8>, AllocError> {
+    let mut names = Vec::new(alloc);
+    for fact in facts {
+        if let Fact::Joined(member, name) = fact
+            && same(name.as_slice(), channel)
+            && slow_on(facts, *member, channel)
+        {
+            names.extend_from_slice(if names.is_empty() { b"" } else { b" " })?;
+            names.extend_from_slice(if is_operator(facts, *member, channel) {
+                b"@"
+            } else {
+                b""
+            })?;
+            names.extend_from_slice(title(facts, *member))?;
+        }
+    }
+    Ok(names)
+}
+
+/// The lines that tell a session who is on a channel. The names fit in one.
+pub(crate) fn told_members(
+    alloc: Global,
+    facts: &[Fact],
+    channel: &[u8],
+    to: SessionId,
+) -> Result<Octets, AllocError> {
+    let mut lines = Vec::new(alloc);
+    let nick = title(facts, to);
+    let names = members(alloc, facts, channel)?;
+    let head: [&[u8]; 6] = [b":irc.example 353 ", nick, b" = ", channel, b" :", &names];
+    lines.extend_from_slice(line_of(alloc, &head)?.as_slice())?;
+    let end: [&[u8]; 5] = [
+        b":irc.example 366 ",
+        nick,
+        b" ",
+        channel,
+        b" :End of NAMES list",
+    ];
+    lines.extend_from_slice(line_of(alloc, &end)?.as_slice())?;
+    Ok(Octets::from_vec(lines))
 }
 
 /// The answer to a PING.

@@ -1,4 +1,5 @@
 //! What a line asks for.
+use casemapping::same;
 use chronicle::{Kind, Record};
 use line_grammar::{LineFault, Message, Octets, Piece, parse};
 use std::alloc::{AllocError, Global};
@@ -30,6 +31,26 @@ pub(crate) fn param(message: &Message, place: usize) -> &[u8] {
         Some(param) => param.as_slice(),
         None => b"",
     }
+}
+
+/// Whether a name is among others, in either case.
+fn is_among(names: &[&[u8]], name: &[u8]) -> bool {
+    let mut is = false;
+    for other in names {
+        is = is || same(other, name);
+    }
+    is
+}
+
+/// The names of a list, without empty ones and those that repeat another in either case.
+pub(crate) fn names_of(alloc: Global, list: &[u8]) -> Result<Vec<&[u8]>, AllocError> {
+    let mut names = Vec::new(alloc);
+    for name in list.split(|octet| *octet == b',') {
+        if !name.is_empty() && !is_among(&names, name) {
+            names.push(name)?;
+        }
+    }
+    Ok(names)
 }
 
 /// Whether an octet may stand in a user name.

@@ -1,16 +1,58 @@
 //! What is owed to a session.
-use crate::facts::{Fact, farewell, is_enrolled, share, slow_nick, slow_on, spelled};
-use crate::lines::{pong, refusing, sent, welcome};
-use crate::message::{is_command, message_of, param};
+use crate::facts::{Fact, farewell, is_enrolled, share, slow_nick, slow_on, spelled, user_called};
+use crate::lines::{pong, refusing, sent, told_members, welcome};
+use crate::message::{is_command, message_of, names_of, param};
 use crate::records::{establish, record_at};
-use crate::refusals::{Refusal, refused};
+use crate::refusals::{Refusal, names_channel, no_channel, refused, refused_target, too_many};
 use book::Book;
+use casemapping::{is_channel, same};
 use chronicle::{Kind, Record, SessionId, Why};
 use line_grammar::{Message, Octets, Piece};
 use outbox::Item;
 use std::alloc::{AllocError, Global};
 
-/// The line of a text to a channel, to another who is on it with its sender.
+/// The line of a text to one target, to a session that gets it.
+fn of_target(
+    alloc: Global,
+    facts: &[Fact],
+    by: SessionId,
+    target: &[u8],
+    text: &[u8],
+    to: SessionId,
+) -> Result<Option<Octets>, AllocError> {
+    if !names_channel(target) {
+        return match (user_called(facts, target), slow_nick(facts, to)) {
+            (Some(user), Some(nick)) if user == to => {
+                let rest = [b" PRIVMSG ", nick.as_slice(), b" :", text];
+                Ok(Some(sent(alloc, facts, by, rest)?))
+            }
+            _ => Ok(None),
+        };
+    }
+    if by == to || !slow_on(facts, by, target) || !slow_on(facts, to, target) {
+        return Ok(None);
+    }
+    let rest = [b" PRIVMSG ", spelled(facts, target), b" :", text];
+    Ok(Some(sent(alloc, facts, by, rest)?))
+}
+
+/// The numerics that refuse targets of a text.
+fn of_refused(
+    alloc: Global,
+    facts: &[Fact],
+    by: SessionId,
+    targets: &[&[u8]],
+) -> Result<Vec<u8>, AllocError> {
+    let mut lines = Vec::new(alloc);
+    for target in targets {
+        if let Some(refusal) = refused_target(facts, by, target) {
+            lines.extend_from_slice(refusing(alloc, facts, by, &refusal)?.as_slice())?;
+        }
+    }
+    Ok(lines)
+}
+
+/// The lines of a text to a session. Its sender is answered before it gets what it sent to itself.
 fn of_text(
     alloc: Global,
     facts: &[Fact],
@@ -18,13 +60,27 @@ fn of_text(
     message: &Message,
     to: SessionId,
 ) -> Result<Option<Octets>, AllocError> {
-    let channel = param(message, 0);
-    if by == to || !slow_on(facts, by, channel) || !slow_on(facts, to, channel) {
+    let targets = names_of(alloc, param(message, 0))?;
+    if let Some(fifth) = targets.get(4) {
+        return if by == to {
+            Ok(Some(refusing(alloc, facts, to, &too_many(fifth))?))
+        } else {
+            Ok(None)
+        };
+    }
+    let mut lines = Vec::new(alloc);
+    if by == to {
+        lines = of_refused(alloc, facts, by, &targets)?;
+    }
+    for target in &targets {
+        if let Some(line) = of_target(alloc, facts, by, target, param(message, 1), to)? {
+            lines.extend_from_slice(line.as_slice())?;
+        }
+    }
+    if lines.is_empty() {
         return Ok(None);
     }
-    let name = spelled(facts, channel);
-    let rest = [b" PRIVMSG ", name, b" :", param(message, 1)];
-    Ok(Some(sent(alloc, facts, by, rest)?))
+    Ok(Some(Octets::from_vec(lines)))
 }
 
 /// Whether a session has just this nickname.
@@ -125,25 +181,93 @@ fn of_record(
     }
 }
 
-/// The lines of a join, one of the facts after so many, to one who is on the channel then, or of a registration.
-fn of_new(
+/// The lines of a channel that a session joins by one of the facts after so many, or the numeric that refuses its name.
+fn of_join(
+    alloc: Global,
+    facts: &[Fact],
+    before: usize,
+    by: SessionId,
+    channel: &[u8],
+) -> Result<Vec<u8>, AllocError> {
+    let mut lines = Vec::new(alloc);
+    if !is_channel(channel) {
+        lines.extend_from_slice(refusing(alloc, facts, by, &no_channel(channel))?.as_slice())?;
+    }
+    for fact in facts.iter().skip(before) {
+        if let Fact::Joined(_, name) = fact
+            && same(name.as_slice(), channel)
+        {
+            let rest = [b" JOIN ", name.as_slice(), b"", b""];
+            lines.extend_from_slice(sent(alloc, facts, by, rest)?.as_slice())?;
+            let members = told_members(alloc, facts, name.as_slice(), by)?;
+            lines.extend_from_slice(members.as_slice())?;
+        }
+    }
+    Ok(lines)
+}
+
+/// The lines of what a session joins to itself, name by name.
+fn of_own_joins(
+    alloc: Global,
+    facts: &[Fact],
+    before: usize,
+    by: SessionId,
+    record: &Record,
+) -> Result<Vec<u8>, AllocError> {
+    let mut lines = Vec::new(alloc);
+    if let Some(message) = message_of(alloc, record)?
+        && is_command(&message, b"JOIN")
+    {
+        for channel in &names_of(alloc, param(&message, 0))? {
+            lines.extend_from_slice(&of_join(alloc, facts, before, by, channel)?)?;
+        }
+    }
+    Ok(lines)
+}
+
+/// The lines of what the facts after so many establish, to another who is on the channel then, or of a registration.
+fn of_facts(
     alloc: Global,
     facts: &[Fact],
     before: usize,
     to: SessionId,
-) -> Result<Option<Octets>, AllocError> {
-    let mut lines = None;
+) -> Result<Vec<u8>, AllocError> {
+    let mut lines = Vec::new(alloc);
     for fact in facts.iter().skip(before) {
         match fact {
-            Fact::Joined(by, name) if slow_on(facts, to, name.as_slice()) => {
+            Fact::Joined(by, name) if *by != to && slow_on(facts, to, name.as_slice()) => {
                 let rest = [b" JOIN ", name.as_slice(), b"", b""];
-                lines = Some(sent(alloc, facts, *by, rest)?);
+                lines.extend_from_slice(sent(alloc, facts, *by, rest)?.as_slice())?;
             }
-            Fact::Enrolled(by) if *by == to => lines = Some(welcome(alloc, facts, to)?),
+            Fact::Enrolled(by) if *by == to => {
+                lines.extend_from_slice(welcome(alloc, facts, to)?.as_slice())?;
+            }
             _ => {}
         }
     }
     Ok(lines)
+}
+
+/// The lines of a record to a session by the facts after so many, which the record established.
+fn of_new(
+    alloc: Global,
+    facts: &[Fact],
+    before: usize,
+    record: &Record,
+    to: SessionId,
+) -> Result<Option<Octets>, AllocError> {
+    let lines = match &record.kind {
+        Kind::Said { session, .. } if *session == to => {
+            let mut lines = of_own_joins(alloc, facts, before, to, record)?;
+            lines.extend_from_slice(&of_facts(alloc, facts, before, to)?)?;
+            lines
+        }
+        _ => of_facts(alloc, facts, before, to)?,
+    };
+    if lines.is_empty() {
+        return Ok(None);
+    }
+    Ok(Some(Octets::from_vec(lines)))
 }
 
 /// Why a record ends a session by what it says.
@@ -187,7 +311,7 @@ fn told_by(
     let before = facts.len();
     let earlier = of_record(alloc, facts, record, to)?;
     establish(alloc, facts, record)?;
-    let later = of_new(alloc, facts, before, to)?;
+    let later = of_new(alloc, facts, before, record, to)?;
     if let Some(why) = end_of(alloc, record, to)? {
         return Ok(Some(Item::Last { number, why }));
     }

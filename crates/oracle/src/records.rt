@@ -1,6 +1,6 @@
 //! What each record establishes after those before it.
 use crate::facts::{Fact, has_member, is_enrolled, slow_nick, slow_on, spelled, user_of};
-use crate::message::{is_command, message_of, param, user_name};
+use crate::message::{is_command, message_of, names_of, param, user_name};
 use crate::refusals::refused;
 use book::Book;
 use casemapping::is_channel;
@@ -40,7 +40,9 @@ fn obey(
         facts.push(Fact::UserSet(by, user_name(alloc, first)?))?;
     }
     if is_command(message, b"JOIN") {
-        join(alloc, facts, by, first)?;
+        for channel in &names_of(alloc, first)? {
+            join(alloc, facts, by, channel)?;
+        }
     }
     if is_command(message, b"NICK") {
         facts.push(Fact::NickSet(by, Octets::copied(alloc, first)?))?;

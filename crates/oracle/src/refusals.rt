@@ -1,5 +1,7 @@
 //! Which lines are refused, and by what numeric.
-use crate::facts::{Fact, is_enrolled, is_held, user_of};
+use crate::facts::{
+    Fact, has_member, is_enrolled, is_held, slow_on, spelled, user_called, user_of,
+};
 use crate::message::{has_fit, is_command, param};
 use casemapping::is_nick;
 use chronicle::SessionId;
@@ -77,9 +79,53 @@ fn of_channel<'a>(facts: &[Fact], by: SessionId, message: &'a Message) -> Option
     None
 }
 
+/// That a name is no channel's.
+pub(crate) fn no_channel(name: &[u8]) -> Refusal<'_> {
+    Refusal {
+        code: "403",
+        name: Some(name),
+        text: "No such channel",
+    }
+}
+
+/// That a text has more than four targets, of which this is the fifth.
+pub(crate) fn too_many(target: &[u8]) -> Refusal<'_> {
+    Refusal {
+        code: "407",
+        name: Some(target),
+        text: "Too many targets",
+    }
+}
+
+/// Whether a target is to be a channel.
+pub(crate) fn names_channel(target: &[u8]) -> bool {
+    target.starts_with(b"#") || target.starts_with(b"&")
+}
+
+/// The numeric that refuses one target of a text.
+pub(crate) fn refused_target<'a>(
+    facts: &'a [Fact],
+    by: SessionId,
+    target: &'a [u8],
+) -> Option<Refusal<'a>> {
+    if !names_channel(target) {
+        return match user_called(facts, target) {
+            Some(_) => None,
+            None => naming("401", target, "No such nick/channel"),
+        };
+    }
+    if !has_member(facts, target) {
+        return Some(no_channel(target));
+    }
+    if !slow_on(facts, by, target) {
+        return naming("404", spelled(facts, target), "Cannot send to channel");
+    }
+    None
+}
+
 /// Whether a command is none that a session is answered by a numeric for.
 fn is_accepted(message: &Message) -> bool {
-    is_command(message, b"QUIT") || is_command(message, b"PONG") || is_command(message, b"NOTICE")
+    is_command(message, b"QUIT") || is_command(message, b"PONG")
 }
 
 /// The numeric that refuses a message, by the facts before it.

@@ -192,7 +192,11 @@ CHANTYPES=#& KICKLEN=200 MAXLIST=b:60 MODES=4 NICKLEN=30 PREFIX=(ov)@+ TOPICLEN=
 :are supported by this server\r
 :irc.example 422 bo :MOTD File is missing\r
 ",
-    ":bo!a@h2 JOIN #a\r\n",
+    "\
+:bo!a@h2 JOIN #a\r
+:irc.example 353 bo = #a :@al bo\r
+:irc.example 366 bo #a :End of NAMES list\r
+",
     ":al!a@h1 QUIT :Connection closed\r\n",
 ];
 

@@ -24,18 +24,18 @@ const TEXTS: [&str; 19] = [
     "JOIN #A\r\nUSER f 0 * :F\r\nnick bO{\r\nJOIN #A\r\n",
     "NICK cy\r\nPRIVMSG\r\nUSER c 0 * :Cy\r\nJOIN #A\r\nPRIVMSG #a\r\n",
     "NICK dee\r\nUSER dee 0 * :Dee\r\nJOIN #a\r\nJOIN #B\r\n",
-    "PRIVMSG #A :hello\r\n",
-    "PRIVMSG #b :hi\r\nFOO\r\n",
+    "PRIVMSG #A,al,,#a :hello\r\n",
+    "PRIVMSG cy,#b,bo{,nobody :hi\r\nFOO\r\n",
     "PRIVMSG #a :so",
     " long\r\n:x privmsg #B hm\r\n",
     "NICK 1\r\nUSER @ 0 * :No\r\nUSER e 0 *\r\nNICK ed\r\nUSER e 0 * :Ed\r\nJOIN #b\r\n",
-    "JOIN #a\r\nPRIVMSG #a :again\r\n",
+    "JOIN #A,b,#c,#B\r\nPRIVMSG #a,#none :again\r\n",
     "PRIVMSG #a :bye\r\nQUIT :tired\r\n",
     "NICK AL\r\n",
     "nick cy\r\nNICK Cy\r\n",
     "NICK\r\nNICK :a b\r\nUSER g 0 * :G\r\n",
     "PING\r\nPING x\r\nping :a b\r\nPONG\r\n",
-    "JOIN\r\nPRIVMSG\r\nPRIVMSG #a\r\nNOTICE #a :no\r\n",
+    "JOIN\r\nPRIVMSG\r\nPRIVMSG #a\r\nPRIVMSG al,cy,Al,#a,dee,ed :all\r\n",
     "PING ____________________________________________________________________________________________________\
 ____________________________________________________________________________________________________\
 ____________________________________________________________________________________________________\

@@ -3,12 +3,13 @@ use Rattle.std.proofs.Common.{◌≡◌, inl, inr, ℕ, zero, suc, Bool, true, f
 use Rattle.std.specs.List.{list_any}
 use Rattle.std.specs.Option.{option_map, option_map_or}
 use Rattle.roster.specs.declared.tables.Channel.{Channel}
-use Rattle.roster.specs.Seats.{Seats}
-use Rattle.roster.specs.LookBack.{is_same, is_some_one}
-use Rattle.roster.specs.Tables.{channel_of, members_in, names_of, with_members, is_populated, populated}
+use Rattle.channel_state.specs.Held.{Held}
+use Rattle.casemapping.specs.Fold.{is_same}
+use Rattle.channel_state.specs.State.{State, is_some_one, nothing}
+use Rattle.roster.specs.Tables.{channel_of, state_in, names_of, with_held, is_populated, populated}
 use Rattle.roster.specs.Stands.{AreApart, AreHeld}
 use Rattle.roster.proofs.Bools.{either, or-none}
-use Rattle.roster.proofs.Same.{is_same-refl}
+use Rattle.casemapping.proofs.SameNames.{is_same-refl}
 
 -- each of these is what a look-up of its name finds
 abbrev pub Owned : List Channel → List Channel → Type 0
@@ -26,8 +27,8 @@ owned [] a = tt
 owned (k ∷ ks) a = (ap (λ b. cond b (Some k) (channel_of ks k.name)) (is_same-refl k.name), lift k ks ks a.0 (owned ks a.1))
 
 -- the members of a channel are found by its name
-pub own_members : (full : List Channel) (k : Channel) → channel_of full k.name ≡ Some k → members_in full k.name ≡ k.members.list
-own_members full k e = ap (λ o. option_map_or (λ (x : Channel). x.members.list) o []) e
+pub own_members : (full : List Channel) (k : Channel) → channel_of full k.name ≡ Some k → state_in full k.name ≡ k.held.state
+own_members full k e = ap (λ o. option_map_or (λ (x : Channel). x.held.state) o nothing) e
 
 -- ---- names
 
@@ -35,18 +36,18 @@ pub names_of-push : (ks : List Channel) (k : Channel) → names_of (ks ++ k ∷ 
 names_of-push [] k = refl
 names_of-push (x ∷ ks) k = ap (λ ns. x.name ∷ ns) (names_of-push ks k)
 
-pub names_of-with : (ks : List Channel) (n : List ℕ) (m : Seats) → names_of (with_members ks n m) ≡ names_of ks
+pub names_of-with : (ks : List Channel) (n : List ℕ) (m : Held) → names_of (with_held ks n m) ≡ names_of ks
 names_of-with [] n m = refl
-names_of-with (k ∷ ks) n m = elim (is_same k.name n) as (λ b. names_of (cond b (record { name = k.name; members = m } ∷ ks) (k ∷ with_members ks n m)) ≡ k.name ∷ names_of ks) [
+names_of-with (k ∷ ks) n m = elim (is_same k.name n) as (λ b. names_of (cond b (record { name = k.name; held = m } ∷ ks) (k ∷ with_held ks n m)) ≡ k.name ∷ names_of ks) [
   | true ↦ refl
   | false ↦ ap (λ ns. k.name ∷ ns) (names_of-with ks n m)
 ]
 
-populated_names : (full ks : List Channel) (there : List ℕ → Bool) → ((c : List ℕ) → is_some_one (members_in full c) ≡ there c) → Owned full ks → names_of (populated ks) ≡ filter there (names_of ks)
+populated_names : (full ks : List Channel) (there : List ℕ → Bool) → ((c : List ℕ) → is_some_one (state_in full c).members ≡ there c) → Owned full ks → names_of (populated ks) ≡ filter there (names_of ks)
 populated_names full [] there e o = refl
 populated_names full (k ∷ ks) there e o =
     let ih = populated_names full ks there e o.1 in
-    let here : there k.name ≡ is_populated k = sym (e k.name) ∙ ap is_some_one (own_members full k o.0) in
+    let here : there k.name ≡ is_populated k = sym (e k.name) ∙ ap (λ (st : State). is_some_one st.members) (own_members full k o.0) in
     elim (is_populated k) as (λ b. names_of (cond b (k ∷ populated ks) (populated ks)) ≡ cond b (k.name ∷ filter there (names_of ks)) (filter there (names_of ks))) [
       | true ↦ ap (λ ns. k.name ∷ ns) ih
       | false ↦ ih
@@ -54,7 +55,7 @@ populated_names full (k ∷ ks) there e o =
     ∙ sym (ap (λ b. cond b (k.name ∷ filter there (names_of ks)) (filter there (names_of ks))) here)
 
 -- the names of those that have a member
-pub names_of-populated : (ks : List Channel) (there : List ℕ → Bool) → AreApart ks → ((c : List ℕ) → is_some_one (members_in ks c) ≡ there c) → names_of (populated ks) ≡ filter there (names_of ks)
+pub names_of-populated : (ks : List Channel) (there : List ℕ → Bool) → AreApart ks → ((c : List ℕ) → is_some_one (state_in ks c).members ≡ there c) → names_of (populated ks) ≡ filter there (names_of ks)
 names_of-populated ks there a e = populated_names ks ks there e (owned ks a)
 
 pub names_of-length : (ks : List Channel) → length (names_of ks) ≡ length ks
@@ -72,9 +73,9 @@ pub held-push : (ks : List Channel) (k : Channel) → AreHeld ks → is_populate
 held-push [] k h e = (e, tt)
 held-push (x ∷ ks) k h e = (h.0, held-push ks k h.1 e)
 
-pub held-with : (ks : List Channel) (n : List ℕ) (m : Seats) → AreHeld ks → is_some_one m.list ≡ true → AreHeld (with_members ks n m)
+pub held-with : (ks : List Channel) (n : List ℕ) (m : Held) → AreHeld ks → is_some_one m.state.members ≡ true → AreHeld (with_held ks n m)
 held-with [] n m h e = tt
-held-with (k ∷ ks) n m h e = elim (is_same k.name n) as (λ b. AreHeld (cond b (record { name = k.name; members = m } ∷ ks) (k ∷ with_members ks n m))) [
+held-with (k ∷ ks) n m h e = elim (is_same k.name n) as (λ b. AreHeld (cond b (record { name = k.name; held = m } ∷ ks) (k ∷ with_held ks n m))) [
   | true ↦ (e, h.1)
   | false ↦ (h.0, held-with ks n m h.1 e)
 ]

@@ -3,12 +3,12 @@ use Rattle.std.proofs.lemmas.List.Folds.{list_any-append}
 use Rattle.std.proofs.Common.{◌≡◌, inl, inr, ℕ, Bool, true, false, ◌||◌, cond, List, [], ◌∷◌, ◌++◌, filter, Option, Some, None, refl, sym, ap, ◌∙◌}
 use Rattle.std.specs.List.{list_any}
 use Rattle.std.specs.Option.{option_map}
-use Rattle.roster.specs.LookBack.{is_same}
-use Rattle.roster.proofs.Same.{is_same-left, is_same-right, is_same-sym}
+use Rattle.casemapping.specs.Fold.{is_same}
+use Rattle.casemapping.proofs.SameNames.{is_same-left, is_same-right, is_same-sym}
 use Rattle.roster.specs.declared.deed.Deed.{Deed}
 use Rattle.roster.specs.declared.tables.Channel.{Channel}
-use Rattle.roster.specs.Seats.{Seats}
-use Rattle.roster.specs.Tables.{channel_of, with_members, is_populated, populated}
+use Rattle.channel_state.specs.Held.{Held}
+use Rattle.roster.specs.Tables.{channel_of, with_held, is_populated, populated}
 use Rattle.roster.specs.Stands.{AreApart, HaveSeats}
 use Rattle.roster.proofs.Bools.{either, or-none, or-false}
 
@@ -19,26 +19,26 @@ channel_of-same (k ∷ ks) c d e = ap (λ b. cond b (Some k) (channel_of ks c)) 
 
 -- ---- other members
 
-abbrev pub reseated : Seats → Channel → Channel
-reseated m k = record { name = k.name; members = m }
+abbrev pub reheld : Held → Channel → Channel
+reheld m k = record { name = k.name; held = m }
 
 -- a name is no other's
 apart_from : (a n c : List ℕ) → is_same a n ≡ false → is_same a c ≡ true → is_same n c ≡ false
 apart_from a n c miss hit = is_same-sym n c ∙ sym (is_same-left a c n hit) ∙ miss
 
-pub channel_of-with : (ks : List Channel) (n c : List ℕ) (m : Seats) → channel_of (with_members ks n m) c ≡ cond (is_same n c) (option_map (reseated m) (channel_of ks c)) (channel_of ks c)
+pub channel_of-with : (ks : List Channel) (n c : List ℕ) (m : Held) → channel_of (with_held ks n m) c ≡ cond (is_same n c) (option_map (reheld m) (channel_of ks c)) (channel_of ks c)
 channel_of-with [] n c m = elim (is_same n c) as (λ b. ◌≡◌ {A = Option Channel} None (cond b None None)) [ true ↦ refl | false ↦ refl ]
 channel_of-with (k ∷ ks) n c m =
-    let ih = channel_of-with ks n c m in let x : Channel = reseated m k in
+    let ih = channel_of-with ks n c m in let x : Channel = reheld m k in
     elim (either (is_same k.name n)) [
       | inl same ↦
           let left : is_same k.name c ≡ is_same n c = is_same-left k.name n c same in
-          ap (λ b. channel_of (cond b (x ∷ ks) (k ∷ with_members ks n m)) c) same
+          ap (λ b. channel_of (cond b (x ∷ ks) (k ∷ with_held ks n m)) c) same
           ∙ ap (λ b. cond b (Some x) (channel_of ks c)) left
-          ∙ elim (is_same n c) as (λ b. cond b (Some x) (channel_of ks c) ≡ cond b (option_map (reseated m) (cond b (Some k) (channel_of ks c))) (cond b (Some k) (channel_of ks c))) [ true ↦ refl | false ↦ refl ]
-          ∙ ap (λ b. cond (is_same n c) (option_map (reseated m) (cond b (Some k) (channel_of ks c))) (cond b (Some k) (channel_of ks c))) (sym left)
+          ∙ elim (is_same n c) as (λ b. cond b (Some x) (channel_of ks c) ≡ cond b (option_map (reheld m) (cond b (Some k) (channel_of ks c))) (cond b (Some k) (channel_of ks c))) [ true ↦ refl | false ↦ refl ]
+          ∙ ap (λ b. cond (is_same n c) (option_map (reheld m) (cond b (Some k) (channel_of ks c))) (cond b (Some k) (channel_of ks c))) (sym left)
       | inr other ↦
-          ap (λ b. channel_of (cond b (x ∷ ks) (k ∷ with_members ks n m)) c) other
+          ap (λ b. channel_of (cond b (x ∷ ks) (k ∷ with_held ks n m)) c) other
           ∙ ap (cond (is_same k.name c) (Some k)) ih
           ∙ elim (either (is_same k.name c)) [
             | inl it ↦ let miss = apart_from k.name n c other it in rw (it, miss) refl
@@ -71,16 +71,16 @@ unfound (k ∷ ks) a c e s =
     let miss : is_same k.name c ≡ false = is_same-sym k.name c ∙ sym (is_same-left a c k.name s) ∙ parts.0 in
     ap (λ b. cond b (Some k) (channel_of ks c)) miss ∙ unfound ks a c parts.1 s
 
-named-with : (ks : List Channel) (a n : List ℕ) (m : Seats) → none_named a (with_members ks n m) ≡ none_named a ks
+named-with : (ks : List Channel) (a n : List ℕ) (m : Held) → none_named a (with_held ks n m) ≡ none_named a ks
 named-with [] a n m = refl
-named-with (k ∷ ks) a n m = elim (is_same k.name n) as (λ b. none_named a (cond b (reseated m k ∷ ks) (k ∷ with_members ks n m)) ≡ none_named a (k ∷ ks)) [
+named-with (k ∷ ks) a n m = elim (is_same k.name n) as (λ b. none_named a (cond b (reheld m k ∷ ks) (k ∷ with_held ks n m)) ≡ none_named a (k ∷ ks)) [
   | true ↦ refl
   | false ↦ ap (λ b. is_same a k.name || b) (named-with ks a n m)
 ]
 
-pub apart-with : (ks : List Channel) (n : List ℕ) (m : Seats) → AreApart ks → AreApart (with_members ks n m)
+pub apart-with : (ks : List Channel) (n : List ℕ) (m : Held) → AreApart ks → AreApart (with_held ks n m)
 apart-with [] n m a = tt
-apart-with (k ∷ ks) n m a = elim (is_same k.name n) as (λ b. AreApart (cond b (reseated m k ∷ ks) (k ∷ with_members ks n m))) [
+apart-with (k ∷ ks) n m a = elim (is_same k.name n) as (λ b. AreApart (cond b (reheld m k ∷ ks) (k ∷ with_held ks n m))) [
   | true ↦ (a.0, a.1)
   | false ↦ (named-with ks k.name n m ∙ a.0, apart-with ks n m a.1)
 ]

@@ -2,24 +2,26 @@
 use Rattle.std.proofs.Common.{◌≡◌, inl, inr, ℕ, zero, suc, ◌+◌, ◌<◌, ◌≤◌, Bool, true, false, cond, Option, List, [], ◌∷◌, ◌++◌, length, drop, slice_get, count_by, vec_len, vec_capacity, Some, None, arith, refl, sym, ap, ◌∙◌, subst}
 use Rattle.std.specs.declared.vec.Vec.{Vec}
 use Rattle.std.specs.declared.alloc.Global.{Global}
-use Rattle.roster.proofs.Same.{is_same-sym}
+use Rattle.casemapping.proofs.SameNames.{is_same-sym}
 use Rattle.registration.specs.declared.caps.Caps.{Caps}
 use Rattle.roster.specs.declared.deed.Deed.{Deed}
-use Rattle.roster.specs.declared.deed.Deed.TheVariants.{Opened, NickSet, UserSet, HoldSet, CapsSet, ExchangeSet, LoggedIn, Enrolled, ChannelMade, Joined, Ended, Gone}
+use Rattle.roster.specs.declared.deed.Deed.TheVariants.{Opened, NickSet, UserSet, HoldSet, CapsSet, ExchangeSet, LoggedIn, Enrolled, AwaySet, InvisibleSet, ChannelMade, Changed, Ended, Gone}
 use Rattle.roster.specs.declared.tables.Person.{Person}
 use Rattle.roster.specs.declared.tables.Channel.{Channel}
-use Rattle.roster.specs.Seats.{Seats}
-use Rattle.roster.specs.LookBack.{is_same, numbers, opened, on, without, members, has_member}
-use Rattle.roster.specs.Tables.{nobody, person_at, with_person, members_in, room_in, with_members, Reseats, Makes, LeavesAll}
+use Rattle.casemapping.specs.Fold.{is_same}
+use Rattle.channel_state.specs.declared.change.Change.{Change}
+use Rattle.channel_state.specs.Held.{Held}
+use Rattle.roster.specs.LookBack.{numbers, opened, on, members, has_member}
+use Rattle.roster.specs.Tables.{nobody, person_at, with_person, room_in, with_held, Changes, Makes, LeavesAll}
 use Rattle.roster.specs.Legal.{IsOpened}
 use Rattle.chronicle.specs.declared.why.Why.{Why}
-use Rattle.roster.specs.Stands.{joins, is_making, HaveSeats, AreSpare, Stands, HasRoom, IsKept}
+use Rattle.roster.specs.Stands.{changes, is_making, HaveSeats, AreSpare, Stands, HasRoom, IsKept}
 use Rattle.roster.proofs.Bools.{either}
 use Rattle.roster.proofs.OnChannels.{among-members, someone}
 use Rattle.roster.proofs.ChannelTable.{seats-populated}
 use Rattle.roster.proofs.Leaving.{seats_without}
-use Rattle.roster.proofs.MadeRoom.{joins-cons, makings-cons, seats_less, joins_few, seats-push, spare_less, room_none}
-use Rattle.roster.proofs.Steps.{stranger, stands_opened, stands_renamed, stands_introduced, stands_held, stands_equipped, stands_exchanging, stands_logged_in, stands_enrolled, stands_ended, stands_joined, stands_gone, stands_made}
+use Rattle.roster.proofs.MadeRoom.{changes-cons, makings-cons, seats_less, changes_few, seats-push, spare_less, room_none}
+use Rattle.roster.proofs.Steps.{stranger, stands_opened, stands_renamed, stands_introduced, stands_held, stands_equipped, stands_exchanging, stands_logged_in, stands_enrolled, stands_away, stands_hidden, stands_ended, stands_changed, stands_gone, stands_made}
 
 length-numbers : (k n : ℕ) → length (numbers k n) ≡ n
 length-numbers k zero = refl
@@ -34,23 +36,23 @@ on_member fs t n e = someone t (members fs n) (among-members fs t n ∙ e)
 
 -- ---- seats
 
-pub seat_free : (t : ℕ) (n : List ℕ) (ds : List Deed) (ks : List Channel) → HaveSeats (Joined t n ∷ ds) ks → 0 < room_in ks n
-seat_free t n ds [] h = omega arith
-seat_free t n ds (k ∷ ks) h = elim (either (is_same k.name n)) [
-  | inl same ↦ rw same (let a = h.0 in let e = joins-cons k.name (Joined t n) ds ∙ ap (λ b. cond b 1 0 + joins k.name ds) (is_same-sym n k.name ∙ same) in omega arith)
-  | inr other ↦ rw other (seat_free t n ds ks h.1)
+pub seat_free : (x : Change) (n : List ℕ) (ds : List Deed) (ks : List Channel) → HaveSeats (Changed n x ∷ ds) ks → 0 < room_in ks n
+seat_free x n ds [] h = omega arith
+seat_free x n ds (k ∷ ks) h = elim (either (is_same k.name n)) [
+  | inl same ↦ rw same (let a = h.0 in let e = changes-cons k.name (Changed n x) ds ∙ ap (λ b. cond b 1 0 + changes k.name ds) (is_same-sym n k.name ∙ same) in omega arith)
+  | inr other ↦ rw other (seat_free x n ds ks h.1)
 ]
 
-seats_taken : (t : ℕ) (n : List ℕ) (ds : List Deed) (ks : List Channel) (m : Seats) → HaveSeats (Joined t n ∷ ds) ks → room_in ks n ≤ m.room + 1 → HaveSeats ds (with_members ks n m)
-seats_taken t n ds [] m h l = tt
-seats_taken t n ds (k ∷ ks) m h l = elim (either (is_same k.name n)) [
+seats_taken : (x : Change) (n : List ℕ) (ds : List Deed) (ks : List Channel) (m : Held) → HaveSeats (Changed n x ∷ ds) ks → room_in ks n ≤ m.room + 1 → HaveSeats ds (with_held ks n m)
+seats_taken x n ds [] m h l = tt
+seats_taken x n ds (k ∷ ks) m h l = elim (either (is_same k.name n)) [
   | inl same ↦
-      let l' : k.members.room ≤ m.room + 1 = rw same at l in
-      rw same ((let a = h.0 in let e = joins-cons k.name (Joined t n) ds ∙ ap (λ b. cond b 1 0 + joins k.name ds) (is_same-sym n k.name ∙ same) in omega arith), seats_less (Joined t n) ds ks h.1)
+      let l' : k.held.room ≤ m.room + 1 = rw same at l in
+      rw same ((let a = h.0 in let e = changes-cons k.name (Changed n x) ds ∙ ap (λ b. cond b 1 0 + changes k.name ds) (is_same-sym n k.name ∙ same) in omega arith), seats_less (Changed n x) ds ks h.1)
   | inr other ↦
       let l' : room_in ks n ≤ m.room + 1 = rw other at l in
-      let first = seats_less (Joined t n) ds (k ∷ ks) h in
-      rw other (first.0, seats_taken t n ds ks m h.1 l')
+      let first = seats_less (Changed n x) ds (k ∷ ks) h in
+      rw other (first.0, seats_taken x n ds ks m h.1 l')
 ]
 
 -- ---- the deed that is next
@@ -61,17 +63,17 @@ ready_first (x ∷ ds) d e = let f : Some x ≡ Some d = e in let g : x ≡ d = 
 
 module _ (d e : Deed) (is : d ≡ e) (fs ds : List Deed) where
   -- what holds before it, by its variant
-  pub before : (ps : Vec Person Global) (ks : Vec Channel Global) (spare : Vec Seats Global) → slice_get ds 0 ≡ Some d → IsKept ps ks spare fs ds → IsKept ps ks spare fs (e ∷ drop 1 ds)
+  pub before : (ps : Vec Person Global) (ks : Vec Channel Global) (spare : Vec Held Global) → slice_get ds 0 ≡ Some d → IsKept ps ks spare fs ds → IsKept ps ks spare fs (e ∷ drop 1 ds)
   before ps ks spare first i = subst (IsKept ps ks spare fs) (ready_first ds d first ∙ ap (λ x. x ∷ drop 1 ds) is) i
 
   -- and after it
-  pub done : (ps : Vec Person Global) (ks : Vec Channel Global) (spare : Vec Seats Global) (gs es : List Deed) → gs ≡ d ∷ fs → es ≡ drop 1 ds → IsKept ps ks spare (e ∷ fs) (drop 1 ds) → IsKept ps ks spare gs es
+  pub done : (ps : Vec Person Global) (ks : Vec Channel Global) (spare : Vec Held Global) (gs es : List Deed) → gs ≡ d ∷ fs → es ≡ drop 1 ds → IsKept ps ks spare (e ∷ fs) (drop 1 ds) → IsKept ps ks spare gs es
   done ps ks spare gs es eg ee i =
       subst (λ (xs : List Deed). IsKept ps ks spare xs es) (sym (eg ∙ ap (λ x. x ∷ fs) is)) (subst (IsKept ps ks spare (e ∷ fs)) (sym ee) i)
 
 -- ---- each deed
 
-module _ (ps : Vec Person Global) (ks : Vec Channel Global) (spare : Vec Seats Global) (fs ds : List Deed) where
+module _ (ps : Vec Person Global) (ks : Vec Channel Global) (spare : Vec Held Global) (fs ds : List Deed) where
   -- room for one deed fewer, where no list is taken
   less : (d : Deed) (qs : Vec Person Global) (ls : Vec Channel Global) → is_making d ≡ false → HasRoom ps ks spare (d ∷ ds) → vec_len qs ≤ vec_len ps + 1 → vec_capacity qs ≡ vec_capacity ps → vec_len ls ≤ vec_len ks + 1 → vec_capacity ls ≡ vec_capacity ks → HaveSeats ds ls.items → HasRoom qs ls spare ds
   less d qs ls other r lp cp lk ck seats = record {
@@ -125,11 +127,17 @@ module _ (ps : Vec Person Global) (ks : Vec Channel Global) (spare : Vec Seats G
   pub kept_ended : (qs : Vec Person Global) (t : ℕ) (w : Why) (x : List ℕ) → IsKept ps ks spare fs (Ended t w x ∷ ds) → qs.items ≡ with_person ps.items t (record (person_at ps.items t) { why = w; parting = x }) → vec_len qs ≡ vec_len ps → vec_capacity qs ≡ vec_capacity ps → IsKept qs ks spare (Ended t w x ∷ fs) ds
   kept_ended qs t w x i e l c = told (Ended t w x) qs _ refl i (stands_ended ps.items ks.items fs i.stands t w x i.next.0.0 (within t i.stands i.next.0)) e l c
 
-  pub kept_joined : (ls : Vec Channel Global) (t : ℕ) (n : List ℕ) → IsKept ps ks spare fs (Joined t n ∷ ds) → Reseats ks.items ls.items n (without t (members_in ks.items n) ++ t ∷ []) 1 → vec_len ls ≡ vec_len ks → vec_capacity ls ≡ vec_capacity ks → IsKept ps ls spare (Joined t n ∷ fs) ds
-  kept_joined ls t n i r l c = record {
-    stands = stands_joined ps.items ks.items fs i.stands ls.items t n i.next.0.0 i.next.0.1 r;
+  pub kept_away : (qs : Vec Person Global) (t : ℕ) (x : Option (List ℕ)) → IsKept ps ks spare fs (AwaySet t x ∷ ds) → qs.items ≡ with_person ps.items t (record (person_at ps.items t) { away = x }) → vec_len qs ≡ vec_len ps → vec_capacity qs ≡ vec_capacity ps → IsKept qs ks spare (AwaySet t x ∷ fs) ds
+  kept_away qs t x i e l c = told (AwaySet t x) qs _ refl i (stands_away ps.items ks.items fs i.stands t x i.next.0.0 (within t i.stands i.next.0)) e l c
+
+  pub kept_hidden : (qs : Vec Person Global) (t : ℕ) (v : Bool) → IsKept ps ks spare fs (InvisibleSet t v ∷ ds) → qs.items ≡ with_person ps.items t (record (person_at ps.items t) { invisible = v }) → vec_len qs ≡ vec_len ps → vec_capacity qs ≡ vec_capacity ps → IsKept qs ks spare (InvisibleSet t v ∷ fs) ds
+  kept_hidden qs t v i e l c = told (InvisibleSet t v) qs _ refl i (stands_hidden ps.items ks.items fs i.stands t v i.next.0.0 (within t i.stands i.next.0)) e l c
+
+  pub kept_changed : (ls : Vec Channel Global) (n : List ℕ) (x : Change) → IsKept ps ks spare fs (Changed n x ∷ ds) → Changes ks.items ls.items n x → vec_len ls ≤ vec_len ks → vec_capacity ls ≡ vec_capacity ks → IsKept ps ls spare (Changed n x ∷ fs) ds
+  kept_changed ls n x i v l c = record {
+    stands = stands_changed ps.items ks.items fs i.stands ls.items n x i.next.0.0 v;
     next = i.next.1;
-    room = less (Joined t n) ps ls refl i.room (omega arith) refl (omega arith) c (subst (HaveSeats ds) (sym r.changed) (seats_taken t n ds ks.items r.seats i.room.seats r.room));
+    room = less (Changed n x) ps ls refl i.room (omega arith) refl (omega arith) c (subst (HaveSeats ds) (sym v.ended) (seats-populated ds v.between (subst (HaveSeats ds) (sym v.reholds.changed) (seats_taken x n ds ks.items v.reholds.held i.room.seats v.reholds.room))));
   }
 
   pub kept_gone : (qs : Vec Person Global) (ls : Vec Channel Global) (t : ℕ) → IsKept ps ks spare fs (Gone t ∷ ds) → qs.items ≡ with_person ps.items t nobody → vec_len qs ≡ vec_len ps → vec_capacity qs ≡ vec_capacity ps → LeavesAll ks.items ls.items t → vec_len ls ≤ vec_len ks → vec_capacity ls ≡ vec_capacity ks → IsKept qs ls spare (Gone t ∷ fs) ds
@@ -139,7 +147,7 @@ module _ (ps : Vec Person Global) (ks : Vec Channel Global) (spare : Vec Seats G
     room = less (Gone t) qs ls refl i.room (omega arith) qc (omega arith) lc (subst (HaveSeats ds) (sym v.ended) (seats-populated ds v.between (seats_without t ds ks.items v.between v.left (seats_less (Gone t) ds ks.items i.room.seats))));
   }
 
-  pub kept_made : (ls : Vec Channel Global) (left : Vec Seats Global) (t : ℕ) (n : List ℕ) → IsKept ps ks spare fs (ChannelMade t n ∷ ds) → ((k : ℕ) → AreSpare (suc k) spare.items → Makes ks.items ls.items n t k × AreSpare k left.items) → length left.items + 1 ≡ length spare.items → vec_len ls ≤ vec_len ks + 1 → vec_capacity ls ≡ vec_capacity ks → IsKept ps ls left (ChannelMade t n ∷ fs) ds
+  pub kept_made : (ls : Vec Channel Global) (left : Vec Held Global) (t : ℕ) (n : List ℕ) → IsKept ps ks spare fs (ChannelMade t n ∷ ds) → ((k : ℕ) → AreSpare (suc k) spare.items → Makes ks.items ls.items n t k × AreSpare k left.items) → length left.items + 1 ≡ length spare.items → vec_len ls ≤ vec_len ks + 1 → vec_capacity ls ≡ vec_capacity ks → IsKept ps ls left (ChannelMade t n ∷ fs) ds
   kept_made ls left t n i make fewer l c =
       let m = make (length ds) i.room.empty in
       record {
@@ -148,7 +156,7 @@ module _ (ps : Vec Person Global) (ks : Vec Channel Global) (spare : Vec Seats G
         room = record {
           people = let h = i.room.people in omega arith;
           channels = let h = i.room.channels in omega arith;
-          seats = subst (HaveSeats ds) (sym m.0.added) (seats-push ds ks.items (record { name = n; members = m.0.seats }) (seats_less (ChannelMade t n) ds ks.items i.room.seats) (let few = joins_few n ds in let r = m.0.room in omega arith));
+          seats = subst (HaveSeats ds) (sym m.0.added) (seats-push ds ks.items (record { name = n; held = m.0.held }) (seats_less (ChannelMade t n) ds ks.items i.room.seats) (let few = changes_few n ds in let r = m.0.room in omega arith));
           enough = let h = i.room.enough in let e = makings-cons (ChannelMade t n) ds in omega arith;
           empty = m.1;
         };
@@ -156,7 +164,7 @@ module _ (ps : Vec Person Global) (ks : Vec Channel Global) (spare : Vec Seats G
 
 -- ---- the server ends a session, with no room made
 
-pub kept_end : (ps qs : Vec Person Global) (ks : Vec Channel Global) (spare : Vec Seats Global) (fs ds : List Deed) (t : ℕ) (w : Why) (x : List ℕ) → IsKept ps ks spare fs ds → IsOpened fs t → qs.items ≡ with_person ps.items t (record (person_at ps.items t) { why = w; parting = x }) → vec_len qs ≡ vec_len ps → vec_capacity qs ≡ vec_capacity ps → IsKept qs ks spare (Ended t w x ∷ fs) []
+pub kept_end : (ps qs : Vec Person Global) (ks : Vec Channel Global) (spare : Vec Held Global) (fs ds : List Deed) (t : ℕ) (w : Why) (x : List ℕ) → IsKept ps ks spare fs ds → IsOpened fs t → qs.items ≡ with_person ps.items t (record (person_at ps.items t) { why = w; parting = x }) → vec_len qs ≡ vec_len ps → vec_capacity qs ≡ vec_capacity ps → IsKept qs ks spare (Ended t w x ∷ fs) []
 kept_end ps qs ks spare fs ds t w x i o e l c =
     let none = room_none ps ks spare ds i.room in
     record {
@@ -166,5 +174,5 @@ kept_end ps qs ks spare fs ds t w x i o e l c =
     }
 
 -- it is ready for nothing
-pub kept_idle : (ps : Vec Person Global) (ks : Vec Channel Global) (spare : Vec Seats Global) (fs ds : List Deed) → IsKept ps ks spare fs ds → IsKept ps ks spare fs []
+pub kept_idle : (ps : Vec Person Global) (ks : Vec Channel Global) (spare : Vec Held Global) (fs ds : List Deed) → IsKept ps ks spare fs ds → IsKept ps ks spare fs []
 kept_idle ps ks spare fs ds i = record { stands = i.stands; next = tt; room = room_none ps ks spare ds i.room }

@@ -4,16 +4,17 @@ use Rattle.std.specs.List.{list_any}
 use Rattle.std.specs.Option.{option_map, option_map_or}
 use Rattle.roster.specs.declared.deed.Deed.{Deed}
 use Rattle.roster.specs.declared.tables.Channel.{Channel}
-use Rattle.roster.specs.Seats.{Seats}
-use Rattle.roster.specs.LookBack.{is_same, without}
-use Rattle.roster.specs.Tables.{channel_of, members_in, name_in, names_of, AreWithout}
-use Rattle.roster.specs.Stands.{AreApart, HaveSeats, joins}
+use Rattle.channel_state.specs.Held.{Held}
+use Rattle.casemapping.specs.Fold.{is_same}
+use Rattle.channel_state.specs.State.{nothing, departed}
+use Rattle.roster.specs.Tables.{channel_of, state_in, name_in, names_of, AreWithout}
+use Rattle.roster.specs.Stands.{AreApart, HaveSeats, changes}
 
 -- the session is taken out of the first i
 abbrev pub AreSwept : ℕ → ℕ → List Channel → List Channel → Type 0
 AreSwept t i [] [] = Unit {0}
 AreSwept t zero (k ∷ ks) (l ∷ ls) = (l ≡ k) × AreSwept t zero ks ls
-AreSwept t (suc i) (k ∷ ks) (l ∷ ls) = (l.name ≡ k.name) × (l.members.list ≡ without t k.members.list) × (k.members.room ≤ l.members.room) × AreSwept t i ks ls
+AreSwept t (suc i) (k ∷ ks) (l ∷ ls) = (l.name ≡ k.name) × (l.held.state ≡ departed t k.held.state) × (k.held.room ≤ l.held.room) × AreSwept t i ks ls
 AreSwept t i [] (l ∷ ls) = ⊥
 AreSwept t i (k ∷ ks) [] = ⊥
 
@@ -28,32 +29,32 @@ swept_all t i (k ∷ ks) [] l a = absurd a
 swept_all t zero (k ∷ ks) (x ∷ ls) l a = absurd (omega arith)
 swept_all t (suc i) (k ∷ ks) (x ∷ ls) l a = (a.0, a.1, a.2, swept_all t i ks ls (omega arith) a.3)
 
-swept_suc : (t i : ℕ) (ks ls : List Channel) (d : Channel) (m : Seats) → i < length ks → AreSwept t i ks ls → m.list ≡ without t (get_or ls i d).members.list → (get_or ls i d).members.room ≤ m.room
-    → AreSwept t (suc i) ks (slice_set ls i (record { name = (get_or ls i d).name; members = m }))
+swept_suc : (t i : ℕ) (ks ls : List Channel) (d : Channel) (m : Held) → i < length ks → AreSwept t i ks ls → m.state ≡ departed t (get_or ls i d).held.state → (get_or ls i d).held.room ≤ m.room
+    → AreSwept t (suc i) ks (slice_set ls i (record { name = (get_or ls i d).name; held = m }))
 swept_suc t i [] ls d m l a e r = absurd (omega arith)
 swept_suc t i (k ∷ ks) [] d m l a e r = absurd a
 swept_suc t zero (k ∷ ks) (x ∷ ls) d m l a e r =
-    let room : x.members.room ≡ k.members.room = ap (λ (y : Channel). y.members.room) a.0 in
-    (ap (λ (y : Channel). y.name) a.0, e ∙ ap (λ (y : Channel). without t y.members.list) a.0, omega arith, a.1)
+    let room : x.held.room ≡ k.held.room = ap (λ (y : Channel). y.held.room) a.0 in
+    (ap (λ (y : Channel). y.name) a.0, e ∙ ap (λ (y : Channel). departed t y.held.state) a.0, omega arith, a.1)
 swept_suc t (suc i) (k ∷ ks) (x ∷ ls) d m l a e r = (a.0, a.1, a.2, swept_suc t i ks ls d m (omega arith) a.3 e r)
 
-pub swept_more : (t i : ℕ) (ks ls : List Channel) (d : Channel) (m : Seats) → i < length ks → AreSwept t i ks ls → m.list ≡ without t (get_or ls i d).members.list → (get_or ls i d).members.room ≤ m.room
-    → AreSwept t (i + 1) ks (slice_set ls i (record { name = (get_or ls i d).name; members = m }))
+pub swept_more : (t i : ℕ) (ks ls : List Channel) (d : Channel) (m : Held) → i < length ks → AreSwept t i ks ls → m.state ≡ departed t (get_or ls i d).held.state → (get_or ls i d).held.room ≤ m.room
+    → AreSwept t (i + 1) ks (slice_set ls i (record { name = (get_or ls i d).name; held = m }))
 swept_more t i ks ls d m l a e r =
     let f : suc i ≡ i + 1 = omega arith in
-    subst (λ (n : ℕ). AreSwept t n ks (slice_set ls i (record { name = (get_or ls i d).name; members = m }))) f (swept_suc t i ks ls d m l a e r)
+    subst (λ (n : ℕ). AreSwept t n ks (slice_set ls i (record { name = (get_or ls i d).name; held = m }))) f (swept_suc t i ks ls d m l a e r)
 
 -- ---- what is looked up
 
-pub members_without : (t : ℕ) (ks ls : List Channel) (c : List ℕ) → AreWithout t ks ls → members_in ls c ≡ without t (members_in ks c)
-members_without t [] [] c a = refl
-members_without t [] (l ∷ ls) c a = absurd a
-members_without t (k ∷ ks) [] c a = absurd a
-members_without t (k ∷ ks) (l ∷ ls) c a =
-    ap (λ n. option_map_or (λ (x : Channel). x.members.list) (cond (is_same n c) (Some l) (channel_of ls c)) []) a.0
-    ∙ elim (is_same k.name c) as (λ b. option_map_or (λ (x : Channel). x.members.list) (cond b (Some l) (channel_of ls c)) [] ≡ without t (option_map_or (λ (x : Channel). x.members.list) (cond b (Some k) (channel_of ks c)) [])) [
+pub states_without : (t : ℕ) (ks ls : List Channel) (c : List ℕ) → AreWithout t ks ls → state_in ls c ≡ departed t (state_in ks c)
+states_without t [] [] c a = refl
+states_without t [] (l ∷ ls) c a = absurd a
+states_without t (k ∷ ks) [] c a = absurd a
+states_without t (k ∷ ks) (l ∷ ls) c a =
+    ap (λ n. option_map_or (λ (x : Channel). x.held.state) (cond (is_same n c) (Some l) (channel_of ls c)) nothing) a.0
+    ∙ elim (is_same k.name c) as (λ b. option_map_or (λ (x : Channel). x.held.state) (cond b (Some l) (channel_of ls c)) nothing ≡ departed t (option_map_or (λ (x : Channel). x.held.state) (cond b (Some k) (channel_of ks c)) nothing)) [
       | true ↦ a.1
-      | false ↦ members_without t ks ls c a.3
+      | false ↦ states_without t ks ls c a.3
     ]
 
 pub names_without : (t : ℕ) (ks ls : List Channel) (c : List ℕ) → AreWithout t ks ls → name_in ls c ≡ name_in ks c
@@ -83,7 +84,7 @@ pub seats_without : (t : ℕ) (ds : List Deed) (ks ls : List Channel) → AreWit
 seats_without t ds [] [] a h = tt
 seats_without t ds [] (l ∷ ls) a h = absurd a
 seats_without t ds (k ∷ ks) [] a h = absurd a
-seats_without t ds (k ∷ ks) (l ∷ ls) a h = ((let same = ap (λ n. joins n ds) a.0 in let r = h.0 in let s = a.2 in omega arith), seats_without t ds ks ls a.3 h.1)
+seats_without t ds (k ∷ ks) (l ∷ ls) a h = ((let same = ap (λ n. changes n ds) a.0 in let r = h.0 in let s = a.2 in omega arith), seats_without t ds ks ls a.3 h.1)
 
 pub names_of_without : (t : ℕ) (ks ls : List Channel) → AreWithout t ks ls → names_of ls ≡ names_of ks
 names_of_without t [] [] a = refl

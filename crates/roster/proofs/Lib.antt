@@ -1,5 +1,4 @@
 pub mod Bools
-pub mod Same
 pub mod OnChannels
 pub mod ChannelTable
 pub mod ChannelNames

@@ -1,14 +1,14 @@
 -- What follows of names of channels.
 use Rattle.std.proofs.Common.{inl, inr, [], ◌∷◌}
-use Rattle.roster.specs.declared.deed.Deed.TheVariants.{Opened, NickSet, UserSet, HoldSet, CapsSet, ExchangeSet, LoggedIn, Enrolled, ChannelMade, Joined, Ended, Gone}
-use Rattle.roster.specs.LookBack.{is_same}
+use Rattle.roster.specs.declared.deed.Deed.TheVariants.{Opened, NickSet, UserSet, HoldSet, CapsSet, ExchangeSet, LoggedIn, Enrolled, AwaySet, InvisibleSet, ChannelMade, Changed, Ended, Gone}
+use Rattle.casemapping.specs.Fold.{is_same}
 use Rattle.roster.specs.Laws.{ChannelsHaveOneName, SpelledNamesAreNames}
 use Rattle.roster.proofs.Bools.{either}
-use Rattle.roster.proofs.Same.{is_same-refl}
-use Rattle.roster.proofs.OnChannels.{members-same, on-same}
+use Rattle.casemapping.proofs.SameNames.{is_same-refl}
+use Rattle.roster.proofs.OnChannels.{state-same, on-same}
 
 pub one_name : ChannelsHaveOneName
-one_name fs c d e = (members-same fs c d e, λ s. on-same fs s c d e)
+one_name fs c d e = (state-same fs c d e, λ s. on-same fs s c d e)
 
 pub spelled : SpelledNamesAreNames
 spelled [] c = is_same-refl c
@@ -21,6 +21,8 @@ spelled (ExchangeSet t n ∷ fs) c = spelled fs c
 spelled (LoggedIn t n ∷ fs) c = spelled fs c
 spelled (Enrolled t ∷ fs) c = spelled fs c
 spelled (ChannelMade t k ∷ fs) c = elim (either (is_same k c)) [ inl same ↦ rw same same | inr other ↦ rw other (spelled fs c) ]
-spelled (Joined t k ∷ fs) c = spelled fs c
+spelled (AwaySet t x ∷ fs) c = spelled fs c
+spelled (InvisibleSet t x ∷ fs) c = spelled fs c
+spelled (Changed k x ∷ fs) c = spelled fs c
 spelled (Ended t w x ∷ fs) c = spelled fs c
 spelled (Gone t ∷ fs) c = spelled fs c

@@ -1,11 +1,17 @@
--- Members of a channel, by the facts.
+-- A channel, by the facts.
 use Rattle.std.proofs.lemmas.List.Folds.{list_any-append}
 use Rattle.std.proofs.lemmas.Bool.Decides.{eqb_tells}
-use Rattle.std.proofs.Common.{◌≡◌, inl, inr, ℕ, Bool, true, false, ◌&&◌, ◌||◌, ◌==◌, cond, List, [], ◌∷◌, ◌++◌, unwrap_or, Some, None, refl, sym, ap, ◌∙◌, ne_eqb}
-use Rattle.roster.proofs.Same.{is_same-right}
+use Rattle.std.proofs.Common.{◌≡◌, inl, inr, ℕ, Bool, true, false, ◌&&◌, ◌||◌, ◌==◌, cond, List, [], ◌∷◌, ◌++◌, unwrap_or, Option, Some, None, refl, sym, ap, ◌∙◌, ne_eqb}
+use Rattle.casemapping.specs.Fold.{is_same}
+use Rattle.casemapping.proofs.SameNames.{is_same-right}
+use Rattle.channel_state.specs.declared.change.Rank.{Rank}
+use Rattle.channel_state.specs.declared.change.Rank.TheVariants.{Operator, Voice}
+use Rattle.channel_state.specs.declared.change.Change.{Change}
+use Rattle.channel_state.specs.declared.change.Change.TheVariants.{Joined, Left, RankSet, FlagSet, KeySet, LimitSet, TopicSet, BanSet, BanLifted, Invited}
+use Rattle.channel_state.specs.State.{State, among, without, with_last, is_some_one, nothing, made_by, changed, departed, lasting}
 use Rattle.roster.specs.declared.deed.Deed.{Deed}
-use Rattle.roster.specs.declared.deed.Deed.TheVariants.{Opened, NickSet, UserSet, HoldSet, CapsSet, ExchangeSet, LoggedIn, Enrolled, ChannelMade, Joined, Ended, Gone}
-use Rattle.roster.specs.LookBack.{is_same, among, on, without, members, seated, is_some_one}
+use Rattle.roster.specs.declared.deed.Deed.TheVariants.{Opened, NickSet, UserSet, HoldSet, CapsSet, ExchangeSet, LoggedIn, Enrolled, AwaySet, InvisibleSet, ChannelMade, Changed, Ended, Gone}
+use Rattle.roster.specs.LookBack.{tells_seat, on, state, members, reshaped}
 use Rattle.roster.proofs.Bools.{or-true, or-false}
 
 pub among-push : (t s : ℕ) (ts : List ℕ) → among t (ts ++ s ∷ []) ≡ (among t ts || s == t)
@@ -26,19 +32,48 @@ among-without t s (u ∷ ts) =
       ])
     ]
 
--- a deed that says who is on a channel
-joined : (b e : Bool) (t u : ℕ) (ms : List ℕ) → (u == t) ≡ e → among t (cond b (without u ms ++ u ∷ []) ms) ≡ unwrap_or (cond (b && e) (Some true) None) (among t ms)
-joined true true t u ms eq = among-push t u (without u ms) ∙ ap (λ x. among t (without u ms) || x) eq ∙ or-true (among t (without u ms))
-joined true false t u ms eq = among-push t u (without u ms) ∙ ap (λ x. among t (without u ms) || x) eq ∙ or-false (among t (without u ms)) ∙ among-without t u ms ∙ ap (λ x. cond x false (among t ms)) eq
-joined false e t u ms eq = refl
+-- ---- a fact that says who is on a channel
 
-made : (b : Bool) (t u : ℕ) (ms : List ℕ) → among t (cond b (u ∷ []) ms) ≡ unwrap_or (cond b (Some (u == t)) None) (among t ms)
-made true t u ms = or-false (u == t)
-made false t u ms = refl
+joined : (e : Bool) (t u : ℕ) (ms : List ℕ) → (u == t) ≡ e → among t (with_last u ms) ≡ unwrap_or (cond e (Some true) None) (among t ms)
+joined true t u ms eq = among-push t u (without u ms) ∙ ap (λ x. among t (without u ms) || x) eq ∙ or-true (among t (without u ms))
+joined false t u ms eq = among-push t u (without u ms) ∙ ap (λ x. among t (without u ms) || x) eq ∙ or-false (among t (without u ms)) ∙ among-without t u ms ∙ ap (λ x. cond x false (among t ms)) eq
+
+made : (b : Bool) (t u : ℕ) (k : State) → among t (cond b (made_by u) k).members ≡ unwrap_or (cond b (Some (u == t)) None) (among t k.members)
+made true t u k = or-false (u == t)
+made false t u k = refl
 
 gone : (e : Bool) (t u : ℕ) (ms : List ℕ) → (u == t) ≡ e → among t (without u ms) ≡ unwrap_or (cond e (Some false) None) (among t ms)
 gone true t u ms eq = among-without t u ms ∙ ap (λ x. cond x false (among t ms)) eq
 gone false t u ms eq = among-without t u ms ∙ ap (λ x. cond x false (among t ms)) eq
+
+among-changed : (x : Change) (t : ℕ) (k : State) → among t (changed x k).members ≡ unwrap_or (tells_seat t x) (among t k.members)
+among-changed (Joined u) t k = joined (u == t) t u k.members refl
+among-changed (Left u) t k = gone (u == t) t u k.members refl
+among-changed (RankSet u Operator is) t k = refl
+among-changed (RankSet u Voice is) t k = refl
+among-changed (FlagSet f is) t k = refl
+among-changed (KeySet x) t k = refl
+among-changed (LimitSet x) t k = refl
+among-changed (TopicSet x) t k = refl
+among-changed (BanSet x) t k = refl
+among-changed (BanLifted x) t k = refl
+among-changed (Invited u x) t k = refl
+
+-- a channel that ends had no member
+members_of_none : (ms : List ℕ) (k : State) → (cond (is_some_one ms) k nothing).members ≡ cond (is_some_one ms) k.members []
+members_of_none [] k = refl
+members_of_none (m ∷ ms) k = refl
+
+some_or_none : (ms : List ℕ) → cond (is_some_one ms) ms [] ≡ ms
+some_or_none [] = refl
+some_or_none (m ∷ ms) = refl
+
+pub members-lasting : (k : State) → (lasting k).members ≡ k.members
+members-lasting k = members_of_none k.members k ∙ some_or_none k.members
+
+changes_to : (b : Bool) (x : Change) (t : ℕ) (k : State) → among t (cond b (lasting (changed x k)) k).members ≡ unwrap_or (cond b (tells_seat t x) None) (among t k.members)
+changes_to true x t k = ap (among t) (members-lasting (changed x k)) ∙ among-changed x t k
+changes_to false x t k = refl
 
 -- a session is on a channel exactly where it is among the members
 pub among-members : (fs : List Deed) (t : ℕ) (c : List ℕ) → among t (members fs c) ≡ on fs t c
@@ -51,43 +86,78 @@ among-members (CapsSet u n ∷ fs) t c = among-members fs t c
 among-members (ExchangeSet u n ∷ fs) t c = among-members fs t c
 among-members (LoggedIn u n ∷ fs) t c = among-members fs t c
 among-members (Enrolled u ∷ fs) t c = among-members fs t c
+among-members (AwaySet u x ∷ fs) t c = among-members fs t c
+among-members (InvisibleSet u x ∷ fs) t c = among-members fs t c
 among-members (Ended u w x ∷ fs) t c = among-members fs t c
-among-members (ChannelMade u k ∷ fs) t c = made (is_same k c) t u (members fs c) ∙ ap (unwrap_or (cond (is_same k c) (Some (u == t)) None)) (among-members fs t c)
-among-members (Joined u k ∷ fs) t c = joined (is_same k c) (u == t) t u (members fs c) refl ∙ ap (unwrap_or (cond (is_same k c && u == t) (Some true) None)) (among-members fs t c)
-among-members (Gone u ∷ fs) t c = gone (u == t) t u (members fs c) refl ∙ ap (unwrap_or (cond (u == t) (Some false) None)) (among-members fs t c)
+among-members (ChannelMade u k ∷ fs) t c = made (is_same k c) t u (state fs c) ∙ ap (unwrap_or (cond (is_same k c) (Some (u == t)) None)) (among-members fs t c)
+among-members (Changed k x ∷ fs) t c = changes_to (is_same k c) x t (state fs c) ∙ ap (unwrap_or (cond (is_same k c) (tells_seat t x) None)) (among-members fs t c)
+among-members (Gone u ∷ fs) t c = ap (among t) (members-lasting (departed u (state fs c))) ∙ gone (u == t) t u (members fs c) refl ∙ ap (unwrap_or (cond (u == t) (Some false) None)) (among-members fs t c)
 
--- the same name has the same members
-seated-same : (d : Deed) (c e : List ℕ) (ms : List ℕ) → is_same c e ≡ true → seated d c ms ≡ seated d e ms
-seated-same (Opened u h) c e ms s = refl
-seated-same (NickSet u n) c e ms s = refl
-seated-same (UserSet u n r) c e ms s = refl
-seated-same (HoldSet u n) c e ms s = refl
-seated-same (CapsSet u n) c e ms s = refl
-seated-same (ExchangeSet u n) c e ms s = refl
-seated-same (LoggedIn u n) c e ms s = refl
-seated-same (Enrolled u) c e ms s = refl
-seated-same (Ended u w x) c e ms s = refl
-seated-same (ChannelMade u k) c e ms s = ap (λ b. cond b (u ∷ []) ms) (is_same-right c e k s)
-seated-same (Joined u k) c e ms s = ap (λ b. cond b (without u ms ++ u ∷ []) ms) (is_same-right c e k s)
-seated-same (Gone u) c e ms s = refl
+-- ---- one name is one channel
 
-pub members-same : (fs : List Deed) (c e : List ℕ) → is_same c e ≡ true → members fs c ≡ members fs e
-members-same [] c e s = refl
-members-same (d ∷ fs) c e s = ap (seated d c) (members-same fs c e s) ∙ seated-same d c e (members fs e) s
+reshaped-same : (d : Deed) (c e : List ℕ) (k : State) → is_same c e ≡ true → reshaped d c k ≡ reshaped d e k
+reshaped-same (Opened u h) c e k s = refl
+reshaped-same (NickSet u n) c e k s = refl
+reshaped-same (UserSet u n r) c e k s = refl
+reshaped-same (HoldSet u n) c e k s = refl
+reshaped-same (CapsSet u n) c e k s = refl
+reshaped-same (ExchangeSet u n) c e k s = refl
+reshaped-same (LoggedIn u n) c e k s = refl
+reshaped-same (Enrolled u) c e k s = refl
+reshaped-same (AwaySet u x) c e k s = refl
+reshaped-same (InvisibleSet u x) c e k s = refl
+reshaped-same (Ended u w x) c e k s = refl
+reshaped-same (ChannelMade u n) c e k s = ap (λ b. cond b (made_by u) k) (is_same-right c e n s)
+reshaped-same (Changed n x) c e k s = ap (λ b. cond b (lasting (changed x k)) k) (is_same-right c e n s)
+reshaped-same (Gone u) c e k s = refl
 
--- somebody who is among them is somebody
+pub state-same : (fs : List Deed) (c e : List ℕ) → is_same c e ≡ true → state fs c ≡ state fs e
+state-same [] c e s = refl
+state-same (d ∷ fs) c e s = ap (reshaped d c) (state-same fs c e s) ∙ reshaped-same d c e (state fs e) s
+
+-- the same name has the same sessions on it
+pub on-same : (fs : List Deed) (s : ℕ) (c d : List ℕ) → is_same c d ≡ true → on fs s c ≡ on fs s d
+on-same fs s c d e = sym (among-members fs s c) ∙ ap (λ (k : State). among s k.members) (state-same fs c d e) ∙ among-members fs s d
+
+-- ---- a channel lasts while somebody is on it
+
+lasting_once : (ms : List ℕ) (k : State) → k.members ≡ ms → lasting k ≡ cond (is_some_one ms) k nothing
+lasting_once ms k e = ap (λ xs. cond (is_some_one xs) k nothing) e
+
+lasting_twice : (ms : List ℕ) (k : State) → k.members ≡ ms → lasting (cond (is_some_one ms) k nothing) ≡ cond (is_some_one ms) k nothing
+lasting_twice [] k e = refl
+lasting_twice (m ∷ ms) k e = lasting_once (m ∷ ms) k e
+
+pub lasting-lasting : (k : State) → lasting (lasting k) ≡ lasting k
+lasting-lasting k = lasting_twice k.members k refl
+
+lasts_by : (b : Bool) (new k : State) → lasting new ≡ new → lasting k ≡ k → lasting (cond b new k) ≡ cond b new k
+lasts_by true new k e f = e
+lasts_by false new k e f = f
+
+pub state-lasts : (fs : List Deed) (c : List ℕ) → lasting (state fs c) ≡ state fs c
+state-lasts [] c = refl
+state-lasts (Opened u h ∷ fs) c = state-lasts fs c
+state-lasts (NickSet u n ∷ fs) c = state-lasts fs c
+state-lasts (UserSet u n r ∷ fs) c = state-lasts fs c
+state-lasts (HoldSet u n ∷ fs) c = state-lasts fs c
+state-lasts (CapsSet u n ∷ fs) c = state-lasts fs c
+state-lasts (ExchangeSet u n ∷ fs) c = state-lasts fs c
+state-lasts (LoggedIn u n ∷ fs) c = state-lasts fs c
+state-lasts (Enrolled u ∷ fs) c = state-lasts fs c
+state-lasts (AwaySet u x ∷ fs) c = state-lasts fs c
+state-lasts (InvisibleSet u x ∷ fs) c = state-lasts fs c
+state-lasts (Ended u w x ∷ fs) c = state-lasts fs c
+state-lasts (ChannelMade u k ∷ fs) c = lasts_by (is_same k c) (made_by u) (state fs c) refl (state-lasts fs c)
+state-lasts (Changed k x ∷ fs) c = lasts_by (is_same k c) (lasting (changed x (state fs c))) (state fs c) (lasting-lasting (changed x (state fs c))) (state-lasts fs c)
+state-lasts (Gone u ∷ fs) c = lasting-lasting (departed u (state fs c))
+
+-- ---- somebody who is among them is somebody
+
 pub someone : (t : ℕ) (ts : List ℕ) → among t ts ≡ true → is_some_one ts ≡ true
 someone t [] e = absurd (let f : false ≡ true = e in cc)
 someone t (u ∷ ts) e = refl
 
-pub someone-push : (ts : List ℕ) (s : ℕ) → is_some_one (ts ++ s ∷ []) ≡ true
-someone-push [] s = refl
-someone-push (t ∷ ts) s = refl
-
 pub someone-without : (s : ℕ) (ts : List ℕ) → is_some_one ts ≡ false → is_some_one (without s ts) ≡ false
 someone-without s [] e = refl
 someone-without s (t ∷ ts) e = absurd (let f : true ≡ false = e in cc)
-
--- the same name has the same sessions on it
-pub on-same : (fs : List Deed) (s : ℕ) (c d : List ℕ) → is_same c d ≡ true → on fs s c ≡ on fs s d
-on-same fs s c d e = sym (among-members fs s c) ∙ ap (among s) (members-same fs c d e) ∙ among-members fs s d

@@ -3,11 +3,12 @@ use Rattle.std.proofs.lemmas.List.Quantifiers.{position-Some}
 use Rattle.std.proofs.lemmas.Bool.Decides.{leb_tells, nat_tests}
 use Rattle.std.proofs.Common.{◌≡◌, inl, inr, ℕ, suc, ◌+◌, ◌<◌, ◌≤◌, Bool, true, false, nat_lt, not, cond, List, [], ◌∷◌, length, get_or, slice_set, position, Option, Some, None, arith, refl, sym, ap, ◌∙◌}
 use Rattle.std.specs.List.{position_or_len}
-use Rattle.roster.specs.LookBack.{is_same}
+use Rattle.casemapping.specs.Fold.{is_same}
 use Rattle.roster.specs.declared.tables.Channel.{Channel}
-use Rattle.roster.specs.Seats.{Seats}
+use Rattle.channel_state.specs.State.{State, nothing}
+use Rattle.channel_state.specs.Held.{Held}
 use Rattle.std.specs.Option.{option_map, option_map_or}
-use Rattle.roster.specs.Tables.{channel_of, members_in, room_in, with_members, Reseats}
+use Rattle.roster.specs.Tables.{channel_of, state_in, room_in, with_held, Reholds}
 use Rattle.roster.proofs.Bools.{either}
 
 at_first : (b : Bool) (pl n : ℕ) → b ≡ true → cond (nat_lt (cond (not b) (1 + pl) 0) (suc n)) (Some (cond (not b) (1 + pl) 0)) None ≡ Some 0
@@ -46,7 +47,7 @@ none_next None e = refl
 none_next (Some j) e = absurd (let f : Some (suc j) ≡ None = e in cc)
 
 pub place-within : (ks : List Channel) (c : List ℕ) (i : ℕ) → place ks c ≡ Some i → i < length ks
-place-within ks c i e = (position-Some (λ (k : Channel). is_same k.name c) ks i (record { name = []; members = record { list = []; room = 0 } }) e).0
+place-within ks c i e = (position-Some (λ (k : Channel). is_same k.name c) ks i (record { name = []; held = record { state = nothing; room = 0 } }) e).0
 
 -- the first place is the channel's
 first_place : (k : Channel) (ks : List Channel) (c : List ℕ) (i : ℕ) → place (k ∷ ks) c ≡ Some i → is_same k.name c ≡ true → i ≡ 0
@@ -63,17 +64,17 @@ found_at (k ∷ ks) c i d e = elim (either (is_same k.name c)) [
   | inr miss ↦ let l = later_place k ks c i e miss in ap (λ b. cond b (Some k) (channel_of ks c)) miss ∙ found_at ks c l.0 d l.1 ∙ ap (λ (n : ℕ). Some (get_or (k ∷ ks) n d)) (sym l.2)
 ]
 
-pub set_at : (ks : List Channel) (c : List ℕ) (i : ℕ) (d : Channel) (m : Seats) → place ks c ≡ Some i → slice_set ks i (record { name = (get_or ks i d).name; members = m }) ≡ with_members ks c m
+pub set_at : (ks : List Channel) (c : List ℕ) (i : ℕ) (d : Channel) (m : Held) → place ks c ≡ Some i → slice_set ks i (record { name = (get_or ks i d).name; held = m }) ≡ with_held ks c m
 set_at [] c i d m e = absurd (let f : None ≡ Some i = e in cc)
 set_at (k ∷ ks) c i d m e = elim (either (is_same k.name c)) [
   | inl hit ↦
-      ap (λ (n : ℕ). slice_set (k ∷ ks) n (record { name = (get_or (k ∷ ks) n d).name; members = m })) (first_place k ks c i e hit)
-      ∙ sym (ap (λ b. cond b (record { name = k.name; members = m } ∷ ks) (k ∷ with_members ks c m)) hit)
+      ap (λ (n : ℕ). slice_set (k ∷ ks) n (record { name = (get_or (k ∷ ks) n d).name; held = m })) (first_place k ks c i e hit)
+      ∙ sym (ap (λ b. cond b (record { name = k.name; held = m } ∷ ks) (k ∷ with_held ks c m)) hit)
   | inr miss ↦
       let l = later_place k ks c i e miss in
-      ap (λ (n : ℕ). slice_set (k ∷ ks) n (record { name = (get_or (k ∷ ks) n d).name; members = m })) l.2
+      ap (λ (n : ℕ). slice_set (k ∷ ks) n (record { name = (get_or (k ∷ ks) n d).name; held = m })) l.2
       ∙ ap (λ xs. k ∷ xs) (set_at ks c l.0 d m l.1)
-      ∙ sym (ap (λ b. cond b (record { name = k.name; members = m } ∷ ks) (k ∷ with_members ks c m)) miss)
+      ∙ sym (ap (λ b. cond b (record { name = k.name; held = m } ∷ ks) (k ∷ with_held ks c m)) miss)
 ]
 
 pub absent : (ks : List Channel) (c : List ℕ) → place ks c ≡ None → channel_of ks c ≡ None
@@ -84,11 +85,11 @@ absent (k ∷ ks) c e = elim (either (is_same k.name c)) [
 ]
 
 -- nothing changes where there is no such channel
-pub with-absent : (ks : List Channel) (c : List ℕ) (m : Seats) → channel_of ks c ≡ None → with_members ks c m ≡ ks
+pub with-absent : (ks : List Channel) (c : List ℕ) (m : Held) → channel_of ks c ≡ None → with_held ks c m ≡ ks
 with-absent [] c m e = refl
 with-absent (k ∷ ks) c m e = elim (either (is_same k.name c)) [
   | inl hit ↦ absurd (let f : Some k ≡ None = ap (λ b. cond b (Some k) (channel_of ks c)) (sym hit) ∙ e in cc)
-  | inr miss ↦ ap (λ b. cond b (record { name = k.name; members = m } ∷ ks) (k ∷ with_members ks c m)) miss ∙ ap (λ xs. k ∷ xs) (with-absent ks c m (ap (λ b. cond b (Some k) (channel_of ks c)) (sym miss) ∙ e))
+  | inr miss ↦ ap (λ b. cond b (record { name = k.name; held = m } ∷ ks) (k ∷ with_held ks c m)) miss ∙ ap (λ xs. k ∷ xs) (with-absent ks c m (ap (λ b. cond b (Some k) (channel_of ks c)) (sym miss) ∙ e))
 ]
 
 -- ---- the members of a channel, changed at its place
@@ -97,23 +98,23 @@ module _ (ks : List Channel) (c : List ℕ) (i : ℕ) (d : Channel) (at : place 
   there : channel_of ks c ≡ Some (get_or ks i d)
   there = found_at ks c i d at
 
-  pub room_at : room_in ks c ≡ (get_or ks i d).members.room
-  room_at = ap (λ o. option_map_or (λ (k : Channel). k.members.room) o 1) there
+  pub room_at : room_in ks c ≡ (get_or ks i d).held.room
+  room_at = ap (λ o. option_map_or (λ (k : Channel). k.held.room) o 1) there
 
-  members_at : members_in ks c ≡ (get_or ks i d).members.list
-  members_at = ap (λ o. option_map_or (λ (k : Channel). k.members.list) o []) there
+  members_at : state_in ks c ≡ (get_or ks i d).held.state
+  members_at = ap (λ o. option_map_or (λ (k : Channel). k.held.state) o nothing) there
 
-  pub reseats : (m : Seats) (f : List ℕ → List ℕ) (less : ℕ) → m.list ≡ f (get_or ks i d).members.list → (get_or ks i d).members.room ≤ m.room + less
-      → Reseats ks (slice_set ks i (record { name = (get_or ks i d).name; members = m })) c (f (members_in ks c)) less
-  reseats m f less e r = record { seats = m; changed = set_at ks c i d m at; listed = e ∙ ap f (sym members_at); room = let same = room_at in omega arith }
+  pub reseats : (m : Held) (f : State → State) (less : ℕ) → m.state ≡ f (get_or ks i d).held.state → (get_or ks i d).held.room ≤ m.room + less
+      → Reholds ks (slice_set ks i (record { name = (get_or ks i d).name; held = m })) c (f (state_in ks c)) less
+  reseats m f less e r = record { held = m; changed = set_at ks c i d m at; state = e ∙ ap f (sym members_at); room = let same = room_at in omega arith }
 
 -- where there is no such channel nothing changes
-pub reseats_none : (ks : List Channel) (c : List ℕ) (f : List ℕ → List ℕ) (less : ℕ) → place ks c ≡ None → Reseats ks ks c (f (members_in ks c)) less
+pub reseats_none : (ks : List Channel) (c : List ℕ) (f : State → State) (less : ℕ) → place ks c ≡ None → Reholds ks ks c (f (state_in ks c)) less
 reseats_none ks c f less e =
     let out = absent ks c e in
     record {
-      seats = record { list = f (members_in ks c); room = 1 };
-      changed = sym (with-absent ks c (record { list = f (members_in ks c); room = 1 }) out);
-      listed = refl;
-      room = let one : room_in ks c ≡ 1 = ap (λ o. option_map_or (λ (k : Channel). k.members.room) o 1) out in omega arith;
+      held = record { state = f (state_in ks c); room = 1 };
+      changed = sym (with-absent ks c (record { state = f (state_in ks c); room = 1 }) out);
+      state = refl;
+      room = let one : room_in ks c ≡ 1 = ap (λ o. option_map_or (λ (k : Channel). k.held.room) o 1) out in omega arith;
     }

@@ -2,22 +2,23 @@
 use Rattle.std.proofs.Common.{◌≡◌, ℕ, true, false, ◌||◌, cond, List, [], ◌∷◌, Some, refl, sym, ap, ◌∙◌, subst}
 use Rattle.std.specs.List.{list_any}
 use Rattle.std.specs.Option.{option_map, option_map_or}
-use Rattle.roster.specs.LookBack.{is_same, is_some_one}
+use Rattle.casemapping.specs.Fold.{is_same}
+use Rattle.channel_state.specs.State.{State, is_some_one, nothing}
 use Rattle.roster.specs.declared.deed.Deed.{Deed}
 use Rattle.roster.specs.declared.tables.Person.{Person}
 use Rattle.roster.specs.declared.tables.Channel.{Channel}
-use Rattle.roster.specs.Tables.{channel_of, members_in, name_in, names_of}
+use Rattle.roster.specs.Tables.{channel_of, state_in, name_in, names_of}
 use Rattle.roster.specs.Stands.{Alike, AreApart, AreHeld, Stands}
 
-members_alike : (ks ls : List Channel) (c : List ℕ) → Alike ks ls → members_in ls c ≡ members_in ks c
-members_alike [] [] c a = refl
-members_alike [] (l ∷ ls) c a = absurd a
-members_alike (k ∷ ks) [] c a = absurd a
-members_alike (k ∷ ks) (l ∷ ls) c a =
-    ap (λ n. option_map_or (λ (x : Channel). x.members.list) (cond (is_same n c) (Some l) (channel_of ls c)) []) a.0
-    ∙ elim (is_same k.name c) as (λ b. option_map_or (λ (x : Channel). x.members.list) (cond b (Some l) (channel_of ls c)) [] ≡ option_map_or (λ (x : Channel). x.members.list) (cond b (Some k) (channel_of ks c)) []) [
+states_alike : (ks ls : List Channel) (c : List ℕ) → Alike ks ls → state_in ls c ≡ state_in ks c
+states_alike [] [] c a = refl
+states_alike [] (l ∷ ls) c a = absurd a
+states_alike (k ∷ ks) [] c a = absurd a
+states_alike (k ∷ ks) (l ∷ ls) c a =
+    ap (λ n. option_map_or (λ (x : Channel). x.held.state) (cond (is_same n c) (Some l) (channel_of ls c)) nothing) a.0
+    ∙ elim (is_same k.name c) as (λ b. option_map_or (λ (x : Channel). x.held.state) (cond b (Some l) (channel_of ls c)) nothing ≡ option_map_or (λ (x : Channel). x.held.state) (cond b (Some k) (channel_of ks c)) nothing) [
       | true ↦ a.1
-      | false ↦ members_alike ks ls c a.2
+      | false ↦ states_alike ks ls c a.2
     ]
 
 names_alike : (ks ls : List Channel) (c : List ℕ) → Alike ks ls → name_in ls c ≡ name_in ks c
@@ -53,14 +54,14 @@ held_alike : (ks ls : List Channel) → Alike ks ls → AreHeld ks → AreHeld l
 held_alike [] [] a h = tt
 held_alike [] (l ∷ ls) a h = absurd a
 held_alike (k ∷ ks) [] a h = absurd a
-held_alike (k ∷ ks) (l ∷ ls) a h = (ap is_some_one a.1 ∙ h.0, held_alike ks ls a.2 h.1)
+held_alike (k ∷ ks) (l ∷ ls) a h = (ap (λ (st : State). is_some_one st.members) a.1 ∙ h.0, held_alike ks ls a.2 h.1)
 
 pub stands_alike : (ps qs : List Person) (ks ls : List Channel) (fs : List Deed) → qs ≡ ps → Alike ks ls → Stands ps ks fs → Stands qs ls fs
 stands_alike ps qs ks ls fs e a i =
     subst (λ (rs : List Person). Stands rs ls fs) (sym e) (record {
       people = i.people;
       opened = i.opened;
-      members = λ c. members_alike ks ls c a ∙ i.members c;
+      states = λ c. states_alike ks ls c a ∙ i.states c;
       names = λ c. names_alike ks ls c a ∙ i.names c;
       channels = i.channels ∙ sym (names_of_alike ks ls a);
       apart = apart_alike ks ls a i.apart;

@@ -1,23 +1,26 @@
 -- The tables stand for the facts after each deed.
 use Rattle.std.proofs.lemmas.List.{get_or_push, get_or-set_same, get_or-set_other, length-set}
 use Rattle.std.proofs.lemmas.Bool.Decides.{eqb_tells}
-use Rattle.std.proofs.Common.{◌≡◌, ◌≢◌, inl, inr, ℕ, zero, suc, ◌+◌, ◌-◌, ◌<◌, ◌≤◌, Bool, true, false, cond, List, [], ◌∷◌, ◌++◌, filter, length, slice_index_or, slice_set, Option, Some, None, arith, refl, sym, ap, ◌∙◌, ne_eqb, eq-eqb, length-append, subst}
+use Rattle.std.proofs.Common.{◌≡◌, ◌≢◌, inl, inr, ℕ, zero, suc, ◌+◌, ◌-◌, ◌<◌, ◌≤◌, Bool, true, false, cond, List, [], ◌∷◌, ◌++◌, filter, length, slice_index_or, slice_set, unwrap_or, Option, Some, None, arith, refl, sym, ap, ◌∙◌, ne_eqb, eq-eqb, length-append, subst}
 use Rattle.std.specs.Option.{is_some, option_map, option_map_or}
 use Rattle.chronicle.specs.declared.why.Why.{Why}
 use Rattle.registration.specs.declared.caps.Caps.{Caps}
 use Rattle.roster.specs.declared.deed.Deed.{Deed}
-use Rattle.roster.specs.declared.deed.Deed.TheVariants.{Opened, NickSet, UserSet, HoldSet, CapsSet, ExchangeSet, LoggedIn, Enrolled, ChannelMade, Joined, Ended, Gone}
+use Rattle.roster.specs.declared.deed.Deed.TheVariants.{Opened, NickSet, UserSet, HoldSet, CapsSet, ExchangeSet, LoggedIn, Enrolled, AwaySet, InvisibleSet, ChannelMade, Changed, Ended, Gone}
 use Rattle.roster.specs.declared.tables.Person.{Person}
 use Rattle.roster.specs.declared.tables.Channel.{Channel}
-use Rattle.roster.specs.Seats.{Seats}
-use Rattle.roster.specs.LookBack.{is_same, numbers, opened, on, without, members, is_some_one, has_member, name, name_of, channels}
-use Rattle.roster.specs.Tables.{nobody, person_at, with_person, channel_of, members_in, name_in, names_of, Reseats, Makes, LeavesAll}
+use Rattle.casemapping.specs.Fold.{is_same}
+use Rattle.channel_state.specs.declared.change.Change.{Change}
+use Rattle.channel_state.specs.State.{State, is_some_one, nothing, made_by, changed, departed, lasting}
+use Rattle.channel_state.specs.Held.{Held}
+use Rattle.roster.specs.LookBack.{numbers, opened, state, members, has_member, name, name_of, channels}
+use Rattle.roster.specs.Tables.{nobody, person_at, with_person, channel_of, state_in, name_in, names_of, Reholds, Changes, Makes, LeavesAll}
 use Rattle.roster.specs.Stands.{person, AreApart, AreHeld, Stands}
 use Rattle.roster.proofs.Bools.{either}
-use Rattle.roster.proofs.Leaving.{members_without, names_without, names_of_without, apart_without}
-use Rattle.roster.proofs.OnChannels.{members-same, someone-push, someone-without}
-use Rattle.roster.proofs.ChannelTable.{channel_of-same, reseated, channel_of-with, channel_of-push, channel_of-push_other, apart-with, apart-push, apart-populated, kept, channel_of-populated}
-use Rattle.roster.proofs.ChannelNames.{names_of-push, names_of-with, names_of-populated, held-push, held-with, held-populated}
+use Rattle.roster.proofs.Leaving.{states_without, names_without, names_of_without, apart_without}
+use Rattle.roster.proofs.OnChannels.{state-same, state-lasts, members-lasting, someone-without}
+use Rattle.roster.proofs.ChannelTable.{channel_of-same, reheld, channel_of-with, channel_of-push, channel_of-push_other, apart-with, apart-push, apart-populated, kept, channel_of-populated}
+use Rattle.roster.proofs.ChannelNames.{names_of-push, names_of-with, names_of-populated, held-push, held-populated}
 use Rattle.roster.proofs.Standing.{numbers_push}
 
 -- ---- a session is opened
@@ -49,7 +52,7 @@ stands_opened ps ks fs n h en el i =
       opened =
           let e : length ps + 1 ≡ suc (length ps) = omega arith in let at : n ≡ 1 + length ps = omega arith in
           ap (λ xs. xs ++ n ∷ []) i.opened ∙ ap (λ (j : ℕ). numbers 1 (length ps) ++ j ∷ []) at ∙ sym (numbers_push 1 (length ps)) ∙ ap (λ (j : ℕ). numbers 1 j) (sym e) ∙ ap (λ (j : ℕ). numbers 1 j) (sym len);
-      members = i.members;
+      states = i.states;
       names = i.names;
       channels = i.channels;
       apart = i.apart;
@@ -71,7 +74,7 @@ with_same ps (suc j) p from to =
 module _ (ps : List Person) (ks : List Channel) (fs : List Deed) (i : Stands ps ks fs) where
   -- tables in which session t is another person, for a fact that tells of it alone
   told : (d : Deed) (t : ℕ) (p : Person) → 0 < t → t ≤ length ps → p ≡ person (d ∷ fs) t → ((s : ℕ) → t ≢ s → person (d ∷ fs) s ≡ person fs s)
-      → opened (d ∷ fs) ≡ opened fs → ((c : List ℕ) → members (d ∷ fs) c ≡ members fs c) → ((c : List ℕ) → name (d ∷ fs) c ≡ name fs c) → channels (d ∷ fs) ≡ channels fs
+      → opened (d ∷ fs) ≡ opened fs → ((c : List ℕ) → state (d ∷ fs) c ≡ state fs c) → ((c : List ℕ) → name (d ∷ fs) c ≡ name fs c) → channels (d ∷ fs) ≡ channels fs
       → Stands (with_person ps t p) ks (d ∷ fs)
   told d t p from to ep others eo em en ec =
       let len : length (with_person ps t p) ≡ length ps = simp length-set in
@@ -82,8 +85,8 @@ module _ (ps : List Person) (ks : List Channel) (fs : List Deed) (i : Stands ps 
               | inr other ↦ with_other ps t s p from other.1 ∙ i.people s ∙ sym (others s other.1)
             ];
         opened = eo ∙ i.opened ∙ ap (numbers 1) (sym len);
-        members = λ c. i.members c ∙ sym (em c);
-        names = λ c. i.names c ∙ ap (λ ms. cond (is_some_one ms) (Some (name fs c)) None) (sym (em c)) ∙ ap (λ n. cond (has_member (d ∷ fs) c) (Some n) None) (sym (en c));
+        states = λ c. i.states c ∙ sym (em c);
+        names = λ c. i.names c ∙ ap (λ (st : State). cond (is_some_one st.members) (Some (name fs c)) None) (sym (em c)) ∙ ap (λ n. cond (has_member (d ∷ fs) c) (Some n) None) (sym (en c));
         channels = ec ∙ i.channels;
         apart = i.apart;
         held = i.held;
@@ -124,43 +127,54 @@ module _ (ps : List Person) (ks : List Channel) (fs : List Deed) (i : Stands ps 
       told (Enrolled t) t (record (person_at ps t) { registered = true }) from to
       (ap (λ (p : Person). record p { registered = true }) (i.people t) ∙ rw (eq-eqb t t refl) refl) (λ s ne. rw (ne_eqb t s ne) refl) refl (λ c. refl) (λ c. refl) refl
 
+  pub stands_away : (t : ℕ) (x : Option (List ℕ)) → 0 < t → t ≤ length ps → Stands (with_person ps t (record (person_at ps t) { away = x })) ks (AwaySet t x ∷ fs)
+  stands_away t x from to =
+      told (AwaySet t x) t (record (person_at ps t) { away = x }) from to
+      (ap (λ (p : Person). record p { away = x }) (i.people t) ∙ rw (eq-eqb t t refl) refl) (λ s ne. rw (ne_eqb t s ne) refl) refl (λ c. refl) (λ c. refl) refl
+
+  pub stands_hidden : (t : ℕ) (v : Bool) → 0 < t → t ≤ length ps → Stands (with_person ps t (record (person_at ps t) { invisible = v })) ks (InvisibleSet t v ∷ fs)
+  stands_hidden t v from to =
+      told (InvisibleSet t v) t (record (person_at ps t) { invisible = v }) from to
+      (ap (λ (p : Person). record p { invisible = v }) (i.people t) ∙ rw (eq-eqb t t refl) refl) (λ s ne. rw (ne_eqb t s ne) refl) refl (λ c. refl) (λ c. refl) refl
+
   pub stands_ended : (t : ℕ) (w : Why) (x : List ℕ) → 0 < t → t ≤ length ps → Stands (with_person ps t (record (person_at ps t) { why = w; parting = x })) ks (Ended t w x ∷ fs)
   stands_ended t w x from to =
       told (Ended t w x) t (record (person_at ps t) { why = w; parting = x }) from to
       (ap (λ (p : Person). record p { why = w; parting = x }) (i.people t) ∙ rw (eq-eqb t t refl) refl) (λ s ne. rw (ne_eqb t s ne) refl) refl (λ c. refl) (λ c. refl) refl
 
--- ---- members of a channel
+-- ---- a channel
 
 -- the channel that a look-up finds
-abbrev list_in : Option Channel → List ℕ
-list_in o = option_map_or (λ (k : Channel). k.members.list) o []
+abbrev found_state : Option Channel → State
+found_state o = option_map_or (λ (k : Channel). k.held.state) o nothing
 
 abbrev name_at : Option Channel → Option (List ℕ)
 name_at o = option_map (λ (k : Channel). k.name) o
 
-name_reseated : (o : Option Channel) (m : Seats) → name_at (option_map (reseated m) o) ≡ name_at o
-name_reseated None m = refl
-name_reseated (Some k) m = refl
+name_reheld : (o : Option Channel) (m : Held) → name_at (option_map (reheld m) o) ≡ name_at o
+name_reheld None m = refl
+name_reheld (Some k) m = refl
 
-list_reseated : (o : Option Channel) (m : Seats) → is_some (name_at o) ≡ true → list_in (option_map (reseated m) o) ≡ m.list
-list_reseated None m e = absurd (let f : false ≡ true = e in cc)
-list_reseated (Some k) m e = refl
+state_reheld : (o : Option Channel) (m : Held) → is_some (name_at o) ≡ true → found_state (option_map (reheld m) o) ≡ m.state
+state_reheld None m e = absurd (let f : false ≡ true = e in cc)
+state_reheld (Some k) m e = refl
 
 none_at : (o : Option Channel) → name_at o ≡ None → o ≡ None
 none_at None e = refl
 none_at (Some k) e = absurd (let f : Some k.name ≡ None = e in cc)
 
-kept_name : (o : Option Channel) → name_at (kept o) ≡ cond (is_some_one (list_in o)) (name_at o) None
+kept_name : (o : Option Channel) → name_at (kept o) ≡ cond (is_some_one (found_state o).members) (name_at o) None
 kept_name None = refl
-kept_name (Some k) = elim (is_some_one k.members.list) as (λ b. name_at (cond b (Some k) None) ≡ cond b (Some k.name) None) [ true ↦ refl | false ↦ refl ]
+kept_name (Some k) = elim (is_some_one k.held.state.members) as (λ b. name_at (cond b (Some k) None) ≡ cond b (Some k.name) None) [ true ↦ refl | false ↦ refl ]
 
-keep : (k : Channel) (ms : List ℕ) → k.members.list ≡ ms → list_in (cond (is_some_one k.members.list) (Some k) None) ≡ k.members.list
-keep k [] e = ap (λ xs. list_in (cond (is_some_one xs) (Some k) None)) e ∙ sym e
-keep k (m ∷ ms) e = ap (λ xs. list_in (cond (is_some_one xs) (Some k) None)) e
+kept_state : (o : Option Channel) → found_state (kept o) ≡ lasting (found_state o)
+kept_state None = refl
+kept_state (Some k) = elim (is_some_one k.held.state.members) as (λ b. found_state (cond b (Some k) None) ≡ cond b k.held.state nothing) [ true ↦ refl | false ↦ refl ]
 
-kept_list : (o : Option Channel) → list_in (kept o) ≡ list_in o
-kept_list None = refl
-kept_list (Some k) = keep k k.members.list refl
+-- a channel that is there now has the name that it had
+named_now : (now was : Bool) (n : List ℕ) → (now ≡ true → was ≡ true) → cond now (cond was (Some n) None) None ≡ cond now (Some n) None
+named_now true was n h = ap (λ b. cond b (Some n) None) (h refl)
+named_now false was n h = refl
 
 module _ (ps : List Person) (ks : List Channel) (fs : List Deed) (i : Stands ps ks fs) where
   -- a channel that has a member is in the table
@@ -171,55 +185,68 @@ module _ (ps : List Person) (ks : List Channel) (fs : List Deed) (i : Stands ps 
   unfound : (c : List ℕ) → has_member fs c ≡ false → channel_of ks c ≡ None
   unfound c e = none_at (channel_of ks c) (i.names c ∙ ap (λ b. cond b (Some (name fs c)) None) e)
 
-  module _ (ls : List Channel) (n list : List ℕ) (less : ℕ) (there : has_member fs n ≡ true) (r : Reseats ks ls n list less) where
+  -- ---- a channel changes
+
+  module _ (mid : List Channel) (n : List ℕ) (x : Change) (there : has_member fs n ≡ true) (r : Reholds ks mid n (changed x (state_in ks n)) 1) where
     here : (c : List ℕ) → is_same n c ≡ true → has_member fs c ≡ true
-    here c e = ap is_some_one (sym (members-same fs n c e)) ∙ there
+    here c e = ap (λ (st : State). is_some_one st.members) (sym (state-same fs n c e)) ∙ there
 
-    names_stay : (c : List ℕ) → name_in ls c ≡ name_in ks c
+    names_stay : (c : List ℕ) → name_in mid c ≡ name_in ks c
     names_stay c =
-        ap (λ (xs : List Channel). name_in xs c) r.changed ∙ ap name_at (channel_of-with ks n c r.seats)
-        ∙ elim (is_same n c) as (λ b. name_at (cond b (option_map (reseated r.seats) (channel_of ks c)) (channel_of ks c)) ≡ name_at (channel_of ks c)) [ true ↦ name_reseated (channel_of ks c) r.seats | false ↦ refl ]
+        ap (λ (xs : List Channel). name_in xs c) r.changed ∙ ap name_at (channel_of-with ks n c r.held)
+        ∙ elim (is_same n c) as (λ b. name_at (cond b (option_map (reheld r.held) (channel_of ks c)) (channel_of ks c)) ≡ name_at (channel_of ks c)) [ true ↦ name_reheld (channel_of ks c) r.held | false ↦ refl ]
 
-    members_now : (c : List ℕ) → members_in ls c ≡ cond (is_same n c) list (members fs c)
-    members_now c =
-        ap (λ (xs : List Channel). members_in xs c) r.changed ∙ ap list_in (channel_of-with ks n c r.seats)
+    state_now : (c : List ℕ) → state_in mid c ≡ cond (is_same n c) (changed x (state fs c)) (state fs c)
+    state_now c =
+        ap (λ (xs : List Channel). state_in xs c) r.changed ∙ ap found_state (channel_of-with ks n c r.held)
         ∙ elim (either (is_same n c)) [
           | inl same ↦
-              ap (λ b. list_in (cond b (option_map (reseated r.seats) (channel_of ks c)) (channel_of ks c))) same
-              ∙ list_reseated (channel_of ks c) r.seats (found c (here c same)) ∙ r.listed ∙ sym (ap (λ b. cond b list (members fs c)) same)
+              ap (λ b. found_state (cond b (option_map (reheld r.held) (channel_of ks c)) (channel_of ks c))) same
+              ∙ state_reheld (channel_of ks c) r.held (found c (here c same)) ∙ r.state
+              ∙ ap (changed x) (i.states n ∙ state-same fs n c same)
+              ∙ sym (ap (λ b. cond b (changed x (state fs c)) (state fs c)) same)
           | inr other ↦
-              ap (λ b. list_in (cond b (option_map (reseated r.seats) (channel_of ks c)) (channel_of ks c))) other
-              ∙ i.members c ∙ sym (ap (λ b. cond b list (members fs c)) other)
+              ap (λ b. found_state (cond b (option_map (reheld r.held) (channel_of ks c)) (channel_of ks c))) other
+              ∙ i.states c ∙ sym (ap (λ b. cond b (changed x (state fs c)) (state fs c)) other)
         ]
 
-    apart_now : AreApart ls
-    apart_now = subst AreApart (sym r.changed) (apart-with ks n r.seats i.apart)
+    lasting_by : (b : Bool) (new old : State) → lasting old ≡ old → lasting (cond b new old) ≡ cond b (lasting new) old
+    lasting_by true new old e = refl
+    lasting_by false new old e = e
 
-  -- ---- a session joins
+    -- the channel after it, where it ends with its last member
+    reshaped_now : (c : List ℕ) → lasting (state_in mid c) ≡ state (Changed n x ∷ fs) c
+    reshaped_now c = ap lasting (state_now c) ∙ lasting_by (is_same n c) (changed x (state fs c)) (state fs c) (state-lasts fs c)
 
-  pub stands_joined : (ls : List Channel) (t : ℕ) (n : List ℕ) → has_member fs n ≡ true → on fs t n ≡ false → Reseats ks ls n (without t (members_in ks n) ++ t ∷ []) 1 → Stands ps ls (Joined t n ∷ fs)
-  stands_joined ls t n there off r =
-      let after : (c : List ℕ) → members_in ls c ≡ members (Joined t n ∷ fs) c = λ c.
-      members_now ls n _ 1 there r c ∙ elim (either (is_same n c)) [
-        | inl same ↦
-            ap (λ b. cond b (without t (members_in ks n) ++ t ∷ []) (members fs c)) same
-            ∙ ap (λ ms. without t ms ++ t ∷ []) (i.members n ∙ members-same fs n c same)
-            ∙ sym (ap (λ b. cond b (without t (members fs c) ++ t ∷ []) (members fs c)) same)
-        | inr other ↦ ap (λ b. cond b (without t (members_in ks n) ++ t ∷ []) (members fs c)) other ∙ sym (ap (λ b. cond b (without t (members fs c) ++ t ∷ []) (members fs c)) other)
-      ] in
-      let populated_as : (c : List ℕ) → has_member fs c ≡ has_member (Joined t n ∷ fs) c = λ c.
-      elim (either (is_same n c)) [
-        | inl same ↦ here ls n _ 1 there r c same ∙ sym (ap (λ b. is_some_one (cond b (without t (members fs c) ++ t ∷ []) (members fs c))) same ∙ someone-push (without t (members fs c)) t)
-        | inr other ↦ sym (ap (λ b. is_some_one (cond b (without t (members fs c) ++ t ∷ []) (members fs c))) other)
-      ] in
+    members_now : (c : List ℕ) → (state_in mid c).members ≡ members (Changed n x ∷ fs) c
+    members_now c = sym (members-lasting (state_in mid c)) ∙ ap (λ (st : State). st.members) (reshaped_now c)
+
+    had : (c : List ℕ) → has_member (Changed n x ∷ fs) c ≡ true → has_member fs c ≡ true
+    had c e = elim (either (is_same n c)) [
+      | inl same ↦ here c same
+      | inr other ↦ sym (ap (λ b. is_some_one (cond b (lasting (changed x (state fs c))) (state fs c)).members) other) ∙ e
+    ]
+
+    apart_mid : AreApart mid
+    apart_mid = subst AreApart (sym r.changed) (apart-with ks n r.held i.apart)
+
+  pub stands_changed : (ls : List Channel) (n : List ℕ) (x : Change) → has_member fs n ≡ true → Changes ks ls n x → Stands ps ls (Changed n x ∷ fs)
+  stands_changed ls n x was v =
+      let mid = v.between in let r = v.reholds in let there = has_member (Changed n x ∷ fs) in let apart = apart_mid mid n x was r in
       record {
         people = i.people;
         opened = i.opened;
-        members = after;
-        names = λ c. names_stay ls n _ 1 there r c ∙ i.names c ∙ ap (λ b. cond b (Some (name fs c)) None) (populated_as c);
-        channels = i.channels ∙ sym (ap names_of r.changed ∙ names_of-with ks n r.seats);
-        apart = apart_now ls n _ 1 there r;
-        held = subst AreHeld (sym r.changed) (held-with ks n r.seats i.held (ap is_some_one r.listed ∙ someone-push (without t (members_in ks n)) t));
+        states = λ c. ap (λ (xs : List Channel). state_in xs c) v.ended ∙ ap found_state (channel_of-populated mid c apart) ∙ kept_state (channel_of mid c) ∙ reshaped_now mid n x was r c;
+        names = λ c.
+            ap (λ (xs : List Channel). name_in xs c) v.ended ∙ ap name_at (channel_of-populated mid c apart) ∙ kept_name (channel_of mid c)
+            ∙ ap (λ ms. cond (is_some_one ms) (name_in mid c) None) (members_now mid n x was r c)
+            ∙ ap (λ o. cond (there c) o None) (names_stay mid n x was r c ∙ i.names c)
+            ∙ named_now (there c) (has_member fs c) (name fs c) (had mid n x was r c);
+        channels =
+            ap (filter there) (i.channels ∙ sym (ap names_of r.changed ∙ names_of-with ks n r.held))
+            ∙ sym (names_of-populated mid there apart (λ c. ap is_some_one (members_now mid n x was r c))) ∙ ap names_of (sym v.ended);
+        apart = subst AreApart (sym v.ended) (apart-populated mid apart);
+        held = subst AreHeld (sym v.ended) (held-populated mid);
       }
 
   -- ---- a session is gone
@@ -229,11 +256,12 @@ module _ (ps : List Person) (ks : List Channel) (fs : List Deed) (i : Stands ps 
       let mid = v.between in let there = has_member (Gone t ∷ fs) in
       let len : length (with_person ps t nobody) ≡ length ps = simp length-set in
       let apart_mid : AreApart mid = apart_without t ks mid v.left i.apart in
-      let between : (c : List ℕ) → members_in mid c ≡ members (Gone t ∷ fs) c = λ c. members_without t ks mid c v.left ∙ ap (without t) (i.members c) in
+      let between : (c : List ℕ) → state_in mid c ≡ departed t (state fs c) = λ c. states_without t ks mid c v.left ∙ ap (departed t) (i.states c) in
+      let members_now : (c : List ℕ) → (state_in mid c).members ≡ members (Gone t ∷ fs) c = λ c. ap (λ (st : State). st.members) (between c) ∙ sym (members-lasting (departed t (state fs c))) in
       let had : (c : List ℕ) → there c ≡ true → has_member fs c ≡ true = λ c e.
       elim (either (has_member fs c)) [
         | inl was ↦ was
-        | inr was_not ↦ absurd (let f : true ≡ false = sym e ∙ someone-without t (members fs c) was_not in cc)
+        | inr was_not ↦ absurd (let f : true ≡ false = sym e ∙ ap is_some_one (members-lasting (departed t (state fs c))) ∙ someone-without t (members fs c) was_not in cc)
       ] in
       record {
         people = λ s.
@@ -242,19 +270,14 @@ module _ (ps : List Person) (ks : List Channel) (fs : List Deed) (i : Stands ps 
               | inr other ↦ with_other ps t s nobody from other.1 ∙ i.people s ∙ rw (ne_eqb t s other.1) refl
             ];
         opened = i.opened ∙ ap (numbers 1) (sym len);
-        members = λ c. ap (λ (xs : List Channel). members_in xs c) v.ended ∙ ap list_in (channel_of-populated mid c apart_mid) ∙ kept_list (channel_of mid c) ∙ between c;
+        states = λ c. ap (λ (xs : List Channel). state_in xs c) v.ended ∙ ap found_state (channel_of-populated mid c apart_mid) ∙ kept_state (channel_of mid c) ∙ ap lasting (between c);
         names = λ c.
             ap (λ (xs : List Channel). name_in xs c) v.ended ∙ ap name_at (channel_of-populated mid c apart_mid) ∙ kept_name (channel_of mid c)
-            ∙ ap (λ xs. cond (is_some_one xs) (name_in mid c) None) (between c)
+            ∙ ap (λ ms. cond (is_some_one ms) (name_in mid c) None) (members_now c)
             ∙ ap (λ o. cond (there c) o None) (names_without t ks mid c v.left ∙ i.names c)
-            ∙ elim (either (there c)) [
-              | inl still ↦
-                  ap (λ b. cond b (cond (has_member fs c) (Some (name fs c)) None) None) still ∙ ap (λ b. cond b (Some (name fs c)) None) (had c still)
-                  ∙ sym (ap (λ b. cond b (Some (name fs c)) None) still)
-              | inr empty ↦ ap (λ b. cond b (cond (has_member fs c) (Some (name fs c)) None) None) empty ∙ sym (ap (λ b. cond b (Some (name fs c)) None) empty)
-            ];
+            ∙ named_now (there c) (has_member fs c) (name fs c) (had c);
         channels =
-            ap (filter there) (i.channels ∙ sym (names_of_without t ks mid v.left)) ∙ sym (names_of-populated mid there apart_mid (λ c. ap is_some_one (between c))) ∙ ap names_of (sym v.ended);
+            ap (filter there) (i.channels ∙ sym (names_of_without t ks mid v.left)) ∙ sym (names_of-populated mid there apart_mid (λ c. ap is_some_one (members_now c))) ∙ ap names_of (sym v.ended);
         apart = subst AreApart (sym v.ended) (apart-populated mid apart_mid);
         held = subst AreHeld (sym v.ended) (held-populated mid);
       }
@@ -263,7 +286,7 @@ module _ (ps : List Person) (ks : List Channel) (fs : List Deed) (i : Stands ps 
 
   pub stands_made : (ls : List Channel) (t room : ℕ) (n : List ℕ) → has_member fs n ≡ false → Makes ks ls n t room → Stands ps ls (ChannelMade t n ∷ fs)
   stands_made ls t room n none m =
-      let k : Channel = record { name = n; members = m.seats } in
+      let k : Channel = record { name = n; held = m.held } in
       let absent : (c : List ℕ) → is_same n c ≡ true → channel_of ks c ≡ None = λ c e. sym (channel_of-same ks n c e) ∙ unfound n none in
       let new : (c : List ℕ) → channel_of ls c ≡ cond (is_same n c) (Some k) (channel_of ks c) = λ c.
       ap (λ (xs : List Channel). channel_of xs c) m.added ∙ elim (either (is_same n c)) [
@@ -273,15 +296,18 @@ module _ (ps : List Person) (ks : List Channel) (fs : List Deed) (i : Stands ps 
       record {
         people = i.people;
         opened = i.opened;
-        members = λ c.
-            ap list_in (new c) ∙ elim (is_same n c) as (λ b. list_in (cond b (Some k) (channel_of ks c)) ≡ cond b (t ∷ []) (members fs c)) [ true ↦ m.listed | false ↦ i.members c ];
+        states = λ c.
+            ap found_state (new c) ∙ elim (is_same n c) as (λ b. found_state (cond b (Some k) (channel_of ks c)) ≡ cond b (made_by t) (state fs c)) [ true ↦ m.state | false ↦ i.states c ];
         names = λ c.
             ap name_at (new c) ∙ made_name c (is_same n c) refl;
         channels = ap (λ cs. cs ++ n ∷ []) i.channels ∙ sym (ap names_of m.added ∙ names_of-push ks k);
         apart = subst AreApart (sym m.added) (apart-push ks k i.apart (unfound n none));
-        held = subst AreHeld (sym m.added) (held-push ks k i.held (ap is_some_one m.listed));
+        held = subst AreHeld (sym m.added) (held-push ks k i.held (ap (λ (st : State). is_some_one st.members) m.state));
       }
     where
-      made_name : (c : List ℕ) (b : Bool) → is_same n c ≡ b → name_at (cond b (Some (record { name = n; members = m.seats })) (channel_of ks c)) ≡ name_of (ChannelMade t n ∷ fs) c
-      made_name c true e = sym (rw e refl)
-      made_name c false e = i.names c ∙ sym (rw e refl)
+      made_by_test : (c : List ℕ) (b : Bool) → name_at (cond b (Some (record { name = n; held = m.held })) (channel_of ks c)) ≡ cond (is_some_one (cond b (made_by t) (state fs c)).members) (Some (unwrap_or (cond b (Some n) None) (name fs c))) None
+      made_by_test c true = refl
+      made_by_test c false = i.names c
+
+      made_name : (c : List ℕ) (b : Bool) → is_same n c ≡ b → name_at (cond b (Some (record { name = n; held = m.held })) (channel_of ks c)) ≡ name_of (ChannelMade t n ∷ fs) c
+      made_name c b e = made_by_test c b ∙ sym (ap (λ x. cond (is_some_one (cond x (made_by t) (state fs c)).members) (Some (unwrap_or (cond x (Some n) None) (name fs c))) None) e)

@@ -1,11 +1,12 @@
 -- What follows of names of channels, for every list of facts: RFC 2812, section 2.2 (names that differ in case alone are one).
 use Rattle.std.specs.Prelude.{◌≡◌, ℕ, true, List}
 use Rattle.roster.specs.declared.deed.Deed.{Deed}
-use Rattle.roster.specs.LookBack.{is_same, on, members, name}
+use Rattle.casemapping.specs.Fold.{is_same}
+use Rattle.roster.specs.LookBack.{on, state, name}
 
--- one name, however it is spelled, has the same members
+-- one name, however it is spelled, is the same channel
 abbrev pub ChannelsHaveOneName : Type 0
-ChannelsHaveOneName = (fs : List Deed) (c d : List ℕ) → is_same c d ≡ true → (members fs c ≡ members fs d) × ((s : ℕ) → on fs s c ≡ on fs s d)
+ChannelsHaveOneName = (fs : List Deed) (c d : List ℕ) → is_same c d ≡ true → (state fs c ≡ state fs d) × ((s : ℕ) → on fs s c ≡ on fs s d)
 
 -- a channel's name as it was first spelled is its name
 abbrev pub SpelledNamesAreNames : Type 0

@@ -1,12 +1,22 @@
 -- Which fact may come next. Whoever establishes one has looked that up.
 use Rattle.std.specs.Prelude.{◌≡◌, ℕ, suc, ◌<◌, ◌≤◌, true, false, List, [], ◌∷◌, length}
 use Rattle.roster.specs.declared.deed.Deed.{Deed}
-use Rattle.roster.specs.declared.deed.Deed.TheVariants.{Opened, NickSet, UserSet, HoldSet, CapsSet, ExchangeSet, LoggedIn, Enrolled, ChannelMade, Joined, Ended, Gone}
-use Rattle.roster.specs.LookBack.{opened, on, has_member}
+use Rattle.roster.specs.declared.deed.Deed.TheVariants.{Opened, NickSet, UserSet, HoldSet, CapsSet, ExchangeSet, LoggedIn, Enrolled, AwaySet, InvisibleSet, ChannelMade, Changed, Ended, Gone}
+use Rattle.channel_state.specs.State.{State, among}
+use Rattle.channel_state.specs.declared.change.Change.{Change}
+use Rattle.channel_state.specs.declared.change.Change.TheVariants as change
+use Rattle.roster.specs.LookBack.{opened, state, has_member}
 
 -- a session that was opened: they are numbered from 1 in the order in which they are
 abbrev pub IsOpened : List Deed → ℕ → Type 0
 IsOpened fs s = (0 < s) × (s ≤ length (opened fs))
+
+-- a change that a channel may have: who joins isn't on it, who leaves or has a rank is
+abbrev pub IsFit : State → Change → Type 0
+IsFit k (change.Joined t) = among t k.members ≡ false
+IsFit k (change.Left t) = among t k.members ≡ true
+IsFit k (change.RankSet t rank is) = among t k.members ≡ true
+IsFit k x = Unit {0}
 
 -- a fact may come after these
 abbrev pub IsNext : List Deed → Deed → Type 0
@@ -18,8 +28,10 @@ IsNext fs (CapsSet t caps) = IsOpened fs t
 IsNext fs (ExchangeSet t x) = IsOpened fs t
 IsNext fs (LoggedIn t a) = IsOpened fs t
 IsNext fs (Enrolled t) = IsOpened fs t
+IsNext fs (AwaySet t x) = IsOpened fs t
+IsNext fs (InvisibleSet t is) = IsOpened fs t
 IsNext fs (ChannelMade t k) = has_member fs k ≡ false
-IsNext fs (Joined t k) = (has_member fs k ≡ true) × (on fs t k ≡ false)
+IsNext fs (Changed k x) = (has_member fs k ≡ true) × IsFit (state fs k) x
 IsNext fs (Ended t w x) = IsOpened fs t
 IsNext fs (Gone t) = IsOpened fs t
 

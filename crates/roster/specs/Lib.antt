@@ -1,5 +1,4 @@
 pub mod LookBack
-pub mod Seats
 pub mod Known
 pub mod Tables
 pub mod Legal

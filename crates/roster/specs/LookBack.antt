@@ -1,19 +1,18 @@
 -- What holds of sessions and channels, each looked up backwards in a list of facts, the newest first: RFC 2812, section 1.2 (clients), RFC 2811, section 2 (channels), IRCv3 Capability Negotiation and SASL 3.1. What a session had is given back when it is gone.
-use Rattle.std.specs.Prelude.{ℕ, zero, suc, ◌+◌, Bool, true, false, not, ◌&&◌, ◌==◌, cond, List, [], ◌∷◌, ◌++◌, filter, unwrap_or, Option, Some, None}
+use Rattle.std.specs.Prelude.{ℕ, zero, suc, ◌+◌, Bool, true, false, not, ◌&&◌, ◌==◌, cond, List, [], ◌∷◌, ◌++◌, filter, length, unwrap_or, Option, Some, None}
 use Rattle.std.specs.List.{find, list_any}
-use Rattle.std.specs.Str.{bytes_eq}
-use Rattle.casemapping.specs.Fold.{folded}
+use Rattle.casemapping.specs.Fold.{is_same}
+use Rattle.channel_state.specs.declared.change.Change.{Change}
+use Rattle.channel_state.specs.declared.change.Change.TheVariants as change
+use Rattle.channel_state.specs.declared.modes.Modes.{Modes}
+use Rattle.channel_state.specs.State.{State, among, is_some_one, nothing, made_by, changed, departed, lasting}
 use Rattle.chronicle.specs.declared.why.Why.{Why}
 use Rattle.chronicle.specs.declared.why.Why.TheVariants.{SendQ}
 use Rattle.roster.specs.declared.deed.Deed.{Deed}
-use Rattle.roster.specs.declared.deed.Deed.TheVariants.{Opened, NickSet, UserSet, HoldSet, CapsSet, ExchangeSet, LoggedIn, Enrolled, ChannelMade, Joined, Ended, Gone}
+use Rattle.roster.specs.declared.deed.Deed.TheVariants.{Opened, NickSet, UserSet, HoldSet, CapsSet, ExchangeSet, LoggedIn, Enrolled, AwaySet, InvisibleSet, ChannelMade, Changed, Ended, Gone}
 use Rattle.registration.specs.declared.caps.Caps.{Caps}
 use Rattle.registration.specs.Caps.{none_on}
 use Rattle.registration.specs.Enrol.{Enrolment}
-
--- names are compared folded
-unfoldable pub is_same : List ℕ → List ℕ → Bool
-is_same a b = bytes_eq (folded a) (folded b)
 
 -- what the newest fact says that tells something
 abbrev pub newest : {A : Type 0} → (Deed → Option A) → A → List Deed → A
@@ -122,6 +121,26 @@ tells_registered s d = None
 abbrev pub registered : List Deed → ℕ → Bool
 registered fs s = newest (tells_registered s) false fs
 
+abbrev pub tells_away : ℕ → Deed → Option (Option (List ℕ))
+tells_away s (Opened t h) = cond (t == s) (Some None) None
+tells_away s (AwaySet t x) = cond (t == s) (Some x) None
+tells_away s (Gone t) = cond (t == s) (Some None) None
+tells_away s d = None
+
+-- the text with which it is away (RFC 2812, section 4.1)
+abbrev pub away : List Deed → ℕ → Option (List ℕ)
+away fs s = newest (tells_away s) None fs
+
+abbrev pub tells_invisible : ℕ → Deed → Option Bool
+tells_invisible s (Opened t h) = cond (t == s) (Some false) None
+tells_invisible s (InvisibleSet t on) = cond (t == s) (Some on) None
+tells_invisible s (Gone t) = cond (t == s) (Some false) None
+tells_invisible s d = None
+
+-- whether it is hidden from those who aren't on its channels: user mode `i` (RFC 2812, section 3.1.5)
+abbrev pub invisible : List Deed → ℕ → Bool
+invisible fs s = newest (tells_invisible s) false fs
+
 -- what is known of it while it registers
 abbrev pub enrol : List Deed → ℕ → Enrolment
 enrol fs s = record { nick = nick fs s; user = user fs s; hold = held fs s; caps = caps fs s; exchange = exchange fs s; account = account fs s; registered = registered fs s }
@@ -178,33 +197,58 @@ found fs n = when_registered fs (holder fs n)
 -- ---- a channel, read back no further than the deed that made it
 
 -- whether a session is on a channel
+abbrev pub tells_seat : ℕ → Change → Option Bool
+tells_seat s (change.Joined t) = cond (t == s) (Some true) None
+tells_seat s (change.Left t) = cond (t == s) (Some false) None
+tells_seat s x = None
+
 abbrev pub tells_on : ℕ → List ℕ → Deed → Option Bool
 tells_on s c (ChannelMade t k) = cond (is_same k c) (Some (t == s)) None
-tells_on s c (Joined t k) = cond (is_same k c && t == s) (Some true) None
+tells_on s c (Changed k x) = cond (is_same k c) (tells_seat s x) None
 tells_on s c (Gone t) = cond (t == s) (Some false) None
 tells_on s c d = None
 
 abbrev pub on : List Deed → ℕ → List ℕ → Bool
 on fs s c = newest (tells_on s c) false fs
 
-abbrev pub without : ℕ → List ℕ → List ℕ
-without s ts = filter (λ t. not (t == s)) ts
+-- a channel after one more fact. It ends with its last member, and what belonged to it is given back
+abbrev pub reshaped : Deed → List ℕ → State → State
+reshaped (ChannelMade t k) c st = cond (is_same k c) (made_by t) st
+reshaped (Changed k x) c st = cond (is_same k c) (lasting (changed x st)) st
+reshaped (Gone t) c st = lasting (departed t st)
+reshaped d c st = st
 
--- those on a channel after one more fact
-abbrev pub seated : Deed → List ℕ → List ℕ → List ℕ
-seated (ChannelMade t k) c ms = cond (is_same k c) (t ∷ []) ms
-seated (Joined t k) c ms = cond (is_same k c) (without t ms ++ t ∷ []) ms
-seated (Gone t) c ms = without t ms
-seated d c ms = ms
+-- a channel: who is on it and with which rank, its modes, topic and bans, and who is invited
+abbrev pub state : List Deed → List ℕ → State
+state [] c = nothing
+state (d ∷ fs) c = reshaped d c (state fs c)
 
 -- those on a channel, in the order of joining
 abbrev pub members : List Deed → List ℕ → List ℕ
-members [] c = []
-members (d ∷ fs) c = seated d c (members fs c)
+members fs c = (state fs c).members
 
-abbrev pub is_some_one : List ℕ → Bool
-is_some_one [] = false
-is_some_one (t ∷ ts) = true
+-- whether a session is a channel's operator, and whether it has a voice there, since it joined
+abbrev pub is_operator : List Deed → ℕ → List ℕ → Bool
+is_operator fs s c = among s (state fs c).operators
+
+abbrev pub has_voice : List Deed → ℕ → List ℕ → Bool
+has_voice fs s c = among s (state fs c).voices
+
+-- whether a session is invited, and whether by an operator the last time
+abbrev pub invited : List Deed → ℕ → List ℕ → Bool
+invited fs s c = among s (state fs c).invited
+
+abbrev pub pardoned : List Deed → ℕ → List ℕ → Bool
+pardoned fs s c = among s (state fs c).pardoned
+
+abbrev pub mode : List Deed → List ℕ → Modes
+mode fs c = (state fs c).modes
+
+abbrev pub topic : List Deed → List ℕ → Option (List ℕ)
+topic fs c = (state fs c).topic
+
+abbrev pub bans : List Deed → List ℕ → List (List ℕ)
+bans fs c = (state fs c).bans
 
 -- whether a channel is there: it has a member
 abbrev pub has_member : List Deed → List ℕ → Bool
@@ -226,13 +270,15 @@ name_of fs c = cond (has_member fs c) (Some (name fs c)) None
 abbrev pub channels : List Deed → List (List ℕ)
 channels [] = []
 channels (ChannelMade t k ∷ fs) = channels fs ++ k ∷ []
+channels (Changed k x ∷ fs) = filter (has_member (Changed k x ∷ fs)) (channels fs)
 channels (Gone t ∷ fs) = filter (has_member (Gone t ∷ fs)) (channels fs)
 channels (d ∷ fs) = channels fs
 
--- ---- who shares a channel
+-- on how many channels a session is
+abbrev pub channel_count : List Deed → ℕ → ℕ
+channel_count fs s = length (filter (on fs s) (channels fs))
 
-abbrev pub among : ℕ → List ℕ → Bool
-among t ts = list_any (λ u. u == t) ts
+-- ---- who shares a channel
 
 -- whether two sessions share a channel
 abbrev pub share : List Deed → ℕ → ℕ → Bool

@@ -4,17 +4,19 @@ use Rattle.std.specs.declared.vec.Vec.{Vec}
 use Rattle.std.specs.declared.alloc.Global.{Global}
 use Rattle.std.specs.List.{list_any}
 use Rattle.roster.specs.declared.deed.Deed.{Deed}
-use Rattle.roster.specs.declared.deed.Deed.TheVariants.{Joined, ChannelMade}
+use Rattle.roster.specs.declared.deed.Deed.TheVariants.{Changed, ChannelMade}
 use Rattle.roster.specs.declared.tables.Person.{Person}
 use Rattle.roster.specs.declared.tables.Channel.{Channel}
-use Rattle.roster.specs.Seats.{Seats}
-use Rattle.roster.specs.LookBack.{is_same, numbers, opened, host, nick, user, real, held, caps, exchange, account, registered, why, parting, members, name_of, channels}
+use Rattle.casemapping.specs.Fold.{is_same}
+use Rattle.channel_state.specs.State.{nothing}
+use Rattle.channel_state.specs.Held.{Held}
+use Rattle.roster.specs.LookBack.{numbers, opened, host, nick, user, real, held, caps, exchange, account, registered, away, invisible, why, parting, state, name_of, channels}
 use Rattle.roster.specs.Legal.{AreNext}
-use Rattle.roster.specs.Tables.{person_at, members_in, name_in, names_of, is_populated}
+use Rattle.roster.specs.Tables.{person_at, state_in, name_in, names_of, is_populated}
 
 -- what facts say of a session
 abbrev pub person : List Deed → ℕ → Person
-person fs s = record { host = host fs s; nick = nick fs s; user = user fs s; real = real fs s; held = held fs s; caps = caps fs s; exchange = exchange fs s; account = account fs s; registered = registered fs s; why = why fs s; parting = parting fs s }
+person fs s = record { host = host fs s; nick = nick fs s; user = user fs s; real = real fs s; held = held fs s; caps = caps fs s; exchange = exchange fs s; account = account fs s; registered = registered fs s; away = away fs s; invisible = invisible fs s; why = why fs s; parting = parting fs s }
 
 -- no two channels have one name
 abbrev pub AreApart : List Channel → Type 0
@@ -30,7 +32,7 @@ AreHeld (k ∷ ks) = (is_populated k ≡ true) × AreHeld ks
 pub record Stands (ps : List Person) (ks : List Channel) (fs : List Deed) : Type 0 where
   pub people : (s : ℕ) → person_at ps s ≡ person fs s
   pub opened : opened fs ≡ numbers 1 (length ps)
-  pub members : (c : List ℕ) → members_in ks c ≡ members fs c
+  pub states : (c : List ℕ) → state_in ks c ≡ state fs c
   pub names : (c : List ℕ) → name_in ks c ≡ name_of fs c
   pub channels : channels fs ≡ names_of ks
   pub apart : AreApart ks
@@ -38,37 +40,37 @@ pub record Stands (ps : List Person) (ks : List Channel) (fs : List Deed) : Type
 
 -- ---- room
 
--- whether a deed adds a member to a channel
-abbrev pub is_join : List ℕ → Deed → Bool
-is_join c (Joined t k) = is_same k c
-is_join c d = false
+-- whether a deed changes a channel
+abbrev pub is_change : List ℕ → Deed → Bool
+is_change c (Changed k x) = is_same k c
+is_change c d = false
 
 -- how many deeds do
-abbrev pub joins : List ℕ → List Deed → ℕ
-joins c ds = count_by (is_join c) ds
+abbrev pub changes : List ℕ → List Deed → ℕ
+changes c ds = count_by (is_change c) ds
 
--- each channel has room for those who will join it
+-- each channel has room for its changes
 abbrev pub HaveSeats : List Deed → List Channel → Type 0
 HaveSeats ds [] = Unit {0}
-HaveSeats ds (k ∷ ks) = (joins k.name ds ≤ k.members.room) × HaveSeats ds ks
+HaveSeats ds (k ∷ ks) = (changes k.name ds ≤ k.held.room) × HaveSeats ds ks
 
--- lists for the members of channels that will be made
-abbrev pub AreSpare : ℕ → List Seats → Type 0
+-- what channels that will be made are kept in
+abbrev pub AreSpare : ℕ → List Held → Type 0
 AreSpare n [] = Unit {0}
-AreSpare n (m ∷ ms) = (m.list ≡ []) × (n ≤ m.room) × AreSpare n ms
+AreSpare n (h ∷ hs) = (h.state ≡ nothing) × (n ≤ h.room) × AreSpare n hs
 
--- the same names and members
+-- the same channels
 abbrev pub Alike : List Channel → List Channel → Type 0
 Alike [] [] = Unit {0}
-Alike (k ∷ ks) (l ∷ ls) = (l.name ≡ k.name) × (l.members.list ≡ k.members.list) × Alike ks ls
+Alike (k ∷ ks) (l ∷ ls) = (l.name ≡ k.name) × (l.held.state ≡ k.held.state) × Alike ks ls
 Alike [] (l ∷ ls) = ⊥
 Alike (k ∷ ks) [] = ⊥
 
--- the same, and the first i have room for those who will join them
+-- the same, and the first i have room for their changes
 abbrev pub AreReserved : List Deed → ℕ → List Channel → List Channel → Type 0
 AreReserved ds i [] [] = Unit {0}
-AreReserved ds zero (k ∷ ks) (l ∷ ls) = (l.name ≡ k.name) × (l.members.list ≡ k.members.list) × AreReserved ds zero ks ls
-AreReserved ds (suc i) (k ∷ ks) (l ∷ ls) = (l.name ≡ k.name) × (l.members.list ≡ k.members.list) × (joins l.name ds ≤ l.members.room) × AreReserved ds i ks ls
+AreReserved ds zero (k ∷ ks) (l ∷ ls) = (l.name ≡ k.name) × (l.held.state ≡ k.held.state) × AreReserved ds zero ks ls
+AreReserved ds (suc i) (k ∷ ks) (l ∷ ls) = (l.name ≡ k.name) × (l.held.state ≡ k.held.state) × (changes l.name ds ≤ l.held.room) × AreReserved ds i ks ls
 AreReserved ds i [] (l ∷ ls) = ⊥
 AreReserved ds i (k ∷ ks) [] = ⊥
 
@@ -77,7 +79,7 @@ is_making (ChannelMade t k) = true
 is_making d = false
 
 -- there is room for these deeds
-pub record HasRoom (ps : Vec Person Global) (ks : Vec Channel Global) (spare : Vec Seats Global) (ds : List Deed) : Type 0 where
+pub record HasRoom (ps : Vec Person Global) (ks : Vec Channel Global) (spare : Vec Held Global) (ds : List Deed) : Type 0 where
   pub people : vec_len ps + length ds ≤ vec_capacity ps
   pub channels : vec_len ks + length ds ≤ vec_capacity ks
   pub seats : HaveSeats ds ks.items
@@ -85,7 +87,7 @@ pub record HasRoom (ps : Vec Person Global) (ks : Vec Channel Global) (spare : V
   pub empty : AreSpare (length ds) spare.items
 
 -- what holds of every roster
-pub record IsKept (ps : Vec Person Global) (ks : Vec Channel Global) (spare : Vec Seats Global) (fs ds : List Deed) : Type 0 where
+pub record IsKept (ps : Vec Person Global) (ks : Vec Channel Global) (spare : Vec Held Global) (fs ds : List Deed) : Type 0 where
   pub stands : Stands ps.items ks.items fs
   pub next : AreNext fs ds
   pub room : HasRoom ps ks spare ds

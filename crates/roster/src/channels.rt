@@ -1,13 +1,13 @@
 //! The table of channels.
-ghost use Rattle.std.specs.Prelude.{◌≡◌, ◌==◌, ℕ, suc, ◌<◌, ◌≤◌, ◌+◌, ◌∷◌, ◌++◌, [], length, option_copied, position, slice_get, vec_len, vec_capacity, OnOk};
-ghost use Rattle.std.specs.List.{list_any};
-ghost use Rattle.roster.specs.Tables.{channel_of, members_in, room_in, populated, Reseats, Makes, AreWithout, LeavesAll};
-ghost use Rattle.roster.specs.LookBack.{is_same, among, without};
+ghost use Rattle.std.specs.Prelude.{◌≡◌, ℕ, suc, ◌<◌, ◌≤◌, ◌+◌, length, option_copied, position, slice_get, vec_len, vec_capacity};
+ghost use Rattle.casemapping.specs.Fold.{is_same};
+ghost use Rattle.channel_state.specs.State.{changed};
+ghost use Rattle.roster.specs.Tables.{channel_of, state_in, room_in, populated, Reholds, Makes, Changes, AreWithout, LeavesAll, count_in};
 ghost use Rattle.roster.specs.Stands.{AreSpare};
 
-use crate::members::Members;
 use crate::names::is_same;
 use crate::tables::Channel;
+use channel_state::{Change, ChannelState};
 use chronicle::SessionId;
 use line_grammar::Octets;
 
@@ -27,11 +27,14 @@ pub(crate) fn nth_channel(channels: &[Channel], place: usize) -> Option<&Channel
     channels.get(place)
 }
 
-/// Whether a session is on a channel.
-pub(crate) fn has_member(channel: &Channel, session: SessionId) -> bool
-    ensures { result ≡ among session channel.now.members.list }
+/// On how many channels a session is.
+pub(crate) fn count_channels(channels: &[Channel], session: SessionId) -> usize
+    ensures { result ≡ count_in channels.now session }
 {
-    channel.members.as_slice().contains(&session)
+    channels
+        .iter()
+        .filter(|channel| channel.held.has(session))
+        .count()
 }
 
 /// The place of a channel.
@@ -43,14 +46,14 @@ fn find_place(channels: &[Channel], name: &[u8]) -> Option<usize>
         .position(|channel| is_same(channel.name.as_slice(), name))
 }
 
-/// Adds a session to a channel's members. It takes no memory.
-fn seat(channels: &mut [Channel], name: &[u8], session: SessionId)
+/// Changes the channel of a name, which has room for that. It takes no memory.
+fn change_named(channels: &mut [Channel], name: &[u8], change: Change)
     requires { 0 < room_in channels.old name.now }
-    ensures { Reseats channels.old channels.new name.now (without session (members_in channels.old name.now) ++ session ∷ []) 1 }
+    ensures { Reholds channels.old channels.new name.now (changed change (state_in channels.old name.now)) 1 }
 {
     if let Some(place) = find_place(channels, name) {
         let channel = &mut channels[place];
-        channel.members.add(session);
+        channel.held.change(change);
     }
 }
 
@@ -60,13 +63,13 @@ fn end_empty(channels: &mut Vec<Channel>)
     ensures len { vec_len channels.new ≤ vec_len channels.old }
     ensures capacity { vec_capacity channels.new ≡ vec_capacity channels.old }
 {
-    channels.retain(|channel| channel.members.is_some_one());
+    channels.retain(|channel| channel.held.is_there());
 }
 
 /// Adds a channel with its first member, in room that was made.
 pub(crate) fn make(
     channels: &mut Vec<Channel>,
-    spare: &mut Vec<Members>,
+    spare: &mut Vec<ChannelState>,
     name: Octets,
     session: SessionId,
 )
@@ -78,28 +81,29 @@ pub(crate) fn make(
     ensures len { vec_len channels.new ≤ vec_len channels.old + 1 }
     ensures capacity { vec_capacity channels.new ≡ vec_capacity channels.old }
 {
-    if let Some(mut members) = spare.pop() {
-        members.add(session);
-        channels.push_reserved(Channel { name, members });
+    if let Some(mut held) = spare.pop() {
+        held.make(session);
+        channels.push_reserved(Channel { name, held });
     }
 }
 
-/// A session joins a channel. It takes no memory.
-pub(crate) fn join(channels: &mut Vec<Channel>, name: &[u8], session: SessionId)
+/// A channel changes, and ends where no member is left. It takes no memory.
+pub(crate) fn change(channels: &mut Vec<Channel>, name: &[u8], change: Change)
     requires { 0 < room_in channels.old.items name.now }
-    ensures joins { Reseats channels.old.items channels.new.items name.now (without session (members_in channels.old.items name.now) ++ session ∷ []) 1 }
-    ensures len { vec_len channels.new ≡ vec_len channels.old }
+    ensures changes { Changes channels.old.items channels.new.items name.now change }
+    ensures len { vec_len channels.new ≤ vec_len channels.old }
     ensures capacity { vec_capacity channels.new ≡ vec_capacity channels.old }
 {
-    seat(channels, name, session);
+    change_named(channels, name, change);
+    end_empty(channels);
 }
 
-/// Takes a session out of the members of each channel.
-fn unseat_all(channels: &mut [Channel], session: SessionId)
+/// Takes a session out of each channel.
+fn depart_each(channels: &mut [Channel], session: SessionId)
     ensures { AreWithout session channels.old channels.new }
 {
     for channel in channels.iter_mut() {
-        channel.members.remove(session);
+        channel.held.depart(session);
     }
 }
 
@@ -109,6 +113,6 @@ pub(crate) fn leave_all(channels: &mut Vec<Channel>, session: SessionId)
     ensures len { vec_len channels.new ≤ vec_len channels.old }
     ensures capacity { vec_capacity channels.new ≡ vec_capacity channels.old }
 {
-    unseat_all(channels, session);
+    depart_each(channels, session);
     end_empty(channels);
 }

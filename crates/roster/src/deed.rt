@@ -1,12 +1,13 @@
 //! The elementary facts that a record establishes.
-ghost use Rattle.std.specs.Prelude.{◌≡◌, ◌∷◌, ◌++◌, option_copied, OnOk};
+ghost use Rattle.std.specs.Prelude.{◌≡◌, option_copied, OnOk};
+ghost use Rattle.channel_state.specs.State.{changed, lasting};
 ghost use Rattle.std.specs.Option.{option_map};
 ghost use Rattle.registration.specs.Enrol.{enrolment};
-ghost use Rattle.roster.specs.LookBack.{tells_host, enrolled, tells_on, tells_name, seated};
+ghost use Rattle.roster.specs.LookBack.{tells_host, enrolled, tells_name, reshaped};
 
 use crate::names::is_same;
 use crate::people::blank_enrol;
-use crate::sessions::Sessions;
+use channel_state::{Change, ChannelState};
 use chronicle::{SessionId, Why};
 use line_grammar::Octets;
 use registration::{Caps, Enrol};
@@ -55,15 +56,25 @@ pub enum Deed {
     Enrolled {
         session: SessionId,
     },
+    /// A session is away, with this text; or it is here.
+    AwaySet {
+        session: SessionId,
+        text: Option<Octets>,
+    },
+    /// Whether a session is hidden from those who aren't on its channels.
+    InvisibleSet {
+        session: SessionId,
+        on: bool,
+    },
     /// A session made a channel, and is on it. The name is as it was first spelled.
     ChannelMade {
         session: SessionId,
         channel: Octets,
     },
-    /// A session joined a channel that was there.
-    Joined {
-        session: SessionId,
+    /// A channel that was there changed.
+    Changed {
         channel: Octets,
+        change: Change,
     },
     /// A session ended; the text is what its client gave, or empty.
     Ended {
@@ -75,6 +86,17 @@ pub enum Deed {
     Gone {
         session: SessionId,
     },
+}
+
+/// A channel after a change.
+fn change_state(change: &Change, state: &mut ChannelState) -> Result<(), AllocError>
+    ensures { OnOk result (state.new.state ≡ lasting (changed change.now state.old.state)) }
+{
+    let change = change.clone()?;
+    state.reserve(1)?;
+    state.change(change);
+    state.last();
+    Ok(())
 }
 
 impl Deed {
@@ -150,24 +172,6 @@ impl Deed {
         }
     }
 
-    /// What it tells of whether a session is on a channel, if anything.
-    pub fn tells_on(&self, session: SessionId, channel: &[u8]) -> Option<bool>
-        ensures { result ≡ tells_on session channel.now self.now }
-    {
-        match self {
-            Deed::ChannelMade {
-                session: other,
-                channel: name,
-            } => { is_same(name.as_slice(), channel).then_some(*other == session) }
-            Deed::Joined {
-                session: other,
-                channel: name,
-            } => { (is_same(name.as_slice(), channel) && *other == session).then_some(true) }
-            Deed::Gone { session: other } => (*other == session).then_some(false),
-            _ => None,
-        }
-    }
-
     /// What it tells of the name of a channel, if anything.
     pub fn tells_name(&self, channel: &[u8]) -> Option<&Octets>
         ensures { option_copied result ≡ tells_name channel.now self.now }
@@ -180,27 +184,26 @@ impl Deed {
         }
     }
 
-    /// Makes the members of a channel those after it.
-    pub fn seat(&self, channel: &[u8], members: &mut Sessions) -> Result<(), AllocError>
-        ensures { OnOk result (members.new ≡ seated self.now channel.now members.old) }
+    /// Makes a channel the one after it.
+    pub fn reshape(&self, channel: &[u8], state: &mut ChannelState) -> Result<(), AllocError>
+        ensures { OnOk result (state.new.state ≡ reshaped self.now channel.now state.old.state) }
     {
         match self {
             Deed::ChannelMade {
                 session,
                 channel: name,
             } if is_same(name.as_slice(), channel) => {
-                members.clear();
-                members.push(*session)
+                state.reserve(1)?;
+                state.make(*session);
+                Ok(())
             }
-            Deed::Joined {
-                session,
+            Deed::Changed {
                 channel: name,
-            } if is_same(name.as_slice(), channel) => {
-                members.remove(*session);
-                members.push(*session)
-            }
+                change,
+            } if is_same(name.as_slice(), channel) => change_state(change, state),
             Deed::Gone { session } => {
-                members.remove(*session);
+                state.depart(*session);
+                state.last();
                 Ok(())
             }
             _ => Ok(()),

@@ -1,7 +1,7 @@
 //! What follows of names of channels, as functions that do nothing.
 ghost use Rattle.roster.specs.Laws.{ChannelsHaveOneName, SpelledNamesAreNames};
 
-/// One name, however it is spelled, has the same members (RFC 2812, section 2.2).
+/// One name, however it is spelled, is the same channel (RFC 2812, section 2.2).
 pub fn channels_have_one_name()
     ensures { ChannelsHaveOneName }
 {}

@@ -5,7 +5,6 @@ mod channels;
 mod deed;
 mod given;
 mod laws;
-mod members;
 mod names;
 mod people;
 mod room;

@@ -1,6 +1,6 @@
 //! Comparing names.
 ghost use Rattle.std.specs.Prelude.{◌≡◌};
-ghost use Rattle.roster.specs.LookBack.{is_same};
+ghost use Rattle.casemapping.specs.Fold.{is_same};
 
 use casemapping::same;
 

@@ -25,6 +25,8 @@ pub(crate) fn stranger(alloc: Global, host: Octets) -> Person
         exchange: None,
         account: None,
         registered: false,
+        away: None,
+        invisible: false,
         why: Why::SendQ,
         parting: Octets::from_vec(Vec::new(alloc)),
     }
@@ -143,6 +145,30 @@ pub(crate) fn enroll(people: &mut Vec<Person>, session: SessionId)
 {
     let person = &mut people[session.number() as usize - 1];
     person.registered = true;
+}
+
+/// A session is away with this text from now on, or isn't.
+pub(crate) fn go_away(people: &mut Vec<Person>, session: SessionId, text: Option<Octets>)
+    requires from_1 { 0 < session }
+    requires opened { session ≤ length people.old.items }
+    ensures items { people.new.items ≡ with_person people.old.items session (record (person_at people.old.items session) { away = text }) }
+    ensures len { vec_len people.new ≡ vec_len people.old }
+    ensures capacity { vec_capacity people.new ≡ vec_capacity people.old }
+{
+    let person = &mut people[session.number() as usize - 1];
+    person.away = text;
+}
+
+/// A session is hidden from now on, or isn't.
+pub(crate) fn hide(people: &mut Vec<Person>, session: SessionId, on: bool)
+    requires from_1 { 0 < session }
+    requires opened { session ≤ length people.old.items }
+    ensures items { people.new.items ≡ with_person people.old.items session (record (person_at people.old.items session) { invisible = on }) }
+    ensures len { vec_len people.new ≡ vec_len people.old }
+    ensures capacity { vec_capacity people.new ≡ vec_capacity people.old }
+{
+    let person = &mut people[session.number() as usize - 1];
+    person.invisible = on;
 }
 
 /// A session ended.

@@ -1,38 +1,38 @@
 //! Room for deeds, made before they are applied.
 ghost use Rattle.std.specs.Prelude.{◌≡◌, ◌≤◌, [], length, count_by, vec_len, vec_capacity, OnOk};
-ghost use Rattle.roster.specs.Stands.{is_join, joins, is_making, Alike, HaveSeats, AreSpare, HasRoom};
+ghost use Rattle.roster.specs.Stands.{is_change, changes, is_making, Alike, HaveSeats, AreSpare, HasRoom};
 
 use crate::deed::Deed;
-use crate::members::Members;
 use crate::names::is_same;
 use crate::tables::{Channel, Person};
+use channel_state::ChannelState;
 use std::alloc::{AllocError, Global};
 
-/// Whether a deed adds a member to a channel.
-fn is_join(deed: &Deed, name: &[u8]) -> bool
-    ensures { result ≡ is_join name.now deed.now }
+/// Whether a deed changes a channel.
+fn is_change(deed: &Deed, name: &[u8]) -> bool
+    ensures { result ≡ is_change name.now deed.now }
 {
     match deed {
-        Deed::Joined { channel, .. } => is_same(channel.as_slice(), name),
+        Deed::Changed { channel, .. } => is_same(channel.as_slice(), name),
         _ => false,
     }
 }
 
 /// How many deeds do.
-fn count_joins(deeds: &[Deed], name: &[u8]) -> usize
-    ensures { result ≡ joins name.now deeds.now }
+fn count_changes(deeds: &[Deed], name: &[u8]) -> usize
+    ensures { result ≡ changes name.now deeds.now }
 {
-    deeds.iter().filter(|deed| is_join(deed, name)).count()
+    deeds.iter().filter(|deed| is_change(deed, name)).count()
 }
 
-/// Makes room in each channel for those who will join it.
+/// Makes room in each channel for its changes.
 fn reserve_seats(channels: &mut [Channel], deeds: &[Deed]) -> Result<(), AllocError>
     ensures alike { Alike channels.old channels.new }
     ensures seats { OnOk result (HaveSeats deeds.now channels.new) }
 {
     for channel in channels.iter_mut() {
-        let seats = count_joins(deeds, channel.name.as_slice());
-        channel.members.reserve(seats)?;
+        let seats = count_changes(deeds, channel.name.as_slice());
+        channel.held.reserve(seats)?;
     }
     Ok(())
 }
@@ -44,8 +44,12 @@ fn is_making(deed: &Deed) -> bool
     matches!(deed, Deed::ChannelMade { .. })
 }
 
-/// Makes lists for the members of channels that will be made.
-fn fill_spare(alloc: Global, spare: &mut Vec<Members>, deeds: &[Deed]) -> Result<(), AllocError>
+/// Makes what channels that will be made are kept in.
+fn fill_spare(
+    alloc: Global,
+    spare: &mut Vec<ChannelState>,
+    deeds: &[Deed],
+) -> Result<(), AllocError>
     ensures none { AreSpare 0 spare.new.items }
     ensures enough { OnOk result (count_by is_making deeds.now ≤ length spare.new.items) }
     ensures empty { OnOk result (AreSpare (length deeds.now) spare.new.items) }
@@ -53,7 +57,7 @@ fn fill_spare(alloc: Global, spare: &mut Vec<Members>, deeds: &[Deed]) -> Result
     let makings = deeds.iter().filter(|deed| is_making(deed)).count();
     spare.clear();
     'fill: while spare.len() < makings {
-        spare.push(Members::with_room(alloc, deeds.len())?)?;
+        spare.push(ChannelState::with_room(alloc, deeds.len())?)?;
     }
     Ok(())
 }
@@ -63,7 +67,7 @@ pub(crate) fn make_room(
     alloc: Global,
     people: &mut Vec<Person>,
     channels: &mut Vec<Channel>,
-    spare: &mut Vec<Members>,
+    spare: &mut Vec<ChannelState>,
     deeds: &[Deed],
 ) -> Result<(), AllocError>
     requires { HasRoom people.old channels.old spare.old [] }

@@ -1,21 +1,22 @@
 //! The roster: a list of facts, kept in tables.
+ghost use Rattle.std.specs.Option.{option_map_or};
 ghost use Rattle.std.specs.Prelude.{◌≡◌, ◌<◌, ◌^◌, ◌∷◌, [], Some, None, drop, length, slice_get, option_copied, unwrap_or, IfOk, OnOk, OnErr};
 ghost use Rattle.roster.specs.declared.deed.Deed.TheVariants.{Ended};
 
-use crate::channels::{find_channel, join, leave_all, make, nth_channel};
+use crate::channels::{change, count_channels, find_channel, leave_all, make, nth_channel};
 use crate::deed::Deed;
 use crate::given::Given;
-use crate::members::Members;
 use crate::people::{
-    blank_enrol, end, enrol_of, enroll, equip, find_holder, find_person, forget, hold, introduce,
-    log_in, open_exchange, rename, stranger,
+    blank_enrol, end, enrol_of, enroll, equip, find_holder, find_person, forget, go_away, hide,
+    hold, introduce, log_in, open_exchange, rename, stranger,
 };
 use crate::room::make_room;
 use crate::sessions::Sessions;
 use crate::sharing::find_sharers;
 use crate::tables::{Channel, Person};
+use channel_state::ChannelState;
 use chronicle::{SessionId, Why};
-use ghosts::{Change, Snapshot, append_all, apply as change, blank};
+use ghosts::{Change, Snapshot, append_all, apply, blank};
 use line_grammar::Octets;
 use registration::{Enrol, Settings};
 use std::alloc::{AllocError, Global};
@@ -30,8 +31,8 @@ pub struct Roster {
     given: Given,
     people: Vec<Person>,
     channels: Vec<Channel>,
-    /// Lists for the members of channels that will be made.
-    spare: Vec<Members>,
+    /// What channels that will be made are kept in.
+    spare: Vec<ChannelState>,
     facts: Snapshot<LinkedList<Deed>>,
     ready: Snapshot<LinkedList<Deed>>,
 }
@@ -65,7 +66,8 @@ impl Roster {
     ghost use Rattle.registration.specs.Settings.{IsWellSet};
     ghost use Rattle.roster.specs.Legal.{IsOpened, AreNext};
     ghost use Rattle.registration.specs.Enrol.{enrolment};
-    ghost use Rattle.roster.specs.LookBack.{opened, host, nick, user, real, enrol, registered, why, parting, holder, found, on, members, name_of, channels, sharers};
+    ghost use Rattle.roster.specs.LookBack.{opened, host, nick, user, real, enrol, registered, away, invisible, why, parting, holder, found, on, state, members, name_of, channels, channel_count, sharers};
+    ghost use Rattle.channel_state.specs.State.{nothing};
 
     /// The roster of no facts, on a server whose settings are within their limits.
     pub fn new(alloc: Global, settings: Settings) -> Roster
@@ -113,8 +115,8 @@ impl Roster {
         ensures facts { self.new.facts ≡ deed ∷ self.old.facts }
         ensures ready { self.new.ready ≡ drop 1 self.old.ready }
     {
-        change::<Adds, LinkedList<Deed>, Deed>(&mut self.facts, &deed);
-        change::<DropsFirst, LinkedList<Deed>, ()>(&mut self.ready, &());
+        apply::<Adds, LinkedList<Deed>, Deed>(&mut self.facts, &deed);
+        apply::<DropsFirst, LinkedList<Deed>, ()>(&mut self.ready, &());
         match deed {
             Deed::Opened { session: _, host } => {
                 self.people.push_reserved(stranger(self.alloc, host));
@@ -132,12 +134,15 @@ impl Roster {
             }
             Deed::LoggedIn { session, account } => log_in(&mut self.people, session, account),
             Deed::Enrolled { session } => enroll(&mut self.people, session),
+            Deed::AwaySet { session, text } => go_away(&mut self.people, session, text),
+            Deed::InvisibleSet { session, on } => hide(&mut self.people, session, on),
             Deed::ChannelMade { session, channel } => {
                 make(&mut self.channels, &mut self.spare, channel, session);
             }
-            Deed::Joined { session, channel } => {
-                join(&mut self.channels, channel.as_slice(), session);
-            }
+            Deed::Changed {
+                channel,
+                change: made,
+            } => change(&mut self.channels, channel.as_slice(), made),
             Deed::Ended { session, why, text } => end(&mut self.people, session, why, text),
             Deed::Gone { session } => {
                 forget(&mut self.people, session);
@@ -160,7 +165,7 @@ impl Roster {
             why: reason,
             text: Octets::from_vec(Vec::new(self.alloc)),
         };
-        change::<Adds, LinkedList<Deed>, Deed>(&mut self.facts, &deed);
+        apply::<Adds, LinkedList<Deed>, Deed>(&mut self.facts, &deed);
         self.ready = blank(self.alloc);
         end(&mut self.people, session, reason, text);
     }
@@ -242,6 +247,26 @@ impl Roster {
         }
     }
 
+    /// The text with which a session is away.
+    pub fn away_of(&self, session: SessionId) -> Option<&Octets>
+        ensures { option_copied result ≡ away self.now.facts session }
+    {
+        match find_person(&self.people, session) {
+            Some(person) => person.away.as_ref(),
+            None => None,
+        }
+    }
+
+    /// Whether a session is hidden from those who aren't on its channels.
+    pub fn is_invisible(&self, session: SessionId) -> bool
+        ensures { result ≡ invisible self.now.facts session }
+    {
+        match find_person(&self.people, session) {
+            Some(person) => person.invisible,
+            None => false,
+        }
+    }
+
     /// Why a session ended; where that was never told its outbox was full.
     pub fn why_of(&self, session: SessionId) -> Why
         ensures { result ≡ why self.now.facts session }
@@ -284,12 +309,22 @@ impl Roster {
         }
     }
 
+    /// A channel, with who is on it and with which rank, its modes, topic and bans, and who is invited. `None` where it isn't there.
+    pub fn state_of(&self, channel: &[u8]) -> Option<&ChannelState>
+        ensures { option_map_or (λ k. k.now.state) result nothing ≡ state self.now.facts channel.now }
+    {
+        match find_channel(&self.channels, channel) {
+            Some(channel) => Some(&channel.held),
+            None => None,
+        }
+    }
+
     /// Those on a channel, in the order of joining.
     pub fn members(&self, channel: &[u8]) -> &[SessionId]
         ensures { result.now ≡ members self.now.facts channel.now }
     {
         match find_channel(&self.channels, channel) {
-            Some(channel) => channel.members.as_slice(),
+            Some(channel) => channel.held.members(),
             None => &[],
         }
     }
@@ -309,6 +344,13 @@ impl Roster {
             Some(channel) => Some(&channel.name),
             None => None,
         }
+    }
+
+    /// On how many channels a session is.
+    pub fn channel_count_of(&self, session: SessionId) -> usize
+        ensures { result ≡ channel_count self.now.facts session }
+    {
+        count_channels(&self.channels, session)
     }
 
     /// How many channels there are.

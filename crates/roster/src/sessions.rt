@@ -1,6 +1,6 @@
 //! Lists of sessions that a clause sees as numbers.
 ghost use Rattle.std.specs.Prelude.{◌≡◌, ◌↔◌, ◌++◌, ◌∷◌, [], IfOk, OnOk, OnErr, IsTrue};
-ghost use Rattle.roster.specs.LookBack.{without};
+ghost use Rattle.channel_state.specs.State.{without};
 
 use chronicle::SessionId;
 use std::alloc::{AllocError, Global};

@@ -1,9 +1,8 @@
 //! Who shares a channel with whom.
 ghost use Rattle.std.specs.Prelude.{◌≡◌, ◌==◌, ◌||◌, ◌&&◌, not, cond, ℕ, ◌+◌, ◌<◌, ◌∷◌, ◌++◌, [], false, length, slice_index_or, IfOk, OnOk};
-ghost use Rattle.roster.specs.LookBack.{among};
+ghost use Rattle.channel_state.specs.State.{among};
 ghost use Rattle.roster.specs.Tables.{share_in, marked, sharing};
 
-use crate::channels::has_member;
 use crate::sessions::Sessions;
 use crate::tables::Channel;
 use chronicle::SessionId;
@@ -30,10 +29,10 @@ fn mark_each(marks: &mut [bool], sessions: &[SessionId])
 
 /// Marks those who are on a channel, if a session is.
 fn mark_channel(marks: &mut [bool], channel: &Channel, session: SessionId)
-    ensures { (i : ℕ) → i < length marks.old → slice_index_or marks.new i false ≡ (slice_index_or marks.old i false || (among session channel.now.members.list && among (i + 1) channel.now.members.list)) }
+    ensures { (i : ℕ) → i < length marks.old → slice_index_or marks.new i false ≡ (slice_index_or marks.old i false || (among session channel.now.held.state.members && among (i + 1) channel.now.held.state.members)) }
 {
-    if has_member(channel, session) {
-        mark_each(marks, channel.members.as_slice());
+    if channel.held.has(session) {
+        mark_each(marks, channel.held.members());
     }
 }
 

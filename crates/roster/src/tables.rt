@@ -1,5 +1,5 @@
 //! The tables' rows.
-use crate::members::Members;
+use channel_state::ChannelState;
 use chronicle::Why;
 use line_grammar::Octets;
 use registration::Caps;
@@ -19,15 +19,19 @@ pub struct Person {
     /// The account by which it is logged in.
     pub account: Option<Octets>,
     pub registered: bool,
+    /// The text with which it is away.
+    pub away: Option<Octets>,
+    /// Whether it is hidden from those who aren't on its channels.
+    pub invisible: bool,
     /// Why it ended, where it did.
     pub why: Why,
     /// The text that its client gave when it quit.
     pub parting: Octets,
 }
 
-/// A channel, with its members in the order of joining.
+/// A channel and its name, as it was first spelled.
 #[derive(Debug, Drop)]
 pub struct Channel {
     pub name: Octets,
-    pub members: Members,
+    pub held: ChannelState,
 }

@@ -1,10 +1,8 @@
 //! Headers, and what they set.
-use crate::shared::{START, Story, played, room, tell_steps};
-use crate::spelling::write_spelled;
 use halld::PlayFault;
 use std::alloc::{AllocError, Global};
-use std::process::Abort;
 use std::test::Fail;
+use talks::{BO_JOINS, START, Story, Untold, played, room, tell_steps, write_spelled};
 
 /// Scripts, how each ends, and its notes.
 const HEADERS: [(&[u8], Result<(), PlayFault>, &[u8]); 7] = [
@@ -201,7 +199,7 @@ const LAST_HEADERS: [(&str, &str); 7] = [
 
 #[test]
 fn the_last_header_counts(rt: HostRuntime) -> Result<(), Fail> {
-    tell_steps(&rt, rt.alloc(), &LAST_HEADERS)?;
+    tell_steps(rt.alloc(), &LAST_HEADERS)?;
     Ok(())
 }
 
@@ -232,7 +230,7 @@ const EACH_HEADER: [[(&str, &str); 3]; 4] = [
 #[test]
 fn each_header_sets_its_limit(rt: HostRuntime) -> Result<(), Fail> {
     for steps in &EACH_HEADER {
-        tell_steps(&rt, rt.alloc(), steps)?;
+        tell_steps(rt.alloc(), steps)?;
     }
     Ok(())
 }
@@ -242,25 +240,28 @@ const A_FULL_OUTBOX: [(&str, &str); 7] = [
     ("feed 1 \"JOIN #a\\r\\n\"", "read 1"),
     ("feed 2 \"JOIN #a\\r\\n\"", "read 1"),
     ("do 1 0", "record 7"),
-    ("drain 1", "1> :al!a@h1 JOIN #a\nempty"),
+    (
+        "drain 1",
+        "1> :al!a@h1 JOIN #a\n1> :~ 353 al = #a :@al\n1> :~ 366 al #a :End of NAMES list\nempty",
+    ),
     ("do 2 0", "record 8"),
     ("drain 1", "1> :bo!b@h2 JOIN #a\nempty"),
     ("feed 1 \"PRIVMSG #a :hi\\r\\n\"", "read 1"),
 ];
 
 /// Plays steps where each outbox holds one item, and Bo's is full.
-fn tell_full(rt: &impl Abort, alloc: Global, steps: &[(&str, &str)]) -> Result<(), AllocError> {
+fn tell_full(alloc: Global, steps: &[(&str, &str)]) -> Result<(), Untold> {
     let mut story = Story::new(alloc)?;
     story.step(b"sendq 1")?;
     story.add(&START)?;
     story.add(&A_FULL_OUTBOX)?;
     story.add(steps)?;
-    story.tell(rt, alloc)
+    story.tell(alloc)
 }
 
 const IT_IS_FULL: [(&str, &str); 6] = [
     ("do 1 0", "record 9\nmissed 2"),
-    ("take 2", "2> :bo!b@h2 JOIN #a"),
+    ("take 2", BO_JOINS),
     ("take 2", "empty"),
     ("tidy 0", "sweep 10"),
     ("drain 1", "1> :bo!b@h2 QUIT :Max SendQ exceeded\nempty"),
@@ -269,19 +270,19 @@ const IT_IS_FULL: [(&str, &str); 6] = [
 
 #[test]
 fn an_outbox_for_one_item_is_full(rt: HostRuntime) -> Result<(), Fail> {
-    tell_full(&rt, rt.alloc(), &IT_IS_FULL)?;
+    tell_full(rt.alloc(), &IT_IS_FULL)?;
     Ok(())
 }
 
 const IT_IS_TAKEN: [(&str, &str); 4] = [
     ("pick 1 1", "picked"),
     ("begin 1 0", "record 9"),
-    ("take 2", "2> :bo!b@h2 JOIN #a"),
+    ("take 2", BO_JOINS),
     ("put 1", "put 2"),
 ];
 
 #[test]
 fn an_item_is_taken_before_the_next_is_put(rt: HostRuntime) -> Result<(), Fail> {
-    tell_full(&rt, rt.alloc(), &IT_IS_TAKEN)?;
+    tell_full(rt.alloc(), &IT_IS_TAKEN)?;
     Ok(())
 }

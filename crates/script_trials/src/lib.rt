@@ -16,14 +16,8 @@ mod nicknames;
 #[cfg(test)]
 mod registering;
 #[cfg(test)]
-mod shared;
-#[cfg(test)]
-mod spelling;
-#[cfg(test)]
 mod stories;
 #[cfg(test)]
 mod streams;
-#[cfg(test)]
-mod talk;
 #[cfg(test)]
 mod workers;

@@ -1,9 +1,8 @@
 //! Lines that are steps, and lines that aren't.
-use crate::shared::{played, room};
 use halld::PlayFault;
 use std::alloc::{AllocError, Global};
-use std::process::Abort;
 use std::test::Fail;
+use talks::{played, room};
 
 /// Scripts, how each ends, and its notes.
 const SCRIPTS: [(&[u8], Result<(), PlayFault>, &[u8]); 13] = [

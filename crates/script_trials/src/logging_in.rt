@@ -1,7 +1,6 @@
 //! Logging in (IRCv3 SASL 3.1; RFC 4616).
-use crate::shared::twice;
-use crate::talk::tell_talk;
 use std::test::Fail;
+use talks::{tell_talk, twice};
 
 /// Al's password is `bc`, and that of Cy 296 times `U`.
 const ACCOUNTS: &str = "\
@@ -51,7 +50,7 @@ const AGAIN: &str = "\
 
 #[test]
 fn the_right_password(rt: HostRuntime) -> Result<(), Fail> {
-    tell_talk(&rt, rt.alloc(), &[ACCOUNTS, OPENED, AGAIN])?;
+    tell_talk(rt.alloc(), &[ACCOUNTS, OPENED, AGAIN])?;
     Ok(())
 }
 
@@ -87,7 +86,7 @@ connect h1
 
 #[test]
 fn an_exchange_is_opened_and_aborted(rt: HostRuntime) -> Result<(), Fail> {
-    tell_talk(&rt, rt.alloc(), &[ACCOUNTS, OUTSIDE])?;
+    tell_talk(rt.alloc(), &[ACCOUNTS, OUTSIDE])?;
     Ok(())
 }
 
@@ -129,7 +128,7 @@ const PIECES: &str = "\
 
 #[test]
 fn pieces_of_an_exchange(rt: HostRuntime) -> Result<(), Fail> {
-    tell_talk(&rt, rt.alloc(), &[ACCOUNTS, OPENED, PIECES])?;
+    tell_talk(rt.alloc(), &[ACCOUNTS, OPENED, PIECES])?;
     Ok(())
 }
 
@@ -160,7 +159,7 @@ fn payloads_that_fail(rt: HostRuntime) -> Result<(), Fail> {
     let alloc = rt.alloc();
     for payload in PAYLOADS {
         let said = twice(|| format!(in alloc; "1 AUTHENTICATE {payload}"))?;
-        tell_talk(&rt, alloc, &[ACCOUNTS, OPENED, said.as_str(), FAILS])?;
+        tell_talk(alloc, &[ACCOUNTS, OPENED, said.as_str(), FAILS])?;
     }
     Ok(())
 }
@@ -168,7 +167,7 @@ fn payloads_that_fail(rt: HostRuntime) -> Result<(), Fail> {
 /// Without accounts none is right.
 #[test]
 fn nobody_has_an_account(rt: HostRuntime) -> Result<(), Fail> {
-    tell_talk(&rt, rt.alloc(), &[OPENED, "1 AUTHENTICATE AGFsAGJj", FAILS])?;
+    tell_talk(rt.alloc(), &[OPENED, "1 AUTHENTICATE AGFsAGJj", FAILS])?;
     Ok(())
 }
 
@@ -196,7 +195,7 @@ const TURNED_OFF: &str = "\
 
 #[test]
 fn the_capability_is_turned_off(rt: HostRuntime) -> Result<(), Fail> {
-    tell_talk(&rt, rt.alloc(), &[ACCOUNTS, OPENED, TURNED_OFF])?;
+    tell_talk(rt.alloc(), &[ACCOUNTS, OPENED, TURNED_OFF])?;
     Ok(())
 }
 
@@ -232,8 +231,8 @@ const REGISTERS_BY_NICK: &str = "\
 
 #[test]
 fn registration_ends_an_exchange(rt: HostRuntime) -> Result<(), Fail> {
-    tell_talk(&rt, rt.alloc(), &[ACCOUNTS, OPENED, REGISTERS])?;
-    tell_talk(&rt, rt.alloc(), &[ACCOUNTS, OPENED, REGISTERS_BY_NICK])?;
+    tell_talk(rt.alloc(), &[ACCOUNTS, OPENED, REGISTERS])?;
+    tell_talk(rt.alloc(), &[ACCOUNTS, OPENED, REGISTERS_BY_NICK])?;
     Ok(())
 }
 
@@ -254,7 +253,7 @@ const BY_USER: &str = "\
 
 #[test]
 fn who_logs_in_is_named(rt: HostRuntime) -> Result<(), Fail> {
-    tell_talk(&rt, rt.alloc(), &[ACCOUNTS, OPENED, BY_NICK])?;
-    tell_talk(&rt, rt.alloc(), &[ACCOUNTS, OPENED, BY_USER])?;
+    tell_talk(rt.alloc(), &[ACCOUNTS, OPENED, BY_NICK])?;
+    tell_talk(rt.alloc(), &[ACCOUNTS, OPENED, BY_USER])?;
     Ok(())
 }

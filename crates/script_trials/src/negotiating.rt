@@ -1,6 +1,6 @@
 //! Capabilities (IRCv3 Capability Negotiation).
-use crate::talk::{AL, tell_talk};
 use std::test::Fail;
+use talks::{AL, tell_talk};
 
 const SUBCOMMANDS: &str = "\
 connect h1
@@ -48,8 +48,8 @@ connect h1
 
 #[test]
 fn subcommands(rt: HostRuntime) -> Result<(), Fail> {
-    tell_talk(&rt, rt.alloc(), &[SUBCOMMANDS])?;
-    tell_talk(&rt, rt.alloc(), &[LS])?;
+    tell_talk(rt.alloc(), &[SUBCOMMANDS])?;
+    tell_talk(rt.alloc(), &[LS])?;
     Ok(())
 }
 
@@ -103,8 +103,8 @@ connect h1
 
 #[test]
 fn requests(rt: HostRuntime) -> Result<(), Fail> {
-    tell_talk(&rt, rt.alloc(), &[NAK])?;
-    tell_talk(&rt, rt.alloc(), &[ACK])?;
+    tell_talk(rt.alloc(), &[NAK])?;
+    tell_talk(rt.alloc(), &[ACK])?;
     Ok(())
 }
 
@@ -149,6 +149,8 @@ const AFTER: &str = "\
 1> :~ CAP al ACK :message-tags
 1 JOIN #a
 1> :al!a@h1 JOIN #a
+1> :~ 353 al = #a :@al
+1> :~ 366 al #a :End of NAMES list
 1 CAP END
 1 CAP REQ cap-notify
 1> :~ CAP al NAK :cap-notify
@@ -158,7 +160,7 @@ const AFTER: &str = "\
 
 #[test]
 fn negotiation_holds_a_registration(rt: HostRuntime) -> Result<(), Fail> {
-    tell_talk(&rt, rt.alloc(), &[HOLDS])?;
-    tell_talk(&rt, rt.alloc(), &[AL, AFTER])?;
+    tell_talk(rt.alloc(), &[HOLDS])?;
+    tell_talk(rt.alloc(), &[AL, AFTER])?;
     Ok(())
 }

@@ -1,6 +1,6 @@
 //! Nicknames (RFC 2812, section 3.1.2): which there are, who holds them, and who is told of a change.
-use crate::talk::{AL, BO, tell_talk};
 use std::test::Fail;
+use talks::{AL, AL_IN, BO, BO_IN, tell_talk};
 
 const SHAPES: &str = "\
 connect h1
@@ -44,7 +44,7 @@ connect h2
 
 #[test]
 fn nicknames_have_a_shape(rt: HostRuntime) -> Result<(), Fail> {
-    tell_talk(&rt, rt.alloc(), &[SHAPES])?;
+    tell_talk(rt.alloc(), &[SHAPES])?;
     Ok(())
 }
 
@@ -85,24 +85,23 @@ tidy
 
 #[test]
 fn nicknames_are_held(rt: HostRuntime) -> Result<(), Fail> {
-    tell_talk(&rt, rt.alloc(), &[HELD])?;
-    tell_talk(&rt, rt.alloc(), &[AL, BO, GONE])?;
+    tell_talk(rt.alloc(), &[HELD])?;
+    tell_talk(rt.alloc(), &[AL, BO, GONE])?;
     Ok(())
 }
 
 /// Two people share two channels, and a third session none.
 const CHANGES: &str = "\
 connect h3
-1 JOIN #a
-1> :al!a@h1 JOIN #a
-2 JOIN #a
-1> :bo!b@h2 JOIN #a
-2> :bo!b@h2 JOIN #a
 1 JOIN #b
 1> :al!a@h1 JOIN #b
+1> :~ 353 al = #b :@al
+1> :~ 366 al #b :End of NAMES list
 2 JOIN #b
 1> :bo!b@h2 JOIN #b
 2> :bo!b@h2 JOIN #b
+2> :~ 353 bo = #b :@al bo
+2> :~ 366 bo #b :End of NAMES list
 1 NICK ann
 1> :al!a@h1 NICK ann
 2> :al!a@h1 NICK ann
@@ -122,6 +121,6 @@ connect h3
 
 #[test]
 fn a_change_is_shown_once_to_each(rt: HostRuntime) -> Result<(), Fail> {
-    tell_talk(&rt, rt.alloc(), &[AL, BO, CHANGES])?;
+    tell_talk(rt.alloc(), &[AL, BO, AL_IN, BO_IN, CHANGES])?;
     Ok(())
 }

@@ -1,7 +1,6 @@
 //! Sessions that register (RFC 2812, section 3.1), and what they are answered before.
-use crate::shared::tell_steps;
-use crate::talk::{AL, tell_talk};
 use std::test::Fail;
+use talks::{AL, tell_steps, tell_talk};
 
 /// The nickname's line ends with the CR of one feed, and its LF in the next ends none.
 const TWO_FEEDS: [(&str, &str); 6] = [
@@ -18,7 +17,7 @@ const TWO_FEEDS: [(&str, &str); 6] = [
 
 #[test]
 fn two_feeds_register(rt: HostRuntime) -> Result<(), Fail> {
-    tell_steps(&rt, rt.alloc(), &TWO_FEEDS)?;
+    tell_steps(rt.alloc(), &TWO_FEEDS)?;
     Ok(())
 }
 
@@ -35,7 +34,7 @@ connect h1
 1> welcome al!al@h1
 1> :~ 422 al :MOTD File is missing
 1 MODE al +i
-1> :~ 421 al MODE :Unknown command
+1> :al!al@h1 MODE al +i
 1 PING ~
 1> :~ PONG ~ ~
 ";
@@ -54,6 +53,8 @@ connect h1
 1> :~ 422 al :MOTD File is missing
 1 JOIN #a
 1> :al!al@h1 JOIN #a
+1> :~ 353 al = #a :@al
+1> :~ 366 al #a :End of NAMES list
 ";
 
 /// As a small bot starts.
@@ -66,14 +67,16 @@ connect h1
 1 PONG :~
 1 JOIN #a
 1> :bot!bot@h1 JOIN #a
+1> :~ 353 bot = #a :@bot
+1> :~ 366 bot #a :End of NAMES list
 ";
 
 #[test]
 fn clients_start(rt: HostRuntime) -> Result<(), Fail> {
-    tell_talk(&rt, rt.alloc(), &[IRSSI])?;
-    tell_talk(&rt, rt.alloc(), &[WEECHAT])?;
-    tell_talk(&rt, rt.alloc(), &[BOT])?;
-    tell_talk(&rt, rt.alloc(), &[AL])?;
+    tell_talk(rt.alloc(), &[IRSSI])?;
+    tell_talk(rt.alloc(), &[WEECHAT])?;
+    tell_talk(rt.alloc(), &[BOT])?;
+    tell_talk(rt.alloc(), &[AL])?;
     Ok(())
 }
 
@@ -111,11 +114,13 @@ connect h1
 1> :~ 422 al :MOTD File is missing
 1 JOIN #a
 1> :al!a@h1 JOIN #a
+1> :~ 353 al = #a :@al
+1> :~ 366 al #a :End of NAMES list
 ";
 
 #[test]
 fn who_has_not_registered_is_told(rt: HostRuntime) -> Result<(), Fail> {
-    tell_talk(&rt, rt.alloc(), &[BEFORE])?;
+    tell_talk(rt.alloc(), &[BEFORE])?;
     Ok(())
 }
 
@@ -166,8 +171,8 @@ connect h3
 
 #[test]
 fn user_names_are_told(rt: HostRuntime) -> Result<(), Fail> {
-    tell_talk(&rt, rt.alloc(), &[USER])?;
-    tell_talk(&rt, rt.alloc(), &[USER_NAMES])?;
+    tell_talk(rt.alloc(), &[USER])?;
+    tell_talk(rt.alloc(), &[USER_NAMES])?;
     Ok(())
 }
 
@@ -193,6 +198,6 @@ connect h1
 
 #[test]
 fn a_password_is_ignored(rt: HostRuntime) -> Result<(), Fail> {
-    tell_talk(&rt, rt.alloc(), &[PASS])?;
+    tell_talk(rt.alloc(), &[PASS])?;
     Ok(())
 }

@@ -1,9 +1,8 @@
 //! What people see, and sessions that end.
-use crate::shared::{START, Story, room, tell_started, tell_steps};
 use halld::PlayFault;
 use std::alloc::{AllocError, Global};
-use std::process::Abort;
 use std::test::Fail;
+use talks::{AL_JOINS, BO_JOINS, START, Story, Untold, room, tell_started, tell_steps};
 
 const TWO_PEOPLE: [(&str, &str); 7] = [
     ("feed 1 \"JOIN #a\\r\\n\"", "read 1"),
@@ -13,14 +12,17 @@ const TWO_PEOPLE: [(&str, &str); 7] = [
     ("do 2 0", "record 9"),
     (
         "drain 1",
-        "1> :al!a@h1 JOIN #a\n1> :bo!b@h2 JOIN #a\n1> :bo!b@h2 PRIVMSG #a :hi\nempty",
+        "1> :al!a@h1 JOIN #a\n1> :~ 353 al = #a :@al\n1> :~ 366 al #a :End of NAMES list\n1> :bo!b@h2 JOIN #a\n1> :bo!b@h2 PRIVMSG #a :hi\nempty",
     ),
-    ("drain 2", "2> :bo!b@h2 JOIN #a\nempty"),
+    (
+        "drain 2",
+        "2> :bo!b@h2 JOIN #a\n2> :~ 353 bo = #a :@al bo\n2> :~ 366 bo #a :End of NAMES list\nempty",
+    ),
 ];
 
 #[test]
 fn two_people(rt: HostRuntime) -> Result<(), Fail> {
-    tell_started(&rt, rt.alloc(), &TWO_PEOPLE)?;
+    tell_started(rt.alloc(), &TWO_PEOPLE)?;
     Ok(())
 }
 
@@ -34,10 +36,16 @@ const A_ROOM: [(&str, &str); 15] = [
     ("feed 1 \"PRIVMSG #room :h\"", "read 0"),
     ("feed 1 \"i\\r\\n\"", "read 1"),
     ("do 1 2000", "record 10"),
-    ("take 1", "1> :al!a@h1 JOIN #room"),
+    (
+        "take 1",
+        "1> :al!a@h1 JOIN #room\n1> :~ 353 al = #room :@al\n1> :~ 366 al #room :End of NAMES list",
+    ),
     ("take 1", "1> :bo!b@h2 JOIN #room"),
     ("take 1", "empty"),
-    ("take 2", "2> :bo!b@h2 JOIN #room"),
+    (
+        "take 2",
+        "2> :bo!b@h2 JOIN #room\n2> :~ 353 bo = #room :@al bo\n2> :~ 366 bo #room :End of NAMES list",
+    ),
     ("take 2", "2> :al!a@h1 PRIVMSG #room :hi"),
     ("take 2", "empty"),
     ("connect four.example 1999", "refused BadMoment"),
@@ -45,7 +53,7 @@ const A_ROOM: [(&str, &str); 15] = [
 
 #[test]
 fn two_people_in_a_room(rt: HostRuntime) -> Result<(), Fail> {
-    tell_started(&rt, rt.alloc(), &A_ROOM)?;
+    tell_started(rt.alloc(), &A_ROOM)?;
     Ok(())
 }
 
@@ -59,7 +67,7 @@ const A_QUIT: [(&str, &str); 5] = [
 
 #[test]
 fn who_quits_is_told(rt: HostRuntime) -> Result<(), Fail> {
-    tell_started(&rt, rt.alloc(), &A_QUIT)?;
+    tell_started(rt.alloc(), &A_QUIT)?;
     Ok(())
 }
 
@@ -71,17 +79,17 @@ const NAMES: [(&str, &str); 7] = [
     ("do 2 0", "record 9"),
     (
         "drain 1",
-        "1> :al!a@h1 JOIN #A[1]\n1> :bo!b@h2 JOIN #A[1]\nempty",
+        "1> :al!a@h1 JOIN #A[1]\n1> :~ 353 al = #A[1] :@al\n1> :~ 366 al #A[1] :End of NAMES list\n1> :bo!b@h2 JOIN #A[1]\nempty",
     ),
     (
         "drain 2",
-        "2> :~ 433 bo AL :Nickname is already in use\n2> :bo!b@h2 JOIN #A[1]\nempty",
+        "2> :~ 433 bo AL :Nickname is already in use\n2> :bo!b@h2 JOIN #A[1]\n2> :~ 353 bo = #A[1] :@al bo\n2> :~ 366 bo #A[1] :End of NAMES list\nempty",
     ),
 ];
 
 #[test]
 fn names_that_differ_by_case_are_one(rt: HostRuntime) -> Result<(), Fail> {
-    tell_started(&rt, rt.alloc(), &NAMES)?;
+    tell_started(rt.alloc(), &NAMES)?;
     Ok(())
 }
 
@@ -102,15 +110,15 @@ fn met(alloc: Global) -> Result<Story, AllocError> {
 }
 
 /// Plays steps once two people have met, each with its notes.
-fn tell_met(rt: &impl Abort, alloc: Global, steps: &[(&str, &str)]) -> Result<(), AllocError> {
+fn tell_met(alloc: Global, steps: &[(&str, &str)]) -> Result<(), Untold> {
     let mut story = met(alloc)?;
     story.add(steps)?;
-    story.tell(rt, alloc)
+    story.tell(alloc)
 }
 
 const TAKEN: [(&str, &str); 5] = [
-    ("take 2", "2> :bo!b@h2 JOIN #a"),
-    ("take 1", "1> :al!a@h1 JOIN #a"),
+    ("take 2", BO_JOINS),
+    ("take 1", AL_JOINS),
     ("take 2", "empty"),
     ("take 1", "1> :bo!b@h2 JOIN #a"),
     ("take 1", "empty"),
@@ -118,7 +126,7 @@ const TAKEN: [(&str, &str); 5] = [
 
 #[test]
 fn what_is_taken_is_its_sessions(rt: HostRuntime) -> Result<(), Fail> {
-    tell_met(&rt, rt.alloc(), &TAKEN)?;
+    tell_met(rt.alloc(), &TAKEN)?;
     Ok(())
 }
 
@@ -129,13 +137,13 @@ const OCTETS: [(&str, &str); 4] = [
         "read 1",
     ),
     ("do 1 0", "record 9"),
-    ("take 2", "2> :bo!b@h2 JOIN #a"),
+    ("take 2", BO_JOINS),
     ("take 2", "2> :al!a@h1 PRIVMSG #a :a \\x5c\"\\x01\\xff"),
 ];
 
 #[test]
 fn octets_are_spelled_and_printed(rt: HostRuntime) -> Result<(), Fail> {
-    tell_met(&rt, rt.alloc(), &OCTETS)?;
+    tell_met(rt.alloc(), &OCTETS)?;
     Ok(())
 }
 
@@ -156,7 +164,10 @@ fn long_script(alloc: Global) -> Result<Vec<u8>, AllocError> {
 /// The notes of these steps: both lines are shown alike.
 fn long_notes(alloc: Global) -> Result<Vec<u8>, AllocError> {
     let mut notes = room(alloc)?;
-    notes.extend_from_slice(b"read 2\nrecord 9\nrecord 10\n2> :bo!b@h2 JOIN #a\n")?;
+    notes.extend_from_slice(b"read 2\nrecord 9\nrecord 10\n")?;
+    notes.extend_from_slice(
+        b"2> :bo!b@h2 JOIN #a\n2> :irc.example 353 bo = #a :@al bo\n2> :irc.example 366 bo #a :End of NAMES list\n",
+    )?;
     for _ in 0..2u8 {
         notes.extend_from_slice(b"2> :al!a@h1 PRIVMSG #a :")?;
         notes.extend_from_slice(&TEXT)?;
@@ -170,7 +181,7 @@ fn long_notes(alloc: Global) -> Result<Vec<u8>, AllocError> {
 fn a_line_is_cut_to_510_octets(rt: HostRuntime) -> Result<(), Fail> {
     let mut story = met(rt.alloc())?;
     story.extend(&long_script(rt.alloc())?, &long_notes(rt.alloc())?)?;
-    story.tell(&rt, rt.alloc())?;
+    story.tell(rt.alloc())?;
     Ok(())
 }
 
@@ -206,8 +217,14 @@ fn an_outbox_holds_256_deliveries(rt: HostRuntime) -> Result<(), Fail> {
 }
 
 const SWEPT: [(&str, &str); 10] = [
-    ("drain 1", "1> :al!a@h1 JOIN #a\n1> :bo!b@h2 JOIN #a\nempty"),
-    ("drain 2", "2> :bo!b@h2 JOIN #a\nempty"),
+    (
+        "drain 1",
+        "1> :al!a@h1 JOIN #a\n1> :~ 353 al = #a :@al\n1> :~ 366 al #a :End of NAMES list\n1> :bo!b@h2 JOIN #a\nempty",
+    ),
+    (
+        "drain 2",
+        "2> :bo!b@h2 JOIN #a\n2> :~ 353 bo = #a :@al bo\n2> :~ 366 bo #a :End of NAMES list\nempty",
+    ),
     ("feed 1 \"PRIVMSG #a :hi\\n\"", "read 1"),
     ("feed 2 \"QUIT :bye\\nPING x\\n\"", "read 2"),
     ("do 1 0", "record 9"),
@@ -223,7 +240,7 @@ const SWEPT: [(&str, &str); 10] = [
 
 #[test]
 fn who_quit_is_swept(rt: HostRuntime) -> Result<(), Fail> {
-    tell_met(&rt, rt.alloc(), &SWEPT)?;
+    tell_met(rt.alloc(), &SWEPT)?;
     Ok(())
 }
 
@@ -247,7 +264,7 @@ const A_FULL_JOURNAL: [(&str, &str); 12] = [
 
 #[test]
 fn a_full_journal_has_room_for_the_end(rt: HostRuntime) -> Result<(), Fail> {
-    tell_steps(&rt, rt.alloc(), &A_FULL_JOURNAL)?;
+    tell_steps(rt.alloc(), &A_FULL_JOURNAL)?;
     Ok(())
 }
 
@@ -262,7 +279,7 @@ const LEFT: [(&str, &str); 6] = [
 
 #[test]
 fn what_was_not_taken_is_counted(rt: HostRuntime) -> Result<(), Fail> {
-    tell_steps(&rt, rt.alloc(), &LEFT)?;
+    tell_steps(rt.alloc(), &LEFT)?;
     Ok(())
 }
 
@@ -302,7 +319,6 @@ const REASONS: [(&str, &str); 7] = [
 fn each_reason_is_told(rt: HostRuntime) -> Result<(), Fail> {
     for (step, error) in REASONS {
         tell_steps(
-            &rt,
             rt.alloc(),
             &[
                 ("connect h1 0", "session 1"),
@@ -325,7 +341,7 @@ const NOBODY: [(&str, &str); 5] = [
 
 #[test]
 fn there_is_nobody_to_sweep(rt: HostRuntime) -> Result<(), Fail> {
-    tell_steps(&rt, rt.alloc(), &NOBODY)?;
+    tell_steps(rt.alloc(), &NOBODY)?;
     Ok(())
 }
 
@@ -346,6 +362,6 @@ const NO_LAST_ITEM: [(&str, &str); 9] = [
 
 #[test]
 fn a_full_outbox_takes_no_last_item(rt: HostRuntime) -> Result<(), Fail> {
-    tell_steps(&rt, rt.alloc(), &NO_LAST_ITEM)?;
+    tell_steps(rt.alloc(), &NO_LAST_ITEM)?;
     Ok(())
 }

@@ -1,8 +1,7 @@
 //! Workers, the lock, and what each is refused.
-use crate::shared::{START, Story, tell_started};
-use std::alloc::{AllocError, Global};
-use std::process::Abort;
+use std::alloc::Global;
 use std::test::Fail;
+use talks::{BO_JOINS, START, Story, Untold, tell_started};
 
 /// Al and Bo are about to be answered.
 const TWO_LINES: [(&str, &str); 2] = [
@@ -11,16 +10,12 @@ const TWO_LINES: [(&str, &str); 2] = [
 ];
 
 /// Tells a story of workers once Al and Bo have registered and are about to be answered.
-fn tell_of_workers(
-    rt: &impl Abort,
-    alloc: Global,
-    steps: &[(&str, &str)],
-) -> Result<(), AllocError> {
+fn tell_of_workers(alloc: Global, steps: &[(&str, &str)]) -> Result<(), Untold> {
     let mut story = Story::new(alloc)?;
     story.add(&START)?;
     story.add(&TWO_LINES)?;
     story.add(steps)?;
-    story.tell(rt, alloc)
+    story.tell(alloc)
 }
 
 const SHARED_LOCK: [(&str, &str); 30] = [
@@ -58,7 +53,7 @@ const SHARED_LOCK: [(&str, &str); 30] = [
 
 #[test]
 fn two_workers_share_the_lock(rt: HostRuntime) -> Result<(), Fail> {
-    tell_of_workers(&rt, rt.alloc(), &SHARED_LOCK)?;
+    tell_of_workers(rt.alloc(), &SHARED_LOCK)?;
     Ok(())
 }
 
@@ -77,7 +72,7 @@ const SHUT_IN_HAND: [(&str, &str); 10] = [
 
 #[test]
 fn a_line_is_given_back_where_its_session_is_shut(rt: HostRuntime) -> Result<(), Fail> {
-    tell_started(&rt, rt.alloc(), &SHUT_IN_HAND)?;
+    tell_started(rt.alloc(), &SHUT_IN_HAND)?;
     Ok(())
 }
 
@@ -105,14 +100,14 @@ const ENDS_IN_HAND: [(&str, &str); 26] = [
     ("back 1", "back"),
     ("reap 1", "left 3"),
     ("take 1", "refused NoSession"),
-    ("take 2", "2> :bo!b@h2 JOIN #a"),
+    ("take 2", BO_JOINS),
     ("take 2", "2> :al!a@h1 QUIT :Connection closed"),
     ("take 2", "empty"),
 ];
 
 #[test]
 fn a_session_ends_while_its_line_is_in_a_hand(rt: HostRuntime) -> Result<(), Fail> {
-    tell_started(&rt, rt.alloc(), &ENDS_IN_HAND)?;
+    tell_started(rt.alloc(), &ENDS_IN_HAND)?;
     Ok(())
 }
 
@@ -137,7 +132,7 @@ const BUSY: [(&str, &str); 16] = [
 
 #[test]
 fn worker_1_is_busy(rt: HostRuntime) -> Result<(), Fail> {
-    tell_of_workers(&rt, rt.alloc(), &BUSY)?;
+    tell_of_workers(rt.alloc(), &BUSY)?;
     Ok(())
 }
 
@@ -157,6 +152,6 @@ const GIVEN_BACK: [(&str, &str); 11] = [
 
 #[test]
 fn a_line_that_was_given_back_is_the_next(rt: HostRuntime) -> Result<(), Fail> {
-    tell_of_workers(&rt, rt.alloc(), &GIVEN_BACK)?;
+    tell_of_workers(rt.alloc(), &GIVEN_BACK)?;
     Ok(())
 }

@@ -166,7 +166,13 @@ const STORY: [Row; 17] = [
         b"",
         b":irc.example 001 b :Welcome to the Internet Relay Network b!b@h2\r\n",
     ),
-    (2, b"PRIVMSG #a :hi", &[], b"", b""),
+    (
+        2,
+        b"PRIVMSG #a :hi",
+        &[],
+        b"",
+        b":irc.example 404 b #a :Cannot send to channel\r\n",
+    ),
     (
         2,
         b"JOIN #A",
@@ -197,12 +203,18 @@ const STORY: [Row; 17] = [
     ),
     (
         1,
-        b"PART #a",
+        b"NAMES #a",
         &[],
         b"",
-        b":irc.example 421 al PART :Unknown command\r\n",
+        b":irc.example 421 al NAMES :Unknown command\r\n",
     ),
-    (1, b"NOTICE #a :hi", &[], b"", b""),
+    (
+        1,
+        b"NOTICE #a :hi",
+        &[2],
+        b":al!a@h1 NOTICE #a :hi\r\n",
+        b"",
+    ),
     (
         1,
         b"PING x",
@@ -334,5 +346,81 @@ fn a_gone_session_is_forgotten(rt: HostRuntime) -> Result<(), Fail> {
     assert!(rt; roster.opened() == 2);
     roster.end(SessionId::new(2), Why::ReadEnded);
     assert!(rt; roster.why_of(SessionId::new(2)) == Why::ReadEnded);
+    Ok(())
+}
+
+/// A line of one of two sessions, how many lines others are shown by it, and how its own session's answer begins.
+type Deal = (u64, &'static [u8], usize, &'static [u8]);
+
+/// Lines that do several things at once.
+const DEALS: [Deal; 11] = [
+    (1, b"NICK al", 0, b""),
+    (
+        1,
+        b"USER a 0 * :Al",
+        0,
+        b":irc.example 001 al :Welcome to the Internet Relay Network al!a@h1\r\n",
+    ),
+    (2, b"NICK bo", 0, b""),
+    (
+        2,
+        b"USER b 0 * :Bo",
+        0,
+        b":irc.example 001 bo :Welcome to the Internet Relay Network bo!b@h2\r\n",
+    ),
+    (1, b"JOIN #a,#b,#c", 3, b":al!a@h1 JOIN #a\r\n"),
+    (2, b"JOIN #A", 1, b":bo!b@h2 JOIN #a\r\n"),
+    (
+        1,
+        b"MODE #a +vlkb bo 9 key x@y",
+        1,
+        b":al!a@h1 MODE #a +vlkb bo 9 key *!x@y\r\n",
+    ),
+    (1, b"TOPIC #a :cats", 1, b":al!a@h1 TOPIC #a :cats\r\n"),
+    (1, b"INVITE bo #b", 1, b":irc.example 341 al bo #b\r\n"),
+    (
+        1,
+        b"AWAY :out",
+        0,
+        b":irc.example 306 al :You have been marked as being away\r\n",
+    ),
+    (
+        1,
+        b"KICK #a x,bo,al,y :out",
+        2,
+        b":irc.example 401 al x :No such nick/channel\r\n",
+    ),
+];
+
+/// Has a line accepted, and counts what it shows.
+fn deal(rt: &impl Abort, roster: &mut Roster, alloc: Global, row: &Deal) -> Result<(), AllocError> {
+    let (number, line, shown, want) = *row;
+    assert!(rt; 0 < number && number as usize <= roster.opened());
+    let verdict = decided(alloc, roster, SessionId::new(number), line)?;
+    let Verdict {
+        deeds,
+        reply,
+        others,
+        ..
+    } = verdict;
+    establish(roster, deeds)?;
+    assert!(rt; others.len() == shown && is_answered(alloc, &reply, want)?);
+    Ok(())
+}
+
+#[test]
+fn a_line_that_does_much_is_done_whole(rt: HostRuntime) -> Result<(), Fail> {
+    let settings = settings(rt.alloc())?;
+    assert!(rt; is_well_set(&settings));
+    let mut roster = Roster::new(rt.alloc(), settings);
+    open(rt.alloc(), &mut roster, b"h1")?;
+    open(rt.alloc(), &mut roster, b"h2")?;
+    for row in &DEALS {
+        deal(&rt, &mut roster, rt.alloc(), row)?;
+    }
+    let (al, bo) = (SessionId::new(1), SessionId::new(2));
+    assert!(rt; roster.channel_count() == 2 && roster.channel_count_of(al) == 2);
+    assert!(rt; roster.members(b"#a").is_empty() && roster.state_of(b"#a").is_none());
+    assert!(rt; roster.away_of(al).is_some() && !roster.is_invisible(bo));
     Ok(())
 }

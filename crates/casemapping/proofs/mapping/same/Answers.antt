@@ -1,7 +1,5 @@
-use Rattle.std.proofs.Common.{arith}
-use Rattle.casemapping.proofs.FoldLemmas.{folded_same_from_places, folded_same_places}
+use Rattle.casemapping.proofs.SameNames.{is_same-test}
 use Rattle.casemapping.proofs.mapping.same.Goals as goal
 
-pub returns-then-a-b : goal.returns-then-a-b
-returns-then-a-b c =
-    (λ all. folded_same_from_places _ _ (omega arith) (c.agree.ensures.0 all), λ same. c.agree.ensures.1 (folded_same_places _ _ same))
+pub returns-clause-test : goal.returns-clause-test
+returns-clause-test c = is_same-test c.args.a.now c.args.b.now c.agree_in_all.result c.agree_in_all.ensures.0 c.agree_in_all.ensures.1

@@ -9,7 +9,7 @@ pub returns-clause-joined : goal.returns-clause-joined
 returns-clause-joined c = IfOk-weaker c.cut.result _ _ (λ lines e. ap (flat_map (λ line. line)) e ∙ joined-cut c.args.room (length c.args.names.now) c.args.names.now) c.cut.ensures
 
 pub returns-clause-fit : goal.returns-clause-fit
-returns-clause-fit c = IfOk-weaker c.cut.result _ _ (λ lines e. subst (All (IsWithin c.args.room (length c.args.names.now))) (sym e) (within-cut c.args.room (length c.args.names.now) c.args.names.now (λ h. h) c.requires)) c.cut.ensures
+returns-clause-fit c = λ short. IfOk-weaker c.cut.result _ _ (λ lines e. subst (All (IsWithin c.args.room (length c.args.names.now))) (sym e) (within-cut c.args.room (length c.args.names.now) c.args.names.now (λ h. h) short)) c.cut.ensures
 
 pub returns-clause-full : goal.returns-clause-full
 returns-clause-full c = IfOk-weaker c.cut.result _ _ (λ lines e. subst (AreFull c.args.room (length c.args.names.now)) (sym e) (full-cut c.args.room (length c.args.names.now) c.args.names.now)) c.cut.ensures

@@ -1,6 +1,6 @@
 use Rattle.std.proofs.Common.{arith, ◌≡◌, ◌+◌, ◌<◌, ◌||◌, ◌==◌, false, length, take, slice_index_or, sym, ap, ◌∙◌}
 use Rattle.std.proofs.lemmas.Grind.{common_steps}
-use Rattle.roster.specs.LookBack.{among}
+use Rattle.channel_state.specs.State.{among}
 use Rattle.roster.proofs.Marks.{among_more, marked_more}
 use Rattle.roster.proofs.Bools.{or-false}
 use Rattle.roster.proofs.sharing.mark_each.Goals as goal

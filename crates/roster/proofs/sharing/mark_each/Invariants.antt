@@ -1,5 +1,5 @@
 use Rattle.std.proofs.Common.{◌≡◌, ℕ, ◌+◌, ◌<◌, ◌||◌, false, length, take, slice_index_or}
-use Rattle.roster.specs.LookBack.{among}
+use Rattle.channel_state.specs.State.{among}
 use Rattle.roster.proofs.sharing.mark_each.Given as goal
 
 abbrev pub invariant-loop-session : goal.invariant-loop-session

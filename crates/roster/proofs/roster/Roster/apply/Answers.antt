@@ -1,7 +1,7 @@
 use Rattle.std.proofs.Common.{arith, ◌≡◌, ◌∷◌, ◌++◌, [], drop, length, slice_get, Some, sym, ap, ◌∙◌}
-use Rattle.roster.specs.declared.deed.Deed.TheVariants.{Opened, NickSet, UserSet, HoldSet, CapsSet, ExchangeSet, LoggedIn, Enrolled, ChannelMade, Joined, Ended, Gone}
+use Rattle.roster.specs.declared.deed.Deed.TheVariants.{Opened, NickSet, UserSet, HoldSet, CapsSet, ExchangeSet, LoggedIn, Enrolled, AwaySet, InvisibleSet, ChannelMade, Changed, Ended, Gone}
 use Rattle.roster.specs.Known.{Known}
-use Rattle.roster.proofs.Kept.{before, done, opened_count, seat_free, kept_opened, kept_renamed, kept_introduced, kept_held, kept_equipped, kept_exchanging, kept_logged_in, kept_enrolled, kept_ended, kept_joined, kept_gone, kept_made}
+use Rattle.roster.proofs.Kept.{before, done, opened_count, seat_free, kept_opened, kept_renamed, kept_introduced, kept_held, kept_equipped, kept_exchanging, kept_logged_in, kept_enrolled, kept_away, kept_hidden, kept_ended, kept_changed, kept_gone, kept_made}
 use Rattle.roster.proofs.MadeRoom.{spare_less}
 use Rattle.roster.proofs.roster.Roster.apply.Goals as goal
 
@@ -156,22 +156,54 @@ invariant_of-self-in-ChannelMade c =
     done c.args.deed e c.in-ChannelMade.is fs ds r.people c.make.new.channels c.make.new.spare _ _ c.apply.ensures c.apply-2.ensures
     (kept_made r.people r.channels r.spare fs (drop 1 ds) c.make.new.channels c.make.new.spare t n (before c.args.deed e c.in-ChannelMade.is fs ds r.people r.channels r.spare first c.self.invariant) c.make.ensures.made c.make.ensures.fewer c.make.ensures.len c.make.ensures.capacity)
 
-pub join-requires : goal.join-requires
-join-requires c =
+pub go_away-requires-clause-opened : goal.go_away-requires-clause-opened
+go_away-requires-clause-opened c =
     let r = c.self.inside in let fs = r.facts.value in let ds = r.ready.value in
     let first : slice_get ds 0 ≡ Some c.args.deed = ap (λ (k : Known). slice_get k.ready 0) c.self.view_is ∙ c.requires in
-    let t = c.in-Joined.session in let n = c.as_slice.result.now in let e = Joined t n in
-    let is : c.args.deed ≡ e = c.in-Joined.is ∙ ap (Joined t) (sym c.as_slice.ensures) in
-    seat_free t n (drop 1 ds) r.channels.items (before c.args.deed e is fs ds r.people r.channels r.spare first c.self.invariant).room.seats
+    let t = c.in-AwaySet.session in let x = c.in-AwaySet.text in
+    let i = before c.args.deed (AwaySet t x) c.in-AwaySet.is fs ds r.people r.channels r.spare first c.self.invariant in
+    let o = opened_count r.people.items r.channels.items fs i.stands in let to = i.next.0.1 in omega arith
 
-pub invariant_of-self-in-Joined : goal.invariant_of-self-in-Joined
-invariant_of-self-in-Joined c =
+pub invariant_of-self-in-AwaySet : goal.invariant_of-self-in-AwaySet
+invariant_of-self-in-AwaySet c =
     let r = c.self.inside in let fs = r.facts.value in let ds = r.ready.value in
     let first : slice_get ds 0 ≡ Some c.args.deed = ap (λ (k : Known). slice_get k.ready 0) c.self.view_is ∙ c.requires in
-    let t = c.in-Joined.session in let n = c.as_slice.result.now in let e = Joined t n in
-    let is : c.args.deed ≡ e = c.in-Joined.is ∙ ap (Joined t) (sym c.as_slice.ensures) in
-    done c.args.deed e is fs ds r.people c.join.new.channels r.spare _ _ c.apply.ensures c.apply-2.ensures
-    (kept_joined r.people r.channels r.spare fs (drop 1 ds) c.join.new.channels t n (before c.args.deed e is fs ds r.people r.channels r.spare first c.self.invariant) c.join.ensures.joins c.join.ensures.len c.join.ensures.capacity)
+    let t = c.in-AwaySet.session in let x = c.in-AwaySet.text in let e = AwaySet t x in
+    done c.args.deed e c.in-AwaySet.is fs ds c.go_away.new.people r.channels r.spare _ _ c.apply.ensures c.apply-2.ensures
+    (kept_away r.people r.channels r.spare fs (drop 1 ds) c.go_away.new.people t x (before c.args.deed e c.in-AwaySet.is fs ds r.people r.channels r.spare first c.self.invariant) c.go_away.ensures.items c.go_away.ensures.len c.go_away.ensures.capacity)
+
+pub hide-requires-clause-opened : goal.hide-requires-clause-opened
+hide-requires-clause-opened c =
+    let r = c.self.inside in let fs = r.facts.value in let ds = r.ready.value in
+    let first : slice_get ds 0 ≡ Some c.args.deed = ap (λ (k : Known). slice_get k.ready 0) c.self.view_is ∙ c.requires in
+    let t = c.in-InvisibleSet.session in let v = c.in-InvisibleSet.on in
+    let i = before c.args.deed (InvisibleSet t v) c.in-InvisibleSet.is fs ds r.people r.channels r.spare first c.self.invariant in
+    let o = opened_count r.people.items r.channels.items fs i.stands in let to = i.next.0.1 in omega arith
+
+pub invariant_of-self-in-InvisibleSet : goal.invariant_of-self-in-InvisibleSet
+invariant_of-self-in-InvisibleSet c =
+    let r = c.self.inside in let fs = r.facts.value in let ds = r.ready.value in
+    let first : slice_get ds 0 ≡ Some c.args.deed = ap (λ (k : Known). slice_get k.ready 0) c.self.view_is ∙ c.requires in
+    let t = c.in-InvisibleSet.session in let v = c.in-InvisibleSet.on in let e = InvisibleSet t v in
+    done c.args.deed e c.in-InvisibleSet.is fs ds c.hide.new.people r.channels r.spare _ _ c.apply.ensures c.apply-2.ensures
+    (kept_hidden r.people r.channels r.spare fs (drop 1 ds) c.hide.new.people t v (before c.args.deed e c.in-InvisibleSet.is fs ds r.people r.channels r.spare first c.self.invariant) c.hide.ensures.items c.hide.ensures.len c.hide.ensures.capacity)
+
+pub change-requires : goal.change-requires
+change-requires c =
+    let r = c.self.inside in let fs = r.facts.value in let ds = r.ready.value in
+    let first : slice_get ds 0 ≡ Some c.args.deed = ap (λ (k : Known). slice_get k.ready 0) c.self.view_is ∙ c.requires in
+    let n = c.as_slice.result.now in let x = c.in-Changed.made in let e = Changed n x in
+    let is : c.args.deed ≡ e = c.in-Changed.is ∙ ap (λ m. Changed m x) (sym c.as_slice.ensures) in
+    seat_free x n (drop 1 ds) r.channels.items (before c.args.deed e is fs ds r.people r.channels r.spare first c.self.invariant).room.seats
+
+pub invariant_of-self-in-Changed : goal.invariant_of-self-in-Changed
+invariant_of-self-in-Changed c =
+    let r = c.self.inside in let fs = r.facts.value in let ds = r.ready.value in
+    let first : slice_get ds 0 ≡ Some c.args.deed = ap (λ (k : Known). slice_get k.ready 0) c.self.view_is ∙ c.requires in
+    let n = c.as_slice.result.now in let x = c.in-Changed.made in let e = Changed n x in
+    let is : c.args.deed ≡ e = c.in-Changed.is ∙ ap (λ m. Changed m x) (sym c.as_slice.ensures) in
+    done c.args.deed e is fs ds r.people c.change.new.channels r.spare _ _ c.apply.ensures c.apply-2.ensures
+    (kept_changed r.people r.channels r.spare fs (drop 1 ds) c.change.new.channels n x (before c.args.deed e is fs ds r.people r.channels r.spare first c.self.invariant) c.change.ensures.changes c.change.ensures.len c.change.ensures.capacity)
 
 pub forget-requires-clause-opened : goal.forget-requires-clause-opened
 forget-requires-clause-opened c =

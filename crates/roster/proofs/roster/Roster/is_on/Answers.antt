@@ -1,5 +1,5 @@
 use Rattle.std.proofs.Common.{ap, ◌∙◌}
-use Rattle.roster.specs.LookBack.{among}
+use Rattle.channel_state.specs.State.{among}
 use Rattle.roster.proofs.OnChannels.{among-members}
 use Rattle.roster.proofs.roster.Roster.is_on.Goals as goal
 

@@ -1,6 +1,6 @@
 use Rattle.std.proofs.Common.{ℕ, not, ◌==◌, rules, ap, ◌∙◌}
 use Rattle.std.proofs.lemmas.Fn.{filter_same}
-use Rattle.roster.specs.LookBack.{without}
+use Rattle.channel_state.specs.State.{without}
 use Rattle.roster.proofs.sessions.Sessions.remove.Goals as goal
 
 pub returns : goal.returns

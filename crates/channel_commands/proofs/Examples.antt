@@ -1,0 +1,44 @@
+-- The definitions at work, computed. Sessions 1 to 3 are al, bo and cy.
+use Rattle.std.proofs.Common.{◌≡◌, ℕ, true, false, List, [], ◌∷◌, ◌++◌, codes, pos, Some, None, refl}
+use Rattle.channel_state.specs.declared.change.Change.TheVariants.{Joined, Left, FlagSet}
+use Rattle.channel_state.specs.declared.modes.Flag.TheVariants.{InviteOnly}
+use Rattle.commands.specs.declared.join_targets.JoinTarget.{JoinTarget}
+use Rattle.registration.specs.declared.settings.Settings.{Settings}
+use Rattle.roster.specs.declared.deed.Deed.{Deed}
+use Rattle.roster.specs.declared.deed.Deed.TheVariants.{Opened, NickSet, UserSet, Enrolled, ChannelMade, Changed}
+use Rattle.roster.specs.LookBack.{after}
+use Rattle.drafts.specs.Effects.{deeds_of}
+use Rattle.line_grammar.specs.Spelling.{untagged}
+use Rattle.numerics.specs.Cut.{cut}
+use Rattle.numerics.specs.Numerics.{numeric, row_line}
+use Rattle.numerics.specs.Outgoing.{room}
+use Rattle.channel_commands.specs.Names.{member_name}
+use Rattle.channel_commands.specs.Found.{channel_of, user_of}
+use Rattle.channel_commands.specs.Joining.{joins, bar_of}
+use Rattle.channel_commands.specs.Leaving.{kicks}
+use Rattle.casemapping.specs.Fold.{fold_of, is_same}
+use Rattle.casemapping.specs.Names.{channel_shape}
+
+abbrev target : List ℕ → JoinTarget
+target channel = record { channel = channel; key = [] }
+
+-- a user s of nickname n
+abbrev user : ℕ → List ℕ → List Deed
+user s n = Opened s (codes "h") ∷ NickSet s n ∷ UserSet s n n ∷ Enrolled s ∷ []
+
+abbrev three : List Deed
+three = after [] (user 1 (codes "al") ++ user 2 (codes "bo") ++ user 3 (codes "cy"))
+
+-- al joins three channels, of which one is for the invited alone: what it makes and where it comes
+joined_two_of_three :
+    (g : Settings) → deeds_of (joins (record g { server = codes "s" }) (Changed (codes "#b") (FlagSet InviteOnly true) ∷ ChannelMade 2 (codes "#c") ∷ ChannelMade 2 (codes "#b") ∷ three) 1 (target (codes "#a") ∷ target (codes "#B") ∷ target (codes "#C") ∷ []))
+    ≡ ChannelMade 1 (codes "#a") ∷ Changed (codes "#c") (Joined 1) ∷ []
+unfolding channel_of bar_of channel_shape member_name cut room numeric row_line untagged is_same fold_of
+joined_two_of_three g = refl
+
+-- al kicks bo, itself and cy, who is put out although al is gone by then
+kicked_itself_among_others :
+    (g : Settings) → deeds_of (kicks g (Changed (codes "#a") (Joined 3) ∷ Changed (codes "#a") (Joined 2) ∷ ChannelMade 1 (codes "#a") ∷ three) 1 (codes "#A") (codes "bo" ∷ codes "al" ∷ codes "CY" ∷ []) [])
+    ≡ Changed (codes "#a") (Left 2) ∷ Changed (codes "#a") (Left 1) ∷ Changed (codes "#a") (Left 3) ∷ []
+unfolding channel_of user_of is_same fold_of
+kicked_itself_among_others g = refl

@@ -1,0 +1,102 @@
+-- What JOIN does: RFC 2812, section 3.2.1, and RFC 2811, section 4 (keys, limits, bans and invitations).
+use Rattle.std.specs.Prelude.{ℕ, Bool, false, not, ◌&&◌, nat_le, List, [], ◌∷◌, ◌++◌, length, Option, Some, None, if◌then◌else◌}
+use Rattle.std.specs.List.{list_any}
+use Rattle.std.specs.Str.{bytes_eq}
+use Rattle.casemapping.specs.Mask.{fits}
+use Rattle.casemapping.specs.Names.{channel_shape}
+use Rattle.channel_state.specs.declared.change.Change.TheVariants.{Joined}
+use Rattle.channel_state.specs.State.{State, among, made_by, changed}
+use Rattle.commands.specs.declared.join_targets.JoinTarget.{JoinTarget}
+use Rattle.numerics.specs.declared.numeric.Numeric.{Numeric}
+use Rattle.numerics.specs.declared.numeric.Numeric.TheVariants.{NoSuchChannel, TooManyChannels, BadChannelKey, BannedFromChan, InviteOnlyChan, ChannelIsFull, Topic}
+use Rattle.registration.specs.declared.settings.Settings.{Settings}
+use Rattle.roster.specs.declared.deed.Deed.{Deed}
+use Rattle.roster.specs.declared.deed.Deed.TheVariants.{ChannelMade, Changed}
+use Rattle.roster.specs.LookBack.{channel_count}
+use Rattle.drafts.specs.declared.effect.Effect.{Effect}
+use Rattle.drafts.specs.declared.effect.Effect.TheVariants.{Establish, Show}
+use Rattle.drafts.specs.Seen.{Seen}
+use Rattle.drafts.specs.Lines.{prefix, join_line}
+use Rattle.drafts.specs.Replies.{tells, tells_all}
+use Rattle.channel_commands.specs.Found.{channel_of}
+use Rattle.channel_commands.specs.declared.bars.Bar.{Bar}
+use Rattle.channel_commands.specs.declared.bars.Bar.TheVariants.{OtherKey, Banned, Uninvited, Full}
+use Rattle.channel_commands.specs.Each.{each_counted}
+use Rattle.channel_commands.specs.Names.{names_told}
+
+-- ---- who may join a channel that is there
+
+abbrev pub has_other_key : Option (List ℕ) → List ℕ → Bool
+has_other_key None key = false
+has_other_key (Some k) key = not (bytes_eq k key)
+
+-- a ban fits whoever joins. Whom an operator invited isn't stopped by it
+abbrev pub is_stopped : State → ℕ → List ℕ → Bool
+is_stopped k s from = list_any (λ mask. fits mask from) k.bans && not (among s k.pardoned)
+
+abbrev pub is_uninvited : State → ℕ → Bool
+is_uninvited k s = k.modes.invite_only && not (among s k.invited)
+
+abbrev pub has_members : Option ℕ → ℕ → Bool
+has_members None n = false
+has_members (Some limit) n = nat_le limit n
+
+-- what bars it, the first that does
+unfoldable pub bar_of : State → ℕ → List ℕ → List ℕ → Option Bar
+bar_of k s from key =
+    if has_other_key k.modes.key key then Some OtherKey
+    else if is_stopped k s from then Some Banned
+    else if is_uninvited k s then Some Uninvited
+    else if has_members k.modes.limit (length k.members) then Some Full
+    else None
+
+abbrev pub bar_numeric : List ℕ → Bar → Numeric
+bar_numeric c OtherKey = BadChannelKey c
+bar_numeric c Banned = BannedFromChan c
+bar_numeric c Uninvited = InviteOnlyChan c
+bar_numeric c Full = ChannelIsFull c
+
+-- ---- a session on a channel that it joined just now
+
+abbrev pub topic_told : Seen → Option (List ℕ) → List Numeric
+topic_told k None = []
+topic_told k (Some topic) = Topic k.name topic ∷ []
+
+-- what it is told: the topic, where there is one, and who is on the channel
+abbrev pub welcomed : Settings → List Deed → ℕ → Seen → List Numeric
+welcomed g fs0 s k = topic_told k k.state.topic ++ names_told g fs0 s k
+
+-- all members are shown that it joined. Nicknames are those of the facts before the line, which JOIN doesn't change
+abbrev pub entered : Settings → List Deed → List Deed → ℕ → List ℕ → Seen → List Effect
+entered g fs0 fs s from k = Show k.state.members (join_line from k.name) ∷ tells_all g fs s (welcomed g fs0 s k)
+
+-- ---- JOIN of one channel, by a session that is on n channels
+
+-- it makes one that isn't there
+abbrev pub makes : Settings → List Deed → List Deed → ℕ → List ℕ → List ℕ → List Effect
+makes g fs0 fs s from c = Establish (ChannelMade s c) ∷ entered g fs0 (ChannelMade s c ∷ fs) s from (record { name = c; state = made_by s })
+
+abbrev pub enters : Settings → List Deed → List Deed → ℕ → List ℕ → Seen → List Effect
+enters g fs0 fs s from k = Establish (Changed k.name (Joined s)) ∷ entered g fs0 (Changed k.name (Joined s) ∷ fs) s from (record { name = k.name; state = changed (Joined s) k.state })
+
+-- unless something bars it
+abbrev pub enters_unless : Settings → List Deed → List Deed → ℕ → List ℕ → Seen → Option Bar → List Effect
+enters_unless g fs0 fs s from k None = enters g fs0 fs s from k
+enters_unless g fs0 fs s from k (Some bar) = tells g fs s (bar_numeric k.name bar) ∷ []
+
+abbrev pub joins_seen : Settings → List Deed → List Deed → ℕ → List ℕ → ℕ → JoinTarget → Option Seen → List Effect
+joins_seen g fs0 fs s from n t None = if nat_le 20 n then tells g fs s (TooManyChannels t.channel) ∷ [] else makes g fs0 fs s from t.channel
+joins_seen g fs0 fs s from n t (Some k) =
+    if among s k.state.members then []
+    else if nat_le 20 n then tells g fs s (TooManyChannels k.name) ∷ []
+    else enters_unless g fs0 fs s from k (bar_of k.state s from t.key)
+
+abbrev pub joins_one : Settings → List Deed → ℕ → List ℕ → List Deed → ℕ → JoinTarget → List Effect
+joins_one g fs0 s from fs n t =
+    if not (channel_shape t.channel) then tells g fs s (NoSuchChannel t.channel) ∷ []
+    else joins_seen g fs0 fs s from n t (channel_of fs t.channel)
+
+-- ---- JOIN
+
+abbrev pub joins : Settings → List Deed → ℕ → List JoinTarget → List Effect
+joins g fs s ts = each_counted (joins_one g fs s (prefix fs s)) fs (channel_count fs s) ts

@@ -1,0 +1,162 @@
+//! INVITE (RFC 2812, section 3.2.7).
+ghost use Rattle.std.specs.Prelude.{◌≡◌, ◌∷◌, [], Some, option_copied, OnOk};
+ghost use Rattle.numerics.specs.declared.numeric.Numeric.TheVariants.{Inviting};
+ghost use Rattle.drafts.specs.declared.effect.Effect.TheVariants.{Show};
+ghost use Rattle.drafts.specs.Drafted.{grown};
+ghost use Rattle.drafts.specs.Lines.{prefix};
+ghost use Rattle.drafts.specs.Replies.{tells};
+ghost use Rattle.drafts.specs.Seen.{IsSeen};
+ghost use Rattle.channel_commands.specs.Lines.{invite_line};
+ghost use Rattle.channel_commands.specs.Inviting.{away_told, invites_user, invites_seen, invites_found, invites};
+
+use crate::finding::{channel_of, user_of};
+use crate::lines::invite_line;
+use channel_state::Change;
+use chronicle::SessionId;
+use drafts::{Draft, Seen, prefix_of, tell, title_of};
+use line_grammar::Octets;
+use numerics::Numeric;
+use roster::Sessions;
+use std::alloc::AllocError;
+
+/// Answers that a user is away, where it is.
+fn tell_away(
+    draft: &mut Draft,
+    session: SessionId,
+    nick: &Octets,
+    away: Option<&Octets>,
+) -> Result<(), AllocError>
+    ensures { OnOk result (draft.new ≡ grown draft.old (away_told draft.old.settings draft.old.facts session nick.now (option_copied away.entry))) }
+{
+    let Some(text) = away else {
+        return Ok(());
+    };
+    let nick = nick.clone()?;
+    let text = text.clone()?;
+    tell(draft, session, Numeric::Away { nick, text })
+}
+
+/// Answers that a user is invited.
+fn tell_invited(
+    draft: &mut Draft,
+    session: SessionId,
+    nick: &Octets,
+    name: &Octets,
+) -> Result<(), AllocError>
+    ensures { OnOk result (draft.new ≡ grown draft.old (tells draft.old.settings draft.old.facts session (Inviting nick.now name.now) ∷ [])) }
+{
+    let nick = nick.clone()?;
+    let channel = name.clone()?;
+    tell(draft, session, Numeric::Inviting { nick, channel })
+}
+
+/// Shows a user that it is invited.
+fn show_invited(
+    draft: &mut Draft,
+    session: SessionId,
+    user: SessionId,
+    nick: &Octets,
+    name: &Octets,
+) -> Result<(), AllocError>
+    ensures { OnOk result (draft.new ≡ grown draft.old (Show (user ∷ []) (invite_line (prefix draft.old.facts session) nick.now name.now) ∷ [])) }
+{
+    let from = prefix_of(draft, session)?;
+    let line = invite_line(
+        draft.alloc(),
+        from.as_slice(),
+        nick.as_slice(),
+        name.as_slice(),
+    )?;
+    let hearers = Sessions::copied(draft.alloc(), &[user])?;
+    draft.show(hearers, line)
+}
+
+/// Invites a user.
+#[tactic(auto, using(drafts::proofs::Replay::grown_grown))]
+fn invite_user(
+    draft: &mut Draft,
+    session: SessionId,
+    user: SessionId,
+    nick: &Octets,
+    seen: Seen,
+) -> Result<(), AllocError>
+    requires first { draft.old.facts ≡ draft.old.base }
+    requires seen { IsSeen draft.old.facts seen }
+    ensures { OnOk result (draft.new ≡ grown draft.old (invites_user draft.old.settings draft.old.facts session user nick.now seen)) }
+{
+    let mut seen = seen;
+    let away = draft.before().away_of(user);
+    let by_operator = seen.state().is_operator(session);
+    show_invited(draft, session, user, nick, seen.name())?;
+    draft.change(
+        &mut seen,
+        Change::Invited {
+            session: user,
+            by_operator,
+        },
+    )?;
+    tell_invited(draft, session, nick, seen.name())?;
+    tell_away(draft, session, nick, away)
+}
+
+/// Invites a user to a channel that is there.
+fn invite_seen(
+    draft: &mut Draft,
+    session: SessionId,
+    user: SessionId,
+    nick: Octets,
+    seen: Seen,
+) -> Result<(), AllocError>
+    requires first { draft.old.facts ≡ draft.old.base }
+    requires seen { IsSeen draft.old.facts seen }
+    ensures { OnOk result (draft.new ≡ grown draft.old (invites_seen draft.old.settings draft.old.facts session user nick [] (Some seen))) }
+{
+    if !seen.state().has(session) {
+        return tell(draft, session, Numeric::NotOnChannel(seen.name().clone()?));
+    }
+    if seen.state().has(user) {
+        let channel = seen.name().clone()?;
+        return tell(draft, session, Numeric::UserOnChannel { nick, channel });
+    }
+    if seen.state().modes().invite_only && !seen.state().is_operator(session) {
+        return tell(
+            draft,
+            session,
+            Numeric::ChanOPrivsNeeded(seen.name().clone()?),
+        );
+    }
+    invite_user(draft, session, user, &nick, seen)
+}
+
+/// Invites a user to a channel.
+fn invite_found(
+    draft: &mut Draft,
+    session: SessionId,
+    user: SessionId,
+    channel: &Octets,
+) -> Result<(), AllocError>
+    requires first { draft.old.facts ≡ draft.old.base }
+    ensures { OnOk result (draft.new ≡ grown draft.old (invites_found draft.old.settings draft.old.facts session [] channel.now (Some user))) }
+{
+    let nick = title_of(draft.alloc(), draft.before().nick_of(user))?;
+    match channel_of(draft, channel)? {
+        Some(seen) => invite_seen(draft, session, user, nick, seen),
+        None => tell(draft, session, Numeric::NoSuchChannel(channel.clone()?)),
+    }
+}
+
+/// A member of a channel invites a user to it (RFC 2812, section 3.2.7).
+pub fn invite(
+    draft: &mut Draft,
+    session: SessionId,
+    nick: &Octets,
+    channel: &Octets,
+) -> Result<(), AllocError>
+    requires first { draft.old.facts ≡ draft.old.base }
+    ensures { OnOk result (draft.new ≡ grown draft.old (invites draft.old.settings draft.old.facts session nick.now channel.now)) }
+{
+    match user_of(draft, nick) {
+        Some(user) => invite_found(draft, session, user, channel),
+        None => tell(draft, session, Numeric::NoSuchNick(nick.clone()?)),
+    }
+}

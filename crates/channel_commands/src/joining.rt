@@ -1,0 +1,209 @@
+//! JOIN (RFC 2812, section 3.2.1; RFC 2811, section 4).
+ghost use Rattle.std.specs.Prelude.{◌≡◌, ◌∷◌, ◌+◌, ◌<◌, [], false, length, Some, None, IfOk, OnOk};
+ghost use Rattle.channel_state.specs.State.{among};
+ghost use Rattle.roster.specs.LookBack.{has_member};
+ghost use Rattle.drafts.specs.Drafted.{grown};
+ghost use Rattle.drafts.specs.Effects.{deeds_of};
+ghost use Rattle.drafts.specs.Seen.{IsSeen};
+ghost use Rattle.channel_commands.specs.Each.{each_counted};
+ghost use Rattle.channel_commands.specs.Joining.{welcomed, entered, makes, enters, enters_unless, joins_seen, joins_one, joins};
+
+use crate::bars::{Bar, bar_of, refuse};
+use crate::finding::channel_of;
+use crate::members::{push_members, show_members};
+use casemapping::is_channel;
+use channel_state::Change;
+use chronicle::SessionId;
+use commands::JoinTarget;
+use drafts::{Draft, Seen, join_line, prefix_of, tell, tell_all};
+use line_grammar::Octets;
+use numerics::Numeric;
+use std::alloc::AllocError;
+
+/// On how many channels a session may be.
+const MAX_CHANNELS: usize = 20;
+
+// ---- a session on a channel that it joined just now
+
+/// What a session is told.
+fn welcome(draft: &Draft<'_>, session: SessionId, seen: &Seen) -> Result<Vec<Numeric>, AllocError>
+    ensures { IfOk result (λ v. v.items ≡ welcomed draft.now.settings draft.now.base session seen.now) }
+{
+    let mut numerics = Vec::new(draft.alloc());
+    if let Some(topic) = seen.state().topic() {
+        let channel = seen.name().clone()?;
+        let topic = topic.clone()?;
+        numerics.push(Numeric::Topic { channel, topic })?;
+    }
+    push_members(draft, &mut numerics, session, seen)?;
+    Ok(numerics)
+}
+
+/// All members are shown that a session joined, which is told of the channel.
+#[tactic(auto, using(drafts::proofs::Replay::grown_grown))]
+fn enter(draft: &mut Draft, session: SessionId, from: &[u8], seen: &Seen) -> Result<(), AllocError>
+    ensures { OnOk result (draft.new ≡ grown draft.old (entered draft.old.settings draft.old.base draft.old.facts session from.now seen.now)) }
+{
+    let line = join_line(draft.alloc(), from, seen.name().as_slice())?;
+    let numerics = welcome(draft, session, seen)?;
+    show_members(draft, seen, line)?;
+    tell_all(draft, session, &numerics)
+}
+
+// ---- JOIN of one channel
+
+/// A session makes a channel that isn't there.
+#[tactic(auto, using(drafts::proofs::Replay::grown_grown))]
+fn make(
+    draft: &mut Draft,
+    session: SessionId,
+    from: &[u8],
+    channel: &Octets,
+) -> Result<(), AllocError>
+    requires { has_member draft.old.facts channel.now ≡ false }
+    ensures { OnOk result (draft.new ≡ grown draft.old (makes draft.old.settings draft.old.base draft.old.facts session from.now channel.now)) }
+{
+    let seen = draft.make(session, channel)?;
+    enter(draft, session, from, &seen)
+}
+
+/// A session joins a channel that is there.
+#[tactic(auto, using(drafts::proofs::Replay::grown_grown, crate::proofs::Rows::some_joined))]
+fn come(draft: &mut Draft, session: SessionId, from: &[u8], seen: Seen) -> Result<(), AllocError>
+    requires seen { IsSeen draft.old.facts seen }
+    requires away { among session seen.state.members ≡ false }
+    ensures { OnOk result (draft.new ≡ grown draft.old (enters draft.old.settings draft.old.base draft.old.facts session from.now seen)) }
+{
+    let mut seen = seen;
+    draft.change(&mut seen, Change::Joined { session })?;
+    enter(draft, session, from, &seen)
+}
+
+/// Joins a channel that is there, unless something bars the session. On how many channels it is then.
+#[tactic(auto, using(crate::proofs::Rows::no_deeds))]
+fn come_unless(
+    draft: &mut Draft,
+    session: SessionId,
+    from: &[u8],
+    count: usize,
+    seen: Seen,
+    bar: Option<Bar>,
+) -> Result<usize, AllocError>
+    requires seen { IsSeen draft.old.facts seen }
+    requires away { among session seen.state.members ≡ false }
+    requires few { count < 20 }
+    ensures grown { OnOk result (draft.new ≡ grown draft.old (enters_unless draft.old.settings draft.old.base draft.old.facts session from.now seen bar)) }
+    ensures count { IfOk result (λ n. n ≡ count + length (deeds_of (enters_unless draft.old.settings draft.old.base draft.old.facts session from.now seen bar))) }
+{
+    match bar {
+        Some(bar) => {
+            refuse(draft, session, seen.name(), bar)?;
+            Ok(count)
+        }
+        None => {
+            come(draft, session, from, seen)?;
+            Ok(count + 1)
+        }
+    }
+}
+
+/// Joins a channel that is there.
+fn join_there(
+    draft: &mut Draft,
+    session: SessionId,
+    from: &[u8],
+    count: usize,
+    target: &JoinTarget,
+    seen: Seen,
+) -> Result<usize, AllocError>
+    requires { IsSeen draft.old.facts seen }
+    ensures grown { OnOk result (draft.new ≡ grown draft.old (joins_seen draft.old.settings draft.old.base draft.old.facts session from.now count target.now (Some seen))) }
+    ensures count { IfOk result (λ n. n ≡ count + length (deeds_of (joins_seen draft.old.settings draft.old.base draft.old.facts session from.now count target.now (Some seen)))) }
+{
+    if seen.state().has(session) {
+        return Ok(count);
+    }
+    if count >= MAX_CHANNELS {
+        tell(
+            draft,
+            session,
+            Numeric::TooManyChannels(seen.name().clone()?),
+        )?;
+        return Ok(count);
+    }
+    let bar = bar_of(seen.state(), session, from, &target.key);
+    come_unless(draft, session, from, count, seen, bar)
+}
+
+/// Joins a channel that isn't there.
+#[tactic(auto, using(crate::proofs::Rows::no_deeds))]
+fn join_new(
+    draft: &mut Draft,
+    session: SessionId,
+    from: &[u8],
+    count: usize,
+    target: &JoinTarget,
+) -> Result<usize, AllocError>
+    requires { has_member draft.old.facts target.now.channel ≡ false }
+    ensures grown { OnOk result (draft.new ≡ grown draft.old (joins_seen draft.old.settings draft.old.base draft.old.facts session from.now count target.now None)) }
+    ensures count { IfOk result (λ n. n ≡ count + length (deeds_of (joins_seen draft.old.settings draft.old.base draft.old.facts session from.now count target.now None))) }
+{
+    let channel = &target.channel;
+    if count >= MAX_CHANNELS {
+        tell(draft, session, Numeric::TooManyChannels(channel.clone()?))?;
+        return Ok(count);
+    }
+    make(draft, session, from, channel)?;
+    Ok(count + 1)
+}
+
+/// Joins one channel.
+fn join_one(
+    draft: &mut Draft,
+    session: SessionId,
+    from: &[u8],
+    count: usize,
+    target: &JoinTarget,
+) -> Result<usize, AllocError>
+    ensures grown { OnOk result (draft.new ≡ grown draft.old (joins_one draft.old.settings draft.old.base session from.now draft.old.facts count target.now)) }
+    ensures count { IfOk result (λ n. n ≡ count + length (deeds_of (joins_one draft.old.settings draft.old.base session from.now draft.old.facts count target.now))) }
+{
+    let channel = &target.channel;
+    if !is_channel(channel.as_slice()) {
+        tell(draft, session, Numeric::NoSuchChannel(channel.clone()?))?;
+        return Ok(count);
+    }
+    match channel_of(draft, channel)? {
+        Some(seen) => join_there(draft, session, from, count, target, seen),
+        None => join_new(draft, session, from, count, target),
+    }
+}
+
+// ---- JOIN
+
+/// Joins channels, one after another.
+fn join_each(
+    draft: &mut Draft,
+    session: SessionId,
+    from: &[u8],
+    count: usize,
+    targets: &[JoinTarget],
+) -> Result<(), AllocError>
+    ensures { OnOk result (draft.new ≡ grown draft.old (each_counted (joins_one draft.old.settings draft.old.base session from.now) draft.old.facts count targets.now)) }
+{
+    let mut joined = count;
+    for target in targets {
+        joined = join_one(draft, session, from, joined, target)?;
+    }
+    Ok(())
+}
+
+/// A session joins channels, or makes those that aren't there (RFC 2812, section 3.2.1).
+pub fn join(draft: &mut Draft, session: SessionId, targets: &[JoinTarget]) -> Result<(), AllocError>
+    requires first { draft.old.facts ≡ draft.old.base }
+    ensures { OnOk result (draft.new ≡ grown draft.old (joins draft.old.settings draft.old.facts session targets.now)) }
+{
+    let from = prefix_of(draft, session)?;
+    let count = draft.before().channel_count_of(session);
+    join_each(draft, session, from.as_slice(), count, targets)
+}

@@ -1,0 +1,187 @@
+//! KICK (RFC 2812, section 3.2.8).
+ghost use Rattle.std.specs.Prelude.{◌≡◌, ◌∷◌, [], Some, slice_get, IfOk, OnOk};
+ghost use Rattle.numerics.specs.declared.numeric.Numeric.TheVariants.{UserNotInChannel};
+ghost use Rattle.roster.specs.LookBack.{nick as nick_of};
+ghost use Rattle.drafts.specs.Drafted.{grown};
+ghost use Rattle.drafts.specs.Lines.{title};
+ghost use Rattle.drafts.specs.Seen.{IsSeen};
+ghost use Rattle.drafts.specs.Replies.{tells};
+ghost use Rattle.channel_commands.specs.Each.{each};
+ghost use Rattle.channel_commands.specs.Found.{channel_of};
+ghost use Rattle.channel_commands.specs.Leaving.{kick_text, kicks_user, kicks_one, kicks_each, kicks_seen, kicks};
+
+use crate::finding::{channel_of, user_of};
+use crate::leaving::leave;
+use crate::lines::{first_octets, kick_line};
+use chronicle::SessionId;
+use drafts::{Draft, Seen, prefix_of, tell, title_of};
+use line_grammar::Octets;
+use numerics::Numeric;
+use std::alloc::AllocError;
+
+/// Octets of the text of a kick, at most.
+const KICKLEN: usize = 200;
+
+/// How many nicknames a kick may have.
+const MAX_TARGETS: usize = 4;
+
+/// The text of a kick; without one the kicker's nickname.
+#[tactic(auto, unfolding(crate::specs::Leaving::kick_text))]
+fn kick_text(draft: &Draft<'_>, session: SessionId, text: &Octets) -> Result<Octets, AllocError>
+    ensures { IfOk result (λ t. t ≡ kick_text draft.now.facts session text.now) }
+{
+    if text.is_empty() {
+        return title_of(draft.alloc(), draft.nick_of(session));
+    }
+    first_octets(text, KICKLEN)
+}
+
+/// Answers that a user isn't on a channel.
+fn tell_absent(
+    draft: &mut Draft,
+    session: SessionId,
+    nick: Octets,
+    name: &Octets,
+) -> Result<(), AllocError>
+    ensures { OnOk result (draft.new ≡ grown draft.old (tells draft.old.settings draft.old.facts session (UserNotInChannel nick name.now) ∷ [])) }
+{
+    let channel = name.clone()?;
+    tell(draft, session, Numeric::UserNotInChannel { nick, channel })
+}
+
+/// Puts a user out of a channel that is there, where it is on it.
+fn kick_there(
+    draft: &mut Draft,
+    session: SessionId,
+    from: &[u8],
+    text: &Octets,
+    name: &Octets,
+    user: SessionId,
+    nick: Octets,
+    seen: &Seen,
+) -> Result<(), AllocError>
+    requires seen { IsSeen draft.old.facts seen.now }
+    requires nick { nick ≡ title (nick_of draft.old.base user) }
+    ensures { OnOk result (draft.new ≡ grown draft.old (kicks_user draft.old.settings draft.old.base draft.old.facts session from.now text.now name.now user (Some seen.now))) }
+{
+    if !seen.state().has(user) {
+        return tell_absent(draft, session, nick, name);
+    }
+    let line = kick_line(
+        draft.alloc(),
+        from,
+        name.as_slice(),
+        nick.as_slice(),
+        text.as_slice(),
+    )?;
+    leave(draft, seen, user, line)
+}
+
+/// Puts a user out of a channel, where it is on it.
+fn kick_user(
+    draft: &mut Draft,
+    session: SessionId,
+    from: &[u8],
+    text: &Octets,
+    name: &Octets,
+    user: SessionId,
+) -> Result<(), AllocError>
+    ensures { OnOk result (draft.new ≡ grown draft.old (kicks_user draft.old.settings draft.old.base draft.old.facts session from.now text.now name.now user (channel_of draft.old.facts name.now))) }
+{
+    let nick = title_of(draft.alloc(), draft.before().nick_of(user))?;
+    match channel_of(draft, name)? {
+        Some(seen) => kick_there(draft, session, from, text, name, user, nick, &seen),
+        None => tell_absent(draft, session, nick, name),
+    }
+}
+
+/// Puts the user of one nickname out of a channel.
+fn kick_one(
+    draft: &mut Draft,
+    session: SessionId,
+    from: &[u8],
+    text: &Octets,
+    name: &Octets,
+    nick: &Octets,
+) -> Result<(), AllocError>
+    ensures { OnOk result (draft.new ≡ grown draft.old (kicks_one draft.old.settings draft.old.base session from.now text.now name.now draft.old.facts nick.now)) }
+{
+    match user_of(draft, nick) {
+        Some(user) => kick_user(draft, session, from, text, name, user),
+        None => tell(draft, session, Numeric::NoSuchNick(nick.clone()?)),
+    }
+}
+
+/// Puts the users of nicknames out of a channel, one after another.
+fn kick_each(
+    draft: &mut Draft,
+    session: SessionId,
+    from: &[u8],
+    text: &Octets,
+    name: &Octets,
+    nicks: &[Octets],
+) -> Result<(), AllocError>
+    ensures { OnOk result (draft.new ≡ grown draft.old (each (kicks_one draft.old.settings draft.old.base session from.now text.now name.now) draft.old.facts nicks.now)) }
+{
+    for nick in nicks {
+        kick_one(draft, session, from, text, name, nick)?;
+    }
+    Ok(())
+}
+
+/// Puts the users of four nicknames, at most, out of a channel.
+fn kick_few(
+    draft: &mut Draft,
+    session: SessionId,
+    nicks: &[Octets],
+    text: &Octets,
+    name: &Octets,
+) -> Result<(), AllocError>
+    requires first { draft.old.facts ≡ draft.old.base }
+    ensures { OnOk result (draft.new ≡ grown draft.old (kicks_each draft.old.settings draft.old.facts session nicks.now text.now name.now (slice_get nicks.now 4))) }
+{
+    if let Some(fifth) = nicks.get(MAX_TARGETS) {
+        return tell(draft, session, Numeric::TooManyTargets(fifth.clone()?));
+    }
+    let from = prefix_of(draft, session)?;
+    let text = kick_text(draft, session, text)?;
+    kick_each(draft, session, from.as_slice(), &text, name, nicks)
+}
+
+/// Puts users out of a channel that is there.
+fn kick_seen(
+    draft: &mut Draft,
+    session: SessionId,
+    nicks: &[Octets],
+    text: &Octets,
+    seen: &Seen,
+) -> Result<(), AllocError>
+    requires first { draft.old.facts ≡ draft.old.base }
+    ensures { OnOk result (draft.new ≡ grown draft.old (kicks_seen draft.old.settings draft.old.facts session nicks.now text.now [] (Some seen.now))) }
+{
+    let name = seen.name();
+    if !seen.state().has(session) {
+        return tell(draft, session, Numeric::NotOnChannel(name.clone()?));
+    }
+    if !seen.state().is_operator(session) {
+        return tell(draft, session, Numeric::ChanOPrivsNeeded(name.clone()?));
+    }
+    kick_few(draft, session, nicks, text, name)
+}
+
+/// An operator puts users out of a channel, with a text that may be empty, which is none (RFC 2812, section 3.2.8).
+pub fn kick(
+    draft: &mut Draft,
+    session: SessionId,
+    channel: &Octets,
+    nicks: &[Octets],
+    text: &Octets,
+) -> Result<(), AllocError>
+    requires first { draft.old.facts ≡ draft.old.base }
+    ensures { OnOk result (draft.new ≡ grown draft.old (kicks draft.old.settings draft.old.facts session channel.now nicks.now text.now)) }
+{
+    match channel_of(draft, channel)? {
+        Some(seen) => kick_seen(draft, session, nicks, text, &seen),
+        None => tell(draft, session, Numeric::NoSuchChannel(channel.clone()?)),
+    }
+}

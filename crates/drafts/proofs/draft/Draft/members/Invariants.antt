@@ -1,7 +1,0 @@
-use Rattle.std.proofs.Common.{◌≡◌, take}
-use Rattle.roster.specs.LookBack.{after, members}
-use Rattle.drafts.specs.Effects.{deeds_of}
-use Rattle.drafts.proofs.draft.Draft.members.Given as goal
-
-abbrev pub invariant-loop-effect : goal.invariant-loop-effect
-invariant-loop-effect l = l.members ≡ members (after l.self.base (deeds_of (take l.effect-index l.effect-items))) l.channel

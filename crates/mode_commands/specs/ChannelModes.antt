@@ -1,0 +1,74 @@
+-- MODE of a channel: RFC 2812, section 3.2.3.
+use Rattle.std.specs.Prelude.{ℕ, Bool, false, ◌==◌, ◌&&◌, not, List, [], ◌∷◌, ◌++◌, map, codes, is_some, if◌then◌else◌}
+use Rattle.numerics.specs.declared.numeric.Numeric.{Numeric}
+use Rattle.numerics.specs.declared.numeric.Numeric.TheVariants.{NeedMoreParams, NoSuchNick, UserNotInChannel, UnknownMode, ChannelModeIs, BanList, EndOfBanList, ChanOPrivsNeeded}
+use Rattle.registration.specs.declared.settings.Settings.{Settings}
+use Rattle.channel_state.specs.State.{among}
+use Rattle.roster.specs.declared.deed.Deed.{Deed}
+use Rattle.roster.specs.declared.deed.Deed.TheVariants.{Changed}
+use Rattle.roster.specs.LookBack.{after}
+use Rattle.drafts.specs.declared.effect.Effect.{Effect}
+use Rattle.drafts.specs.declared.effect.Effect.TheVariants.{Establish, Show}
+use Rattle.drafts.specs.Effects.{deeds_of}
+use Rattle.drafts.specs.Lines.{prefix}
+use Rattle.drafts.specs.Replies.{tells, tells_all}
+use Rattle.drafts.specs.Seen.{Seen}
+use Rattle.mode_commands.specs.declared.letters.ModeChange.{ModeChange}
+use Rattle.mode_commands.specs.declared.steps.Step.{Step}
+use Rattle.mode_commands.specs.declared.steps.Step.TheVariants as step
+use Rattle.mode_commands.specs.Letters.{asked_changes}
+use Rattle.mode_commands.specs.Lines.{mode_line, letters_set, params_set}
+use Rattle.mode_commands.specs.Steps.{steps, all_shown}
+
+-- ---- what is told
+
+abbrev pub tells_modes : Settings → List Deed → ℕ → Seen → Effect
+tells_modes g fs s k = tells g fs s (ChannelModeIs k.name (letters_set k.state.modes) (params_set (among s k.state.members) k.state.modes))
+
+abbrev pub ban_numerics : Seen → List Numeric
+ban_numerics k = map (BanList k.name) k.state.bans ++ EndOfBanList k.name ∷ []
+
+-- ---- what is changed
+
+-- a letter of a channel named c is refused, has no effect, or changes it
+abbrev pub does : Settings → ℕ → List ℕ → List Deed → Step → List Effect
+does g s c fs step.Nothing = []
+does g s c fs step.LacksParameter = tells g fs s (NeedMoreParams (codes "MODE")) ∷ []
+does g s c fs (step.Nobody n) = tells g fs s (NoSuchNick n) ∷ []
+does g s c fs (step.NotMember n) = tells g fs s (UserNotInChannel n c) ∷ []
+does g s c fs (step.Unknown letter) = tells g fs s (UnknownMode letter) ∷ []
+does g s c fs (step.Changes x shown) = Establish (Changed c x) ∷ []
+
+-- letters in turn, each over the facts that those before it leave
+abbrev pub in_turn : Settings → ℕ → List ℕ → List Deed → List Step → List Effect
+in_turn g s c fs [] = []
+in_turn g s c fs (x ∷ xs) = does g s c fs x ++ in_turn g s c (after fs (deeds_of (does g s c fs x))) xs
+
+-- all members see in one line what changed
+abbrev pub shows_changes : List ℕ → Seen → List ModeChange → List Effect
+shows_changes from k [] = []
+shows_changes from k (a ∷ bs) = Show k.state.members (mode_line from k.name (a ∷ bs)) ∷ []
+
+abbrev pub takes_steps : Settings → List Deed → ℕ → Seen → List Step → List Effect
+takes_steps g fs s k xs = in_turn g s k.name fs xs ++ shows_changes (prefix fs s) k (all_shown xs)
+
+abbrev pub takes_changes : Settings → List Deed → ℕ → Seen → List ModeChange → List Effect
+takes_changes g fs s k bs = takes_steps g fs s k (steps fs k.state bs)
+
+-- ---- the command
+
+-- whether `b` without a parameter is all that is asked
+abbrev pub asks_bans : List ModeChange → Bool
+asks_bans (a ∷ []) = a.letter == 98 && not (is_some a.param)
+asks_bans bs = false
+
+-- all are told the bans; operators alone change modes
+abbrev pub does_changes : Settings → List Deed → ℕ → Seen → List ModeChange → List Effect
+does_changes g fs s k bs =
+    if asks_bans bs then tells_all g fs s (ban_numerics k)
+    else if among s k.state.operators then takes_changes g fs s k bs
+    else tells g fs s (ChanOPrivsNeeded k.name) ∷ []
+
+abbrev pub channel_modes : Settings → List Deed → ℕ → Seen → List (List ℕ) → List Effect
+channel_modes g fs s k [] = tells_modes g fs s k ∷ []
+channel_modes g fs s k (letters ∷ params) = does_changes g fs s k (asked_changes letters params)

@@ -1,0 +1,254 @@
+//! MODE of a channel (RFC 2812, section 3.2.3).
+ghost use Rattle.std.specs.Prelude.{◌≡◌, ◌∷◌, ◌++◌, [], codes, map, IfOk, OnOk};
+ghost use Rattle.numerics.specs.declared.numeric.Numeric.TheVariants.{BanList, NeedMoreParams, UserNotInChannel};
+ghost use Rattle.drafts.specs.Drafted.{grown};
+ghost use Rattle.drafts.specs.Lines.{prefix};
+ghost use Rattle.drafts.specs.Replies.{tells, tells_all};
+ghost use Rattle.drafts.specs.Seen.{IsSeen};
+ghost use Rattle.mode_commands.specs.ChannelModes.{asks_bans, ban_numerics, channel_modes, does, does_changes, in_turn, shows_changes, takes_changes, tells_modes};
+ghost use Rattle.mode_commands.specs.Steps.{IsMild, all_shown, shown_by, step, stepped, steps};
+
+use crate::letters::{ModeChange, asked_changes};
+use crate::lines::{letters_set, mode_line, params_set};
+use crate::steps::{Step, step_of};
+use chronicle::SessionId;
+use drafts::{Draft, Seen, prefix_of, tell, tell_all};
+use line_grammar::Octets;
+use numerics::{Numeric, Words};
+use roster::Sessions;
+use std::alloc::{AllocError, Global};
+
+// ---- what is told
+
+/// Tells the modes of a channel.
+fn tell_modes(draft: &mut Draft, session: SessionId, seen: &Seen) -> Result<(), AllocError>
+    ensures { OnOk result (draft.new ≡ grown draft.old (tells_modes draft.old.settings draft.old.facts session seen.now ∷ [])) }
+{
+    let is_member = seen.state().has(session);
+    let modes = letters_set(draft.alloc(), seen.state().modes())?;
+    let params = params_set(draft.alloc(), is_member, seen.state().modes())?;
+    let params = Words::from_vec(params);
+    let channel = seen.name().clone()?;
+    tell(
+        draft,
+        session,
+        Numeric::ChannelModeIs {
+            channel,
+            modes,
+            params,
+        },
+    )
+}
+
+/// Adds a numeric for each mask.
+fn push_bans(
+    numerics: &mut Vec<Numeric>,
+    channel: &Octets,
+    bans: &[Octets],
+) -> Result<(), AllocError>
+    ensures { OnOk result (numerics.new.items ≡ numerics.old.items ++ map (BanList channel.now) bans.now) }
+{
+    for ban in bans {
+        let channel = channel.clone()?;
+        let mask = ban.clone()?;
+        numerics.push(Numeric::BanList { channel, mask })?;
+    }
+    Ok(())
+}
+
+/// What tells the bans of a channel.
+fn ban_numerics(alloc: Global, seen: &Seen) -> Result<Vec<Numeric>, AllocError>
+    ensures { IfOk result (λ v. v.items ≡ ban_numerics seen.now) }
+{
+    let mut numerics = Vec::new(alloc);
+    push_bans(&mut numerics, seen.name(), seen.state().bans())?;
+    let channel = seen.name().clone()?;
+    numerics.push(Numeric::EndOfBanList(channel))?;
+    Ok(numerics)
+}
+
+/// Tells the bans of a channel.
+fn tell_bans(draft: &mut Draft, session: SessionId, seen: &Seen) -> Result<(), AllocError>
+    ensures { OnOk result (draft.new ≡ grown draft.old (tells_all draft.old.settings draft.old.facts session (ban_numerics seen.now))) }
+{
+    let numerics = ban_numerics(draft.alloc(), seen)?;
+    tell_all(draft, session, &numerics)
+}
+
+// ---- what is changed
+
+/// A missing parameter.
+fn lacks_parameter(alloc: Global) -> Result<Numeric, AllocError>
+    ensures { IfOk result (λ n. n ≡ NeedMoreParams (codes "MODE")) }
+{
+    Ok(Numeric::NeedMoreParams(Octets::copied(alloc, b"MODE")?))
+}
+
+/// A user that isn't on a channel.
+fn not_member(nick: Octets, channel: &Octets) -> Result<Numeric, AllocError>
+    ensures { IfOk result (λ n. n ≡ UserNotInChannel nick channel.now) }
+{
+    let channel = channel.clone()?;
+    Ok(Numeric::UserNotInChannel { nick, channel })
+}
+
+/// A letter that changes a channel, has no effect, or is refused.
+fn take_step(
+    draft: &mut Draft,
+    session: SessionId,
+    seen: &mut Seen,
+    step: Step,
+    shown: &mut Vec<ModeChange>,
+) -> Result<(), AllocError>
+    requires seen { IsSeen draft.old.facts seen.old }
+    requires mild { IsMild seen.old.state step }
+    ensures grown { OnOk result (draft.new ≡ grown draft.old (does draft.old.settings session seen.old.name draft.old.facts step)) }
+    ensures seen { OnOk result (seen.new ≡ record { name = seen.old.name; state = stepped step seen.old.state }) }
+    ensures known { OnOk result (IsSeen draft.new.facts seen.new) }
+    ensures shown { OnOk result (shown.new.items ≡ shown.old.items ++ shown_by step) }
+{
+    match step {
+        Step::Nothing => Ok(()),
+        Step::LacksParameter => {
+            let numeric = lacks_parameter(draft.alloc())?;
+            tell(draft, session, numeric)
+        }
+        Step::Nobody { nick } => tell(draft, session, Numeric::NoSuchNick(nick)),
+        Step::NotMember { nick } => {
+            let numeric = not_member(nick, seen.name())?;
+            tell(draft, session, numeric)
+        }
+        Step::Unknown { letter } => tell(draft, session, Numeric::UnknownMode(letter)),
+        Step::Changes { change, shown: new } => {
+            draft.change(seen, change)?;
+            shown.push(new)?;
+            Ok(())
+        }
+    }
+}
+
+/// Takes one letter.
+fn take_change(
+    draft: &mut Draft,
+    session: SessionId,
+    seen: &mut Seen,
+    asked: &ModeChange,
+    shown: &mut Vec<ModeChange>,
+) -> Result<(), AllocError>
+    requires seen { IsSeen draft.old.facts seen.old }
+    ensures grown { OnOk result (draft.new ≡ grown draft.old (does draft.old.settings session seen.old.name draft.old.facts (step draft.old.base seen.old.state asked.now))) }
+    ensures seen { OnOk result (seen.new ≡ record { name = seen.old.name; state = stepped (step draft.old.base seen.old.state asked.now) seen.old.state }) }
+    ensures members { OnOk result (seen.new.state.members ≡ seen.old.state.members) }
+    ensures known { OnOk result (IsSeen draft.new.facts seen.new) }
+    ensures shown { OnOk result (shown.new.items ≡ shown.old.items ++ shown_by (step draft.old.base seen.old.state asked.now)) }
+{
+    let step = step_of(draft.alloc(), draft.before(), seen.state(), asked)?;
+    take_step(draft, session, seen, step, shown)
+}
+
+/// Takes letters in turn.
+fn take_each(
+    draft: &mut Draft,
+    session: SessionId,
+    seen: &mut Seen,
+    changes: &[ModeChange],
+    shown: &mut Vec<ModeChange>,
+) -> Result<(), AllocError>
+    requires seen { IsSeen draft.old.facts seen.old }
+    ensures grown { OnOk result (draft.new ≡ grown draft.old (in_turn draft.old.settings session seen.old.name draft.old.facts (steps draft.old.base seen.old.state changes.now))) }
+    ensures name { OnOk result (seen.new.name ≡ seen.old.name) }
+    ensures members { OnOk result (seen.new.state.members ≡ seen.old.state.members) }
+    ensures shown { OnOk result (shown.new.items ≡ shown.old.items ++ all_shown (steps draft.old.base seen.old.state changes.now)) }
+{
+    for change in changes {
+        take_change(draft, session, seen, change, shown)?;
+    }
+    Ok(())
+}
+
+/// Shows all members what changed, where something did.
+fn show_changes(
+    draft: &mut Draft,
+    from: &Octets,
+    seen: &Seen,
+    shown: &[ModeChange],
+) -> Result<(), AllocError>
+    ensures { OnOk result (draft.new ≡ grown draft.old (shows_changes from.now seen.now shown.now)) }
+{
+    if shown.is_empty() {
+        return Ok(());
+    }
+    let alloc = draft.alloc();
+    let line = mode_line(alloc, from.as_slice(), seen.name().as_slice(), shown)?;
+    let hearers = Sessions::copied(alloc, seen.state().members())?;
+    draft.show(hearers, line)
+}
+
+/// Takes letters, and shows what changed.
+fn take_changes(
+    draft: &mut Draft,
+    session: SessionId,
+    seen: Seen,
+    changes: &[ModeChange],
+) -> Result<(), AllocError>
+    requires seen { IsSeen draft.old.facts seen }
+    requires first { draft.old.facts ≡ draft.old.base }
+    ensures { OnOk result (draft.new ≡ grown draft.old (takes_changes draft.old.settings draft.old.facts session seen changes.now)) }
+{
+    let mut seen = seen;
+    let mut shown = Vec::new(draft.alloc());
+    let from = prefix_of(draft, session)?;
+    take_each(draft, session, &mut seen, changes, &mut shown)?;
+    show_changes(draft, &from, &seen, &shown)
+}
+
+// ---- the command
+
+/// Whether `b` without a parameter is all that is asked.
+fn asks_bans(changes: &[ModeChange]) -> bool
+    ensures { result ≡ asks_bans changes.now }
+{
+    match changes {
+        [change] => change.letter == b'b' && change.param.is_none(),
+        _ => false,
+    }
+}
+
+/// Tells the bans, or takes changes of an operator.
+fn do_changes(
+    draft: &mut Draft,
+    session: SessionId,
+    seen: Seen,
+    changes: &[ModeChange],
+) -> Result<(), AllocError>
+    requires seen { IsSeen draft.old.facts seen }
+    requires first { draft.old.facts ≡ draft.old.base }
+    ensures { OnOk result (draft.new ≡ grown draft.old (does_changes draft.old.settings draft.old.facts session seen changes.now)) }
+{
+    if asks_bans(changes) {
+        return tell_bans(draft, session, &seen);
+    }
+    if seen.state().is_operator(session) {
+        return take_changes(draft, session, seen, changes);
+    }
+    let channel = seen.name().clone()?;
+    tell(draft, session, Numeric::ChanOPrivsNeeded(channel))
+}
+
+/// Tells or changes the modes of a channel.
+pub(crate) fn channel_modes(
+    draft: &mut Draft,
+    session: SessionId,
+    seen: Seen,
+    changes: &[Octets],
+) -> Result<(), AllocError>
+    requires seen { IsSeen draft.old.facts seen }
+    requires first { draft.old.facts ≡ draft.old.base }
+    ensures { OnOk result (draft.new ≡ grown draft.old (channel_modes draft.old.settings draft.old.facts session seen changes.now)) }
+{
+    let Some((letters, params)) = changes.split_first() else {
+        return tell_modes(draft, session, &seen);
+    };
+    let asked = asked_changes(draft.alloc(), letters.as_slice(), params)?;
+    do_changes(draft, session, seen, &asked)
+}

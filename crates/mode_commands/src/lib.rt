@@ -1,0 +1,14 @@
+//! MODE: modes of channels and users, told and changed (RFC 2812, sections 3.1.5 and 3.2.3).
+#![tactic(auto)]
+
+mod channel_modes;
+mod letters;
+mod lines;
+mod modes;
+mod parameters;
+mod steps;
+mod user_modes;
+
+pub use letters::ModeChange;
+pub use modes::change_modes;
+pub use steps::Step;

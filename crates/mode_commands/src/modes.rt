@@ -1,0 +1,78 @@
+//! MODE (RFC 2812, sections 3.1.5 and 3.2.3).
+ghost use Rattle.std.specs.Prelude.{◌≡◌, OnOk};
+ghost use Rattle.roster.specs.LookBack.{found};
+ghost use Rattle.roster.specs.Legal.{IsOpened};
+ghost use Rattle.drafts.specs.Drafted.{grown};
+ghost use Rattle.drafts.specs.Seen.{seen};
+ghost use Rattle.mode_commands.specs.Modes.{modes, names_channel, of_channel, of_user};
+
+use crate::channel_modes::channel_modes;
+use crate::user_modes::own_modes;
+use chronicle::SessionId;
+use drafts::{Draft, tell};
+use line_grammar::Octets;
+use numerics::Numeric;
+use std::alloc::AllocError;
+
+/// Whether a target is a channel: its name begins with `#` or `&`.
+fn names_channel(target: &[u8]) -> bool
+    ensures { result ≡ names_channel target.now }
+{
+    matches!(target, [b'#' | b'&', ..])
+}
+
+fn of_channel(
+    draft: &mut Draft,
+    session: SessionId,
+    target: &Octets,
+    changes: &[Octets],
+) -> Result<(), AllocError>
+    requires { draft.old.facts ≡ draft.old.base }
+    ensures { OnOk result (draft.new ≡ grown draft.old (of_channel draft.old.settings draft.old.facts session target.now changes.now (seen draft.old.facts target.now))) }
+{
+    match draft.seen(target.as_slice())? {
+        Some(seen) => channel_modes(draft, session, seen, changes),
+        None => {
+            let target = target.clone()?;
+            tell(draft, session, Numeric::NoSuchChannel(target))
+        }
+    }
+}
+
+fn of_user(
+    draft: &mut Draft,
+    session: SessionId,
+    target: &Octets,
+    changes: &[Octets],
+) -> Result<(), AllocError>
+    requires opened { IsOpened draft.old.facts session }
+    requires first { draft.old.facts ≡ draft.old.base }
+    ensures { OnOk result (draft.new ≡ grown draft.old (of_user draft.old.settings draft.old.facts session target.now changes.now (found draft.old.facts target.now))) }
+{
+    match draft.before().find(target.as_slice()) {
+        Some(user) if user == session => own_modes(draft, session, changes),
+        Some(_) => tell(draft, session, Numeric::UsersDontMatch),
+        None => {
+            let target = target.clone()?;
+            tell(draft, session, Numeric::NoSuchNick(target))
+        }
+    }
+}
+
+/// MODE: tells the modes of a channel or of the session itself where no changes are given, and changes them otherwise. The
+/// changes are the parameters after the target: signs and letters, and then the letters' parameters.
+pub fn change_modes(
+    draft: &mut Draft,
+    session: SessionId,
+    target: &Octets,
+    changes: &[Octets],
+) -> Result<(), AllocError>
+    requires opened { IsOpened draft.old.facts session }
+    requires first { draft.old.facts ≡ draft.old.base }
+    ensures { OnOk result (draft.new ≡ grown draft.old (modes draft.old.settings draft.old.facts session target.now changes.now)) }
+{
+    if names_channel(target.as_slice()) {
+        return of_channel(draft, session, target, changes);
+    }
+    of_user(draft, session, target, changes)
+}

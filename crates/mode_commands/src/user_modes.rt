@@ -1,0 +1,123 @@
+//! MODE of a user (RFC 2812, section 3.1.5).
+ghost use Rattle.std.specs.Prelude.{◌≡◌, ◌∷◌, ◌++◌, ◌==◌, [], not, None, IfOk, OnOk};
+ghost use Rattle.std.specs.List.{list_any};
+ghost use Rattle.roster.specs.LookBack.{nick};
+ghost use Rattle.roster.specs.Legal.{IsOpened};
+ghost use Rattle.drafts.specs.Drafted.{grown};
+ghost use Rattle.drafts.specs.Lines.{prefix, title};
+ghost use Rattle.mode_commands.specs.Letters.{asks};
+ghost use Rattle.mode_commands.specs.Lines.{mode_line};
+ghost use Rattle.mode_commands.specs.UserModes.{hides, invisible_after, is_known, modes_text, own_modes, takes_own, tells_unknown};
+
+use crate::letters::{ModeChange, asked_changes};
+use crate::lines::mode_line;
+use crate::steps::agree;
+use chronicle::SessionId;
+use drafts::{Draft, prefix_of, tell, title_of};
+use line_grammar::Octets;
+use numerics::{Numeric, Out};
+use roster::Deed;
+use std::alloc::{AllocError, Global};
+
+/// The text of a user's modes.
+fn modes_text(is_invisible: bool) -> &'static [u8]
+    ensures { result.now ≡ modes_text is_invisible }
+{
+    if is_invisible { b"+i" } else { b"+" }
+}
+
+/// Whether a session is invisible after letters.
+fn invisible_after(was: bool, changes: &[ModeChange]) -> bool
+    ensures { result ≡ invisible_after was changes.now }
+{
+    let mut is = was;
+    for change in changes {
+        if change.letter == b'i' {
+            is = change.on;
+        }
+    }
+    is
+}
+
+/// Whether a letter isn't known.
+fn has_unknown(changes: &[ModeChange]) -> bool
+    ensures { result ≡ list_any (λ a. not (is_known a)) changes.now }
+{
+    changes.iter().any(|change| change.letter != b'i')
+}
+
+/// Tells of letters that aren't known, once.
+fn tell_unknown(
+    draft: &mut Draft,
+    session: SessionId,
+    changes: &[ModeChange],
+) -> Result<(), AllocError>
+    ensures grown { OnOk result (draft.new ≡ grown draft.old (tells_unknown draft.old.settings draft.old.facts session changes.now)) }
+    ensures facts { OnOk result (draft.new.facts ≡ draft.old.facts) }
+{
+    if has_unknown(changes) {
+        return tell(draft, session, Numeric::UModeUnknownFlag);
+    }
+    Ok(())
+}
+
+/// The line that shows a session its own mode.
+fn own_line(draft: &Draft, session: SessionId, is: bool) -> Result<Out, AllocError>
+    ensures { IfOk result (λ l. l ≡ mode_line (prefix draft.now.facts session) (title (nick draft.now.facts session)) (asks is 105 None)) }
+{
+    let alloc = draft.alloc();
+    let from = prefix_of(draft, session)?;
+    let nick = title_of(alloc, draft.nick_of(session))?;
+    let shown = ModeChange {
+        on: is,
+        letter: b'i',
+        param: None,
+    };
+    mode_line(alloc, from.as_slice(), nick.as_slice(), &[shown])
+}
+
+/// A session is invisible from now on, or isn't.
+#[tactic(auto, using(drafts::proofs::Replay::grown_grown))]
+fn hide(draft: &mut Draft, session: SessionId, is: bool) -> Result<(), AllocError>
+    requires opened { IsOpened draft.old.facts session }
+    requires first { draft.old.facts ≡ draft.old.base }
+    ensures { OnOk result (draft.new ≡ grown draft.old (hides draft.old.facts session is)) }
+{
+    if agree(is, draft.before().is_invisible(session)) {
+        return Ok(());
+    }
+    let line = own_line(draft, session, is)?;
+    draft.establish(Deed::InvisibleSet { session, on: is })?;
+    draft.answer(line)
+}
+
+/// Takes letters of a session's own modes.
+#[tactic(auto, using(drafts::proofs::Replay::grown_grown))]
+fn take_own(draft: &mut Draft, session: SessionId, changes: &[ModeChange]) -> Result<(), AllocError>
+    requires opened { IsOpened draft.old.facts session }
+    requires first { draft.old.facts ≡ draft.old.base }
+    ensures { OnOk result (draft.new ≡ grown draft.old (takes_own draft.old.settings draft.old.facts session changes.now)) }
+{
+    let was = draft.before().is_invisible(session);
+    tell_unknown(draft, session, changes)?;
+    hide(draft, session, invisible_after(was, changes))
+}
+
+/// Tells or changes a session's own modes.
+pub(crate) fn own_modes(
+    draft: &mut Draft,
+    session: SessionId,
+    changes: &[Octets],
+) -> Result<(), AllocError>
+    requires opened { IsOpened draft.old.facts session }
+    requires first { draft.old.facts ≡ draft.old.base }
+    ensures { OnOk result (draft.new ≡ grown draft.old (own_modes draft.old.settings draft.old.facts session changes.now)) }
+{
+    let Some(letters) = changes.first() else {
+        let is = draft.before().is_invisible(session);
+        let modes = Octets::copied(draft.alloc(), modes_text(is))?;
+        return tell(draft, session, Numeric::UModeIs(modes));
+    };
+    let asked = asked_changes(draft.alloc(), letters.as_slice(), &[])?;
+    take_own(draft, session, &asked)
+}

@@ -1,5 +1,0 @@
-use Rattle.roster.proofs.Same.{is_same-test}
-use Rattle.roster.proofs.names.is_same.Goals as goal
-
-pub returns : goal.returns
-returns c = is_same-test c.args.a.now c.args.b.now c.same.result c.same.ensures.0 c.same.ensures.1
