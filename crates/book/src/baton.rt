@@ -5,7 +5,7 @@ use chronicle::SessionId;
 use std::marker::Model;
 
 /// Whose line is next: a session has one baton. It is made by `Book::open` alone.
-#[derive(Debug, Drop)]
+#[derive(Drop)]
 pub struct Baton {
     pub(crate) session: SessionId,
     pub(crate) next: u64,

@@ -15,7 +15,7 @@ pub enum Step {
 }
 
 /// What became of a record.
-#[derive(Debug, Drop)]
+#[derive(Drop)]
 pub struct Done {
     /// Its number.
     pub number: RecordNumber,
@@ -45,7 +45,7 @@ pub struct Left {
 
 /// The deliveries of a record that are still to be put. One plan is out at a time; it is made where a record is appended, and
 /// given back when nothing is left in it. A plan that is dropped leaves its book busy for good.
-#[derive(Debug, Drop)]
+#[derive(Drop)]
 pub struct Plan {
     pub(crate) number: RecordNumber,
     pub(crate) session: SessionId,

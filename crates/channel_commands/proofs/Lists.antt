@@ -1,22 +1,13 @@
 -- What is done for each of a list: for one, and then for the rest.
-use Rattle.std.proofs.Common.{◌≡◌, ℕ, ◌+◌, ◌<◌, ◌≤◌, List, [], ◌∷◌, length, get_or, drop, arith, sym, ap, ◌∙◌, append-nil}
-use Rattle.std.proofs.lemmas.Grind.{common_steps}
+use Rattle.std.proofs.Common.{◌≡◌, ℕ, ◌+◌, ◌<◌, ◌≤◌, List, length, get_or, drop, sym, ap, ◌∙◌}
 use Rattle.roster.specs.declared.deed.Deed.{Deed}
 use Rattle.roster.specs.LookBack.{after}
 use Rattle.drafts.specs.declared.effect.Effect.{Effect}
 use Rattle.drafts.specs.Effects.{deeds_of}
 use Rattle.drafts.specs.Drafted.{Drafted, grown}
 use Rattle.drafts.proofs.Replay.{grown_grown}
+use Rattle.drafts.proofs.Turns.{dropped, none_left, grown_nothing}
 use Rattle.channel_commands.specs.Each.{each, each_counted}
-
-dropped : {A : Type 0} (xs : List A) (i : ℕ) (x : A) → i < length xs → x ≡ get_or xs i x → drop i xs ≡ x ∷ drop (i + 1) xs
-dropped xs i x l is = grind (arith, common_steps)
-
-none_left : {A : Type 0} (xs : List A) (i : ℕ) → length xs ≤ i → drop i xs ≡ []
-none_left xs i l = grind (arith, common_steps)
-
-grown_nothing : (d : Drafted) → grown d [] ≡ d
-grown_nothing d = ap (λ (es : List Effect). record { settings = d.settings; base = d.base; facts = d.facts; effects = es }) (append-nil d.effects)
 
 module _ {A : Type 0} (row : List Deed → A → List Effect) (d : Drafted) (xs : List A) (i : ℕ) where
   pub each_more : (x : A) → i < length xs → x ≡ get_or xs i x → let e = grown d (row d.facts x) in grown e (each row e.facts (drop (i + 1) xs)) ≡ grown d (each row d.facts (drop i xs))

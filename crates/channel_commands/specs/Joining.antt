@@ -8,7 +8,7 @@ use Rattle.channel_state.specs.declared.change.Change.TheVariants.{Joined}
 use Rattle.channel_state.specs.State.{State, among, made_by, changed}
 use Rattle.commands.specs.declared.join_targets.JoinTarget.{JoinTarget}
 use Rattle.numerics.specs.declared.numeric.Numeric.{Numeric}
-use Rattle.numerics.specs.declared.numeric.Numeric.TheVariants.{NoSuchChannel, TooManyChannels, BadChannelKey, BannedFromChan, InviteOnlyChan, ChannelIsFull, Topic}
+use Rattle.numerics.specs.declared.numeric.Numeric.TheVariants.{NoSuchChannel, TooManyChannels, Topic}
 use Rattle.registration.specs.declared.settings.Settings.{Settings}
 use Rattle.roster.specs.declared.deed.Deed.{Deed}
 use Rattle.roster.specs.declared.deed.Deed.TheVariants.{ChannelMade, Changed}
@@ -17,10 +17,11 @@ use Rattle.drafts.specs.declared.effect.Effect.{Effect}
 use Rattle.drafts.specs.declared.effect.Effect.TheVariants.{Establish, Show}
 use Rattle.drafts.specs.Seen.{Seen}
 use Rattle.drafts.specs.Lines.{prefix, join_line}
+use Rattle.drafts.specs.declared.denials.Denial.{Denial}
+use Rattle.drafts.specs.declared.denials.Denial.TheVariants.{BadChannelKey, BannedFromChan, InviteOnlyChan, ChannelIsFull}
+use Rattle.drafts.specs.Denials.{denied}
 use Rattle.drafts.specs.Replies.{tells, tells_all}
 use Rattle.channel_commands.specs.Found.{channel_of}
-use Rattle.channel_commands.specs.declared.bars.Bar.{Bar}
-use Rattle.channel_commands.specs.declared.bars.Bar.TheVariants.{OtherKey, Banned, Uninvited, Full}
 use Rattle.channel_commands.specs.Each.{each_counted}
 use Rattle.channel_commands.specs.Names.{names_told}
 
@@ -42,19 +43,13 @@ has_members None n = false
 has_members (Some limit) n = nat_le limit n
 
 -- what bars it, the first that does
-unfoldable pub bar_of : State → ℕ → List ℕ → List ℕ → Option Bar
+unfoldable pub bar_of : State → ℕ → List ℕ → List ℕ → Option Denial
 bar_of k s from key =
-    if has_other_key k.modes.key key then Some OtherKey
-    else if is_stopped k s from then Some Banned
-    else if is_uninvited k s then Some Uninvited
-    else if has_members k.modes.limit (length k.members) then Some Full
+    if has_other_key k.modes.key key then Some BadChannelKey
+    else if is_stopped k s from then Some BannedFromChan
+    else if is_uninvited k s then Some InviteOnlyChan
+    else if has_members k.modes.limit (length k.members) then Some ChannelIsFull
     else None
-
-abbrev pub bar_numeric : List ℕ → Bar → Numeric
-bar_numeric c OtherKey = BadChannelKey c
-bar_numeric c Banned = BannedFromChan c
-bar_numeric c Uninvited = InviteOnlyChan c
-bar_numeric c Full = ChannelIsFull c
 
 -- ---- a session on a channel that it joined just now
 
@@ -80,9 +75,9 @@ abbrev pub enters : Settings → List Deed → List Deed → ℕ → List ℕ �
 enters g fs0 fs s from k = Establish (Changed k.name (Joined s)) ∷ entered g fs0 (Changed k.name (Joined s) ∷ fs) s from (record { name = k.name; state = changed (Joined s) k.state })
 
 -- unless something bars it
-abbrev pub enters_unless : Settings → List Deed → List Deed → ℕ → List ℕ → Seen → Option Bar → List Effect
+abbrev pub enters_unless : Settings → List Deed → List Deed → ℕ → List ℕ → Seen → Option Denial → List Effect
 enters_unless g fs0 fs s from k None = enters g fs0 fs s from k
-enters_unless g fs0 fs s from k (Some bar) = tells g fs s (bar_numeric k.name bar) ∷ []
+enters_unless g fs0 fs s from k (Some bar) = tells g fs s (denied bar k.name) ∷ []
 
 abbrev pub joins_seen : Settings → List Deed → List Deed → ℕ → List ℕ → ℕ → JoinTarget → Option Seen → List Effect
 joins_seen g fs0 fs s from n t None = if nat_le 20 n then tells g fs s (TooManyChannels t.channel) ∷ [] else makes g fs0 fs s from t.channel

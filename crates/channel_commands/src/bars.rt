@@ -1,31 +1,14 @@
 //! Who may join a channel that is there (RFC 2811, section 4).
-ghost use Rattle.std.specs.Prelude.{◌≡◌, ◌∷◌, [], length, OnOk};
+ghost use Rattle.std.specs.Prelude.{◌≡◌, length};
 ghost use Rattle.std.specs.List.{list_any};
 ghost use Rattle.casemapping.specs.Mask.{fits};
-ghost use Rattle.drafts.specs.Drafted.{grown};
-ghost use Rattle.drafts.specs.Replies.{tells};
-ghost use Rattle.channel_commands.specs.Joining.{has_other_key, is_stopped, is_uninvited, has_members, bar_of, bar_numeric};
+ghost use Rattle.channel_commands.specs.Joining.{has_other_key, is_stopped, is_uninvited, has_members, bar_of};
 
 use casemapping::matches;
 use channel_state::ChannelState;
 use chronicle::SessionId;
-use drafts::{Draft, tell};
+use drafts::Denial;
 use line_grammar::Octets;
-use numerics::Numeric;
-use std::alloc::AllocError;
-
-/// What bars a session from a channel.
-#[derive(Clone, Copy, Debug, PartialEq)]
-pub(crate) enum Bar {
-    /// The channel has another key.
-    OtherKey,
-    /// A ban fits the session, which no operator invited.
-    Banned,
-    /// It isn't invited.
-    Uninvited,
-    /// The channel has as many members as its limit.
-    Full,
-}
 
 /// Whether a channel has another key.
 fn has_other_key(state: &ChannelState, given: &Octets) -> bool
@@ -82,38 +65,20 @@ pub(crate) fn bar_of(
     session: SessionId,
     from: &[u8],
     key: &Octets,
-) -> Option<Bar>
+) -> Option<Denial>
     ensures { result ≡ bar_of state.now.state session from.now key.now }
 {
     if has_other_key(state, key) {
-        return Some(Bar::OtherKey);
+        return Some(Denial::BadChannelKey);
     }
     if is_stopped(state, session, from) {
-        return Some(Bar::Banned);
+        return Some(Denial::BannedFromChan);
     }
     if is_uninvited(state, session) {
-        return Some(Bar::Uninvited);
+        return Some(Denial::InviteOnlyChan);
     }
     if is_full(state) {
-        return Some(Bar::Full);
+        return Some(Denial::ChannelIsFull);
     }
     None
-}
-
-/// Answers a session with what bars it from a channel.
-pub(crate) fn refuse(
-    draft: &mut Draft,
-    session: SessionId,
-    name: &Octets,
-    bar: Bar,
-) -> Result<(), AllocError>
-    ensures { OnOk result (draft.new ≡ grown draft.old (tells draft.old.settings draft.old.facts session (bar_numeric name.now bar) ∷ [])) }
-{
-    let name = name.clone()?;
-    match bar {
-        Bar::OtherKey => tell(draft, session, Numeric::BadChannelKey(name)),
-        Bar::Banned => tell(draft, session, Numeric::BannedFromChan(name)),
-        Bar::Uninvited => tell(draft, session, Numeric::InviteOnlyChan(name)),
-        Bar::Full => tell(draft, session, Numeric::ChannelIsFull(name)),
-    }
 }

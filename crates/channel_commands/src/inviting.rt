@@ -1,6 +1,6 @@
 //! INVITE (RFC 2812, section 3.2.7).
 ghost use Rattle.std.specs.Prelude.{◌≡◌, ◌∷◌, [], Some, option_copied, OnOk};
-ghost use Rattle.numerics.specs.declared.numeric.Numeric.TheVariants.{Inviting};
+ghost use Rattle.numerics.specs.declared.numeric.Numeric.TheVariants.{Inviting, UserOnChannel};
 ghost use Rattle.drafts.specs.declared.effect.Effect.TheVariants.{Show};
 ghost use Rattle.drafts.specs.Drafted.{grown};
 ghost use Rattle.drafts.specs.Lines.{prefix};
@@ -13,7 +13,7 @@ use crate::finding::{channel_of, user_of};
 use crate::lines::invite_line;
 use channel_state::Change;
 use chronicle::SessionId;
-use drafts::{Draft, Seen, prefix_of, tell, title_of};
+use drafts::{Denial, Draft, Seen, deny, prefix_of, tell, title_of};
 use line_grammar::Octets;
 use numerics::Numeric;
 use roster::Sessions;
@@ -34,6 +34,20 @@ fn tell_away(
     let nick = nick.clone()?;
     let text = text.clone()?;
     tell(draft, session, Numeric::Away { nick, text })
+}
+
+/// Answers that a user is on a channel already.
+fn tell_present(
+    draft: &mut Draft,
+    session: SessionId,
+    nick: &Octets,
+    name: &Octets,
+) -> Result<(), AllocError>
+    ensures { OnOk result (draft.new ≡ grown draft.old (tells draft.old.settings draft.old.facts session (UserOnChannel nick.now name.now) ∷ [])) }
+{
+    let nick = nick.clone()?;
+    let channel = name.clone()?;
+    tell(draft, session, Numeric::UserOnChannel { nick, channel })
 }
 
 /// Answers that a user is invited.
@@ -78,18 +92,17 @@ fn invite_user(
     session: SessionId,
     user: SessionId,
     nick: &Octets,
-    seen: Seen,
+    seen: &mut Seen,
 ) -> Result<(), AllocError>
     requires first { draft.old.facts ≡ draft.old.base }
-    requires seen { IsSeen draft.old.facts seen }
-    ensures { OnOk result (draft.new ≡ grown draft.old (invites_user draft.old.settings draft.old.facts session user nick.now seen)) }
+    requires seen { IsSeen draft.old.facts seen.old }
+    ensures { OnOk result (draft.new ≡ grown draft.old (invites_user draft.old.settings draft.old.facts session user nick.now seen.old)) }
 {
-    let mut seen = seen;
     let away = draft.before().away_of(user);
     let by_operator = seen.state().is_operator(session);
     show_invited(draft, session, user, nick, seen.name())?;
     draft.change(
-        &mut seen,
+        seen,
         Change::Invited {
             session: user,
             by_operator,
@@ -104,28 +117,23 @@ fn invite_seen(
     draft: &mut Draft,
     session: SessionId,
     user: SessionId,
-    nick: Octets,
-    seen: Seen,
+    nick: &Octets,
+    seen: &mut Seen,
 ) -> Result<(), AllocError>
     requires first { draft.old.facts ≡ draft.old.base }
-    requires seen { IsSeen draft.old.facts seen }
-    ensures { OnOk result (draft.new ≡ grown draft.old (invites_seen draft.old.settings draft.old.facts session user nick [] (Some seen))) }
+    requires seen { IsSeen draft.old.facts seen.old }
+    ensures { OnOk result (draft.new ≡ grown draft.old (invites_seen draft.old.settings draft.old.facts session user nick.now [] (Some seen.old))) }
 {
     if !seen.state().has(session) {
-        return tell(draft, session, Numeric::NotOnChannel(seen.name().clone()?));
+        return deny(draft, session, Denial::NotOnChannel, seen.name());
     }
     if seen.state().has(user) {
-        let channel = seen.name().clone()?;
-        return tell(draft, session, Numeric::UserOnChannel { nick, channel });
+        return tell_present(draft, session, nick, seen.name());
     }
     if seen.state().modes().invite_only && !seen.state().is_operator(session) {
-        return tell(
-            draft,
-            session,
-            Numeric::ChanOPrivsNeeded(seen.name().clone()?),
-        );
+        return deny(draft, session, Denial::ChanOPrivsNeeded, seen.name());
     }
-    invite_user(draft, session, user, &nick, seen)
+    invite_user(draft, session, user, nick, seen)
 }
 
 /// Invites a user to a channel.
@@ -140,8 +148,8 @@ fn invite_found(
 {
     let nick = title_of(draft.alloc(), draft.before().nick_of(user))?;
     match channel_of(draft, channel)? {
-        Some(seen) => invite_seen(draft, session, user, nick, seen),
-        None => tell(draft, session, Numeric::NoSuchChannel(channel.clone()?)),
+        Some(mut seen) => invite_seen(draft, session, user, &nick, &mut seen),
+        None => deny(draft, session, Denial::NoSuchChannel, channel),
     }
 }
 
@@ -157,6 +165,6 @@ pub fn invite(
 {
     match user_of(draft, nick) {
         Some(user) => invite_found(draft, session, user, channel),
-        None => tell(draft, session, Numeric::NoSuchNick(nick.clone()?)),
+        None => deny(draft, session, Denial::NoSuchNick, nick),
     }
 }

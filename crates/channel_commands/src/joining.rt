@@ -8,14 +8,14 @@ ghost use Rattle.drafts.specs.Seen.{IsSeen};
 ghost use Rattle.channel_commands.specs.Each.{each_counted};
 ghost use Rattle.channel_commands.specs.Joining.{welcomed, entered, makes, enters, enters_unless, joins_seen, joins_one, joins};
 
-use crate::bars::{Bar, bar_of, refuse};
+use crate::bars::bar_of;
 use crate::finding::channel_of;
 use crate::members::{push_members, show_members};
 use casemapping::is_channel;
 use channel_state::Change;
 use chronicle::SessionId;
 use commands::JoinTarget;
-use drafts::{Draft, Seen, join_line, prefix_of, tell, tell_all};
+use drafts::{Denial, Draft, Seen, deny, join_line, prefix_of, tell_all};
 use line_grammar::Octets;
 use numerics::Numeric;
 use std::alloc::AllocError;
@@ -69,14 +69,18 @@ fn make(
 
 /// A session joins a channel that is there.
 #[tactic(auto, using(drafts::proofs::Replay::grown_grown, crate::proofs::Rows::some_joined))]
-fn come(draft: &mut Draft, session: SessionId, from: &[u8], seen: Seen) -> Result<(), AllocError>
-    requires seen { IsSeen draft.old.facts seen }
-    requires away { among session seen.state.members ≡ false }
-    ensures { OnOk result (draft.new ≡ grown draft.old (enters draft.old.settings draft.old.base draft.old.facts session from.now seen)) }
+fn come(
+    draft: &mut Draft,
+    session: SessionId,
+    from: &[u8],
+    seen: &mut Seen,
+) -> Result<(), AllocError>
+    requires seen { IsSeen draft.old.facts seen.old }
+    requires away { among session seen.old.state.members ≡ false }
+    ensures { OnOk result (draft.new ≡ grown draft.old (enters draft.old.settings draft.old.base draft.old.facts session from.now seen.old)) }
 {
-    let mut seen = seen;
-    draft.change(&mut seen, Change::Joined { session })?;
-    enter(draft, session, from, &seen)
+    draft.change(seen, Change::Joined { session })?;
+    enter(draft, session, from, seen)
 }
 
 /// Joins a channel that is there, unless something bars the session. On how many channels it is then.
@@ -86,18 +90,18 @@ fn come_unless(
     session: SessionId,
     from: &[u8],
     count: usize,
-    seen: Seen,
-    bar: Option<Bar>,
+    seen: &mut Seen,
+    bar: Option<Denial>,
 ) -> Result<usize, AllocError>
-    requires seen { IsSeen draft.old.facts seen }
-    requires away { among session seen.state.members ≡ false }
+    requires seen { IsSeen draft.old.facts seen.old }
+    requires away { among session seen.old.state.members ≡ false }
     requires few { count < 20 }
-    ensures grown { OnOk result (draft.new ≡ grown draft.old (enters_unless draft.old.settings draft.old.base draft.old.facts session from.now seen bar)) }
-    ensures count { IfOk result (λ n. n ≡ count + length (deeds_of (enters_unless draft.old.settings draft.old.base draft.old.facts session from.now seen bar))) }
+    ensures grown { OnOk result (draft.new ≡ grown draft.old (enters_unless draft.old.settings draft.old.base draft.old.facts session from.now seen.old bar)) }
+    ensures count { IfOk result (λ n. n ≡ count + length (deeds_of (enters_unless draft.old.settings draft.old.base draft.old.facts session from.now seen.old bar))) }
 {
     match bar {
         Some(bar) => {
-            refuse(draft, session, seen.name(), bar)?;
+            deny(draft, session, bar, seen.name())?;
             Ok(count)
         }
         None => {
@@ -114,21 +118,17 @@ fn join_there(
     from: &[u8],
     count: usize,
     target: &JoinTarget,
-    seen: Seen,
+    seen: &mut Seen,
 ) -> Result<usize, AllocError>
-    requires { IsSeen draft.old.facts seen }
-    ensures grown { OnOk result (draft.new ≡ grown draft.old (joins_seen draft.old.settings draft.old.base draft.old.facts session from.now count target.now (Some seen))) }
-    ensures count { IfOk result (λ n. n ≡ count + length (deeds_of (joins_seen draft.old.settings draft.old.base draft.old.facts session from.now count target.now (Some seen)))) }
+    requires { IsSeen draft.old.facts seen.old }
+    ensures grown { OnOk result (draft.new ≡ grown draft.old (joins_seen draft.old.settings draft.old.base draft.old.facts session from.now count target.now (Some seen.old))) }
+    ensures count { IfOk result (λ n. n ≡ count + length (deeds_of (joins_seen draft.old.settings draft.old.base draft.old.facts session from.now count target.now (Some seen.old)))) }
 {
     if seen.state().has(session) {
         return Ok(count);
     }
     if count >= MAX_CHANNELS {
-        tell(
-            draft,
-            session,
-            Numeric::TooManyChannels(seen.name().clone()?),
-        )?;
+        deny(draft, session, Denial::TooManyChannels, seen.name())?;
         return Ok(count);
     }
     let bar = bar_of(seen.state(), session, from, &target.key);
@@ -150,7 +150,7 @@ fn join_new(
 {
     let channel = &target.channel;
     if count >= MAX_CHANNELS {
-        tell(draft, session, Numeric::TooManyChannels(channel.clone()?))?;
+        deny(draft, session, Denial::TooManyChannels, channel)?;
         return Ok(count);
     }
     make(draft, session, from, channel)?;
@@ -170,11 +170,11 @@ fn join_one(
 {
     let channel = &target.channel;
     if !is_channel(channel.as_slice()) {
-        tell(draft, session, Numeric::NoSuchChannel(channel.clone()?))?;
+        deny(draft, session, Denial::NoSuchChannel, channel)?;
         return Ok(count);
     }
     match channel_of(draft, channel)? {
-        Some(seen) => join_there(draft, session, from, count, target, seen),
+        Some(mut seen) => join_there(draft, session, from, count, target, &mut seen),
         None => join_new(draft, session, from, count, target),
     }
 }

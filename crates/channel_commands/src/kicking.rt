@@ -1,11 +1,9 @@
 //! KICK (RFC 2812, section 3.2.8).
-ghost use Rattle.std.specs.Prelude.{◌≡◌, ◌∷◌, [], Some, slice_get, IfOk, OnOk};
-ghost use Rattle.numerics.specs.declared.numeric.Numeric.TheVariants.{UserNotInChannel};
+ghost use Rattle.std.specs.Prelude.{◌≡◌, [], Some, slice_get, IfOk, OnOk};
 ghost use Rattle.roster.specs.LookBack.{nick as nick_of};
 ghost use Rattle.drafts.specs.Drafted.{grown};
 ghost use Rattle.drafts.specs.Lines.{title};
 ghost use Rattle.drafts.specs.Seen.{IsSeen};
-ghost use Rattle.drafts.specs.Replies.{tells};
 ghost use Rattle.channel_commands.specs.Each.{each};
 ghost use Rattle.channel_commands.specs.Found.{channel_of};
 ghost use Rattle.channel_commands.specs.Leaving.{kick_text, kicks_user, kicks_one, kicks_each, kicks_seen, kicks};
@@ -14,9 +12,8 @@ use crate::finding::{channel_of, user_of};
 use crate::leaving::leave;
 use crate::lines::{first_octets, kick_line};
 use chronicle::SessionId;
-use drafts::{Draft, Seen, prefix_of, tell, title_of};
+use drafts::{Denial, Draft, Seen, deny, deny_absent, prefix_of, title_of};
 use line_grammar::Octets;
-use numerics::Numeric;
 use std::alloc::AllocError;
 
 /// Octets of the text of a kick, at most.
@@ -36,19 +33,6 @@ fn kick_text(draft: &Draft<'_>, session: SessionId, text: &Octets) -> Result<Oct
     first_octets(text, KICKLEN)
 }
 
-/// Answers that a user isn't on a channel.
-fn tell_absent(
-    draft: &mut Draft,
-    session: SessionId,
-    nick: Octets,
-    name: &Octets,
-) -> Result<(), AllocError>
-    ensures { OnOk result (draft.new ≡ grown draft.old (tells draft.old.settings draft.old.facts session (UserNotInChannel nick name.now) ∷ [])) }
-{
-    let channel = name.clone()?;
-    tell(draft, session, Numeric::UserNotInChannel { nick, channel })
-}
-
 /// Puts a user out of a channel that is there, where it is on it.
 fn kick_there(
     draft: &mut Draft,
@@ -57,15 +41,15 @@ fn kick_there(
     text: &Octets,
     name: &Octets,
     user: SessionId,
-    nick: Octets,
+    nick: &Octets,
     seen: &Seen,
 ) -> Result<(), AllocError>
     requires seen { IsSeen draft.old.facts seen.now }
-    requires nick { nick ≡ title (nick_of draft.old.base user) }
+    requires nick { nick.now ≡ title (nick_of draft.old.base user) }
     ensures { OnOk result (draft.new ≡ grown draft.old (kicks_user draft.old.settings draft.old.base draft.old.facts session from.now text.now name.now user (Some seen.now))) }
 {
     if !seen.state().has(user) {
-        return tell_absent(draft, session, nick, name);
+        return deny_absent(draft, session, nick, name);
     }
     let line = kick_line(
         draft.alloc(),
@@ -90,8 +74,8 @@ fn kick_user(
 {
     let nick = title_of(draft.alloc(), draft.before().nick_of(user))?;
     match channel_of(draft, name)? {
-        Some(seen) => kick_there(draft, session, from, text, name, user, nick, &seen),
-        None => tell_absent(draft, session, nick, name),
+        Some(seen) => kick_there(draft, session, from, text, name, user, &nick, &seen),
+        None => deny_absent(draft, session, &nick, name),
     }
 }
 
@@ -108,7 +92,7 @@ fn kick_one(
 {
     match user_of(draft, nick) {
         Some(user) => kick_user(draft, session, from, text, name, user),
-        None => tell(draft, session, Numeric::NoSuchNick(nick.clone()?)),
+        None => deny(draft, session, Denial::NoSuchNick, nick),
     }
 }
 
@@ -141,7 +125,7 @@ fn kick_few(
     ensures { OnOk result (draft.new ≡ grown draft.old (kicks_each draft.old.settings draft.old.facts session nicks.now text.now name.now (slice_get nicks.now 4))) }
 {
     if let Some(fifth) = nicks.get(MAX_TARGETS) {
-        return tell(draft, session, Numeric::TooManyTargets(fifth.clone()?));
+        return deny(draft, session, Denial::TooManyTargets, fifth);
     }
     let from = prefix_of(draft, session)?;
     let text = kick_text(draft, session, text)?;
@@ -161,10 +145,10 @@ fn kick_seen(
 {
     let name = seen.name();
     if !seen.state().has(session) {
-        return tell(draft, session, Numeric::NotOnChannel(name.clone()?));
+        return deny(draft, session, Denial::NotOnChannel, name);
     }
     if !seen.state().is_operator(session) {
-        return tell(draft, session, Numeric::ChanOPrivsNeeded(name.clone()?));
+        return deny(draft, session, Denial::ChanOPrivsNeeded, name);
     }
     kick_few(draft, session, nicks, text, name)
 }
@@ -182,6 +166,6 @@ pub fn kick(
 {
     match channel_of(draft, channel)? {
         Some(seen) => kick_seen(draft, session, nicks, text, &seen),
-        None => tell(draft, session, Numeric::NoSuchChannel(channel.clone()?)),
+        None => deny(draft, session, Denial::NoSuchChannel, channel),
     }
 }

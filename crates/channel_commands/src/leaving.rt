@@ -10,9 +10,9 @@ use crate::finding::channel_of;
 use crate::lines::part_line;
 use crate::members::show_members;
 use chronicle::SessionId;
-use drafts::{Draft, Seen, prefix_of, tell};
+use drafts::{Denial, Draft, Seen, deny, prefix_of};
 use line_grammar::Octets;
-use numerics::{Numeric, Out};
+use numerics::Out;
 use std::alloc::AllocError;
 
 /// A member leaves a channel: all members before it are shown a line.
@@ -44,7 +44,7 @@ fn part_seen(
 {
     let name = seen.name();
     if !seen.state().has(session) {
-        return tell(draft, session, Numeric::NotOnChannel(name.clone()?));
+        return deny(draft, session, Denial::NotOnChannel, name);
     }
     let line = part_line(draft.alloc(), from, name.as_slice(), text.as_slice())?;
     leave(draft, seen, session, line)
@@ -62,7 +62,7 @@ fn part_one(
 {
     match channel_of(draft, channel)? {
         Some(seen) => part_seen(draft, session, from, text, &seen),
-        None => tell(draft, session, Numeric::NoSuchChannel(channel.clone()?)),
+        None => deny(draft, session, Denial::NoSuchChannel, channel),
     }
 }
 

@@ -14,7 +14,7 @@ use crate::lines::{first_octets, topic_line};
 use crate::members::show_members;
 use channel_state::Change;
 use chronicle::SessionId;
-use drafts::{Draft, Seen, prefix_of, tell};
+use drafts::{Denial, Draft, Seen, deny, prefix_of, tell};
 use line_grammar::Octets;
 use numerics::{Numeric, Out};
 use std::alloc::AllocError;
@@ -104,22 +104,17 @@ fn put_topic(
 fn put_topic_if_it_may(
     draft: &mut Draft,
     session: SessionId,
-    seen: Seen,
+    seen: &mut Seen,
     text: &Octets,
 ) -> Result<(), AllocError>
-    requires { IsSeen draft.old.facts seen }
-    ensures { OnOk result (draft.new ≡ grown draft.old (topic_served draft.old.settings draft.old.facts session seen (Some text.now))) }
+    requires { IsSeen draft.old.facts seen.old }
+    ensures { OnOk result (draft.new ≡ grown draft.old (topic_served draft.old.settings draft.old.facts session seen.old (Some text.now))) }
 {
     if seen.state().modes().topic_locked && !seen.state().is_operator(session) {
-        return tell(
-            draft,
-            session,
-            Numeric::ChanOPrivsNeeded(seen.name().clone()?),
-        );
+        return deny(draft, session, Denial::ChanOPrivsNeeded, seen.name());
     }
-    let mut seen = seen;
     let text = topic_text(text)?;
-    put_topic(draft, session, &mut seen, &text)
+    put_topic(draft, session, seen, &text)
 }
 
 /// Tells or sets the topic of a channel that the session is on.
@@ -127,15 +122,15 @@ fn put_topic_if_it_may(
 fn serve_topic(
     draft: &mut Draft,
     session: SessionId,
-    seen: Seen,
+    seen: &mut Seen,
     text: &Option<Octets>,
 ) -> Result<(), AllocError>
-    requires { IsSeen draft.old.facts seen }
-    ensures { OnOk result (draft.new ≡ grown draft.old (topic_served draft.old.settings draft.old.facts session seen text.now)) }
+    requires { IsSeen draft.old.facts seen.old }
+    ensures { OnOk result (draft.new ≡ grown draft.old (topic_served draft.old.settings draft.old.facts session seen.old text.now)) }
 {
     match text {
         Some(text) => put_topic_if_it_may(draft, session, seen, text),
-        None => show_topic(draft, session, &seen),
+        None => show_topic(draft, session, seen),
     }
 }
 
@@ -143,14 +138,14 @@ fn serve_topic(
 fn serve_seen(
     draft: &mut Draft,
     session: SessionId,
-    seen: Seen,
+    seen: &mut Seen,
     text: &Option<Octets>,
 ) -> Result<(), AllocError>
-    requires { IsSeen draft.old.facts seen }
-    ensures { OnOk result (draft.new ≡ grown draft.old (topics_seen draft.old.settings draft.old.facts session [] text.now (Some seen))) }
+    requires { IsSeen draft.old.facts seen.old }
+    ensures { OnOk result (draft.new ≡ grown draft.old (topics_seen draft.old.settings draft.old.facts session [] text.now (Some seen.old))) }
 {
     if !seen.state().has(session) {
-        return tell(draft, session, Numeric::NotOnChannel(seen.name().clone()?));
+        return deny(draft, session, Denial::NotOnChannel, seen.name());
     }
     serve_topic(draft, session, seen, text)
 }
@@ -165,7 +160,7 @@ pub fn set_topic(
     ensures { OnOk result (draft.new ≡ grown draft.old (topics draft.old.settings draft.old.facts session channel.now text.now)) }
 {
     match channel_of(draft, channel)? {
-        Some(seen) => serve_seen(draft, session, seen, text),
-        None => tell(draft, session, Numeric::NoSuchChannel(channel.clone()?)),
+        Some(mut seen) => serve_seen(draft, session, &mut seen, text),
+        None => deny(draft, session, Denial::NoSuchChannel, channel),
     }
 }

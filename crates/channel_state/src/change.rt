@@ -4,7 +4,7 @@ use chronicle::SessionId;
 use line_grammar::Octets;
 
 /// The rank of a member (RFC 2811, section 4.1).
-#[derive(Clone, Copy, Debug, PartialEq)]
+#[derive(Clone, Copy)]
 pub enum Rank {
     /// `o`: it may change the channel.
     Operator,
@@ -13,7 +13,7 @@ pub enum Rank {
 }
 
 /// What changes on a channel that is there.
-#[derive(Clone, Debug, Drop, PartialEq)]
+#[derive(Clone, Drop)]
 pub enum Change {
     /// A session joined.
     Joined {

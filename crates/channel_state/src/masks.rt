@@ -8,7 +8,7 @@ use std::alloc::{AllocError, Global};
 use std::marker::Model;
 
 /// Masks, in the order of setting, and room for more.
-#[derive(Debug, Drop)]
+#[derive(Drop)]
 pub(crate) struct Masks {
     masks: Vec<Octets>,
 }

@@ -8,7 +8,7 @@ use std::alloc::{AllocError, Global};
 use std::marker::Model;
 
 /// Sessions, in order, and room for more. Few of them take no memory.
-#[derive(Debug, Drop)]
+#[derive(Drop)]
 pub(crate) struct Members {
     sessions: SmallVec<SessionId, 4>,
 }

@@ -5,7 +5,7 @@ ghost use Rattle.channel_state.specs.State.{flagged, is_set, no_modes};
 use line_grammar::Octets;
 
 /// A mode that is set or not.
-#[derive(Clone, Copy, Debug, PartialEq)]
+#[derive(Clone, Copy)]
 pub enum Flag {
     /// `i`: who isn't invited can't join (section 4.2.2).
     InviteOnly,
@@ -20,7 +20,7 @@ pub enum Flag {
 }
 
 /// The modes of a channel.
-#[derive(Clone, Debug, Drop, PartialEq)]
+#[derive(Clone, Drop)]
 pub struct Modes {
     pub invite_only: bool,
     pub moderated: bool,

@@ -11,7 +11,7 @@ use std::alloc::{AllocError, Global};
 use std::marker::Model;
 
 /// A channel, with room for changes.
-#[derive(Debug, Drop)]
+#[derive(Drop)]
 pub struct ChannelState {
     members: Members,
     operators: Members,

@@ -4,7 +4,7 @@ use line_grammar::{Octets, Piece};
 use smallvec::SmallVec;
 
 /// What a record says.
-#[derive(Clone, Debug, Drop, PartialEq)]
+#[derive(Drop)]
 pub enum Kind {
     /// A session was opened, from this host.
     Opened {
@@ -29,7 +29,7 @@ pub enum Kind {
 }
 
 /// A record of the journal.
-#[derive(Debug, Drop)]
+#[derive(Drop)]
 pub struct Record {
     /// Its place in the journal, from 1.
     pub number: RecordNumber,

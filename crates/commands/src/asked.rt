@@ -9,7 +9,7 @@ use line_grammar::{LineFault, Message, Octets, Piece, parse};
 use std::alloc::{AllocError, Global};
 
 /// What a piece asks for.
-#[derive(Clone, Debug, Drop, PartialEq)]
+#[derive(Debug, Drop)]
 pub enum Asked {
     /// Nothing: the line holds NUL, or has no command.
     Nothing,

@@ -7,7 +7,7 @@ use line_grammar::Octets;
 use std::alloc::AllocError;
 
 /// What CAP asks for (IRCv3 Capability Negotiation).
-#[derive(Clone, Debug, Drop, PartialEq)]
+#[derive(Debug, Drop)]
 pub enum CapSubcommand {
     /// The capabilities that there are, with their values where the client's version is 302 or later.
     Ls { shows_values: bool },
@@ -21,7 +21,7 @@ pub enum CapSubcommand {
 
 /// What a message asks for. Names and texts are as given. A list of names has no empty one, and none
 /// that repeats another in either case.
-#[derive(Clone, Debug, Drop, PartialEq)]
+#[derive(Debug, Drop)]
 pub enum Command {
     /// To negotiate capabilities (IRCv3 Capability Negotiation).
     Cap(CapSubcommand),
@@ -125,7 +125,7 @@ pub enum Command {
 
 /// Why a message asks for nothing that can be done: the numeric that answers it, by what the message says
 /// alone (RFC 2812, section 5.2).
-#[derive(Clone, Debug, Drop, PartialEq)]
+#[derive(Debug, Drop)]
 pub enum ReadFault {
     /// 421, with the command as given.
     UnknownCommand { name: Octets },

@@ -6,7 +6,7 @@ use std::alloc::AllocError;
 use std::marker::Model;
 
 /// A channel to join.
-#[derive(Clone, Debug, Drop, PartialEq)]
+#[derive(Debug, Drop)]
 pub struct JoinTarget {
     /// Its name, as given.
     pub channel: Octets,
@@ -56,30 +56,5 @@ impl JoinTargets {
         ensures { result.now ≡ self.now }
     {
         &self.targets
-    }
-}
-
-impl Clone for JoinTargets {
-    ghost is_clone = { λ a b. b ≡ a };
-
-    fn clone(&self) -> Result<JoinTargets, AllocError> {
-        Ok(JoinTargets {
-            targets: self.targets.clone()?,
-        })
-    }
-}
-
-impl PartialEq for JoinTargets {
-    ghost use Rattle.std.specs.Prelude.{◌&&◌};
-    ghost use Rattle.std.specs.Cmp.Lexicographic.{pointwise};
-    ghost use Rattle.std.specs.Cmp.Rules.{comparing};
-    ghost use Rattle.std.specs.Str.{bytes_eq};
-
-    ghost eq = { pointwise (λ a b. bytes_eq a.channel b.channel && bytes_eq a.key b.key) };
-
-    ghost laws = { Prim.search comparing };
-
-    fn eq(&self, other: &JoinTargets) -> bool {
-        self.targets == other.targets
     }
 }

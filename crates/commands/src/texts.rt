@@ -48,27 +48,3 @@ impl Texts {
         &self.texts
     }
 }
-
-impl Clone for Texts {
-    ghost is_clone = { λ a b. b ≡ a };
-
-    fn clone(&self) -> Result<Texts, AllocError> {
-        Ok(Texts {
-            texts: self.texts.clone()?,
-        })
-    }
-}
-
-impl PartialEq for Texts {
-    ghost use Rattle.std.specs.Cmp.Lexicographic.{pointwise};
-    ghost use Rattle.std.specs.Cmp.Rules.{comparing};
-    ghost use Rattle.std.specs.Str.{bytes_eq};
-
-    ghost eq = { pointwise bytes_eq };
-
-    ghost laws = { Prim.search comparing };
-
-    fn eq(&self, other: &Texts) -> bool {
-        self.texts == other.texts
-    }
-}

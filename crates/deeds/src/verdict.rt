@@ -10,14 +10,14 @@ use roster::{Deed, Sessions};
 use std::alloc::{AllocError, Global};
 
 /// A line, and the sessions that it is shown to.
-#[derive(Debug, Drop)]
+#[derive(Drop)]
 pub struct Shown {
     pub hearers: Sessions,
     pub line: Out,
 }
 
 /// What comes of a record.
-#[derive(Debug, Drop)]
+#[derive(Drop)]
 pub struct Verdict {
     /// The facts that it establishes, in order.
     pub deeds: Vec<Deed>,

@@ -2,5 +2,6 @@ pub mod Effects
 pub mod Lines
 pub mod Replies
 pub mod Drafted
+pub mod Denials
 pub mod Seen
 pub mod Tells

@@ -13,7 +13,7 @@ use roster::{Deed, Sessions};
 use std::alloc::AllocError;
 
 /// One thing that a record does.
-#[derive(Debug, Drop)]
+#[derive(Drop)]
 pub enum Effect {
     /// A fact is established, and known to the effects after it.
     Establish { deed: Deed },

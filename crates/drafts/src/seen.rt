@@ -6,7 +6,7 @@ use line_grammar::Octets;
 use std::marker::Model;
 
 /// A channel that is there, by its name as it was first spelled.
-#[derive(Debug, Drop)]
+#[derive(Drop)]
 pub struct Seen {
     pub(crate) name: Octets,
     pub(crate) state: ChannelState,

@@ -16,7 +16,7 @@ use line_grammar::Octets;
 use std::alloc::{AllocError, AllocFailed, Global};
 
 /// A step of a script.
-#[derive(Debug, Drop)]
+#[derive(Drop)]
 pub(crate) enum Step {
     /// One event.
     One(Event),

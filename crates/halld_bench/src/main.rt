@@ -15,20 +15,39 @@ use std::{env, fs};
 /// The file in which Linux tells how much memory a process ever had.
 const STATUS: &str = "/proc/self/status";
 
-/// A step that isn't refused.
-fn take(play: &mut Play, event: &Event) -> Option<Note>
-    requires { IsWellShaped event.now }
+/// What a step makes, where it isn't refused.
+fn take(play: &mut Play, event: Event) -> Option<Note>
+    requires { IsWellShaped event }
 {
-    play.step(event).ok()
+    play.step(&event).ok()
 }
 
-fn connect(alloc: Global, play: &mut Play) -> Option<Note> {
+/// A step that isn't refused.
+fn go(play: &mut Play, event: Event) -> Option<()>
+    requires { IsWellShaped event }
+{
+    let _ = take(play, event)?;
+    Some(())
+}
+
+/// Whether worker 1 puts a delivery.
+fn puts(play: &mut Play) -> bool {
+    let worker = WorkerId::new(1);
+    matches!(take(play, Event::Put { worker }), Some(Note::Put(_)))
+}
+
+/// Whether the writer of a session takes an item.
+fn takes_item(play: &mut Play, session: SessionId) -> bool {
+    matches!(take(play, Event::Take { session }), Some(Note::Item(_)))
+}
+
+fn connect(alloc: Global, play: &mut Play) -> Option<()> {
     let host = Octets::copied(alloc, b"host.example").ok()?;
     if !is_host(host.as_slice()) {
         return None;
     }
     let moment = Moment::new(0);
-    take(play, &Event::Connect { host, moment })
+    go(play, Event::Connect { host, moment })
 }
 
 /// Reads one line of a session, and has worker 1 accept it, with all that it owes. It answers how many deliveries those were.
@@ -36,28 +55,26 @@ fn say(alloc: Global, play: &mut Play, session: SessionId, line: &[u8]) -> Optio
     let worker = WorkerId::new(1);
     let moment = Moment::new(0);
     let octets = Octets::copied(alloc, line).ok()?;
-    take(play, &Event::Feed { session, octets })?;
-    take(play, &Event::Pick { worker, session })?;
-    take(play, &Event::Begin { worker, moment })?;
-    let mut puts = 0u64;
+    go(play, Event::Feed { session, octets })?;
+    go(play, Event::Pick { worker, session })?;
+    go(play, Event::Begin { worker, moment })?;
+    let mut deliveries = 0u64;
     for _ in 0..u64::MAX {
-        match take(play, &Event::Put { worker }) {
-            Some(Note::Put(_)) => puts = puts.checked_add(1)?,
-            Some(_) => return None,
-            None => break,
+        if !puts(play) {
+            break;
         }
+        deliveries = deliveries.checked_add(1)?;
     }
-    take(play, &Event::End { worker })?;
-    Some(puts)
+    go(play, Event::End { worker })?;
+    Some(deliveries)
 }
 
 /// Takes so many items, one of each session but the first.
 fn take_items(play: &mut Play, members: u64) -> Option<()> {
     for other in 1..members {
         let session = SessionId::new(other + 1);
-        match take(play, &Event::Take { session })? {
-            Note::Item(_) => {}
-            _ => return None,
+        if !takes_item(play, session) {
+            return None;
         }
     }
     Some(())
@@ -68,7 +85,7 @@ fn empty(play: &mut Play, members: u64) -> Option<()> {
     for place in 0..members {
         let session = SessionId::new(place + 1);
         for _ in 0..members {
-            let _ = take(play, &Event::Take { session })?;
+            go(play, Event::Take { session })?;
         }
     }
     Some(())

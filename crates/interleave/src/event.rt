@@ -13,7 +13,7 @@ use line_grammar::Octets;
 use std::alloc::AllocError;
 
 /// One step of a reader, a worker, a writer or a closer.
-#[derive(Clone, Debug, Drop)]
+#[derive(Drop)]
 pub enum Event {
     /// A client of this host connects.
     Connect {
@@ -70,7 +70,7 @@ pub enum Event {
 }
 
 /// What became of an event.
-#[derive(Debug, Drop)]
+#[derive(Drop)]
 pub enum Note {
     /// The number of the new session.
     Session(SessionId),

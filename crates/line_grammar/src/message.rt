@@ -60,7 +60,7 @@ impl Clone for Parameters {
 }
 
 /// A message as it stands in a line.
-#[derive(Clone, Debug, Drop)]
+#[derive(Clone, Drop)]
 pub struct Message {
     /// The tag data, without `@` and as spelled. Empty where the line has no tags.
     pub tags: Octets,

@@ -1,1 +1,3 @@
 mod Examples
+pub mod Mild
+pub mod Turns

@@ -16,6 +16,8 @@ use Rattle.drafts.specs.Seen.{Seen}
 use Rattle.mode_commands.specs.declared.letters.ModeChange.{ModeChange}
 use Rattle.mode_commands.specs.declared.steps.Step.{Step}
 use Rattle.mode_commands.specs.declared.steps.Step.TheVariants as step
+use Rattle.mode_commands.specs.declared.steps.Refusal.{Refusal}
+use Rattle.mode_commands.specs.declared.steps.Refusal.TheVariants.{LacksParameter, Nobody, NotMember, Unknown}
 use Rattle.mode_commands.specs.Letters.{asked_changes}
 use Rattle.mode_commands.specs.Lines.{mode_line, letters_set, params_set}
 use Rattle.mode_commands.specs.Steps.{steps, all_shown}
@@ -30,13 +32,17 @@ ban_numerics k = map (BanList k.name) k.state.bans ++ EndOfBanList k.name ∷ []
 
 -- ---- what is changed
 
+-- the numeric of a letter that is refused, of a channel named c
+abbrev pub refusal_numeric : List ℕ → Refusal → Numeric
+refusal_numeric c LacksParameter = NeedMoreParams (codes "MODE")
+refusal_numeric c (Nobody n) = NoSuchNick n
+refusal_numeric c (NotMember n) = UserNotInChannel n c
+refusal_numeric c (Unknown letter) = UnknownMode letter
+
 -- a letter of a channel named c is refused, has no effect, or changes it
 abbrev pub does : Settings → ℕ → List ℕ → List Deed → Step → List Effect
 does g s c fs step.Nothing = []
-does g s c fs step.LacksParameter = tells g fs s (NeedMoreParams (codes "MODE")) ∷ []
-does g s c fs (step.Nobody n) = tells g fs s (NoSuchNick n) ∷ []
-does g s c fs (step.NotMember n) = tells g fs s (UserNotInChannel n c) ∷ []
-does g s c fs (step.Unknown letter) = tells g fs s (UnknownMode letter) ∷ []
+does g s c fs (step.Refused why) = tells g fs s (refusal_numeric c why) ∷ []
 does g s c fs (step.Changes x shown) = Establish (Changed c x) ∷ []
 
 -- letters in turn, each over the facts that those before it leave
@@ -44,16 +50,17 @@ abbrev pub in_turn : Settings → ℕ → List ℕ → List Deed → List Step �
 in_turn g s c fs [] = []
 in_turn g s c fs (x ∷ xs) = does g s c fs x ++ in_turn g s c (after fs (deeds_of (does g s c fs x))) xs
 
--- all members see in one line what changed
-abbrev pub shows_changes : List ℕ → Seen → List ModeChange → List Effect
-shows_changes from k [] = []
-shows_changes from k (a ∷ bs) = Show k.state.members (mode_line from k.name (a ∷ bs)) ∷ []
+-- members see in one line what changed on a channel named c
+abbrev pub shows_changes : List ℕ → List ℕ → List ℕ → List ModeChange → List Effect
+shows_changes from c members [] = []
+shows_changes from c members (a ∷ bs) = Show members (mode_line from c (a ∷ bs)) ∷ []
 
-abbrev pub takes_steps : Settings → List Deed → ℕ → Seen → List Step → List Effect
-takes_steps g fs s k xs = in_turn g s k.name fs xs ++ shows_changes (prefix fs s) k (all_shown xs)
+-- all members before the line see it
+abbrev pub takes_steps : Settings → List Deed → ℕ → List ℕ → List ℕ → Seen → List Step → List Effect
+takes_steps g fs s from c k xs = in_turn g s k.name fs xs ++ shows_changes from c k.state.members (all_shown xs)
 
 abbrev pub takes_changes : Settings → List Deed → ℕ → Seen → List ModeChange → List Effect
-takes_changes g fs s k bs = takes_steps g fs s k (steps fs k.state bs)
+takes_changes g fs s k bs = takes_steps g fs s (prefix fs s) k.name k (steps fs k.state bs)
 
 -- ---- the command
 

@@ -16,7 +16,9 @@ use Rattle.roster.specs.Legal.{IsFit}
 use Rattle.drafts.specs.Lines.{title}
 use Rattle.mode_commands.specs.declared.letters.ModeChange.{ModeChange}
 use Rattle.mode_commands.specs.declared.steps.Step.{Step}
-use Rattle.mode_commands.specs.declared.steps.Step.TheVariants.{Nothing, LacksParameter, Nobody, NotMember, Unknown, Changes}
+use Rattle.mode_commands.specs.declared.steps.Step.TheVariants.{Nothing, Refused, Changes}
+use Rattle.mode_commands.specs.declared.steps.Refusal.{Refusal}
+use Rattle.mode_commands.specs.declared.steps.Refusal.TheVariants.{LacksParameter, Nobody, NotMember, Unknown}
 use Rattle.mode_commands.specs.Parameters.{completed, is_key, limit_of}
 
 -- whether two tests say the same
@@ -39,7 +41,7 @@ flag_of letter =
     else None
 
 abbrev pub flag_step : State → ModeChange → Option Flag → Step
-flag_step k a None = Unknown a.letter
+flag_step k a None = Refused (Unknown a.letter)
 flag_step k a (Some flag) = if agree a.on (is_set flag k.modes) then Nothing else Changes (FlagSet flag a.on) (shown_with a None)
 
 -- ---- ranks: `o` and `v`
@@ -51,16 +53,16 @@ has_rank k Voice t = among t k.voices
 -- a user, with its nickname as it is spelled
 abbrev pub member_step : State → Rank → ModeChange → List ℕ → ℕ → Step
 member_step k rank a n t =
-    if not (among t k.members) then NotMember n
+    if not (among t k.members) then Refused (NotMember n)
     else if agree a.on (has_rank k rank t) then Nothing
     else Changes (RankSet t rank a.on) (shown_with a (Some n))
 
 abbrev pub user_step : List Deed → State → Rank → ModeChange → List ℕ → Option ℕ → Step
-user_step fs k rank a n None = Nobody n
+user_step fs k rank a n None = Refused (Nobody n)
 user_step fs k rank a n (Some t) = member_step k rank a (title (nick fs t)) t
 
 abbrev pub rank_step : List Deed → State → Rank → ModeChange → Option (List ℕ) → Step
-rank_step fs k rank a None = LacksParameter
+rank_step fs k rank a None = Refused LacksParameter
 rank_step fs k rank a (Some n) = user_step fs k rank a n (found fs n)
 
 -- ---- `b`: masks are the same however they are spelled, and there are 60 at most
@@ -87,7 +89,7 @@ abbrev pub key_set : State → ModeChange → List ℕ → Step
 key_set k a key = if has_key k.modes.key key then Nothing else Changes (KeySet (Some key)) (shown_with a (Some key))
 
 abbrev pub key_given : State → ModeChange → Option (List ℕ) → Step
-key_given k a None = LacksParameter
+key_given k a None = Refused LacksParameter
 key_given k a (Some key) = if is_key key then key_set k a (take 23 key) else Nothing
 
 abbrev pub key_lifted : State → ModeChange → Step
@@ -107,7 +109,7 @@ limit_set k a None = Nothing
 limit_set k a (Some limit) = if has_limit k.modes.limit limit then Nothing else Changes (LimitSet (Some limit)) (shown_with a (Some (decimal limit)))
 
 abbrev pub limit_given : State → ModeChange → Option (List ℕ) → Step
-limit_given k a None = LacksParameter
+limit_given k a None = Refused LacksParameter
 limit_given k a (Some text) = limit_set k a (limit_of text)
 
 abbrev pub limit_lifted : State → ModeChange → Step

@@ -1,18 +1,17 @@
 //! MODE of a channel (RFC 2812, section 3.2.3).
-ghost use Rattle.std.specs.Prelude.{◌≡◌, ◌∷◌, ◌++◌, [], codes, map, IfOk, OnOk};
-ghost use Rattle.numerics.specs.declared.numeric.Numeric.TheVariants.{BanList, NeedMoreParams, UserNotInChannel};
+ghost use Rattle.std.specs.Prelude.{◌≡◌, ◌∷◌, ◌++◌, [], map, IfOk, OnOk};
+ghost use Rattle.numerics.specs.declared.numeric.Numeric.TheVariants.{BanList};
 ghost use Rattle.drafts.specs.Drafted.{grown};
-ghost use Rattle.drafts.specs.Lines.{prefix};
 ghost use Rattle.drafts.specs.Replies.{tells, tells_all};
 ghost use Rattle.drafts.specs.Seen.{IsSeen};
-ghost use Rattle.mode_commands.specs.ChannelModes.{asks_bans, ban_numerics, channel_modes, does, does_changes, in_turn, shows_changes, takes_changes, tells_modes};
+ghost use Rattle.mode_commands.specs.ChannelModes.{asks_bans, ban_numerics, channel_modes, does, does_changes, in_turn, refusal_numeric, shows_changes, takes_changes, takes_steps, tells_modes};
 ghost use Rattle.mode_commands.specs.Steps.{IsMild, all_shown, shown_by, step, stepped, steps};
 
 use crate::letters::{ModeChange, asked_changes};
 use crate::lines::{letters_set, mode_line, params_set};
-use crate::steps::{Step, step_of};
+use crate::steps::{Refusal, Step, step_of};
 use chronicle::SessionId;
-use drafts::{Draft, Seen, prefix_of, tell, tell_all};
+use drafts::{Denial, Draft, Seen, deny, deny_absent, prefix_of, tell, tell_all};
 use line_grammar::Octets;
 use numerics::{Numeric, Words};
 use roster::Sessions;
@@ -77,19 +76,24 @@ fn tell_bans(draft: &mut Draft, session: SessionId, seen: &Seen) -> Result<(), A
 
 // ---- what is changed
 
-/// A missing parameter.
-fn lacks_parameter(alloc: Global) -> Result<Numeric, AllocError>
-    ensures { IfOk result (λ n. n ≡ NeedMoreParams (codes "MODE")) }
+/// Answers that a letter is refused.
+fn refuse(
+    draft: &mut Draft,
+    session: SessionId,
+    channel: &Octets,
+    refusal: Refusal,
+) -> Result<(), AllocError>
+    ensures { OnOk result (draft.new ≡ grown draft.old (tells draft.old.settings draft.old.facts session (refusal_numeric channel.now refusal) ∷ [])) }
 {
-    Ok(Numeric::NeedMoreParams(Octets::copied(alloc, b"MODE")?))
-}
-
-/// A user that isn't on a channel.
-fn not_member(nick: Octets, channel: &Octets) -> Result<Numeric, AllocError>
-    ensures { IfOk result (λ n. n ≡ UserNotInChannel nick channel.now) }
-{
-    let channel = channel.clone()?;
-    Ok(Numeric::UserNotInChannel { nick, channel })
+    match refusal {
+        Refusal::LacksParameter => {
+            let command = Octets::copied(draft.alloc(), b"MODE")?;
+            tell(draft, session, Numeric::NeedMoreParams(command))
+        }
+        Refusal::Nobody { nick } => deny(draft, session, Denial::NoSuchNick, &nick),
+        Refusal::NotMember { nick } => deny_absent(draft, session, &nick, channel),
+        Refusal::Unknown { letter } => tell(draft, session, Numeric::UnknownMode(letter)),
+    }
 }
 
 /// A letter that changes a channel, has no effect, or is refused.
@@ -109,16 +113,7 @@ fn take_step(
 {
     match step {
         Step::Nothing => Ok(()),
-        Step::LacksParameter => {
-            let numeric = lacks_parameter(draft.alloc())?;
-            tell(draft, session, numeric)
-        }
-        Step::Nobody { nick } => tell(draft, session, Numeric::NoSuchNick(nick)),
-        Step::NotMember { nick } => {
-            let numeric = not_member(nick, seen.name())?;
-            tell(draft, session, numeric)
-        }
-        Step::Unknown { letter } => tell(draft, session, Numeric::UnknownMode(letter)),
+        Step::Refused { refusal } => refuse(draft, session, seen.name(), refusal),
         Step::Changes { change, shown: new } => {
             draft.change(seen, change)?;
             shown.push(new)?;
@@ -128,6 +123,7 @@ fn take_step(
 }
 
 /// Takes one letter.
+#[tactic(auto, using(crate::proofs::Mild::step_mild))]
 fn take_change(
     draft: &mut Draft,
     session: SessionId,
@@ -138,7 +134,6 @@ fn take_change(
     requires seen { IsSeen draft.old.facts seen.old }
     ensures grown { OnOk result (draft.new ≡ grown draft.old (does draft.old.settings session seen.old.name draft.old.facts (step draft.old.base seen.old.state asked.now))) }
     ensures seen { OnOk result (seen.new ≡ record { name = seen.old.name; state = stepped (step draft.old.base seen.old.state asked.now) seen.old.state }) }
-    ensures members { OnOk result (seen.new.state.members ≡ seen.old.state.members) }
     ensures known { OnOk result (IsSeen draft.new.facts seen.new) }
     ensures shown { OnOk result (shown.new.items ≡ shown.old.items ++ shown_by (step draft.old.base seen.old.state asked.now)) }
 {
@@ -156,8 +151,6 @@ fn take_each(
 ) -> Result<(), AllocError>
     requires seen { IsSeen draft.old.facts seen.old }
     ensures grown { OnOk result (draft.new ≡ grown draft.old (in_turn draft.old.settings session seen.old.name draft.old.facts (steps draft.old.base seen.old.state changes.now))) }
-    ensures name { OnOk result (seen.new.name ≡ seen.old.name) }
-    ensures members { OnOk result (seen.new.state.members ≡ seen.old.state.members) }
     ensures shown { OnOk result (shown.new.items ≡ shown.old.items ++ all_shown (steps draft.old.base seen.old.state changes.now)) }
 {
     for change in changes {
@@ -166,40 +159,62 @@ fn take_each(
     Ok(())
 }
 
-/// Shows all members what changed, where something did.
+/// Shows members what changed, where something did.
 fn show_changes(
     draft: &mut Draft,
-    from: &Octets,
-    seen: &Seen,
+    from: &[u8],
+    channel: &[u8],
+    members: Sessions,
     shown: &[ModeChange],
 ) -> Result<(), AllocError>
-    ensures { OnOk result (draft.new ≡ grown draft.old (shows_changes from.now seen.now shown.now)) }
+    ensures { OnOk result (draft.new ≡ grown draft.old (shows_changes from.now channel.now members shown.now)) }
 {
     if shown.is_empty() {
         return Ok(());
     }
-    let alloc = draft.alloc();
-    let line = mode_line(alloc, from.as_slice(), seen.name().as_slice(), shown)?;
-    let hearers = Sessions::copied(alloc, seen.state().members())?;
-    draft.show(hearers, line)
+    let line = mode_line(draft.alloc(), from, channel, shown)?;
+    draft.show(members, line)
 }
 
 /// Takes letters, and shows what changed.
+fn take_and_show(
+    draft: &mut Draft,
+    session: SessionId,
+    from: &[u8],
+    channel: &[u8],
+    seen: &mut Seen,
+    changes: &[ModeChange],
+) -> Result<(), AllocError>
+    requires seen { IsSeen draft.old.facts seen.old }
+    ensures { OnOk result (draft.new ≡ grown draft.old (takes_steps draft.old.settings draft.old.facts session from.now channel.now seen.old (steps draft.old.base seen.old.state changes.now))) }
+{
+    let members = Sessions::copied(draft.alloc(), seen.state().members())?;
+    let mut shown = Vec::new(draft.alloc());
+    take_each(draft, session, seen, changes, &mut shown)?;
+    show_changes(draft, from, channel, members, &shown)
+}
+
+/// Takes letters of an operator.
 fn take_changes(
     draft: &mut Draft,
     session: SessionId,
-    seen: Seen,
+    seen: &mut Seen,
     changes: &[ModeChange],
 ) -> Result<(), AllocError>
-    requires seen { IsSeen draft.old.facts seen }
+    requires seen { IsSeen draft.old.facts seen.old }
     requires first { draft.old.facts ≡ draft.old.base }
-    ensures { OnOk result (draft.new ≡ grown draft.old (takes_changes draft.old.settings draft.old.facts session seen changes.now)) }
+    ensures { OnOk result (draft.new ≡ grown draft.old (takes_changes draft.old.settings draft.old.facts session seen.old changes.now)) }
 {
-    let mut seen = seen;
-    let mut shown = Vec::new(draft.alloc());
     let from = prefix_of(draft, session)?;
-    take_each(draft, session, &mut seen, changes, &mut shown)?;
-    show_changes(draft, &from, &seen, &shown)
+    let channel = seen.name().clone()?;
+    take_and_show(
+        draft,
+        session,
+        from.as_slice(),
+        channel.as_slice(),
+        seen,
+        changes,
+    )
 }
 
 // ---- the command
@@ -218,36 +233,35 @@ fn asks_bans(changes: &[ModeChange]) -> bool
 fn do_changes(
     draft: &mut Draft,
     session: SessionId,
-    seen: Seen,
+    seen: &mut Seen,
     changes: &[ModeChange],
 ) -> Result<(), AllocError>
-    requires seen { IsSeen draft.old.facts seen }
+    requires seen { IsSeen draft.old.facts seen.old }
     requires first { draft.old.facts ≡ draft.old.base }
-    ensures { OnOk result (draft.new ≡ grown draft.old (does_changes draft.old.settings draft.old.facts session seen changes.now)) }
+    ensures { OnOk result (draft.new ≡ grown draft.old (does_changes draft.old.settings draft.old.facts session seen.old changes.now)) }
 {
     if asks_bans(changes) {
-        return tell_bans(draft, session, &seen);
+        return tell_bans(draft, session, seen);
     }
     if seen.state().is_operator(session) {
         return take_changes(draft, session, seen, changes);
     }
-    let channel = seen.name().clone()?;
-    tell(draft, session, Numeric::ChanOPrivsNeeded(channel))
+    deny(draft, session, Denial::ChanOPrivsNeeded, seen.name())
 }
 
 /// Tells or changes the modes of a channel.
 pub(crate) fn channel_modes(
     draft: &mut Draft,
     session: SessionId,
-    seen: Seen,
+    seen: &mut Seen,
     changes: &[Octets],
 ) -> Result<(), AllocError>
-    requires seen { IsSeen draft.old.facts seen }
+    requires seen { IsSeen draft.old.facts seen.old }
     requires first { draft.old.facts ≡ draft.old.base }
-    ensures { OnOk result (draft.new ≡ grown draft.old (channel_modes draft.old.settings draft.old.facts session seen changes.now)) }
+    ensures { OnOk result (draft.new ≡ grown draft.old (channel_modes draft.old.settings draft.old.facts session seen.old changes.now)) }
 {
     let Some((letters, params)) = changes.split_first() else {
-        return tell_modes(draft, session, &seen);
+        return tell_modes(draft, session, seen);
     };
     let asked = asked_changes(draft.alloc(), letters.as_slice(), params)?;
     do_changes(draft, session, seen, &asked)

@@ -10,7 +10,7 @@ use std::marker::Model;
 const SERVED: usize = 4;
 
 /// A change of a mode, as it is asked for or shown.
-#[derive(Clone, Debug, Drop, PartialEq)]
+#[derive(Drop)]
 pub struct ModeChange {
     /// Whether the mode is set, by `+`, or cleared, by `-`.
     pub on: bool,

@@ -9,7 +9,7 @@ ghost use Rattle.mode_commands.specs.Modes.{modes, names_channel, of_channel, of
 use crate::channel_modes::channel_modes;
 use crate::user_modes::own_modes;
 use chronicle::SessionId;
-use drafts::{Draft, tell};
+use drafts::{Denial, Draft, deny, tell};
 use line_grammar::Octets;
 use numerics::Numeric;
 use std::alloc::AllocError;
@@ -31,11 +31,8 @@ fn of_channel(
     ensures { OnOk result (draft.new ≡ grown draft.old (of_channel draft.old.settings draft.old.facts session target.now changes.now (seen draft.old.facts target.now))) }
 {
     match draft.seen(target.as_slice())? {
-        Some(seen) => channel_modes(draft, session, seen, changes),
-        None => {
-            let target = target.clone()?;
-            tell(draft, session, Numeric::NoSuchChannel(target))
-        }
+        Some(mut seen) => channel_modes(draft, session, &mut seen, changes),
+        None => deny(draft, session, Denial::NoSuchChannel, target),
     }
 }
 
@@ -52,10 +49,7 @@ fn of_user(
     match draft.before().find(target.as_slice()) {
         Some(user) if user == session => own_modes(draft, session, changes),
         Some(_) => tell(draft, session, Numeric::UsersDontMatch),
-        None => {
-            let target = target.clone()?;
-            tell(draft, session, Numeric::NoSuchNick(target))
-        }
+        None => deny(draft, session, Denial::NoSuchNick, target),
     }
 }
 

@@ -1,7 +1,7 @@
 //! What a letter of MODE does to a channel (RFC 2812, section 3.2.3; RFC 2811, sections 4.1 to 4.3).
 ghost use Rattle.std.specs.Prelude.{◌≡◌, decimal, take, IfOk};
 ghost use Rattle.roster.specs.LookBack.{found};
-ghost use Rattle.mode_commands.specs.Steps.{IsMild, agree, ban_step, flag_of, flag_step, has_ban, has_key, has_limit, has_rank, key_given, key_lifted, key_set, key_step, limit_given, limit_lifted, limit_set, limit_step, mask_step, member_step, rank_step, shown_with, step, user_step};
+ghost use Rattle.mode_commands.specs.Steps.{agree, ban_step, flag_of, flag_step, has_ban, has_key, has_limit, has_rank, key_given, key_lifted, key_set, key_step, limit_given, limit_lifted, limit_set, limit_step, mask_step, member_step, rank_step, shown_with, step, user_step};
 
 use crate::letters::ModeChange;
 use crate::parameters::{completed, is_key, limit_of};
@@ -19,11 +19,9 @@ const MAX_BANS: usize = 60;
 /// How many octets a key has at most.
 const MAX_KEY: usize = 23;
 
-/// What comes of a letter.
-#[derive(Debug, Drop)]
-pub enum Step {
-    /// It has no effect.
-    Nothing,
+/// Why a letter is refused.
+#[derive(Drop)]
+pub enum Refusal {
     /// Its parameter is missing.
     LacksParameter,
     /// It names nobody.
@@ -32,6 +30,15 @@ pub enum Step {
     NotMember { nick: Octets },
     /// It is no mode.
     Unknown { letter: u8 },
+}
+
+/// What comes of a letter.
+#[derive(Drop)]
+pub enum Step {
+    /// It has no effect.
+    Nothing,
+    /// It is refused.
+    Refused { refusal: Refusal },
     /// The channel changes, which is shown.
     Changes { change: Change, shown: ModeChange },
 }
@@ -72,12 +79,13 @@ fn flag_of(letter: u8) -> Option<Flag>
 }
 
 fn flag_step(state: &ChannelState, asked: &ModeChange, flag: Option<Flag>) -> Step
-    ensures step { result ≡ flag_step state.now.state asked.now flag }
-    ensures mild { IsMild state.now.state result }
+    ensures { result ≡ flag_step state.now.state asked.now flag }
 {
     let Some(flag) = flag else {
-        return Step::Unknown {
-            letter: asked.letter,
+        return Step::Refused {
+            refusal: Refusal::Unknown {
+                letter: asked.letter,
+            },
         };
     };
     if agree(asked.on, state.modes().is_set(flag)) {
@@ -108,11 +116,12 @@ fn member_step(
     nick: Octets,
     session: SessionId,
 ) -> Step
-    ensures step { result ≡ member_step state.now.state rank asked.now nick session }
-    ensures mild { IsMild state.now.state result }
+    ensures { result ≡ member_step state.now.state rank asked.now nick session }
 {
     if !state.has(session) {
-        return Step::NotMember { nick };
+        return Step::Refused {
+            refusal: Refusal::NotMember { nick },
+        };
     }
     if agree(asked.on, has_rank(state, rank, session)) {
         return Step::Nothing;
@@ -135,17 +144,19 @@ fn user_step(
     asked: &ModeChange,
     nick: &Octets,
 ) -> Result<Step, AllocError>
-    ensures step { IfOk result (λ x. x ≡ user_step roster.now.facts state.now.state rank asked.now nick.now (found roster.now.facts nick.now)) }
-    ensures mild { IfOk result (λ x. IsMild state.now.state x) }
+    ensures { IfOk result (λ x. x ≡ user_step roster.now.facts state.now.state rank asked.now nick.now (found roster.now.facts nick.now)) }
 {
     match roster.find(nick.as_slice()) {
         Some(session) => {
             let spelled = title_of(alloc, roster.nick_of(session))?;
             Ok(member_step(state, rank, asked, spelled, session))
         }
-        None => Ok(Step::Nobody {
-            nick: nick.clone()?,
-        }),
+        None => {
+            let nick = nick.clone()?;
+            Ok(Step::Refused {
+                refusal: Refusal::Nobody { nick },
+            })
+        }
     }
 }
 
@@ -156,12 +167,13 @@ fn rank_step(
     rank: Rank,
     asked: &ModeChange,
 ) -> Result<Step, AllocError>
-    ensures step { IfOk result (λ x. x ≡ rank_step roster.now.facts state.now.state rank asked.now asked.now.param) }
-    ensures mild { IfOk result (λ x. IsMild state.now.state x) }
+    ensures { IfOk result (λ x. x ≡ rank_step roster.now.facts state.now.state rank asked.now asked.now.param) }
 {
     match &asked.param {
         Some(nick) => user_step(alloc, roster, state, rank, asked, nick),
-        None => Ok(Step::LacksParameter),
+        None => Ok(Step::Refused {
+            refusal: Refusal::LacksParameter,
+        }),
     }
 }
 
@@ -178,8 +190,7 @@ fn has_ban(state: &ChannelState, mask: &[u8]) -> bool
 
 /// A completed mask is banned, or not any more.
 fn mask_step(state: &ChannelState, asked: &ModeChange, mask: Octets) -> Result<Step, AllocError>
-    ensures step { IfOk result (λ x. x ≡ mask_step state.now.state asked.now mask) }
-    ensures mild { IfOk result (λ x. IsMild state.now.state x) }
+    ensures { IfOk result (λ x. x ≡ mask_step state.now.state asked.now mask) }
 {
     let has = has_ban(state, mask.as_slice());
     let shown = mask.clone()?;
@@ -199,8 +210,7 @@ fn mask_step(state: &ChannelState, asked: &ModeChange, mask: Octets) -> Result<S
 }
 
 fn ban_step(alloc: Global, state: &ChannelState, asked: &ModeChange) -> Result<Step, AllocError>
-    ensures step { IfOk result (λ x. x ≡ ban_step state.now.state asked.now asked.now.param) }
-    ensures mild { IfOk result (λ x. IsMild state.now.state x) }
+    ensures { IfOk result (λ x. x ≡ ban_step state.now.state asked.now asked.now.param) }
 {
     let Some(mask) = &asked.param else {
         return Ok(Step::Nothing);
@@ -225,8 +235,7 @@ fn has_key(old: &Option<Octets>, key: &Octets) -> bool
 
 /// A key is set.
 fn key_set(state: &ChannelState, asked: &ModeChange, key: Octets) -> Result<Step, AllocError>
-    ensures step { IfOk result (λ x. x ≡ key_set state.now.state asked.now key) }
-    ensures mild { IfOk result (λ x. IsMild state.now.state x) }
+    ensures { IfOk result (λ x. x ≡ key_set state.now.state asked.now key) }
 {
     if has_key(&state.modes().key, &key) {
         return Ok(Step::Nothing);
@@ -248,11 +257,12 @@ fn cut_key(alloc: Global, key: &[u8]) -> Result<Octets, AllocError>
 }
 
 fn key_given(alloc: Global, state: &ChannelState, asked: &ModeChange) -> Result<Step, AllocError>
-    ensures step { IfOk result (λ x. x ≡ key_given state.now.state asked.now asked.now.param) }
-    ensures mild { IfOk result (λ x. IsMild state.now.state x) }
+    ensures { IfOk result (λ x. x ≡ key_given state.now.state asked.now asked.now.param) }
 {
     let Some(key) = &asked.param else {
-        return Ok(Step::LacksParameter);
+        return Ok(Step::Refused {
+            refusal: Refusal::LacksParameter,
+        });
     };
     if !is_key(key.as_slice()) {
         return Ok(Step::Nothing);
@@ -262,8 +272,7 @@ fn key_given(alloc: Global, state: &ChannelState, asked: &ModeChange) -> Result<
 }
 
 fn key_lifted(alloc: Global, state: &ChannelState, asked: &ModeChange) -> Result<Step, AllocError>
-    ensures step { IfOk result (λ x. x ≡ key_lifted state.now.state asked.now) }
-    ensures mild { IfOk result (λ x. IsMild state.now.state x) }
+    ensures { IfOk result (λ x. x ≡ key_lifted state.now.state asked.now) }
 {
     if state.modes().key.is_none() {
         return Ok(Step::Nothing);
@@ -276,8 +285,7 @@ fn key_lifted(alloc: Global, state: &ChannelState, asked: &ModeChange) -> Result
 }
 
 fn key_step(alloc: Global, state: &ChannelState, asked: &ModeChange) -> Result<Step, AllocError>
-    ensures step { IfOk result (λ x. x ≡ key_step state.now.state asked.now asked.now.param) }
-    ensures mild { IfOk result (λ x. IsMild state.now.state x) }
+    ensures { IfOk result (λ x. x ≡ key_step state.now.state asked.now asked.now.param) }
 {
     if asked.on {
         return key_given(alloc, state, asked);
@@ -309,8 +317,7 @@ fn limit_set(
     asked: &ModeChange,
     limit: Option<u64>,
 ) -> Result<Step, AllocError>
-    ensures step { IfOk result (λ x. x ≡ limit_set state.now.state asked.now limit) }
-    ensures mild { IfOk result (λ x. IsMild state.now.state x) }
+    ensures { IfOk result (λ x. x ≡ limit_set state.now.state asked.now limit) }
 {
     let Some(limit) = limit else {
         return Ok(Step::Nothing);
@@ -326,19 +333,19 @@ fn limit_set(
 }
 
 fn limit_given(alloc: Global, state: &ChannelState, asked: &ModeChange) -> Result<Step, AllocError>
-    ensures step { IfOk result (λ x. x ≡ limit_given state.now.state asked.now asked.now.param) }
-    ensures mild { IfOk result (λ x. IsMild state.now.state x) }
+    ensures { IfOk result (λ x. x ≡ limit_given state.now.state asked.now asked.now.param) }
 {
     let Some(text) = &asked.param else {
-        return Ok(Step::LacksParameter);
+        return Ok(Step::Refused {
+            refusal: Refusal::LacksParameter,
+        });
     };
     let limit = limit_of(text.as_slice());
     limit_set(alloc, state, asked, limit)
 }
 
 fn limit_lifted(state: &ChannelState, asked: &ModeChange) -> Step
-    ensures step { result ≡ limit_lifted state.now.state asked.now }
-    ensures mild { IsMild state.now.state result }
+    ensures { result ≡ limit_lifted state.now.state asked.now }
 {
     if state.modes().limit.is_none() {
         return Step::Nothing;
@@ -350,8 +357,7 @@ fn limit_lifted(state: &ChannelState, asked: &ModeChange) -> Step
 }
 
 fn limit_step(alloc: Global, state: &ChannelState, asked: &ModeChange) -> Result<Step, AllocError>
-    ensures step { IfOk result (λ x. x ≡ limit_step state.now.state asked.now asked.now.param) }
-    ensures mild { IfOk result (λ x. IsMild state.now.state x) }
+    ensures { IfOk result (λ x. x ≡ limit_step state.now.state asked.now asked.now.param) }
 {
     if asked.on {
         return limit_given(alloc, state, asked);
@@ -369,8 +375,7 @@ pub(crate) fn step_of(
     state: &ChannelState,
     asked: &ModeChange,
 ) -> Result<Step, AllocError>
-    ensures step { IfOk result (λ x. x ≡ step roster.now.facts state.now.state asked.now) }
-    ensures mild { IfOk result (λ x. IsMild state.now.state x) }
+    ensures { IfOk result (λ x. x ≡ step roster.now.facts state.now.state asked.now) }
 {
     match asked.letter {
         b'o' => rank_step(alloc, roster, state, Rank::Operator, asked),

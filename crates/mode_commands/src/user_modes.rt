@@ -1,11 +1,13 @@
 //! MODE of a user (RFC 2812, section 3.1.5).
 ghost use Rattle.std.specs.Prelude.{◌≡◌, ◌∷◌, ◌++◌, ◌==◌, [], not, None, IfOk, OnOk};
 ghost use Rattle.std.specs.List.{list_any};
-ghost use Rattle.roster.specs.LookBack.{nick};
+ghost use Rattle.numerics.specs.declared.numeric.Numeric.TheVariants.{UModeIs};
+ghost use Rattle.roster.specs.LookBack.{invisible, nick};
 ghost use Rattle.roster.specs.Legal.{IsOpened};
 ghost use Rattle.drafts.specs.Drafted.{grown};
 ghost use Rattle.drafts.specs.Lines.{prefix, title};
-ghost use Rattle.mode_commands.specs.Letters.{asks};
+ghost use Rattle.drafts.specs.Replies.{tells};
+ghost use Rattle.mode_commands.specs.Letters.{asked_changes, asks};
 ghost use Rattle.mode_commands.specs.Lines.{mode_line};
 ghost use Rattle.mode_commands.specs.UserModes.{hides, invisible_after, is_known, modes_text, own_modes, takes_own, tells_unknown};
 
@@ -103,6 +105,26 @@ fn take_own(draft: &mut Draft, session: SessionId, changes: &[ModeChange]) -> Re
     hide(draft, session, invisible_after(was, changes))
 }
 
+/// Tells a session its own modes.
+fn tell_own(draft: &mut Draft, session: SessionId) -> Result<(), AllocError>
+    requires { draft.old.facts ≡ draft.old.base }
+    ensures { OnOk result (draft.new ≡ grown draft.old (tells draft.old.settings draft.old.facts session (UModeIs (modes_text (invisible draft.old.facts session))) ∷ [])) }
+{
+    let is = draft.before().is_invisible(session);
+    let modes = Octets::copied(draft.alloc(), modes_text(is))?;
+    tell(draft, session, Numeric::UModeIs(modes))
+}
+
+/// Changes a session's own modes by letters.
+fn change_own(draft: &mut Draft, session: SessionId, letters: &[u8]) -> Result<(), AllocError>
+    requires opened { IsOpened draft.old.facts session }
+    requires first { draft.old.facts ≡ draft.old.base }
+    ensures { OnOk result (draft.new ≡ grown draft.old (takes_own draft.old.settings draft.old.facts session (asked_changes letters.now []))) }
+{
+    let asked = asked_changes(draft.alloc(), letters, &[])?;
+    take_own(draft, session, &asked)
+}
+
 /// Tells or changes a session's own modes.
 pub(crate) fn own_modes(
     draft: &mut Draft,
@@ -113,11 +135,8 @@ pub(crate) fn own_modes(
     requires first { draft.old.facts ≡ draft.old.base }
     ensures { OnOk result (draft.new ≡ grown draft.old (own_modes draft.old.settings draft.old.facts session changes.now)) }
 {
-    let Some(letters) = changes.first() else {
-        let is = draft.before().is_invisible(session);
-        let modes = Octets::copied(draft.alloc(), modes_text(is))?;
-        return tell(draft, session, Numeric::UModeIs(modes));
-    };
-    let asked = asked_changes(draft.alloc(), letters.as_slice(), &[])?;
-    take_own(draft, session, &asked)
+    match changes.split_first() {
+        Some((letters, _)) => change_own(draft, session, letters.as_slice()),
+        None => tell_own(draft, session),
+    }
 }

@@ -3,7 +3,7 @@ use crate::{Prefix, Words};
 use line_grammar::Octets;
 
 /// A member of a channel.
-#[derive(Clone, Debug, Drop)]
+#[derive(Drop)]
 pub struct Who {
     pub channel: Octets,
     pub user: Octets,

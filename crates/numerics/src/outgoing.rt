@@ -9,7 +9,7 @@ use std::alloc::{AllocError, Global};
 const MAX_LINE: usize = 510;
 
 /// An outgoing line before its server's tags.
-#[derive(Clone, Debug, Drop)]
+#[derive(Clone, Drop)]
 pub struct Out {
     /// The client's tags, as tag data without `@`. Empty where there are none.
     pub tags: Octets,

@@ -6,7 +6,7 @@ use line_grammar::Octets;
 use std::alloc::{AllocError, Global};
 
 /// What is shown of a member's rank: the higher one where a member has both.
-#[derive(Clone, Copy, Debug, PartialEq)]
+#[derive(Clone, Copy)]
 pub enum Prefix {
     /// `@`.
     Operator,

@@ -6,7 +6,7 @@ use std::alloc::AllocError;
 use std::marker::Model;
 
 /// Words that stand in one line, in order: parted by spaces in one parameter, or each a parameter.
-#[derive(Debug, Drop)]
+#[derive(Drop)]
 pub struct Words {
     words: Vec<Octets>,
 }
@@ -32,15 +32,5 @@ impl Words {
         ensures { result.now ≡ self.now }
     {
         &self.words
-    }
-}
-
-impl Clone for Words {
-    ghost is_clone = { λ a b. b ≡ a };
-
-    fn clone(&self) -> Result<Words, AllocError> {
-        Ok(Words {
-            words: self.words.clone()?,
-        })
     }
 }

@@ -18,7 +18,7 @@ use std::alloc::{AllocError, Global};
 use std::marker::Model;
 
 /// An account: a user's name, and what its password is checked against.
-#[derive(Clone, Debug, Drop)]
+#[derive(Clone, Drop)]
 pub struct Account {
     /// A nickname.
     pub name: Octets,
@@ -52,7 +52,7 @@ impl From<AllocError> for AccountFault {
 }
 
 /// The accounts of a server, in the order of its file.
-#[derive(Debug, Drop)]
+#[derive(Drop)]
 pub struct Accounts {
     accounts: Vec<Account>,
 }

@@ -16,7 +16,7 @@ const PIECELEN: usize = 400;
 const EXCHANGELEN: usize = 1200;
 
 /// What a session has told of itself while it registers.
-#[derive(Clone, Copy, Debug)]
+#[derive(Clone, Copy)]
 pub struct Enrol<'a> {
     /// Its nickname.
     pub nick: Option<&'a Octets>,
@@ -66,7 +66,7 @@ pub enum CapAnswer {
 }
 
 /// What AUTHENTICATE is answered by.
-#[derive(Debug, Drop, PartialEq)]
+#[derive(Drop)]
 pub enum SaslAnswer {
     /// The session is logged in already (907).
     AlreadyLoggedIn,

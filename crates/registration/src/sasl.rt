@@ -13,7 +13,7 @@ use line_grammar::Octets;
 use std::alloc::{AllocError, Global};
 
 /// Who logs in, and with which password. Neither is empty.
-#[derive(Clone, Debug, Drop, PartialEq)]
+#[derive(Drop)]
 pub struct Credentials {
     /// The user's name, as given.
     pub user: Octets,

@@ -22,7 +22,7 @@ const VERSIONLEN: usize = 30;
 const MOTDLEN: usize = 400;
 
 /// The lines of the message of the day (RFC 2812, section 3.4.1).
-#[derive(Debug, Drop)]
+#[derive(Drop)]
 pub struct Motd {
     lines: Vec<Octets>,
 }
@@ -62,7 +62,7 @@ impl Clone for Motd {
 }
 
 /// What a server is told when it starts. No text may hold NUL, CR or LF.
-#[derive(Clone, Debug, Drop)]
+#[derive(Drop)]
 pub struct Settings {
     /// The server's name, which has the shape of a host name.
     pub server: Octets,

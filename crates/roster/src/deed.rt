@@ -14,7 +14,7 @@ use registration::{Caps, Enrol};
 use std::alloc::AllocError;
 
 /// An elementary fact. What holds of sessions and channels is read back from a list of these.
-#[derive(Clone, Debug, Drop, PartialEq)]
+#[derive(Drop)]
 pub enum Deed {
     /// A session was opened, from this host.
     Opened {

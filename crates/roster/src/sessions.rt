@@ -7,7 +7,7 @@ use std::alloc::{AllocError, Global};
 use std::marker::Model;
 
 /// Sessions, in order.
-#[derive(Debug, Drop)]
+#[derive(Drop)]
 pub struct Sessions {
     sessions: Vec<SessionId>,
 }
@@ -72,15 +72,5 @@ impl Sessions {
         ensures { result.now ≡ self.now }
     {
         &self.sessions
-    }
-}
-
-impl Clone for Sessions {
-    ghost is_clone = { λ a b. b ≡ a };
-
-    fn clone(&self) -> Result<Sessions, AllocError> {
-        Ok(Sessions {
-            sessions: self.sessions.clone()?,
-        })
     }
 }

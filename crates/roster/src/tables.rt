@@ -5,7 +5,7 @@ use line_grammar::Octets;
 use registration::Caps;
 
 /// What is known of a session.
-#[derive(Debug, Drop)]
+#[derive(Drop)]
 pub struct Person {
     pub host: Octets,
     pub nick: Option<Octets>,
@@ -30,7 +30,7 @@ pub struct Person {
 }
 
 /// A channel and its name, as it was first spelled.
-#[derive(Debug, Drop)]
+#[derive(Drop)]
 pub struct Channel {
     pub name: Octets,
     pub held: ChannelState,

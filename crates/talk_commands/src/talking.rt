@@ -2,6 +2,7 @@
 ghost use Rattle.std.specs.Prelude.{◌≡◌, ◌∷◌, [], OnOk};
 ghost use Rattle.std.specs.List.{flat_map};
 ghost use Rattle.roster.specs.LookBack.{away, found, name_of, state};
+ghost use Rattle.drafts.specs.Denials.{denied};
 ghost use Rattle.drafts.specs.Drafted.{grown};
 ghost use Rattle.drafts.specs.Lines.{prefix};
 ghost use Rattle.talk_commands.specs.Talking.{answers, delivers, is_banned, is_barred, has_rank, may_speak, names_channel, sends, tells_away, to_channel, to_one, to_user};
@@ -10,7 +11,7 @@ use crate::Verb;
 use casemapping::matches;
 use channel_state::ChannelState;
 use chronicle::SessionId;
-use drafts::{Draft, prefix_of, tell, title_of};
+use drafts::{Denial, Draft, deny, prefix_of, tell, title_of};
 use line_grammar::Octets;
 use numerics::Numeric;
 use roster::Sessions;
@@ -28,8 +29,24 @@ fn answer(
 ) -> Result<(), AllocError>
     ensures { OnOk result (draft.new ≡ grown draft.old (answers draft.old.settings draft.old.facts session verb numeric)) }
 {
+    if verb == Verb::Notice {
+        return Ok(());
+    }
+    tell(draft, session, numeric)
+}
+
+/// Answers a session that a text isn't sent, but not to NOTICE.
+fn refuse(
+    draft: &mut Draft,
+    session: SessionId,
+    verb: Verb,
+    denial: Denial,
+    name: &Octets,
+) -> Result<(), AllocError>
+    ensures { OnOk result (draft.new ≡ grown draft.old (answers draft.old.settings draft.old.facts session verb (denied denial name.now))) }
+{
     match verb {
-        Verb::Privmsg => tell(draft, session, numeric),
+        Verb::Privmsg => deny(draft, session, denial, name),
         Verb::Notice => Ok(()),
     }
 }
@@ -75,13 +92,11 @@ fn send_to_channel(
         before.name_of(channel.as_slice()),
         before.state_of(channel.as_slice()),
     ) else {
-        let name = channel.clone()?;
-        return answer(draft, session, verb, Numeric::NoSuchChannel(name));
+        return refuse(draft, session, verb, Denial::NoSuchChannel, channel);
     };
     let from = prefix_of(draft, session)?;
     if !may_speak(state, session, from.as_slice()) {
-        let name = name.clone()?;
-        return answer(draft, session, verb, Numeric::CannotSendToChan(name));
+        return refuse(draft, session, verb, Denial::CannotSendToChan, name);
     }
     let mut hearers = Sessions::copied(draft.alloc(), state.members())?;
     hearers.remove(session);
@@ -152,8 +167,7 @@ fn send_to_user(
     ensures { OnOk result (draft.new ≡ grown draft.old (to_user draft.old.settings draft.old.facts session verb text.now nick.now (found draft.old.facts nick.now))) }
 {
     let Some(user) = draft.before().find(nick.as_slice()) else {
-        let nick = nick.clone()?;
-        return answer(draft, session, verb, Numeric::NoSuchNick(nick));
+        return refuse(draft, session, verb, Denial::NoSuchNick, nick);
     };
     deliver(draft, session, verb, text, user)?;
     tell_away(draft, session, verb, user)
@@ -213,8 +227,8 @@ pub fn send(
     ensures { OnOk result (draft.new ≡ grown draft.old (sends draft.old.settings draft.old.facts session verb targets.now text.now)) }
 {
     if targets.len() > MAX_TARGETS {
-        let name = targets[MAX_TARGETS].clone()?;
-        return answer(draft, session, verb, Numeric::TooManyTargets(name));
+        let fifth = &targets[MAX_TARGETS];
+        return refuse(draft, session, verb, Denial::TooManyTargets, fifth);
     }
     send_to_each(draft, session, verb, text, targets)
 }

@@ -12,6 +12,5 @@ invariant-loop-change l = let d = l.fn.draft in let k = l.fn.seen in let xs = dr
   grown : grown l.draft (in_turn d.settings l.session k.name l.draft.facts (steps d.base l.seen.state xs)) ≡ grown d (in_turn d.settings l.session k.name d.facts (steps d.base k.state l.changes));
   shown : l.shown.items ++ all_shown (steps d.base l.seen.state xs) ≡ l.fn.shown.items ++ all_shown (steps d.base k.state l.changes);
   name : l.seen.name ≡ k.name;
-  members : l.seen.state.members ≡ k.state.members;
   known : IsSeen l.draft.facts l.seen;
 }

@@ -1,0 +1,14 @@
+-- What is left of a list as it is taken one by one, and a draft that grows by nothing.
+use Rattle.std.proofs.Common.{◌≡◌, ℕ, ◌+◌, ◌<◌, ◌≤◌, List, [], ◌∷◌, length, get_or, drop, arith, ap, append-nil}
+use Rattle.std.proofs.lemmas.Grind.{common_steps}
+use Rattle.drafts.specs.declared.effect.Effect.{Effect}
+use Rattle.drafts.specs.Drafted.{Drafted, grown}
+
+pub dropped : {A : Type 0} (xs : List A) (i : ℕ) (x : A) → i < length xs → x ≡ get_or xs i x → drop i xs ≡ x ∷ drop (i + 1) xs
+dropped xs i x l is = grind (arith, common_steps)
+
+pub none_left : {A : Type 0} (xs : List A) (i : ℕ) → length xs ≤ i → drop i xs ≡ []
+none_left xs i l = grind (arith, common_steps)
+
+pub grown_nothing : (d : Drafted) → grown d [] ≡ d
+grown_nothing d = ap (λ (es : List Effect). record { settings = d.settings; base = d.base; facts = d.facts; effects = es }) (append-nil d.effects)
