@@ -91,27 +91,46 @@ fn empty(play: &mut Play, members: u64) -> Option<()> {
     Some(())
 }
 
-/// A play in which so many sessions are on one channel.
-fn room(alloc: Global, members: u64, limit: usize) -> Option<Play> {
-    let settings = Settings {
-        server: Octets::copied(alloc, b"irc.example").ok()?,
-        info: Octets::copied(alloc, b"halld").ok()?,
-        version: Octets::copied(alloc, b"halld-1").ok()?,
+/// What the server is told when it starts.
+fn settings(alloc: Global) -> Option<Settings> {
+    let server = Octets::copied(alloc, b"irc.example").ok()?;
+    let info = Octets::copied(alloc, b"halld").ok()?;
+    let version = Octets::copied(alloc, b"halld-1").ok()?;
+    Some(Settings {
+        server,
+        info,
+        version,
         created: Moment::new(0),
         motd: None,
         accounts: Accounts::new(alloc),
         sessions: 100,
-    };
-    let mut play = Play::new(alloc, settings, limit, 1, 200).ok()?;
+    })
+}
+
+/// The session at a place, from 0, registers and joins the channel.
+fn enter(alloc: Global, play: &mut Play, place: u64) -> Option<()> {
+    connect(alloc, play)?;
+    let session = SessionId::new(place.checked_add(1)?);
+    let nick = format!(in alloc; "NICK n{place}\r\n").ok()?;
+    say(alloc, play, session, nick.as_bytes())?;
+    say(alloc, play, session, b"USER u 0 * :Some One\r\n")?;
+    say(alloc, play, session, b"JOIN #room\r\n")?;
+    Some(())
+}
+
+/// So many sessions join a channel, and take what waits for them.
+fn fill(alloc: Global, play: &mut Play, members: u64) -> Option<()> {
     for place in 0..members {
-        connect(alloc, &mut play)?;
-        let session = SessionId::new(place + 1);
-        let nick = format!(in alloc; "NICK n{place}\r\n").ok()?;
-        let _ = say(alloc, &mut play, session, nick.as_bytes())?;
-        let _ = say(alloc, &mut play, session, b"USER u 0 * :Some One\r\n")?;
-        let _ = say(alloc, &mut play, session, b"JOIN #room\r\n")?;
+        enter(alloc, play, place)?;
     }
-    empty(&mut play, members)?;
+    empty(play, members)
+}
+
+/// A play in which so many sessions are on one channel.
+fn room(alloc: Global, members: u64, limit: usize) -> Option<Play> {
+    let settings = settings(alloc)?;
+    let mut play = Play::new(alloc, settings, limit, 1, 200).ok()?;
+    fill(alloc, &mut play, members)?;
     Some(play)
 }
 
@@ -171,27 +190,30 @@ fn tell_memory(rt: &(impl Print + Files + Alloc)) -> Option<()> {
     Some(())
 }
 
+/// Times a room's first session, which says so many lines.
+fn measure(rt: &HostRuntime, play: &mut Play, members: u64, lines: u64, what: &str) -> Option<()> {
+    let (micros, steps) = timed(rt, rt.alloc(), play, members, lines)?;
+    tell(rt, what, micros, steps)
+}
+
 /// A million steps in a channel of 100 sessions.
 fn fan_out(rt: &HostRuntime) -> Option<()> {
-    let alloc = rt.alloc();
-    let mut play = room(alloc, 100, 10_000)?;
-    let (micros, steps) = timed(rt, alloc, &mut play, 100, 4_927)?;
-    tell(rt, "100 sessions", micros, steps)?;
+    let mut play = room(rt.alloc(), 100, 10_000)?;
+    measure(rt, &mut play, 100, 4_927, "100 sessions")?;
     tell_memory(rt)
 }
 
-/// 100,000 steps after 10,000 records and after 1,000,000, in a channel of two sessions.
+/// 100,000 steps in a channel of two sessions, after so many lines.
+fn measure_after(rt: &HostRuntime, play: &mut Play, before: u64, what: &str) -> Option<()> {
+    let _ = talk(rt.alloc(), play, 2, before)?;
+    measure(rt, play, 2, 14_286, what)
+}
+
+/// Steps after 10,000 records and after 1,000,000.
 fn many_records(rt: &HostRuntime) -> Option<()> {
-    let alloc = rt.alloc();
-    let mut play = room(alloc, 2, 10_000_000)?;
-    for (what, before) in [
-        ("after 10,000 records", 10_000),
-        ("after 1,000,000 records", 975_712),
-    ] {
-        talk(alloc, &mut play, 2, before)?;
-        let (micros, steps) = timed(rt, alloc, &mut play, 2, 14_286)?;
-        tell(rt, what, micros, steps)?;
-    }
+    let mut play = room(rt.alloc(), 2, 10_000_000)?;
+    measure_after(rt, &mut play, 10_000, "after 10,000 records")?;
+    measure_after(rt, &mut play, 975_712, "after 1,000,000 records")?;
     tell_memory(rt)
 }
 
