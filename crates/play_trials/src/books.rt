@@ -141,18 +141,23 @@ fn drop_plan(book: &mut Book, baton: &Baton, piece: &Piece) -> Result<(), LineRe
     Ok(())
 }
 
-#[test]
-fn a_plan_that_is_dropped_leaves_the_book_busy(rt: HostRuntime) -> Result<(), Fail> {
-    let mut book = book(rt.alloc(), 40)?;
-    let (al, baton) = open(&rt, rt.alloc(), &mut book, b"h1")?;
-    let piece = Piece::Line(copied(rt.alloc(), b"NICK al")?);
+/// Compares what a book answers whose plan was dropped.
+fn compare_busy(rt: &impl Abort, alloc: Global, book: &mut Book) -> Result<(), Fail> {
+    let (al, baton) = open(rt, alloc, book, b"h1")?;
+    let piece = Piece::Line(copied(alloc, b"NICK al")?);
     let moment = Moment::new(NOON);
-    assert!(rt; drop_plan(&mut book, &baton, &piece).is_ok());
+    assert!(rt; drop_plan(book, &baton, &piece).is_ok());
     let again = book.begin(&baton, &piece, moment);
     assert_eq!(rt; again.err(), Some(LineRefusal::Busy));
     let hung = book.hang(al, Why::Shutdown, moment);
     assert_eq!(rt; hung.err(), Some(HangRefusal::Busy));
     Ok(())
+}
+
+#[test]
+fn a_plan_that_is_dropped_leaves_the_book_busy(rt: HostRuntime) -> Result<(), Fail> {
+    let mut book = book(rt.alloc(), 40)?;
+    compare_busy(&rt, rt.alloc(), &mut book)
 }
 
 /// Compares a session's nickname, none where it is empty, and whether it is on a channel.
@@ -210,18 +215,23 @@ fn take_lines(rt: &impl Abort, book: &mut Book) -> Result<(), Fail> {
     Ok(())
 }
 
-#[test]
-fn a_session_ends(rt: HostRuntime) -> Result<(), Fail> {
-    let (mut book, first, _second) = meeting(&rt, rt.alloc())?;
-    let channel = copied(rt.alloc(), b"#A")?;
-    known(&rt, &book, 1, b"al", true, &channel);
-    let first = hang_and_sweep(&rt, &mut book, first)?;
-    known(&rt, &book, 1, b"", false, &channel);
-    known(&rt, &book, 2, b"bo", true, &channel);
-    take_lines(&rt, &mut book)?;
+/// Ends al, whom bo is told of, and gives it up.
+fn end_first(rt: &impl Abort, alloc: Global, book: &mut Book, first: Baton) -> Result<(), Fail> {
+    let channel = copied(alloc, b"#A")?;
+    known(rt, book, 1, b"al", true, &channel);
+    let first = hang_and_sweep(rt, book, first)?;
+    known(rt, book, 1, b"", false, &channel);
+    known(rt, book, 2, b"bo", true, &channel);
+    take_lines(rt, book)?;
     let left = book.reap(first).ok().ok_or("left")?;
     assert_eq!(rt; (left.session.number(), left.count), (1, 4));
     Ok(())
+}
+
+#[test]
+fn a_session_ends(rt: HostRuntime) -> Result<(), Fail> {
+    let (mut book, first, _second) = meeting(&rt, rt.alloc())?;
+    end_first(&rt, rt.alloc(), &mut book, first)
 }
 
 /// Sweeps a session in steps, once more where a growth was refused.
@@ -240,17 +250,22 @@ fn after_a_quit(rt: &impl Abort, alloc: Global) -> Result<Book, Fail> {
     Ok(book)
 }
 
-#[test]
-fn a_sweep_goes_in_steps(rt: HostRuntime) -> Result<(), Fail> {
-    let mut book = after_a_quit(&rt, rt.alloc())?;
+/// Compares the sweep of a session that has quit.
+fn compare_sweep(rt: &impl Abort, book: &mut Book) -> Result<(), Fail> {
     let al = SessionId::new(1);
     assert!(rt; !book.is_open(al));
     assert!(rt; matches!(book.take(al), Ok(Item::Last { why: Why::Quit, .. })));
-    let done = swept_in_steps(&mut book).ok_or("no delivery")?;
+    let done = swept_in_steps(book).ok_or("no delivery")?;
     assert_eq!(rt; (done.number.number(), done.shut), (3, true));
     let nobody = book.begin_sweep(Moment::new(NOON));
     assert!(rt; matches!(nobody, Ok(None)));
     Ok(())
+}
+
+#[test]
+fn a_sweep_goes_in_steps(rt: HostRuntime) -> Result<(), Fail> {
+    let mut book = after_a_quit(&rt, rt.alloc())?;
+    compare_sweep(&rt, &mut book)
 }
 
 /// Sweeps, once more where a growth was refused.
@@ -270,19 +285,35 @@ fn end(rt: &impl Abort, book: &mut Book, baton: Baton) {
     assert!(rt; book.reap(baton).is_ok());
 }
 
-/// Fills a journal for a session and so many lines of it, and ends the session.
-fn fill(rt: &impl Abort, alloc: Global, lines: usize) -> Result<(), Fail> {
-    let mut book = book(alloc, lines.saturating_add(3))?;
-    let (_, mut baton) = open(rt, alloc, &mut book, b"h1")?;
+/// Has a session say so many lines, with which the journal is full.
+fn say_all(
+    rt: &impl Abort,
+    alloc: Global,
+    book: &mut Book,
+    baton: &mut Baton,
+    lines: usize,
+) -> Result<(), Fail> {
     for _ in 0..lines {
-        say(alloc, &mut book, &mut baton, b"NICK al")?;
+        say(alloc, book, baton, b"NICK al")?;
     }
     let piece = Piece::Line(copied(alloc, b"NICK al")?);
-    let full = book.line(&mut baton, &piece, Moment::new(NOON));
+    let full = book.line(baton, &piece, Moment::new(NOON));
     assert_eq!(rt; full.err(), Some(LineRefusal::JournalFull));
-    end(rt, &mut book, baton);
+    Ok(())
+}
+
+/// Fills a journal for a session and so many lines of it, and ends the session.
+fn fill_book(rt: &impl Abort, alloc: Global, book: &mut Book, lines: usize) -> Result<(), Fail> {
+    let (_, mut baton) = open(rt, alloc, book, b"h1")?;
+    say_all(rt, alloc, book, &mut baton, lines)?;
+    end(rt, book, baton);
     assert_eq!(rt; book.len(), lines.saturating_add(3));
     Ok(())
+}
+
+fn fill(rt: &impl Abort, alloc: Global, lines: usize) -> Result<(), Fail> {
+    let mut book = book(alloc, lines.saturating_add(3))?;
+    fill_book(rt, alloc, &mut book, lines)
 }
 
 #[test]

@@ -115,16 +115,27 @@ fn compare_notes(rt: &impl Abort, notes: &[Result<Note, StepRefusal>]) {
     }
 }
 
+/// Takes the run, once more where a growth was refused.
+fn run_again(play: &mut Play) -> Result<Vec<Result<Note, StepRefusal>>, AllocError> {
+    match run(play) {
+        Ok(notes) => Ok(notes),
+        Err(_) => run(play),
+    }
+}
+
+/// Compares a whole run.
+fn compare_run(rt: &impl Abort, alloc: Global, play: &mut Play) -> Result<(), AllocError> {
+    compare(rt, alloc, play, &START)?;
+    compare(rt, alloc, play, &BEFORE_THE_RUN)?;
+    let notes = run_again(play)?;
+    compare_notes(rt, &notes);
+    play.sound();
+    Ok(())
+}
+
 #[test]
 fn a_run_tells_the_same(rt: HostRuntime) -> Result<(), Fail> {
     let mut play = play(rt.alloc(), 100, 2, 8)?;
-    compare(&rt, rt.alloc(), &mut play, &START)?;
-    compare(&rt, rt.alloc(), &mut play, &BEFORE_THE_RUN)?;
-    let notes = match run(&mut play) {
-        Ok(notes) => notes,
-        Err(_) => run(&mut play)?,
-    };
-    compare_notes(&rt, &notes);
-    play.sound();
+    compare_run(&rt, rt.alloc(), &mut play)?;
     Ok(())
 }

@@ -352,16 +352,27 @@ fn take_plan(
     Ok(())
 }
 
+/// Takes the same steps in another play, and there all that is left for each session.
+fn repeat(
+    rt: &impl Abort,
+    alloc: Global,
+    copy: &mut Play,
+    seen: &mut Seen,
+) -> Result<(), AllocError> {
+    for (at, act) in seen.acts.iter().enumerate() {
+        let _ = take_step(rt, alloc, copy, *act, at as i64)?;
+    }
+    take_queues(rt, alloc, copy, &mut seen.sessions)?;
+    match seen.holder {
+        Some(holder) => take_plan(rt, alloc, copy, holder, &mut seen.sessions),
+        None => Ok(()),
+    }
+}
+
 /// Takes the same steps in a play of its own, and there all that is left for each session.
 fn look_ahead(rt: &impl Abort, alloc: Global, seen: &mut Seen) -> Result<(), Fail> {
     let mut copy = play(alloc, LIMIT, WORKERS, SENDQ)?;
-    for (at, act) in seen.acts.iter().enumerate() {
-        let _ = take_step(rt, alloc, &mut copy, *act, at as i64)?;
-    }
-    take_queues(rt, alloc, &mut copy, &mut seen.sessions)?;
-    if let Some(holder) = seen.holder {
-        take_plan(rt, alloc, &mut copy, holder, &mut seen.sessions)?;
-    }
+    repeat(rt, alloc, &mut copy, seen)?;
     Ok(())
 }
 
@@ -517,14 +528,19 @@ fn take_steps(
     Ok(counts)
 }
 
-#[test]
-fn a_thousand_steps(rt: HostRuntime) -> Result<(), Fail> {
-    let channels = [copied(rt.alloc(), b"#a")?, copied(rt.alloc(), b"#B")?];
-    let mut play = play(rt.alloc(), LIMIT, WORKERS, SENDQ)?;
-    let mut seen = nothing_seen(rt.alloc())?;
-    let counts = take_steps(&rt, rt.alloc(), &mut play, &mut seen, &channels)?;
+/// Takes the steps, and compares how often each kind of answer came.
+fn compare_steps(rt: &impl Abort, alloc: Global, play: &mut Play) -> Result<(), Fail> {
+    let channels = [copied(alloc, b"#a")?, copied(alloc, b"#B")?];
+    let mut seen = nothing_seen(alloc)?;
+    let counts = take_steps(rt, alloc, play, &mut seen, &channels)?;
     for (count, kind) in counts.iter().zip(KINDS.iter()) {
         assert!(rt; *count > 0, "{kind} in {counts:?}");
     }
     Ok(())
+}
+
+#[test]
+fn a_thousand_steps(rt: HostRuntime) -> Result<(), Fail> {
+    let mut play = play(rt.alloc(), LIMIT, WORKERS, SENDQ)?;
+    compare_steps(&rt, rt.alloc(), &mut play)
 }
