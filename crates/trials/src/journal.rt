@@ -58,17 +58,22 @@ fn are_kept(journal: &Journal) -> bool {
     }
 }
 
-#[test]
-fn keeps_what_is_appended(rt: HostRuntime) -> Result<(), Fail> {
-    let mut journal = Journal::with_limit(rt.alloc(), 2)?;
-    let host = copied(rt.alloc(), b"one.example")?;
-    let text = copied(rt.alloc(), b"JOIN #a")?;
-    append_two(&rt, &mut journal, host, text)?;
+/// Compares a journal that two records fill.
+fn compare_two(rt: &impl Abort, journal: &mut Journal) {
     assert_eq!(rt; journal.len(), 2);
     assert_eq!(rt; journal.limit(), 2);
     assert_eq!(rt; journal.last_moment().milliseconds(), 7);
     assert_eq!(rt; journal.reserve(1, 0), Err(JournalRefusal::Full));
-    assert!(rt; are_kept(&journal));
+    assert!(rt; are_kept(journal));
+}
+
+#[test]
+fn keeps_what_is_appended(rt: HostRuntime) -> Result<(), Fail> {
+    let host = copied(rt.alloc(), b"one.example")?;
+    let text = copied(rt.alloc(), b"JOIN #a")?;
+    let mut journal = Journal::with_limit(rt.alloc(), 2)?;
+    append_two(&rt, &mut journal, host, text)?;
+    compare_two(&rt, &mut journal);
     Ok(())
 }
 

@@ -5,7 +5,7 @@ ghost use Rattle.roster.specs.LookBack.{after};
 
 use crate::again::copied;
 use chronicle::{Moment, SessionId, Why};
-use commands::read_piece;
+use commands::{Asked, read_piece};
 use deeds::{Shown, Verdict, decide, decide_gone};
 use line_grammar::{Octets, Piece};
 use numerics::Out;
@@ -48,7 +48,31 @@ fn open(alloc: Global, roster: &mut Roster, host: &[u8]) -> Result<(), AllocErro
     establish(roster, deeds)
 }
 
-/// What comes of a line, decided once more where a growth was refused.
+/// What a piece asks for, read once more where a growth was refused.
+fn asked_of(alloc: Global, piece: &Piece) -> Result<Asked, AllocError> {
+    match read_piece(alloc, piece) {
+        Ok(asked) => Ok(asked),
+        Err(_) => read_piece(alloc, piece),
+    }
+}
+
+/// What comes of what is asked for, decided once more where a growth was refused.
+fn decided_asked(
+    alloc: Global,
+    roster: &Roster,
+    session: SessionId,
+    asked: &Asked,
+) -> Result<Verdict, AllocError>
+    requires { IsOpened roster.now.facts session }
+    ensures { IfOk result (λ v. AreNext roster.now.facts v.deeds.items) }
+{
+    match decide(alloc, roster, session, asked, Moment::new(5)) {
+        Ok(verdict) => Ok(verdict),
+        Err(_) => decide(alloc, roster, session, asked, Moment::new(5)),
+    }
+}
+
+/// What comes of a line.
 fn decided(
     alloc: Global,
     roster: &Roster,
@@ -59,14 +83,8 @@ fn decided(
     ensures { IfOk result (λ v. AreNext roster.now.facts v.deeds.items) }
 {
     let piece = Piece::Line(copied(alloc, line)?);
-    let asked = match read_piece(alloc, &piece) {
-        Ok(asked) => asked,
-        Err(_) => read_piece(alloc, &piece)?,
-    };
-    match decide(alloc, roster, session, &asked, Moment::new(5)) {
-        Ok(verdict) => Ok(verdict),
-        Err(_) => decide(alloc, roster, session, &asked, Moment::new(5)),
-    }
+    let asked = asked_of(alloc, &piece)?;
+    decided_asked(alloc, roster, session, &asked)
 }
 
 /// What comes of a session being gone, decided once more where a growth was refused.
@@ -311,16 +329,27 @@ fn knows_channels(roster: &Roster) -> bool {
         && !roster.is_on(SessionId::new(2), b"#b")
 }
 
+/// Whether a session shares channels with these alone, once more where a growth was refused.
+fn shares(roster: &Roster, session: SessionId, want: &[u64]) -> Result<bool, AllocError> {
+    let sharers = match roster.sharers(session) {
+        Ok(sharers) => sharers,
+        Err(_) => roster.sharers(session)?,
+    };
+    Ok(are(sharers.as_slice(), want))
+}
+
+/// Compares what a roster knows.
+fn compare_told(rt: &impl Abort, roster: &Roster) -> Result<(), AllocError> {
+    assert!(rt; knows_sessions(roster));
+    assert!(rt; knows_channels(roster));
+    assert!(rt; shares(roster, SessionId::new(1), &[2])?);
+    Ok(())
+}
+
 #[test]
 fn a_roster_answers_by_its_facts(rt: HostRuntime) -> Result<(), Fail> {
     let roster = told(&rt, rt.alloc())?;
-    assert!(rt; knows_sessions(&roster));
-    assert!(rt; knows_channels(&roster));
-    let sharers = match roster.sharers(SessionId::new(1)) {
-        Ok(sharers) => sharers,
-        Err(_) => roster.sharers(SessionId::new(1))?,
-    };
-    assert!(rt; are(sharers.as_slice(), &[2]));
+    compare_told(&rt, &roster)?;
     Ok(())
 }
 
@@ -334,18 +363,30 @@ fn forgot(roster: &Roster, session: SessionId) -> bool {
         && are(roster.members(b"#a"), &[2])
 }
 
-#[test]
-fn a_gone_session_is_forgotten(rt: HostRuntime) -> Result<(), Fail> {
+/// Compares what is shown and known of al, who is gone.
+fn forget(rt: &impl Abort, alloc: Global, roster: &mut Roster) -> Result<(), AllocError> {
     let al = SessionId::new(1);
-    let mut roster = told(&rt, rt.alloc())?;
     assert!(rt; roster.opened() == 2);
-    let verdict = departed(rt.alloc(), &roster, al)?;
-    establish(&mut roster, verdict.deeds)?;
-    assert!(rt; is_shown(rt.alloc(), &verdict.others, &[2], b":al!a@h1 QUIT :bye\r\n")?);
-    assert!(rt; forgot(&roster, al));
+    let verdict = departed(alloc, roster, al)?;
+    let Verdict { deeds, others, .. } = verdict;
+    establish(roster, deeds)?;
+    assert!(rt; is_shown(alloc, &others, &[2], b":al!a@h1 QUIT :bye\r\n")?);
+    assert!(rt; forgot(roster, al));
+    Ok(())
+}
+
+/// Compares why bo ended.
+fn end_second(rt: &impl Abort, roster: &mut Roster) {
     assert!(rt; roster.opened() == 2);
     roster.end(SessionId::new(2), Why::ReadEnded);
     assert!(rt; roster.why_of(SessionId::new(2)) == Why::ReadEnded);
+}
+
+#[test]
+fn a_gone_session_is_forgotten(rt: HostRuntime) -> Result<(), Fail> {
+    let mut roster = told(&rt, rt.alloc())?;
+    forget(&rt, rt.alloc(), &mut roster)?;
+    end_second(&rt, &mut roster);
     Ok(())
 }
 
@@ -408,19 +449,33 @@ fn deal(rt: &impl Abort, roster: &mut Roster, alloc: Global, row: &Deal) -> Resu
     Ok(())
 }
 
+/// Opens two sessions, and has their lines accepted.
+fn deal_all(rt: &impl Abort, roster: &mut Roster, alloc: Global) -> Result<(), AllocError> {
+    open(alloc, roster, b"h1")?;
+    open(alloc, roster, b"h2")?;
+    for row in &DEALS {
+        deal(rt, roster, alloc, row)?;
+    }
+    Ok(())
+}
+
+/// Whether what the lines were to leave is left.
+fn are_dealt(roster: &Roster) -> bool {
+    let (al, bo) = (SessionId::new(1), SessionId::new(2));
+    roster.channel_count() == 2
+        && roster.channel_count_of(al) == 2
+        && roster.members(b"#a").is_empty()
+        && roster.state_of(b"#a").is_none()
+        && roster.away_of(al).is_some()
+        && !roster.is_invisible(bo)
+}
+
 #[test]
 fn a_line_that_does_much_is_done_whole(rt: HostRuntime) -> Result<(), Fail> {
     let settings = settings(rt.alloc())?;
     assert!(rt; is_well_set(&settings));
     let mut roster = Roster::new(rt.alloc(), settings);
-    open(rt.alloc(), &mut roster, b"h1")?;
-    open(rt.alloc(), &mut roster, b"h2")?;
-    for row in &DEALS {
-        deal(&rt, &mut roster, rt.alloc(), row)?;
-    }
-    let (al, bo) = (SessionId::new(1), SessionId::new(2));
-    assert!(rt; roster.channel_count() == 2 && roster.channel_count_of(al) == 2);
-    assert!(rt; roster.members(b"#a").is_empty() && roster.state_of(b"#a").is_none());
-    assert!(rt; roster.away_of(al).is_some() && !roster.is_invisible(bo));
+    deal_all(&rt, &mut roster, rt.alloc())?;
+    assert!(rt; are_dealt(&roster));
     Ok(())
 }
