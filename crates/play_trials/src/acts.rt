@@ -1,4 +1,5 @@
 //! The steps that tests take, each as a small value, and what became of each as another.
+ghost use Rattle.std.specs.Prelude.{IfOk, IfSome};
 ghost use Rattle.interleave.specs.Steps.{IsWellShaped};
 
 use crate::again::copied;
@@ -77,68 +78,98 @@ pub(crate) fn play(
 }
 
 /// Takes a step, once more where there was no memory: one growth is refused at most.
-pub(crate) fn step(play: &mut Play, event: &Event) -> Result<Note, StepRefusal>
-    requires { IsWellShaped event.now }
+fn step(play: &mut Play, event: Event) -> Result<Note, StepRefusal>
+    requires { IsWellShaped event }
 {
-    match play.step(event) {
-        Err(StepRefusal::Memory) => play.step(event),
+    match play.step(&event) {
+        Err(StepRefusal::Memory) => play.step(&event),
         answer => answer,
     }
 }
 
-/// Connects a client.
-pub(crate) fn connect(
-    rt: &impl Abort,
-    alloc: Global,
-    play: &mut Play,
-    host: &[u8],
-    moment: i64,
-) -> Result<Result<Note, StepRefusal>, AllocError> {
-    let host = copied(alloc, host)?;
+/// The event by which a client connects.
+fn connect(rt: &impl Abort, alloc: Global, moment: Moment) -> Result<Event, AllocError>
+    ensures { IfOk result IsWellShaped }
+{
+    let host = copied(alloc, b"one.example")?;
     assert!(rt; is_host(host.as_slice()));
-    let moment = Moment::new(moment);
-    Ok(step(play, &Event::Connect { host, moment }))
+    Ok(Event::Connect { host, moment })
 }
 
-/// Takes a step of a reader, a writer or a closer, or of a worker who hangs or sweeps.
-fn take_outer(
-    rt: &impl Abort,
-    alloc: Global,
-    play: &mut Play,
-    act: Act,
-    at: i64,
-) -> Result<Result<Note, StepRefusal>, AllocError> {
-    let moment = Moment::new(at);
+/// The event of a reader.
+fn feed(alloc: Global, session: u64, text: &str) -> Result<Event, AllocError>
+    ensures { IfOk result IsWellShaped }
+{
+    let session = SessionId::new(session);
+    let octets = copied(alloc, text.as_bytes())?;
+    Ok(Event::Feed { session, octets })
+}
+
+/// The event of a step of a worker with a line.
+fn line_event(act: Act, moment: Moment) -> Option<Event>
+    ensures { IfSome result IsWellShaped }
+{
     match act {
-        Act::Feed(session, text) => {
-            let session = SessionId::new(session);
-            let octets = copied(alloc, text.as_bytes())?;
-            Ok(step(play, &Event::Feed { session, octets }))
-        }
-        Act::Take(session) => {
-            let session = SessionId::new(session);
-            Ok(step(play, &Event::Take { session }))
-        }
-        Act::Hang(worker, session, why) => {
+        Act::Pick(worker, session) => Some(Event::Pick {
+            worker: WorkerId::new(worker),
+            session: SessionId::new(session),
+        }),
+        Act::Begin(worker) => {
             let worker = WorkerId::new(worker);
-            let session = SessionId::new(session);
-            let event = Event::Hang {
-                worker,
-                session,
-                why,
-                moment,
-            };
-            Ok(step(play, &event))
+            Some(Event::Begin { worker, moment })
         }
+        Act::Put(worker) => Some(Event::Put {
+            worker: WorkerId::new(worker),
+        }),
+        Act::End(worker) => Some(Event::End {
+            worker: WorkerId::new(worker),
+        }),
+        Act::Back(worker) => Some(Event::Back {
+            worker: WorkerId::new(worker),
+        }),
+        _ => None,
+    }
+}
+
+/// The event of a step of a writer or a closer, or of a worker who hangs or sweeps.
+fn end_event(act: Act, moment: Moment) -> Option<Event>
+    ensures { IfSome result IsWellShaped }
+{
+    match act {
+        Act::Take(session) => Some(Event::Take {
+            session: SessionId::new(session),
+        }),
+        Act::Hang(worker, session, why) => Some(Event::Hang {
+            worker: WorkerId::new(worker),
+            session: SessionId::new(session),
+            why,
+            moment,
+        }),
         Act::Sweep(worker) => {
             let worker = WorkerId::new(worker);
-            Ok(step(play, &Event::Sweep { worker, moment }))
+            Some(Event::Sweep { worker, moment })
         }
-        Act::Reap(session) => {
-            let session = SessionId::new(session);
-            Ok(step(play, &Event::Reap { session }))
-        }
-        _ => connect(rt, alloc, play, b"one.example", at),
+        Act::Reap(session) => Some(Event::Reap {
+            session: SessionId::new(session),
+        }),
+        _ => None,
+    }
+}
+
+/// The event of a step.
+fn event_of(rt: &impl Abort, alloc: Global, act: Act, at: i64) -> Result<Event, AllocError>
+    ensures { IfOk result IsWellShaped }
+{
+    let moment = Moment::new(at);
+    if let Act::Feed(session, text) = act {
+        return feed(alloc, session, text);
+    }
+    if let Some(event) = line_event(act, moment) {
+        return Ok(event);
+    }
+    match end_event(act, moment) {
+        Some(event) => Ok(event),
+        None => connect(rt, alloc, moment),
     }
 }
 
@@ -150,31 +181,8 @@ pub(crate) fn take_step(
     act: Act,
     at: i64,
 ) -> Result<Result<Note, StepRefusal>, AllocError> {
-    let moment = Moment::new(at);
-    match act {
-        Act::Pick(worker, session) => {
-            let worker = WorkerId::new(worker);
-            let session = SessionId::new(session);
-            Ok(step(play, &Event::Pick { worker, session }))
-        }
-        Act::Begin(worker) => {
-            let worker = WorkerId::new(worker);
-            Ok(step(play, &Event::Begin { worker, moment }))
-        }
-        Act::Put(worker) => {
-            let worker = WorkerId::new(worker);
-            Ok(step(play, &Event::Put { worker }))
-        }
-        Act::End(worker) => {
-            let worker = WorkerId::new(worker);
-            Ok(step(play, &Event::End { worker }))
-        }
-        Act::Back(worker) => {
-            let worker = WorkerId::new(worker);
-            Ok(step(play, &Event::Back { worker }))
-        }
-        _ => take_outer(rt, alloc, play, act, at),
-    }
+    let event = event_of(rt, alloc, act, at)?;
+    Ok(step(play, event))
 }
 
 /// The number of an item's record.

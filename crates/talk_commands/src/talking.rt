@@ -20,21 +20,6 @@ use std::alloc::AllocError;
 /// The most targets of a text.
 const MAX_TARGETS: usize = 4;
 
-/// Answers a session with a numeric, but not to NOTICE.
-fn answer(
-    draft: &mut Draft,
-    session: SessionId,
-    verb: Verb,
-    numeric: Numeric,
-) -> Result<(), AllocError>
-    ensures { OnOk result (draft.new ≡ grown draft.old (answers draft.old.settings draft.old.facts session verb numeric)) }
-{
-    if verb == Verb::Notice {
-        return Ok(());
-    }
-    tell(draft, session, numeric)
-}
-
 /// Answers a session that a text isn't sent, but not to NOTICE.
 fn refuse(
     draft: &mut Draft,
@@ -149,9 +134,12 @@ fn tell_away(
     let Some(text) = draft.before().away_of(user) else {
         return Ok(());
     };
+    if verb == Verb::Notice {
+        return Ok(());
+    }
     let nick = title_of(draft.alloc(), draft.before().nick_of(user))?;
     let text = text.clone()?;
-    answer(draft, session, verb, Numeric::Away { nick, text })
+    tell(draft, session, Numeric::Away { nick, text })
 }
 
 /// Sends a text to a user.
