@@ -1,8 +1,8 @@
 -- The definitions at work, computed: sessions that register, log in and are refused, and two people who meet in a channel.
-use Rattle.std.proofs.Common.{◌≡◌, ℕ, ◌+◌, pos, List, [], ◌∷◌, ◌++◌, length, codes, replicate, Some, None, true, false, refl}
+use Rattle.std.proofs.Common.{◌≡◌, ℕ, ◌+◌, pos, List, [], ◌∷◌, ◌++◌, length, codes, replicate, None, refl}
 use Rattle.base64.proofs.OnLiterals.{base64_on_literals}
 use Rattle.sha2.specs.Sha256.{sha256, first_words, schedule, rounds, compress, hash_after, digest_bytes}
-use Rattle.line_grammar.specs.declared.splitter.Piece.TheVariants.{Line, TooLong}
+use Rattle.line_grammar.specs.declared.splitter.Piece.TheVariants.{Line}
 use Rattle.line_grammar.specs.Reading.{reading, parameters, with_command}
 use Rattle.line_grammar.specs.Spelling.{untagged}
 use Rattle.casemapping.specs.Fold.{fold_of}
@@ -27,10 +27,11 @@ use Rattle.commands.specs.Commands.{command_of, with_params}
 use Rattle.commands.specs.Lists.{is_same as same_target}
 use Rattle.commands.specs.Names.{named}
 use Rattle.casemapping.specs.Fold.{is_same}
-use Rattle.roster.specs.LookBack.{members, registered}
+use Rattle.roster.specs.LookBack.{members}
 use Rattle.channel_commands.specs.Found.{channel_of}
 use Rattle.channel_commands.specs.Joining.{bar_of}
-use Rattle.channel_commands.specs.Names.{member_name}
+use Rattle.query_commands.specs.Names.{member_name}
+use Rattle.query_commands.specs.Visible.{members_for}
 use Rattle.deeds.specs.Deeds.{facts}
 use Rattle.drafts.specs.Lines.{prefix}
 use Rattle.outbox.specs.declared.item.Item.{Item}
@@ -79,9 +80,9 @@ unfolding reading parameters with_command asked_of command_of with_params named 
 registers = refl
 
 -- before it is registered it may not join; a message of too few parameters is told so first, and an unknown command whoever sends it
-is_refused : owes [] (codes "JOIN #a" ∷ codes "JOIN" ∷ codes "FOO" ∷ codes "names" ∷ codes "NOTICE" ∷ [])
+is_refused : owes [] (codes "JOIN #a" ∷ codes "JOIN" ∷ codes "FOO" ∷ codes "tagmsg" ∷ codes "NOTICE" ∷ [])
     ≡ Lines 2 (codes ":irc.example 451 * :You have not registered" ++ crlf) ∷ Lines 3 (codes ":irc.example 461 * JOIN :Not enough parameters" ++ crlf) ∷ Lines 4 (codes ":irc.example 421 * FOO :Unknown command" ++ crlf)
-    ∷ Lines 5 (codes ":irc.example 421 * names :Unknown command" ++ crlf) ∷ []
+    ∷ Lines 5 (codes ":irc.example 421 * tagmsg :Unknown command" ++ crlf) ∷ []
 unfolding reading parameters with_command asked_of command_of with_params named fold_of same_target is_quit prefix octets untagged numeric row_line
 is_refused = refl
 
@@ -141,16 +142,16 @@ abbrev story : List Kind
 story = Gone 1 ∷ says 1 3 (codes "NICK BO" ∷ codes "NICK alf" ∷ codes "QUIT :bye" ∷ []) (says 2 3 (codes "PRIVMSG #a :hi" ∷ []) meets)
 
 members_then : members (facts (server []) (records meets)) (codes "#a") ≡ 1 ∷ 2 ∷ []
-unfolding reading parameters with_command asked_of command_of with_params named nick_answer fold_of nick_shape channel_shape is_same same_target is_quit cut channel_of bar_of member_name room numeric row_line untagged prefix octets
+unfolding reading parameters with_command asked_of command_of with_params named nick_answer fold_of nick_shape channel_shape is_same same_target is_quit cut channel_of bar_of member_name members_for room numeric row_line untagged prefix octets
 members_then = refl
 
 owed_to_who_leaves : owed (server []) (records story) 1
     ≡ Lines 3 welcome ∷ Lines 4 (codes ":al!a@h1 JOIN #a" ++ crlf ++ names (codes "al") (codes "@al")) ∷ Lines 8 (codes ":bo!b@h2 JOIN #a" ++ crlf) ∷ Lines 9 (codes ":bo!b@h2 PRIVMSG #a :hi" ++ crlf)
     ∷ Lines 10 (codes ":irc.example 433 al BO :Nickname is already in use" ++ crlf) ∷ Lines 11 (codes ":al!a@h1 NICK alf" ++ crlf) ∷ Last 12 Quit ∷ []
-unfolding reading parameters with_command asked_of command_of with_params named nick_answer fold_of nick_shape channel_shape is_same same_target is_quit prefix octets untagged numeric row_line cut time_text civil_date falls_in channel_of bar_of member_name room
+unfolding reading parameters with_command asked_of command_of with_params named nick_answer fold_of nick_shape channel_shape is_same same_target is_quit prefix octets untagged numeric row_line cut time_text civil_date falls_in channel_of bar_of member_name members_for room
 owed_to_who_leaves = refl
 
 shown_to_who_stays : owed (server []) (records story) 2
     ≡ Lines 7 (greets (codes "bo") (codes "!b@h2")) ∷ Lines 8 (codes ":bo!b@h2 JOIN #a" ++ crlf ++ names (codes "bo") (codes "@al bo")) ∷ Lines 11 (codes ":al!a@h1 NICK alf" ++ crlf) ∷ Lines 13 (codes ":alf!a@h1 QUIT :bye" ++ crlf) ∷ []
-unfolding reading parameters with_command asked_of command_of with_params named nick_answer fold_of nick_shape channel_shape is_same same_target is_quit prefix octets untagged numeric row_line cut time_text civil_date falls_in channel_of bar_of member_name room
+unfolding reading parameters with_command asked_of command_of with_params named nick_answer fold_of nick_shape channel_shape is_same same_target is_quit prefix octets untagged numeric row_line cut time_text civil_date falls_in channel_of bar_of member_name members_for room
 shown_to_who_stays = refl

@@ -1,5 +1,5 @@
 -- The definitions at work, computed. Sessions 1 to 3 are al, bo and cy.
-use Rattle.std.proofs.Common.{◌≡◌, ℕ, true, false, List, [], ◌∷◌, ◌++◌, codes, pos, Some, None, refl}
+use Rattle.std.proofs.Common.{◌≡◌, ℕ, true, List, [], ◌∷◌, ◌++◌, codes, refl}
 use Rattle.channel_state.specs.declared.change.Change.TheVariants.{Joined, Left, FlagSet}
 use Rattle.channel_state.specs.declared.modes.Flag.TheVariants.{InviteOnly}
 use Rattle.commands.specs.declared.join_targets.JoinTarget.{JoinTarget}
@@ -12,7 +12,8 @@ use Rattle.line_grammar.specs.Spelling.{untagged}
 use Rattle.numerics.specs.Cut.{cut}
 use Rattle.numerics.specs.Numerics.{numeric, row_line}
 use Rattle.numerics.specs.Outgoing.{room}
-use Rattle.channel_commands.specs.Names.{member_name}
+use Rattle.query_commands.specs.Names.{member_name}
+use Rattle.query_commands.specs.Visible.{members_for}
 use Rattle.channel_commands.specs.Found.{channel_of, user_of}
 use Rattle.channel_commands.specs.Joining.{joins, bar_of}
 use Rattle.channel_commands.specs.Leaving.{kicks}
@@ -33,7 +34,7 @@ three = after [] (user 1 (codes "al") ++ user 2 (codes "bo") ++ user 3 (codes "c
 joined_two_of_three :
     (g : Settings) → deeds_of (joins (record g { server = codes "s" }) (Changed (codes "#b") (FlagSet InviteOnly true) ∷ ChannelMade 2 (codes "#c") ∷ ChannelMade 2 (codes "#b") ∷ three) 1 (target (codes "#a") ∷ target (codes "#B") ∷ target (codes "#C") ∷ []))
     ≡ ChannelMade 1 (codes "#a") ∷ Changed (codes "#c") (Joined 1) ∷ []
-unfolding channel_of bar_of channel_shape member_name cut room numeric row_line untagged is_same fold_of
+unfolding channel_of bar_of channel_shape member_name members_for cut room numeric row_line untagged is_same fold_of
 joined_two_of_three g = refl
 
 -- al kicks bo, itself and cy, who is put out although al is gone by then

@@ -1,5 +1,5 @@
 -- What INVITE does: RFC 2812, section 3.2.7.
-use Rattle.std.specs.Prelude.{ℕ, not, ◌&&◌, List, [], ◌∷◌, ◌++◌, Option, Some, None, if◌then◌else◌}
+use Rattle.std.specs.Prelude.{ℕ, not, ◌&&◌, List, [], ◌∷◌, Option, Some, None, if◌then◌else◌}
 use Rattle.channel_state.specs.declared.change.Change.TheVariants.{Invited}
 use Rattle.channel_state.specs.State.{among}
 use Rattle.numerics.specs.declared.numeric.Numeric.TheVariants.{NoSuchNick, NoSuchChannel, NotOnChannel, UserOnChannel, ChanOPrivsNeeded, Inviting, Away}

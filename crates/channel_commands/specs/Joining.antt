@@ -1,11 +1,9 @@
 -- What JOIN does: RFC 2812, section 3.2.1, and RFC 2811, section 4 (keys, limits, bans and invitations).
 use Rattle.std.specs.Prelude.{ℕ, Bool, false, not, ◌&&◌, nat_le, List, [], ◌∷◌, ◌++◌, length, Option, Some, None, if◌then◌else◌}
-use Rattle.std.specs.List.{list_any}
 use Rattle.std.specs.Str.{bytes_eq}
-use Rattle.casemapping.specs.Mask.{fits}
 use Rattle.casemapping.specs.Names.{channel_shape}
 use Rattle.channel_state.specs.declared.change.Change.TheVariants.{Joined}
-use Rattle.channel_state.specs.State.{State, among, made_by, changed}
+use Rattle.channel_state.specs.State.{State, among, is_banned, made_by, changed}
 use Rattle.commands.specs.declared.join_targets.JoinTarget.{JoinTarget}
 use Rattle.numerics.specs.declared.numeric.Numeric.{Numeric}
 use Rattle.numerics.specs.declared.numeric.Numeric.TheVariants.{NoSuchChannel, TooManyChannels, Topic}
@@ -21,9 +19,9 @@ use Rattle.drafts.specs.declared.denials.Denial.{Denial}
 use Rattle.drafts.specs.declared.denials.Denial.TheVariants.{BadChannelKey, BannedFromChan, InviteOnlyChan, ChannelIsFull}
 use Rattle.drafts.specs.Denials.{denied}
 use Rattle.drafts.specs.Replies.{tells, tells_all}
+use Rattle.query_commands.specs.Names.{names_told}
 use Rattle.channel_commands.specs.Found.{channel_of}
 use Rattle.channel_commands.specs.Each.{each_counted}
-use Rattle.channel_commands.specs.Names.{names_told}
 
 -- ---- who may join a channel that is there
 
@@ -33,7 +31,7 @@ has_other_key (Some k) key = not (bytes_eq k key)
 
 -- a ban fits whoever joins. Whom an operator invited isn't stopped by it
 abbrev pub is_stopped : State → ℕ → List ℕ → Bool
-is_stopped k s from = list_any (λ mask. fits mask from) k.bans && not (among s k.pardoned)
+is_stopped k s from = is_banned k from && not (among s k.pardoned)
 
 abbrev pub is_uninvited : State → ℕ → Bool
 is_uninvited k s = k.modes.invite_only && not (among s k.invited)

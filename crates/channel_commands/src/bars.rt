@@ -1,10 +1,7 @@
 //! Who may join a channel that is there (RFC 2811, section 4).
 ghost use Rattle.std.specs.Prelude.{◌≡◌, length};
-ghost use Rattle.std.specs.List.{list_any};
-ghost use Rattle.casemapping.specs.Mask.{fits};
 ghost use Rattle.channel_commands.specs.Joining.{has_other_key, is_stopped, is_uninvited, has_members, bar_of};
 
-use casemapping::matches;
 use channel_state::ChannelState;
 use chronicle::SessionId;
 use drafts::Denial;
@@ -20,25 +17,11 @@ fn has_other_key(state: &ChannelState, given: &Octets) -> bool
     }
 }
 
-/// Whether a mask fits whoever joins.
-fn fits(mask: &[u8], from: &[u8]) -> bool
-    ensures { result ≡ fits mask.now from.now }
-{
-    matches(mask, from)
-}
-
-/// Whether one of some masks fits whoever joins.
-fn is_banned(masks: &[Octets], from: &[u8]) -> bool
-    ensures { result ≡ list_any (λ mask. fits mask from.now) masks.now }
-{
-    masks.iter().any(|mask| fits(mask.as_slice(), from))
-}
-
 /// Whether a ban stops a session from joining.
 fn is_stopped(state: &ChannelState, session: SessionId, from: &[u8]) -> bool
     ensures { result ≡ is_stopped state.now.state session from.now }
 {
-    is_banned(state.bans(), from) && !state.is_pardoned(session)
+    state.is_banned(from) && !state.is_pardoned(session)
 }
 
 /// Whether a session isn't invited where it has to be.

@@ -10,7 +10,7 @@ ghost use Rattle.channel_commands.specs.Joining.{welcomed, entered, makes, enter
 
 use crate::bars::bar_of;
 use crate::finding::channel_of;
-use crate::members::{push_members, show_members};
+use crate::members::show_members;
 use casemapping::is_channel;
 use channel_state::Change;
 use chronicle::SessionId;
@@ -18,6 +18,7 @@ use commands::JoinTarget;
 use drafts::{Denial, Draft, Seen, deny, join_line, prefix_of, tell_all};
 use line_grammar::Octets;
 use numerics::Numeric;
+use query_commands::push_members;
 use std::alloc::AllocError;
 
 /// On how many channels a session may be.
@@ -35,7 +36,7 @@ fn welcome(draft: &Draft<'_>, session: SessionId, seen: &Seen) -> Result<Vec<Num
         let topic = topic.clone()?;
         numerics.push(Numeric::Topic { channel, topic })?;
     }
-    push_members(draft, &mut numerics, session, seen)?;
+    push_members(draft, &mut numerics, session, seen.name(), seen.state())?;
     Ok(numerics)
 }
 

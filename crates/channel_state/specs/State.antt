@@ -2,10 +2,10 @@
 use Rattle.std.specs.Prelude.{ℕ, Bool, true, false, not, ◌==◌, cond, List, [], ◌∷◌, ◌++◌, filter, Option, None}
 use Rattle.std.specs.List.{list_any}
 use Rattle.casemapping.specs.Fold.{is_same}
+use Rattle.casemapping.specs.Mask.{fits}
 use Rattle.channel_state.specs.declared.modes.Flag.{Flag}
 use Rattle.channel_state.specs.declared.modes.Flag.TheVariants.{InviteOnly, Moderated, NoOutside, Secret, TopicLocked}
 use Rattle.channel_state.specs.declared.modes.Modes.{Modes}
-use Rattle.channel_state.specs.declared.change.Rank.{Rank}
 use Rattle.channel_state.specs.declared.change.Rank.TheVariants.{Operator, Voice}
 use Rattle.channel_state.specs.declared.change.Change.{Change}
 use Rattle.channel_state.specs.declared.change.Change.TheVariants.{Joined, Left, RankSet, FlagSet, KeySet, LimitSet, TopicSet, BanSet, BanLifted, Invited}
@@ -73,6 +73,10 @@ nothing = record { members = []; operators = []; voices = []; invited = []; pard
 -- one that a session made: it is its operator, and the channel is closed to texts from outside, with a topic for operators
 abbrev pub made_by : ℕ → State
 made_by t = record nothing { members = t ∷ []; operators = t ∷ []; modes = record no_modes { no_outside = true; topic_locked = true } }
+
+-- whether a ban fits a source, nick!user@host
+abbrev pub is_banned : State → List ℕ → Bool
+is_banned k source = list_any (λ mask. fits mask source) k.bans
 
 -- a session's invitation is used up
 abbrev pub uninvited : ℕ → State → State

@@ -1,8 +1,10 @@
 //! The masks that a channel bans (RFC 2811, section 4.3.1).
 ghost use Rattle.std.specs.Prelude.{◌≡◌, ◌∷◌, ◌++◌, ◌-◌, ◌<◌, ◌≤◌, [], not, filter, IfOk, OnOk};
+ghost use Rattle.std.specs.List.{list_any};
 ghost use Rattle.casemapping.specs.Fold.{is_same};
+ghost use Rattle.casemapping.specs.Mask.{fits};
 
-use casemapping::same;
+use casemapping::{matches, same};
 use line_grammar::Octets;
 use std::alloc::{AllocError, Global};
 use std::marker::Model;
@@ -30,6 +32,11 @@ impl Masks {
         Masks {
             masks: Vec::new(alloc),
         }
+    }
+
+    /// Where it takes memory.
+    pub(crate) fn alloc(&self) -> Global {
+        *self.masks.allocator()
     }
 
     /// A copy.
@@ -73,6 +80,13 @@ impl Masks {
         ensures room { self.old.room ≤ self.new.room }
     {
         self.masks.clear();
+    }
+
+    /// Whether one of them fits a text.
+    pub(crate) fn fits(&self, text: &[u8]) -> bool
+        ensures { result ≡ list_any (λ mask. fits mask text.now) self.now.list }
+    {
+        self.masks.iter().any(|mask| matches(mask.as_slice(), text))
     }
 
     /// The masks as a slice.

@@ -1,6 +1,6 @@
 //! A channel (RFC 2811, sections 2 to 4).
 ghost use Rattle.std.specs.Prelude.{◌≡◌, ◌-◌, ◌<◌, ◌≤◌, option_copied, IfOk, OnOk, OnErr};
-ghost use Rattle.channel_state.specs.State.{among, changed, departed, is_some_one, lasting, left_by, made_by, nothing, uninvited};
+ghost use Rattle.channel_state.specs.State.{among, changed, departed, is_banned, is_some_one, lasting, left_by, made_by, nothing, uninvited};
 
 use crate::masks::Masks;
 use crate::members::Members;
@@ -64,21 +64,38 @@ impl ChannelState {
         Ok(state)
     }
 
+    /// Has the sessions of another channel in the place of its own.
+    fn copy_sessions(&mut self, other: &ChannelState) -> Result<(), AllocError>
+        ensures { OnOk result (self.new.state ≡ record other.now.state { modes = self.old.state.modes; topic = self.old.state.topic; bans = self.old.state.bans }) }
+    {
+        self.room = 0;
+        self.members = other.members.copied()?;
+        self.operators = other.operators.copied()?;
+        self.voices = other.voices.copied()?;
+        self.invited = other.invited.copied()?;
+        self.pardoned = other.pardoned.copied()?;
+        Ok(())
+    }
+
+    /// Has the modes, the topic and the bans of another channel in the place of its own.
+    fn copy_settings(&mut self, other: &ChannelState) -> Result<(), AllocError>
+        ensures { OnOk result (self.new.state ≡ record self.old.state { modes = other.now.state.modes; topic = other.now.state.topic; bans = other.now.state.bans }) }
+    {
+        self.room = 0;
+        self.modes = other.modes.clone()?;
+        self.topic = other.topic.clone()?;
+        self.bans = other.bans.copied()?;
+        Ok(())
+    }
+
     /// A copy, with room for no change.
     pub fn copied(&self) -> Result<ChannelState, AllocError>
         ensures { IfOk result (λ k. k.state ≡ self.now.state) }
     {
-        Ok(ChannelState {
-            members: self.members.copied()?,
-            operators: self.operators.copied()?,
-            voices: self.voices.copied()?,
-            invited: self.invited.copied()?,
-            pardoned: self.pardoned.copied()?,
-            modes: self.modes.clone()?,
-            topic: self.topic.clone()?,
-            bans: self.bans.copied()?,
-            room: 0,
-        })
+        let mut copy = ChannelState::nothing(self.bans.alloc());
+        copy.copy_sessions(self)?;
+        copy.copy_settings(self)?;
+        Ok(copy)
     }
 
     /// Makes room for so many changes.
@@ -258,6 +275,13 @@ impl ChannelState {
         ensures { option_copied result ≡ self.now.state.topic }
     {
         self.topic.as_ref()
+    }
+
+    /// Whether a mask that it bans fits a source, `nick!user@host`.
+    pub fn is_banned(&self, source: &[u8]) -> bool
+        ensures { result ≡ is_banned self.now.state source.now }
+    {
+        self.bans.fits(source)
     }
 
     /// The masks that it bans, in the order of setting.

@@ -29,7 +29,7 @@ abbrev read_of : List ℕ → Asked
 read_of line = read_as_given (reading line)
 
 -- what isn't served is unknown whatever its shape, as it was given
-unserved : (of (codes "whois") ≡ Fails (fault.UnknownCommand (codes "whois"))) × (of (codes "NAMES #a") ≡ Fails (fault.UnknownCommand (codes "NAMES"))) × (of (codes "TAGMSG") ≡ Fails (fault.UnknownCommand (codes "TAGMSG"))) × (of (codes "NOTICE") ≡ Asks (command.Notice [] [])) × (of (codes "JOIN") ≡ Fails (fault.NeedMoreParams name.Join))
+unserved : (of (codes "tagmsg #a") ≡ Fails (fault.UnknownCommand (codes "tagmsg"))) × (of (codes "whois") ≡ Fails fault.NoNicknameGiven) × (of (codes "TAGMSG") ≡ Fails (fault.UnknownCommand (codes "TAGMSG"))) × (of (codes "NOTICE") ≡ Asks (command.Notice [] [])) × (of (codes "JOIN") ≡ Fails (fault.NeedMoreParams name.Join))
 unfolding asked_of reading parameters with_command command_of named with_params
 unserved = (refl, refl, refl, refl, refl)
 

@@ -19,7 +19,7 @@ use Rattle.commands.specs.Registering.{user_name, cap_req, cap_subcommand, user_
 use Rattle.commands.specs.Talking.{second_or_empty}
 use Rattle.commands.specs.Queries.{nick_asked}
 use Rattle.commands.specs.Commands.{with_params, known_or_not, command_of}
-use Rattle.commands.specs.Asked.{read_as, not_served, served_or_not, asked_by, asked_of, asks_for_quit}
+use Rattle.commands.specs.Asked.{read_as, served_or_not, asked_by, asked_of, asks_for_quit}
 
 -- whether it was read as QUIT
 abbrev is_quit_read : Result Command ReadFault → Bool

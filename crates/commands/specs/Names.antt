@@ -50,10 +50,10 @@ is_served Privmsg = true
 is_served Notice = true
 is_served Tagmsg = false
 is_served Away = true
-is_served Names = false
-is_served ListChannels = false
-is_served Who = false
-is_served Whois = false
+is_served Names = true
+is_served ListChannels = true
+is_served Who = true
+is_served Whois = true
 is_served Motd = true
 
 abbrev pub names_but_quit : List CommandName

@@ -124,10 +124,10 @@ impl CommandName {
             CommandName::Notice => true,
             CommandName::Tagmsg => false,
             CommandName::Away => true,
-            CommandName::Names => false,
-            CommandName::List => false,
-            CommandName::Who => false,
-            CommandName::Whois => false,
+            CommandName::Names => true,
+            CommandName::List => true,
+            CommandName::Who => true,
+            CommandName::Whois => true,
             CommandName::Motd => true,
         }
     }

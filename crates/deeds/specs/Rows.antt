@@ -8,7 +8,7 @@ use Rattle.roster.specs.LookBack.{after, registered}
 use Rattle.commands.specs.declared.asked.Asked.{Asked}
 use Rattle.commands.specs.declared.asked.Asked.TheVariants.{Nothing, TooLong, Command as Asks, Fault as Fails}
 use Rattle.commands.specs.declared.command.Command.{Command}
-use Rattle.commands.specs.declared.command.Command.TheVariants.{Cap, Authenticate, Pass, Nick, User, Ping, Pong, Quit, Join, Part, Kick, Invite, Topic, Mode, Privmsg, Notice, Away, Motd}
+use Rattle.commands.specs.declared.command.Command.TheVariants.{Cap, Authenticate, Pass, Nick, User, Ping, Pong, Quit, Join, Part, Kick, Invite, Topic, Mode, Privmsg, Notice, Away, Names, List as ListChannels, Who, Whois, Motd}
 use Rattle.commands.specs.declared.command.ReadFault.{ReadFault}
 use Rattle.commands.specs.declared.command.ReadFault.TheVariants.{UnknownCommand, NeedMoreParams, NoNicknameGiven, NoRecipient, NoTextToSend, NoOrigin, InvalidCapSubcommand, Memory}
 use Rattle.commands.specs.Names.{name_text}
@@ -20,6 +20,10 @@ use Rattle.drafts.specs.Replies.{tells, tells_all}
 use Rattle.deeds.specs.Welcome.{motd_asked}
 use Rattle.deeds.specs.Registration.{takes_nick, introduces, passes, quits, completed}
 use Rattle.deeds.specs.Negotiation.{negotiates, authenticates}
+use Rattle.query_commands.specs.Names.{names}
+use Rattle.query_commands.specs.Listing.{lists}
+use Rattle.query_commands.specs.Asking.{asks_who}
+use Rattle.query_commands.specs.Whois.{asks_whois}
 use Rattle.channel_commands.specs.Joining.{joins}
 use Rattle.channel_commands.specs.Leaving.{parts, kicks}
 use Rattle.channel_commands.specs.Inviting.{invites}
@@ -41,6 +45,15 @@ is_for_registered Pong = false
 is_for_registered (Quit text) = false
 is_for_registered k = true
 
+-- what a command does that only asks
+abbrev pub queries : Settings → List Deed → ℕ → Command → List Effect
+queries g fs s (Names channels) = names g fs s channels
+queries g fs s (ListChannels channels) = lists g fs s channels
+queries g fs s (Who name) = asks_who g fs s name
+queries g fs s (Whois nick) = asks_whois g fs s nick
+queries g fs s (Motd server) = tells_all g fs s (motd_asked g server)
+queries g fs s k = []
+
 -- what a command about channels and texts does
 abbrev pub converses : Settings → List Deed → ℕ → Command → List Effect
 converses g fs s (Join targets) = joins g fs s targets
@@ -52,7 +65,7 @@ converses g fs s (Mode target changes) = modes g fs s target changes
 converses g fs s (Privmsg targets text) = sends g fs s verb.Privmsg targets text
 converses g fs s (Notice targets text) = sends g fs s verb.Notice targets text
 converses g fs s (Away text) = goes_away g fs s text
-converses g fs s k = []
+converses g fs s k = queries g fs s k
 
 -- what a command of a session does by itself
 abbrev pub served : Settings → List Deed → ℕ → Command → List Effect
@@ -63,7 +76,6 @@ served g fs s (Nick n) = takes_nick g fs s n
 served g fs s (User u r) = introduces g fs s u r
 served g fs s (Ping token) = Answer (pong_line g.server token) ∷ []
 served g fs s (Quit text) = quits s text
-served g fs s (Motd server) = tells_all g fs s (motd_asked g server)
 served g fs s k = converses g fs s k
 
 -- who isn't registered is told so, but not after NOTICE

@@ -7,7 +7,7 @@ ghost use Rattle.drafts.specs.Drafted.{grown};
 ghost use Rattle.drafts.specs.Lines.{pong_line};
 ghost use Rattle.drafts.specs.Replies.{tells_all};
 ghost use Rattle.deeds.specs.Welcome.{motd_asked};
-ghost use Rattle.deeds.specs.Rows.{asked, converses, fault_numeric, is_for_registered, of_asked, of_command, refused, served, turned_away};
+ghost use Rattle.deeds.specs.Rows.{asked, converses, fault_numeric, is_for_registered, of_asked, of_command, queries, refused, served, turned_away};
 ghost use Rattle.deeds.specs.Verdicts.{IsVerdict};
 
 use crate::enrolling::{complete, introduce, pass, quit, take_nick};
@@ -21,6 +21,7 @@ use drafts::{Draft, pong_line, tell, tell_all};
 use line_grammar::Octets;
 use mode_commands::change_modes;
 use numerics::Numeric;
+use query_commands::{ask_who, ask_whois, list, names};
 use roster::Roster;
 use std::alloc::{AllocError, Global};
 use talk_commands::{Verb, go_away, send};
@@ -63,6 +64,21 @@ fn is_for_registered(command: &Command) -> bool
     )
 }
 
+/// Does what a command asks for that only asks.
+fn query(draft: &mut Draft, session: SessionId, command: &Command) -> Result<(), AllocError>
+    requires { draft.old.facts ≡ draft.old.base }
+    ensures { OnOk result (draft.new ≡ grown draft.old (queries draft.old.settings draft.old.facts session command.now)) }
+{
+    match command {
+        Command::Names { channels } => names(draft, session, channels),
+        Command::List { channels } => list(draft, session, channels),
+        Command::Who { name } => ask_who(draft, session, name),
+        Command::Whois { nick } => ask_whois(draft, session, nick),
+        Command::Motd { server } => show_motd(draft, session, server),
+        _ => Ok(()),
+    }
+}
+
 /// Does what a command about channels and texts asks for.
 fn converse(draft: &mut Draft, session: SessionId, command: &Command) -> Result<(), AllocError>
     requires opened { IsOpened draft.old.facts session }
@@ -89,7 +105,7 @@ fn converse(draft: &mut Draft, session: SessionId, command: &Command) -> Result<
             send(draft, session, Verb::Notice, targets.as_slice(), text)
         }
         Command::Away { text } => go_away(draft, session, text),
-        _ => Ok(()),
+        other => query(draft, session, other),
     }
 }
 
@@ -107,7 +123,6 @@ fn serve(draft: &mut Draft, session: SessionId, command: &Command) -> Result<(),
         Command::User { user, real } => introduce(draft, session, user, real),
         Command::Ping { token } => pong(draft, token.as_slice()),
         Command::Quit { text } => quit(draft, session, text),
-        Command::Motd { server } => show_motd(draft, session, server),
         other => converse(draft, session, other),
     }
 }

@@ -110,20 +110,12 @@ connect h1
 1> :~ 421 * Version :Unknown command
 ";
 
-/// Commands that are to come, with and without their parameters.
+/// A command that is to come, with and without its parameter.
 const NOT_SERVED: &str = "\
 1 @+a=b TAGMSG #a
 1> :~ 421 al TAGMSG :Unknown command
 1 tagmsg
 1> :~ 421 al tagmsg :Unknown command
-1 NAMES
-1> :~ 421 al NAMES :Unknown command
-1 LIST
-1> :~ 421 al LIST :Unknown command
-1 WHO #a
-1> :~ 421 al WHO :Unknown command
-1 Whois
-1> :~ 421 al Whois :Unknown command
 ";
 
 #[test]

@@ -1,8 +1,7 @@
 -- What PRIVMSG and NOTICE do: RFC 2812, sections 3.3.1 and 3.3.2, and who may speak on a channel: RFC 2811, sections 4.2.3, 4.2.4 and 4.3.1.
 use Rattle.std.specs.Prelude.{ℕ, Bool, true, false, not, ◌&&◌, ◌||◌, ◌==◌, nat_lt, List, [], ◌∷◌, ◌++◌, length, slice_index_or, Option, Some, None, if◌then◌else◌}
-use Rattle.std.specs.List.{flat_map, list_any}
-use Rattle.casemapping.specs.Mask.{fits}
-use Rattle.channel_state.specs.State.{State, among, without}
+use Rattle.std.specs.List.{flat_map}
+use Rattle.channel_state.specs.State.{State, among, is_banned, without}
 use Rattle.numerics.specs.declared.numeric.Numeric.{Numeric}
 use Rattle.numerics.specs.declared.numeric.Numeric.TheVariants.{NoSuchChannel, CannotSendToChan, NoSuchNick, TooManyTargets, Away}
 use Rattle.registration.specs.declared.settings.Settings.{Settings}
@@ -22,10 +21,6 @@ answers g fs s Privmsg n = tells g fs s n ∷ []
 answers g fs s Notice n = []
 
 -- ---- a channel
-
--- whether a ban fits nick!user@host
-abbrev pub is_banned : State → List ℕ → Bool
-is_banned k source = list_any (λ mask. fits mask source) k.bans
 
 -- whether a session may speak: a rank there lifts every bar
 abbrev pub has_rank : State → ℕ → Bool

@@ -5,10 +5,9 @@ ghost use Rattle.roster.specs.LookBack.{away, found, name_of, state};
 ghost use Rattle.drafts.specs.Denials.{denied};
 ghost use Rattle.drafts.specs.Drafted.{grown};
 ghost use Rattle.drafts.specs.Lines.{prefix};
-ghost use Rattle.talk_commands.specs.Talking.{answers, delivers, is_banned, is_barred, has_rank, may_speak, names_channel, sends, tells_away, to_channel, to_one, to_user};
+ghost use Rattle.talk_commands.specs.Talking.{answers, delivers, is_barred, has_rank, may_speak, names_channel, sends, tells_away, to_channel, to_one, to_user};
 
 use crate::Verb;
-use casemapping::matches;
 use channel_state::ChannelState;
 use chronicle::SessionId;
 use drafts::{Denial, Draft, deny, prefix_of, tell, title_of};
@@ -51,22 +50,12 @@ fn refuse(
     }
 }
 
-/// Whether a ban fits a source.
-fn is_banned(state: &ChannelState, source: &[u8]) -> bool
-    ensures { result ≡ is_banned state.now.state source.now }
-{
-    state
-        .bans()
-        .iter()
-        .any(|mask| matches(mask.as_slice(), source))
-}
-
 /// Whether those without a rank may not speak.
 fn is_barred(state: &ChannelState, session: SessionId, source: &[u8]) -> bool
     ensures { result ≡ is_barred state.now.state session source.now }
 {
     let modes = state.modes();
-    modes.moderated || modes.no_outside && !state.has(session) || is_banned(state, source)
+    modes.moderated || modes.no_outside && !state.has(session) || state.is_banned(source)
 }
 
 /// Whether a session may speak on a channel.

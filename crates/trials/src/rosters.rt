@@ -303,19 +303,25 @@ fn is_name(name: Option<&Octets>, want: &[u8]) -> bool {
     }
 }
 
-/// Whether this is what the roster answers of sessions after the story.
-fn knows_sessions(roster: &Roster) -> bool {
-    let al = SessionId::new(1);
-    roster.opened() == 2
-        && roster.host_of(al) == b"h1".as_slice()
+/// Whether this is what the roster answers of a session after the story.
+fn knows_names(roster: &Roster, al: SessionId) -> bool {
+    roster.host_of(al) == b"h1".as_slice()
         && is_name(roster.user_of(al), b"a")
         && is_name(roster.real_of(al), b"Al")
         && roster.is_registered(al)
+}
+
+/// Whether this is who has which nickname.
+fn knows_holders(roster: &Roster, al: SessionId) -> bool {
+    roster.opened() == 2
         && roster.find(b"AL") == Some(al)
         && roster.find(b"cy").is_none()
         && roster.holder(b"Bo") == Some(SessionId::new(2))
-        && roster.why_of(al) == Why::Quit
-        && roster.parting_of(al) == b"bye".as_slice()
+}
+
+/// Whether this is how a session ended.
+fn knows_end(roster: &Roster, al: SessionId) -> bool {
+    roster.why_of(al) == Why::Quit && roster.parting_of(al) == b"bye".as_slice()
 }
 
 /// Whether this is what it answers of channels.
@@ -340,7 +346,10 @@ fn shares(roster: &Roster, session: SessionId, want: &[u64]) -> Result<bool, All
 
 /// Compares what a roster knows.
 fn compare_told(rt: &impl Abort, roster: &Roster) -> Result<(), AllocError> {
-    assert!(rt; knows_sessions(roster));
+    let al = SessionId::new(1);
+    assert!(rt; knows_names(roster, al));
+    assert!(rt; knows_holders(roster, al));
+    assert!(rt; knows_end(roster, al));
     assert!(rt; knows_channels(roster));
     assert!(rt; shares(roster, SessionId::new(1), &[2])?);
     Ok(())
@@ -459,14 +468,21 @@ fn deal_all(rt: &impl Abort, roster: &mut Roster, alloc: Global) -> Result<(), A
     Ok(())
 }
 
+/// Whether a channel isn't there.
+fn is_absent(roster: &Roster, channel: &[u8]) -> bool {
+    roster.members(channel).is_empty() && roster.state_of(channel).is_none()
+}
+
+/// Whether a session is away, and on so many channels.
+fn is_away(roster: &Roster, session: SessionId, channels: usize) -> bool {
+    roster.away_of(session).is_some() && roster.channel_count_of(session) == channels
+}
+
 /// Whether what the lines were to leave is left.
-fn are_dealt(roster: &Roster) -> bool {
-    let (al, bo) = (SessionId::new(1), SessionId::new(2));
+fn are_dealt(roster: &Roster, al: SessionId, bo: SessionId) -> bool {
     roster.channel_count() == 2
-        && roster.channel_count_of(al) == 2
-        && roster.members(b"#a").is_empty()
-        && roster.state_of(b"#a").is_none()
-        && roster.away_of(al).is_some()
+        && is_absent(roster, b"#a")
+        && is_away(roster, al, 2)
         && !roster.is_invisible(bo)
 }
 
@@ -476,6 +492,6 @@ fn a_line_that_does_much_is_done_whole(rt: HostRuntime) -> Result<(), Fail> {
     assert!(rt; is_well_set(&settings));
     let mut roster = Roster::new(rt.alloc(), settings);
     deal_all(&rt, &mut roster, rt.alloc())?;
-    assert!(rt; are_dealt(&roster));
+    assert!(rt; are_dealt(&roster, SessionId::new(1), SessionId::new(2)));
     Ok(())
 }

@@ -1,5 +1,6 @@
 -- Who is on a channel, as it is told: RFC 2812, section 3.2.5 (NAMES, with which JOIN ends).
-use Rattle.std.specs.Prelude.{ℕ, List, [], ◌∷◌, ◌++◌, map, length, Option, Some, None, if◌then◌else◌}
+use Rattle.std.specs.Prelude.{ℕ, List, [], ◌∷◌, ◌++◌, map, codes, length, Option, Some, None, if◌then◌else◌}
+use Rattle.std.specs.List.{flat_map}
 use Rattle.channel_state.specs.State.{State, among}
 use Rattle.numerics.specs.declared.numeric.Numeric.{Numeric}
 use Rattle.numerics.specs.declared.numeric.Numeric.TheVariants.{NamReply, EndOfNames}
@@ -11,8 +12,11 @@ use Rattle.numerics.specs.Outgoing.{room}
 use Rattle.registration.specs.declared.settings.Settings.{Settings}
 use Rattle.roster.specs.declared.deed.Deed.{Deed}
 use Rattle.roster.specs.LookBack.{nick}
+use Rattle.drafts.specs.declared.effect.Effect.{Effect}
+use Rattle.drafts.specs.Replies.{tells_all}
 use Rattle.drafts.specs.Seen.{Seen}
 use Rattle.drafts.specs.Lines.{title}
+use Rattle.query_commands.specs.Visible.{channel_for, members_for}
 
 -- the higher of a member's ranks
 abbrev pub rank_of : State → ℕ → Option Prefix
@@ -22,9 +26,9 @@ rank_of k t = if among t k.operators then Some Operator else if among t k.voices
 unfoldable pub member_name : List Deed → State → ℕ → List ℕ
 member_name fs k t = marks (rank_of k t) ++ title (nick fs t)
 
--- those on it, in the order of joining
-abbrev pub member_names : List Deed → State → List (List ℕ)
-member_names fs k = map (member_name fs k) k.members
+-- those that the session is told of, in the order of joining
+abbrev pub member_names : List Deed → ℕ → State → List (List ℕ)
+member_names fs s k = map (member_name fs k) (members_for fs s k)
 
 -- how many octets of names a line has room for
 abbrev pub names_room : Settings → List Deed → ℕ → Seen → ℕ
@@ -36,4 +40,20 @@ name_lines k octets names = map (NamReply k.state.modes.secret k.name) (cut octe
 
 -- who is on it
 abbrev pub names_told : Settings → List Deed → ℕ → Seen → List Numeric
-names_told g fs s k = name_lines k (names_room g fs s k) (member_names fs k.state) ++ EndOfNames k.name ∷ []
+names_told g fs s k = name_lines k (names_room g fs s k) (member_names fs s k.state) ++ EndOfNames k.name ∷ []
+
+-- nothing tells a channel that isn't seen from one that isn't there
+abbrev pub names_seen : Settings → List Deed → ℕ → List ℕ → Option Seen → List Numeric
+names_seen g fs s c None = EndOfNames c ∷ []
+names_seen g fs s c (Some k) = names_told g fs s k
+
+abbrev pub names_of : Settings → List Deed → ℕ → List ℕ → List Numeric
+names_of g fs s c = names_seen g fs s c (channel_for fs s c)
+
+-- each channel of a list in turn. Without one nothing is told but the end
+abbrev pub names_asked : Settings → List Deed → ℕ → Option (List (List ℕ)) → List Numeric
+names_asked g fs s None = EndOfNames (codes "*") ∷ []
+names_asked g fs s (Some cs) = flat_map (names_of g fs s) cs
+
+abbrev pub names : Settings → List Deed → ℕ → Option (List (List ℕ)) → List Effect
+names g fs s cs = tells_all g fs s (names_asked g fs s cs)

@@ -1,0 +1,31 @@
+-- Which channels there are: RFC 2812, section 3.2.6 (LIST).
+use Rattle.std.specs.Prelude.{ℕ, List, [], ◌∷◌, ◌++◌, length, unwrap_or, Option, Some, None}
+use Rattle.std.specs.List.{flat_map}
+use Rattle.numerics.specs.declared.numeric.Numeric.{Numeric}
+use Rattle.numerics.specs.declared.numeric.Numeric.TheVariants.{ListReply, ListEnd}
+use Rattle.registration.specs.declared.settings.Settings.{Settings}
+use Rattle.roster.specs.declared.deed.Deed.{Deed}
+use Rattle.roster.specs.LookBack.{channels}
+use Rattle.drafts.specs.declared.effect.Effect.{Effect}
+use Rattle.drafts.specs.Replies.{tells_all}
+use Rattle.drafts.specs.Seen.{Seen}
+use Rattle.query_commands.specs.Visible.{channel_for}
+
+-- a channel, how many are on it, and its topic
+abbrev pub listed_seen : Option Seen → List Numeric
+listed_seen None = []
+listed_seen (Some k) = ListReply k.name (length k.state.members) (unwrap_or k.state.topic []) ∷ []
+
+abbrev pub listed : List Deed → ℕ → List ℕ → List Numeric
+listed fs s c = listed_seen (channel_for fs s c)
+
+-- those of a list in its order, or else all in the order of making
+abbrev pub channels_asked : List Deed → Option (List (List ℕ)) → List (List ℕ)
+channels_asked fs None = channels fs
+channels_asked fs (Some cs) = cs
+
+abbrev pub lists_told : List Deed → ℕ → List (List ℕ) → List Numeric
+lists_told fs s cs = flat_map (listed fs s) cs ++ ListEnd ∷ []
+
+abbrev pub lists : Settings → List Deed → ℕ → Option (List (List ℕ)) → List Effect
+lists g fs s cs = tells_all g fs s (lists_told fs s (channels_asked fs cs))

@@ -1,0 +1,128 @@
+//! LIST (RFC 2812, section 3.2.6).
+ghost use Rattle.std.specs.Prelude.{◌≡◌, ◌++◌, [], slice_get, unwrap_or, option_copied, IfOk, OnOk};
+ghost use Rattle.std.specs.List.{flat_map};
+ghost use Rattle.roster.specs.LookBack.{channels as all_channels};
+ghost use Rattle.drafts.specs.Drafted.{grown};
+ghost use Rattle.query_commands.specs.Visible.{of_one};
+ghost use Rattle.query_commands.specs.Listing.{channels_asked, listed, lists, lists_told};
+
+use crate::visible::channel_for;
+use chronicle::SessionId;
+use commands::Texts;
+use drafts::{Draft, tell_all};
+use line_grammar::Octets;
+use numerics::Numeric;
+use roster::Roster;
+use std::alloc::{AllocError, Global};
+
+/// A topic, empty where there is none.
+fn topic_of(alloc: Global, topic: Option<&Octets>) -> Result<Octets, AllocError>
+    ensures { IfOk result (λ t. t ≡ unwrap_or (option_copied topic.entry) []) }
+{
+    match topic {
+        Some(topic) => topic.clone(),
+        None => Octets::copied(alloc, b""),
+    }
+}
+
+/// Adds a channel, where the session sees it.
+fn push_channel(
+    alloc: Global,
+    roster: &Roster,
+    numerics: &mut Vec<Numeric>,
+    session: SessionId,
+    channel: &Octets,
+) -> Result<(), AllocError>
+    ensures { OnOk result (numerics.new.items ≡ numerics.old.items ++ listed roster.now.facts session channel.now) }
+{
+    let Some(listed) = channel_for(roster, session, channel.as_slice()) else {
+        return Ok(());
+    };
+    let topic = topic_of(alloc, listed.state.topic())?;
+    let channel = listed.name.clone()?;
+    let members = listed.state.members().len();
+    numerics.push(Numeric::ListReply {
+        channel,
+        members,
+        topic,
+    })?;
+    Ok(())
+}
+
+/// Adds the channels of a list, in its order.
+fn push_given(
+    alloc: Global,
+    roster: &Roster,
+    numerics: &mut Vec<Numeric>,
+    session: SessionId,
+    channels: &[Octets],
+) -> Result<(), AllocError>
+    ensures { OnOk result (numerics.new.items ≡ numerics.old.items ++ flat_map (listed roster.now.facts session) channels.now) }
+{
+    for channel in channels {
+        push_channel(alloc, roster, numerics, session, channel)?;
+    }
+    Ok(())
+}
+
+/// Adds the channel at a place, from 0, in the order of making.
+fn push_at(
+    alloc: Global,
+    roster: &Roster,
+    numerics: &mut Vec<Numeric>,
+    session: SessionId,
+    place: usize,
+) -> Result<(), AllocError>
+    ensures { OnOk result (numerics.new.items ≡ numerics.old.items ++ of_one (listed roster.now.facts session) (slice_get (all_channels roster.now.facts) place)) }
+{
+    match roster.channel_at(place) {
+        Some(channel) => push_channel(alloc, roster, numerics, session, channel),
+        None => Ok(()),
+    }
+}
+
+/// Adds all channels, in the order of making.
+fn push_all(
+    alloc: Global,
+    roster: &Roster,
+    numerics: &mut Vec<Numeric>,
+    session: SessionId,
+) -> Result<(), AllocError>
+    ensures { OnOk result (numerics.new.items ≡ numerics.old.items ++ flat_map (listed roster.now.facts session) (all_channels roster.now.facts)) }
+{
+    for place in 0..roster.channel_count() {
+        push_at(alloc, roster, numerics, session, place)?;
+    }
+    Ok(())
+}
+
+/// What a session is told that asks which channels there are.
+fn lists_told(
+    alloc: Global,
+    roster: &Roster,
+    session: SessionId,
+    channels: &Option<Texts>,
+) -> Result<Vec<Numeric>, AllocError>
+    ensures { IfOk result (λ v. v.items ≡ lists_told roster.now.facts session (channels_asked roster.now.facts channels.now)) }
+{
+    let mut numerics = Vec::new(alloc);
+    match channels {
+        Some(channels) => push_given(alloc, roster, &mut numerics, session, channels.as_slice())?,
+        None => push_all(alloc, roster, &mut numerics, session)?,
+    }
+    numerics.push(Numeric::ListEnd)?;
+    Ok(numerics)
+}
+
+/// LIST: the channels of a list, or all, as far as the session is let see (RFC 2812, section 3.2.6).
+pub fn list(
+    draft: &mut Draft,
+    session: SessionId,
+    channels: &Option<Texts>,
+) -> Result<(), AllocError>
+    requires { draft.old.facts ≡ draft.old.base }
+    ensures { OnOk result (draft.new ≡ grown draft.old (lists draft.old.settings draft.old.facts session channels.now)) }
+{
+    let numerics = lists_told(draft.alloc(), draft.before(), session, channels)?;
+    tell_all(draft, session, &numerics)
+}

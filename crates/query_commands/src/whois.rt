@@ -1,0 +1,228 @@
+//! WHOIS (RFC 2812, section 3.6.2).
+ghost use Rattle.std.specs.Prelude.{◌≡◌, ◌∷◌, ◌++◌, [], map, slice_get, option_copied, option_to_list, IfOk, OnOk};
+ghost use Rattle.numerics.specs.declared.numeric.Numeric.TheVariants.{EndOfWhois, NoSuchNick, WhoisChannels, WhoisServer};
+ghost use Rattle.roster.specs.LookBack.{channels, found, nick};
+ghost use Rattle.drafts.specs.Drafted.{grown};
+ghost use Rattle.drafts.specs.Lines.{title};
+ghost use Rattle.query_commands.specs.Visible.{of_one};
+ghost use Rattle.query_commands.specs.Whois.{asks_whois, away_told, channel_lines, channel_title, channels_of, channels_room, channels_told, title_for, user_line, user_told, whois_found};
+
+use crate::asking::real_of;
+use crate::naming::{rank_of, room_of};
+use crate::visible::sees;
+use chronicle::SessionId;
+use drafts::{Draft, tell_all, title_of};
+use line_grammar::Octets;
+use numerics::{Numeric, Words, prefixed, split_names};
+use roster::Roster;
+use std::alloc::{AllocError, Global};
+
+/// A channel's name with the mark of a user's rank there, where the user is on it and the session sees it.
+fn title_for(
+    alloc: Global,
+    roster: &Roster,
+    session: SessionId,
+    user: SessionId,
+    channel: &Octets,
+) -> Result<Option<Octets>, AllocError>
+    ensures { IfOk result (λ o. o ≡ title_for roster.now.facts session user channel.now) }
+{
+    let Some(state) = roster.state_of(channel.as_slice()) else {
+        return Ok(None);
+    };
+    if !(state.has(user) && sees(session, state)) {
+        return Ok(None);
+    }
+    Ok(Some(prefixed(alloc, rank_of(state, user), channel.as_slice())?))
+}
+
+/// Adds the channel at a place, from 0, in the order of making, where the user is on it and the session sees it.
+fn push_at(
+    alloc: Global,
+    roster: &Roster,
+    titles: &mut Vec<Octets>,
+    session: SessionId,
+    user: SessionId,
+    place: usize,
+) -> Result<(), AllocError>
+    ensures { OnOk result (titles.new.items ≡ titles.old.items ++ of_one (λ c. option_to_list (title_for roster.now.facts session user c)) (slice_get (channels roster.now.facts) place)) }
+{
+    let Some(channel) = roster.channel_at(place) else {
+        return Ok(());
+    };
+    if let Some(title) = title_for(alloc, roster, session, user, channel)? {
+        titles.push(title)?;
+    }
+    Ok(())
+}
+
+/// The channels of a user that a session sees, in the order of making.
+#[tactic(auto, using(crate::proofs::Lists::titles_are))]
+fn titles_of(
+    alloc: Global,
+    roster: &Roster,
+    session: SessionId,
+    user: SessionId,
+) -> Result<Vec<Octets>, AllocError>
+    ensures { IfOk result (λ v. v.items ≡ map (channel_title roster.now.facts user) (channels_of roster.now.facts session user)) }
+{
+    let mut titles = Vec::new(alloc);
+    for place in 0..roster.channel_count() {
+        push_at(alloc, roster, &mut titles, session, user, place)?;
+    }
+    Ok(titles)
+}
+
+/// How many octets of channels a line has room for.
+fn channels_room(draft: &Draft<'_>, session: SessionId, nick: &Octets) -> Result<usize, AllocError>
+    ensures { IfOk result (λ n. n ≡ channels_room draft.now.settings draft.now.base session nick.now) }
+{
+    let alloc = draft.alloc();
+    let to = title_of(alloc, draft.before().nick_of(session))?;
+    let server = draft.before().settings().server.as_slice();
+    let nick = nick.clone()?;
+    let channels = Words::from_vec(Vec::new(alloc));
+    let numeric = Numeric::WhoisChannels { nick, channels };
+    room_of(alloc, server, to.as_slice(), &numeric)
+}
+
+/// Adds a numeric for each line of channels.
+fn push_lines(
+    numerics: &mut Vec<Numeric>,
+    nick: &Octets,
+    lines: Vec<Words>,
+) -> Result<(), AllocError>
+    ensures { OnOk result (numerics.new.items ≡ numerics.old.items ++ map (WhoisChannels nick.now) lines.items) }
+{
+    for channels in lines {
+        let nick = nick.clone()?;
+        numerics.push(Numeric::WhoisChannels { nick, channels })?;
+    }
+    Ok(())
+}
+
+/// Adds the channels of a user that a session sees, in as few lines as their order allows.
+fn push_channels(
+    draft: &Draft<'_>,
+    numerics: &mut Vec<Numeric>,
+    session: SessionId,
+    user: SessionId,
+    nick: &Octets,
+) -> Result<(), AllocError>
+    ensures { OnOk result (numerics.new.items ≡ numerics.old.items ++ channels_told draft.now.settings draft.now.base session user nick.now) }
+{
+    let room = channels_room(draft, session, nick)?;
+    let titles = titles_of(draft.alloc(), draft.before(), session, user)?;
+    let lines = split_names(draft.alloc(), &titles, room)?;
+    push_lines(numerics, nick, lines)
+}
+
+/// Adds who a user is.
+fn push_user(
+    alloc: Global,
+    roster: &Roster,
+    numerics: &mut Vec<Numeric>,
+    user: SessionId,
+    nick: &Octets,
+) -> Result<(), AllocError>
+    ensures { OnOk result (numerics.new.items ≡ numerics.old.items ++ user_line roster.now.facts user nick.now ∷ []) }
+{
+    let nick = nick.clone()?;
+    let host = Octets::copied(alloc, roster.host_of(user))?;
+    let real = real_of(alloc, roster.real_of(user))?;
+    let user = title_of(alloc, roster.user_of(user))?;
+    numerics.push(Numeric::WhoisUser {
+        nick,
+        user,
+        host,
+        real,
+    })?;
+    Ok(())
+}
+
+/// Adds that a user is away, where it is.
+fn push_away(
+    numerics: &mut Vec<Numeric>,
+    nick: &Octets,
+    away: Option<&Octets>,
+) -> Result<(), AllocError>
+    ensures { OnOk result (numerics.new.items ≡ numerics.old.items ++ away_told nick.now (option_copied away.entry)) }
+{
+    if let Some(text) = away {
+        let nick = nick.clone()?;
+        let text = text.clone()?;
+        numerics.push(Numeric::Away { nick, text })?;
+    }
+    Ok(())
+}
+
+/// Adds which server a user is on.
+fn push_server(numerics: &mut Vec<Numeric>, nick: &Octets, info: &Octets) -> Result<(), AllocError>
+    ensures { OnOk result (numerics.new.items ≡ numerics.old.items ++ WhoisServer nick.now info.now ∷ []) }
+{
+    let nick = nick.clone()?;
+    let info = info.clone()?;
+    numerics.push(Numeric::WhoisServer { nick, info })?;
+    Ok(())
+}
+
+/// Adds that no more is told of a nickname.
+fn push_end(numerics: &mut Vec<Numeric>, nick: &Octets) -> Result<(), AllocError>
+    ensures { OnOk result (numerics.new.items ≡ numerics.old.items ++ EndOfWhois nick.now ∷ []) }
+{
+    numerics.push(Numeric::EndOfWhois(nick.clone()?))?;
+    Ok(())
+}
+
+/// What a session is told of a user.
+fn user_told(
+    draft: &Draft<'_>,
+    session: SessionId,
+    user: SessionId,
+) -> Result<Vec<Numeric>, AllocError>
+    ensures { IfOk result (λ v. v.items ≡ user_told draft.now.settings draft.now.base session user (title (nick draft.now.base user))) }
+{
+    let alloc = draft.alloc();
+    let roster = draft.before();
+    let nick = title_of(alloc, roster.nick_of(user))?;
+    let mut numerics = Vec::new(alloc);
+    push_user(alloc, roster, &mut numerics, user, &nick)?;
+    push_channels(draft, &mut numerics, session, user, &nick)?;
+    push_server(&mut numerics, &nick, &roster.settings().info)?;
+    push_away(&mut numerics, &nick, roster.away_of(user))?;
+    push_end(&mut numerics, &nick)?;
+    Ok(numerics)
+}
+
+/// What a session is told of a nickname that no user has.
+fn nobody_told(alloc: Global, nick: &Octets) -> Result<Vec<Numeric>, AllocError>
+    ensures { IfOk result (λ v. v.items ≡ NoSuchNick nick.now ∷ EndOfWhois nick.now ∷ []) }
+{
+    let mut numerics = Vec::new(alloc);
+    numerics.push(Numeric::NoSuchNick(nick.clone()?))?;
+    push_end(&mut numerics, nick)?;
+    Ok(numerics)
+}
+
+/// What a session is told that asks who has a nickname.
+fn whois_told(
+    draft: &Draft<'_>,
+    session: SessionId,
+    nick: &Octets,
+) -> Result<Vec<Numeric>, AllocError>
+    ensures { IfOk result (λ v. v.items ≡ whois_found draft.now.settings draft.now.base session nick.now (found draft.now.base nick.now)) }
+{
+    match draft.before().find(nick.as_slice()) {
+        Some(user) => user_told(draft, session, user),
+        None => nobody_told(draft.alloc(), nick),
+    }
+}
+
+/// WHOIS: who has a nickname, with the channels that the session is let see (RFC 2812, section 3.6.2).
+pub fn ask_whois(draft: &mut Draft, session: SessionId, nick: &Octets) -> Result<(), AllocError>
+    requires { draft.old.facts ≡ draft.old.base }
+    ensures { OnOk result (draft.new ≡ grown draft.old (asks_whois draft.old.settings draft.old.facts session nick.now)) }
+{
+    let numerics = whois_told(draft, session, nick)?;
+    tell_all(draft, session, &numerics)
+}
