@@ -224,7 +224,7 @@ const STORY: [Row; 17] = [
         b"NAMES #a",
         &[],
         b"",
-        b":irc.example 421 al NAMES :Unknown command\r\n",
+        b":irc.example 353 al = #a :@al bo\r\n",
     ),
     (
         1,
