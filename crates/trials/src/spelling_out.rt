@@ -1,7 +1,6 @@
-//! What numerics, moments, names in lines and commands are spelled out as.
+//! What numerics, moments and names in lines are spelled out as.
 use crate::again::{copied, twice};
-use commands::{Command, ReadFault, read};
-use line_grammar::{Octets, parse};
+use line_grammar::Octets;
 use numerics::{
     Numeric, Out, Prefix, TimeFault, Words, copied_all, prefixed, split_names, split_tokens,
     time_text, tokens,
@@ -116,72 +115,5 @@ fn are_cut(alloc: Global) -> Result<bool, AllocError> {
 #[test]
 fn words_are_cut(rt: HostRuntime) -> Result<(), Fail> {
     assert!(rt; twice(|| are_cut(rt.alloc()))?);
-    Ok(())
-}
-
-/// Lines, and how what is read of each begins.
-const LINES: [(&[u8], &str); 37] = [
-    (b"FOO", "Err(UnknownCommand"),
-    (b"CAP", "Err(NeedMoreParams { command: Cap })"),
-    (b"CAP NEW", "Err(InvalidCapSubcommand"),
-    (b"CAP LS", "Ok(Cap(Ls { shows_values: false }))"),
-    (b"CAP ls 302", "Ok(Cap(Ls { shows_values: true }))"),
-    (b"CAP LIST", "Ok(Cap(List))"),
-    (b"CAP REQ :sasl", "Ok(Cap(Req"),
-    (b"CAP END", "Ok(Cap(End))"),
-    (b"AUTHENTICATE +", "Ok(Authenticate"),
-    (b"PASS x", "Ok(Pass)"),
-    (b"NICK", "Err(NoNicknameGiven)"),
-    (b"nick al", "Ok(Nick"),
-    (b"USER @ 0 * :Al", "Err(NeedMoreParams { command: User })"),
-    (b"USER a 0 * :Al", "Ok(User"),
-    (b"PING", "Err(NoOrigin)"),
-    (b"PING x", "Ok(Ping"),
-    (b"PONG", "Ok(Pong)"),
-    (b"QUIT", "Ok(Quit"),
-    (b"JOIN #a,,#b k", "Ok(Join"),
-    (b"PART ,", "Ok(Part"),
-    (b"KICK #a", "Err(NeedMoreParams { command: Kick })"),
-    (b"KICK #a bo", "Ok(Kick"),
-    (b"INVITE bo #a", "Ok(Invite"),
-    (b"TOPIC #a", "Ok(Topic"),
-    (b"MODE #a", "Ok(Mode"),
-    (b"PRIVMSG", "Err(NoRecipient { command: Privmsg })"),
-    (b"PRIVMSG bo", "Err(NoTextToSend)"),
-    (b"PRIVMSG bo :hi", "Ok(Privmsg"),
-    (b"NOTICE", "Ok(Notice"),
-    (b"@+a=b TAGMSG", "Err(NoRecipient { command: Tagmsg })"),
-    (b"@+a=b TAGMSG bo", "Ok(Tagmsg"),
-    (b"AWAY", "Ok(Away"),
-    (b"NAMES", "Ok(Names { channels: None })"),
-    (b"LIST", "Ok(List { channels: None })"),
-    (b"WHO", "Ok(Who { name: None })"),
-    (b"WHOIS bo", "Ok(Whois"),
-    (b"MOTD", "Ok(Motd { server: None })"),
-];
-
-fn begins(
-    alloc: Global,
-    read: &Result<Command, ReadFault>,
-    want: &str,
-) -> Result<bool, AllocError> {
-    match read {
-        Err(ReadFault::Memory) => Err(AllocError),
-        read => Ok(format!(in alloc; "{read:?}")?.starts_with(want)),
-    }
-}
-
-fn is_read(alloc: Global, line: &[u8], want: &str) -> Result<bool, AllocError> {
-    let Ok(message) = parse(alloc, line) else {
-        return Err(AllocError);
-    };
-    begins(alloc, &read(alloc, &message), want)
-}
-
-#[test]
-fn commands_are_read(rt: HostRuntime) -> Result<(), Fail> {
-    for (line, want) in &LINES {
-        assert!(rt; twice(|| is_read(rt.alloc(), line, want))?, "{want}");
-    }
     Ok(())
 }
