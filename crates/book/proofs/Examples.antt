@@ -32,6 +32,8 @@ use Rattle.channel_commands.specs.Found.{channel_of}
 use Rattle.channel_commands.specs.Joining.{bar_of}
 use Rattle.query_commands.specs.Names.{member_name}
 use Rattle.query_commands.specs.Visible.{members_for}
+use Rattle.std.specs.Str.{is_utf8, chars}
+use lib.Utf8.{encode}
 use Rattle.message_tags.specs.Tags.{counting_tags, key_shape, last_value}
 use Rattle.message_tags.specs.ClientOnly.{client_only_data}
 use Rattle.labels_batches.specs.Rendered.{spelled_line}
@@ -163,5 +165,5 @@ shown_to_who_stays = refl
 labelled :
     owes [] (codes "CAP REQ :batch labeled-response server-time" ∷ codes "@label=7 PING x" ∷ codes "@label=8 PONG" ∷ codes "@label=9 QUIT" ∷ [])
     ≡ Lines 2 (codes ":irc.example CAP * ACK :batch labeled-response server-time" ++ crlf) ∷ Lines 3 (codes "@label=7;time=1970-01-01T00:00:00.000Z :irc.example PONG irc.example x" ++ crlf) ∷ Lines 4 (codes "@label=8;time=1970-01-01T00:00:00.000Z :irc.example ACK" ++ crlf) ∷ Last 5 Quit ∷ []
-unfolding reading parameters with_command asked_of command_of with_params named after_request is_quit octets untagged time_text civil_date falls_in spelled_line counting_tags key_shape last_value
+unfolding reading parameters with_command asked_of command_of with_params named after_request is_quit octets untagged time_text civil_date falls_in spelled_line counting_tags key_shape last_value is_utf8 chars encode
 labelled = refl

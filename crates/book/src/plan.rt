@@ -100,7 +100,8 @@ fn tell_line(
     ensures { OnOk result ((i : ℕ) → i < length texts.old → slice_index_or texts.new i [] ≡ slice_index_or texts.old i [] ++ heard_of roster.now.facts moment shown.now (i + 1)) }
 {
     let spellings = spell(alloc, &shown.line, moment)?;
-    tell_each(roster, texts, shown.hearers.as_slice(), &spellings)
+    tell_each(roster, texts, shown.hearers.as_slice(), &spellings)?;
+    Ok(())
 }
 
 /// Adds lines to what their hearers hear, each of which is spelled once.

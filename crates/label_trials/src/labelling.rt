@@ -37,7 +37,9 @@ const SHORT: &str = "\
 1 @label=b PING \\x00
 1 @label=l PING :%510
 1> :~ 417 al :Input line was too long
-1 @label=q;k=%4085 PING x
+1 @label=q;k=%999%999%999%999%088 PING x
+1> @label=q :~ PONG ~ x
+1 @label=q;k=%999%999%999%999%089 PING x
 1> :~ 417 al :Input line was too long
 1 @label=x QUIT
 1> ERROR :Closing Link: h1 (Client Quit)

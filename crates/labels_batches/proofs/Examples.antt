@@ -1,5 +1,8 @@
 -- The definitions at work, computed.
 use Rattle.std.proofs.Common.{◌≡◌, ℕ, pos, true, false, replicate, List, [], ◌∷◌, ◌++◌, codes, Some, None, refl}
+use Rattle.std.specs.Str.{is_utf8, chars}
+use Rattle.std.specs.Fmt.{digits}
+use lib.Utf8.{encode}
 use Rattle.line_grammar.specs.declared.splitter.Piece.TheVariants.{Line, TooLong}
 use Rattle.line_grammar.specs.Reading.{reading, parameters, with_command}
 use Rattle.line_grammar.specs.Spelling.{untagged}
@@ -38,9 +41,9 @@ short = (refl, refl, refl)
 
 -- several lines stand in a batch
 batch :
-    rendered on (pos 0) (answered server (Some (codes "j")) 10 (pong ∷ pong ∷ []) [])
-    ≡ codes "@label=j :irc.example BATCH +10 labeled-response" ++ crlf ++ codes "@batch=10 :irc.example PONG irc.example x" ++ crlf ++ codes "@batch=10 :irc.example PONG irc.example x" ++ crlf ++ codes ":irc.example BATCH -10" ++ crlf
-unfolding spelled_line octets untagged
+    rendered on (pos 0) (answered server (Some (codes "j")) 9 (pong ∷ pong ∷ []) [])
+    ≡ codes "@label=j :irc.example BATCH +9 labeled-response" ++ crlf ++ codes "@batch=9 :irc.example PONG irc.example x" ++ crlf ++ codes "@batch=9 :irc.example PONG irc.example x" ++ crlf ++ codes ":irc.example BATCH -9" ++ crlf
+unfolding spelled_line octets untagged digits
 batch = refl
 
 -- who sends to itself gets the echo with the label, and then the text
@@ -66,5 +69,5 @@ labels :
     × (label_of (record on { batch = false }) (Line (codes "@label=7 PING x")) ≡ None)
     × (label_of on (Line (codes "@label=7 P-")) ≡ None)
     × (label_of on TooLong ≡ None)
-unfolding reading parameters with_command counting_tags key_shape last_value
+unfolding reading parameters with_command counting_tags key_shape last_value is_utf8 chars encode
 labels = (refl, refl, refl, refl, refl, refl, refl, refl)

@@ -1,5 +1,5 @@
 -- The answer to a labelled line has the label once, and is whole.
-use Rattle.std.proofs.Common.{◌≡◌, ℕ, suc, ◌+◌, ◌≤◌, inl, inr, Bool, List, [], ◌∷◌, ◌++◌, filter, map, length, Option, Some, None, arith, refl, ap, ◌∙◌}
+use Rattle.std.proofs.Common.{◌≡◌, ◌≢◌, ℕ, ◌≤◌, inl, inr, Bool, List, [], ◌∷◌, ◌++◌, filter, map, length, Option, Some, None, arith, refl, ap, ne_eqb}
 use Rattle.numerics.specs.declared.outgoing.Out.{Out}
 use Rattle.labels_batches.specs.declared.answers.AnswerTag.{AnswerTag}
 use Rattle.labels_batches.specs.declared.answers.AnswerTag.TheVariants.{Label, Batch}
@@ -30,4 +30,7 @@ one-batch server label n ls copies two = (ap (λ (ts : List Tagged). length (tag
 pub answered-once : AnsweredOnce
 answered-once server label n [] copies = one-line server label n (ack server) copies
 answered-once server label n (l ∷ []) copies = one-line server label n l copies
-answered-once server label n (l ∷ k ∷ ls) copies = one-batch server label n (l ∷ k ∷ ls) copies (let more : 2 ≤ length (l ∷ k ∷ ls) = omega arith in more)
+answered-once server label n (l ∷ k ∷ ls) copies =
+    let xs : List Out = l ∷ k ∷ ls in
+    let two : 2 ≤ length xs = omega arith in let some : length xs ≢ 0 = omega arith in let more : length xs ≢ 1 = omega arith in
+    rw (ne_eqb (length xs) 0 some) (rw (ne_eqb (length xs) 1 more) (one-batch server label n xs copies two))

@@ -51,7 +51,8 @@ fn push_labelled(tagged: &mut Vec<Tagged>, label: &Octets, line: Out) -> Result<
     ensures { OnOk result (tagged.new.items ≡ tagged.old.items ++ tagged_as (Some (Label label.now)) line ∷ []) }
 {
     let tag = label_tag(label)?;
-    tagged.push(Tagged { line, tag })
+    tagged.push(Tagged { line, tag })?;
+    Ok(())
 }
 
 /// The line that answers what has no other answer.
@@ -105,7 +106,8 @@ fn push_end(
     ensures { OnOk result (tagged.new.items ≡ tagged.old.items ++ tagged_as None (batch_ends server.now number) ∷ []) }
 {
     let line = batch_ends(alloc, server, number)?;
-    tagged.push(Tagged { line, tag: None })
+    tagged.push(Tagged { line, tag: None })?;
+    Ok(())
 }
 
 /// Adds a batch of lines.

@@ -25,11 +25,11 @@ pub struct Spellings {
 fn spell_for(
     alloc: Global,
     line: &Out,
-    octets: &Octets,
+    body: &Octets,
     caps: Caps,
     moment: Moment,
 ) -> Result<Octets, AllocError>
-    requires octets { octets.now ≡ octets line.now }
+    requires body { body.now ≡ octets line.now }
     requires from_1970 { pos 0 ≤ℤ moment }
     requires to_9998 { moment ≤ℤ pos 253370764799999 }
     ensures { IfOk result (λ t. t ≡ spelled_for caps moment line.now) }
@@ -38,27 +38,26 @@ fn spell_for(
     push_time(alloc, &mut text, caps, moment)?;
     push_relayed(&mut text, caps, &line.tags)?;
     end(&mut text)?;
-    text.extend_from_slice(octets.as_slice())?;
+    text.extend_from_slice(body.as_slice())?;
     Ok(text)
 }
 
 /// A line for receivers of any capabilities, at its record's moment: each of the four spellings that there are.
-#[tactic(auto, using(crate::proofs::Alike::for_all))]
 pub fn spell(alloc: Global, line: &Out, moment: Moment) -> Result<Spellings, AllocError>
     requires from_1970 { pos 0 ≤ℤ moment }
     requires to_9998 { moment ≤ℤ pos 253370764799999 }
     ensures { IfOk result (λ s. (caps : AnyCaps) → picked s caps ≡ spelled_for caps moment line.now) }
 {
-    let octets = line.octets(alloc)?;
+    let body = line.octets(alloc)?;
     let none = Caps::none();
     let time = none.with(Cap::ServerTime);
     let tags = none.with(Cap::MessageTags);
     let both = time.with(Cap::MessageTags);
     Ok(Spellings {
-        plain: spell_for(alloc, line, &octets, none, moment)?,
-        timed: spell_for(alloc, line, &octets, time, moment)?,
-        tagged: spell_for(alloc, line, &octets, tags, moment)?,
-        timed_and_tagged: spell_for(alloc, line, &octets, both, moment)?,
+        plain: spell_for(alloc, line, &body, none, moment)?,
+        timed: spell_for(alloc, line, &body, time, moment)?,
+        tagged: spell_for(alloc, line, &body, tags, moment)?,
+        timed_and_tagged: spell_for(alloc, line, &body, both, moment)?,
     })
 }
 

@@ -1,5 +1,5 @@
 -- A text establishes no fact.
-use Rattle.std.proofs.Common.{◌≡◌, ℕ, Bool, true, false, ◌==◌, List, [], ◌∷◌, ◌++◌, Option, Some, None, refl, ap, ◌∙◌, cond}
+use Rattle.std.proofs.Common.{◌≡◌, ℕ, Bool, true, false, ◌&&◌, ◌==◌, List, [], ◌∷◌, ◌++◌, filter, Option, Some, None, refl, ap, ◌∙◌, cond}
 use Rattle.std.specs.List.{flat_map}
 use Rattle.numerics.specs.declared.numeric.Numeric.{Numeric}
 use Rattle.numerics.specs.declared.outgoing.Out.{Out}
@@ -7,6 +7,7 @@ use Rattle.registration.specs.declared.settings.Settings.{Settings}
 use Rattle.roster.specs.declared.deed.Deed.{Deed}
 use Rattle.roster.specs.LookBack.{away, caps, found, state, name_of, nick}
 use Rattle.drafts.specs.declared.effect.Effect.{Effect}
+use Rattle.drafts.specs.declared.effect.Effect.TheVariants.{Answer, Show}
 use Rattle.drafts.specs.Effects.{deeds_of}
 use Rattle.drafts.specs.Lines.{prefix, title}
 use Rattle.drafts.proofs.Replay.{deeds_of-append}
@@ -28,7 +29,7 @@ both-quiet : (xs ys : List Effect) → deeds_of xs ≡ [] → deeds_of ys ≡ []
 both-quiet xs ys e f = deeds_of-append xs ys ∙ ap (λ ds. ds ++ deeds_of ys) e ∙ f
 
 echo-quiet : (fs : List Deed) (s : ℕ) (b : Sent) (l : Out) → deeds_of (echoes fs s b l) ≡ []
-echo-quiet fs s b l = either_quiet _ _ _ refl refl
+echo-quiet fs s b l = either_quiet ((caps fs s).echo_message && reaches fs b s) (Answer l ∷ []) [] refl refl
 
 kept-quiet : (fs : List Deed) (s : ℕ) (b : Sent) (l : Out) → deeds_of (keeps fs s b l) ≡ []
 kept-quiet fs s b l = either_quiet (reaches fs b s) _ _ refl refl
@@ -44,11 +45,14 @@ away-quiet g fs s Notice t o = refl
 away-quiet g fs s Tagmsg t o = refl
 
 delivers-quiet : (fs : List Deed) (s : ℕ) (b : Sent) (t : ℕ) (l : Out) → deeds_of (delivers fs s b t l) ≡ []
-delivers-quiet fs s b t l = both-quiet _ (echoes fs s b l) (either_quiet (t == s) _ _ (kept-quiet fs s b l) refl) (echo-quiet fs s b l)
+delivers-quiet fs s b t l =
+    let other : List Effect = Show (filter (reaches fs b) (t ∷ [])) l ∷ [] in
+    both-quiet (cond (t == s) (keeps fs s b l) other) (echoes fs s b l) (either_quiet (t == s) (keeps fs s b l) other (kept-quiet fs s b l) refl) (echo-quiet fs s b l)
 
 user-quiet : (g : Settings) (fs : List Deed) (s : ℕ) (b : Sent) (n : List ℕ) (o : Option ℕ) → deeds_of (to_user g fs s b n o) ≡ []
 user-quiet g fs s b n None = answers-quiet g fs s b.verb _
-user-quiet g fs s b n (Some t) = both-quiet (delivers fs s b t (sent_line b (prefix fs s) (title (nick fs t)))) _ (delivers-quiet fs s b t (sent_line b (prefix fs s) (title (nick fs t)))) (away-quiet g fs s b.verb t (away fs t))
+user-quiet g fs s b n (Some t) =
+    let l = sent_line b (prefix fs s) (title (nick fs t)) in both-quiet (delivers fs s b t l) (tells_away g fs s b.verb t (away fs t)) (delivers-quiet fs s b t l) (away-quiet g fs s b.verb t (away fs t))
 
 pub one-quiet : (g : Settings) (fs : List Deed) (s : ℕ) (b : Sent) (c : List ℕ) → deeds_of (to_one g fs s b c) ≡ []
 one-quiet g fs s b c = either_quiet (names_channel c) _ _ (channel-quiet g fs s b c (name_of fs c)) (user-quiet g fs s b c (found fs c))

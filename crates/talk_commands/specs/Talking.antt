@@ -51,11 +51,14 @@ may_speak k s source = has_rank k s || not (is_barred k s source)
 abbrev pub shows : List Deed → ℕ → Sent → List ℕ → Out → List Effect
 shows fs s b members l = Show (filter (reaches fs b) (without s members)) l ∷ echoes fs s b l
 
+abbrev pub to_open : Settings → List Deed → ℕ → Sent → List ℕ → State → List Effect
+to_open g fs s b n k =
+    if may_speak k s (prefix fs s) then shows fs s b k.members (sent_line b (prefix fs s) n)
+    else answers g fs s b.verb (CannotSendToChan n)
+
 abbrev pub to_channel : Settings → List Deed → ℕ → Sent → List ℕ → Option (List ℕ) → List Effect
 to_channel g fs s b c None = answers g fs s b.verb (NoSuchChannel c)
-to_channel g fs s b c (Some n) =
-    if may_speak (state fs c) s (prefix fs s) then shows fs s b (state fs c).members (sent_line b (prefix fs s) n)
-    else answers g fs s b.verb (CannotSendToChan n)
+to_channel g fs s b c (Some n) = to_open g fs s b n (state fs c)
 
 -- ---- a user
 

@@ -8,7 +8,7 @@ ghost use Rattle.drafts.specs.Denials.{denied};
 ghost use Rattle.drafts.specs.Drafted.{grown};
 ghost use Rattle.drafts.specs.Lines.{prefix};
 ghost use Rattle.talk_commands.specs.Lines.{sent_line};
-ghost use Rattle.talk_commands.specs.Talking.{answers, delivers, echoes, is_barred, keeps, may_speak, names_channel, reaches, sends, shows, tells_away, to_channel, to_one, to_user};
+ghost use Rattle.talk_commands.specs.Talking.{answers, delivers, echoes, is_barred, keeps, may_speak, names_channel, reaches, sends, shows, tells_away, to_channel, to_one, to_open, to_user};
 
 use crate::{Sending, Verb};
 use channel_state::ChannelState;
@@ -151,6 +151,25 @@ fn send_to_members(
     echo(draft, session, sending, from, name)
 }
 
+/// Sends it to a channel that is there, where the session may speak.
+fn send_to_open(
+    draft: &mut Draft,
+    session: SessionId,
+    sending: &Sending<'_>,
+    name: &Octets,
+    state: &ChannelState,
+) -> Result<(), AllocError>
+    requires { draft.old.facts ≡ draft.old.base }
+    ensures { OnOk result (draft.new ≡ grown draft.old (to_open draft.old.settings draft.old.facts session sending.now name.now state.now.state)) }
+{
+    let from = prefix_of(draft, session)?;
+    if !may_speak(state, session, from.as_slice()) {
+        return refuse(draft, session, sending.verb, Denial::CannotSendToChan, name);
+    }
+    let (from, name) = (from.as_slice(), name.as_slice());
+    send_to_members(draft, session, sending, from, name, state.members())
+}
+
 /// Sends it to a channel.
 fn send_to_channel(
     draft: &mut Draft,
@@ -168,12 +187,7 @@ fn send_to_channel(
     ) else {
         return refuse(draft, session, sending.verb, Denial::NoSuchChannel, channel);
     };
-    let from = prefix_of(draft, session)?;
-    if !may_speak(state, session, from.as_slice()) {
-        return refuse(draft, session, sending.verb, Denial::CannotSendToChan, name);
-    }
-    let (from, name) = (from.as_slice(), name.as_slice());
-    send_to_members(draft, session, sending, from, name, state.members())
+    send_to_open(draft, session, sending, name, state)
 }
 
 // ---- a user
