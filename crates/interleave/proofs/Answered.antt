@@ -1,5 +1,5 @@
 -- A labelled line is answered once, and whole.
-use Rattle.std.proofs.Common.{◌≡◌, ℕ, ℤ, ◌+◌, ◌≤◌, Bool, true, false, ◌||◌, ◌&&◌, ◌==◌, nat_le, cond, List, [], ◌∷◌, ◌++◌, map, length, take, Some, None, arith, refl, sym, ap, ◌∙◌, append-nil, append_assoc, eq-eqb}
+use Rattle.std.proofs.Common.{◌≡◌, inl, inr, ℕ, ℤ, ◌+◌, ◌≤◌, Bool, true, false, ◌||◌, ◌&&◌, ◌==◌, nat_le, cond, List, [], ◌∷◌, ◌++◌, map, length, take, Some, None, arith, refl, sym, ap, ◌∙◌, append-nil, append_assoc, eq-eqb}
 use Rattle.std.proofs.lemmas.Bool.Decides.{nat_tests}
 use Rattle.line_grammar.specs.declared.splitter.Piece.{Piece}
 use Rattle.line_grammar.specs.Spelling.{untagged}
@@ -11,9 +11,10 @@ use Rattle.registration.specs.declared.caps.Caps.{Caps}
 use Rattle.registration.specs.declared.settings.Settings.{Settings}
 use Rattle.labels_batches.specs.declared.answers.Tagged.{Tagged}
 use Rattle.labels_batches.specs.Labels.{label_of}
-use Rattle.labels_batches.specs.Answers.{answered, tagged_as}
+use Rattle.labels_batches.specs.declared.answers.AnswerTag.TheVariants.{Label, Batch}
+use Rattle.labels_batches.specs.Answers.{answered, batch_ends, batch_opens, tagged_as}
 use Rattle.labels_batches.specs.Rendered.{ended, rendered, spelled_line, tag_block}
-use Rattle.labels_batches.specs.Whole.{AnsweredOnce}
+use Rattle.labels_batches.specs.Whole.{AnsweredOnce, IsWhole}
 use Rattle.roster.specs.LookBack.{caps}
 use Rattle.commands.specs.Asked.{asked_of}
 use Rattle.drafts.specs.Effects.{copies, due, reply}
@@ -44,10 +45,10 @@ item-lines : (n : ℕ) (cs : Caps) (moment : ℤ) (ls : List Tagged) (l : Tagged
 item-lines n cs moment ls l more e = let is = line-some cs moment l (rendered cs moment more) in item-some n is.0 (rendered cs moment ls) is.1 (ap (rendered cs moment) e ∙ is.2)
 
 -- an answer to a label has a line
-answer-some : (server label : List ℕ) (n : ℕ) (reply copies : List Out) → (l : Tagged) × (more : List Tagged) × (answered server (Some label) n reply copies ≡ l ∷ more)
-answer-some server label n [] copies = (_, _, refl)
-answer-some server label n (x ∷ []) copies = (_, _, refl)
-answer-some server label n (x ∷ y ∷ zs) copies = (_, _, refl)
+answer-some : (server label : List ℕ) (n : ℕ) (copies : List Out) (ls : List Tagged) → IsWhole server label n copies ls → (l : Tagged) × (more : List Tagged) × (ls ≡ l ∷ more)
+answer-some server label n copies ls (inl one) = (tagged_as (Some (Label label)) one.0, map (tagged_as None) copies, one.1)
+answer-some server label n copies ls (inr several) =
+    (tagged_as (Some (Label label)) (batch_opens server n), (map (tagged_as (Some (Batch n))) several.0 ++ tagged_as None (batch_ends server n) ∷ []) ++ map (tagged_as None) copies, several.2)
 
 -- ---- what is owed grows
 
@@ -67,7 +68,7 @@ pub labelled-once : AnsweredOnce → LabelledOnce
 labelled-once answered-once g later h number moment missed s i piece label legal el eq em =
     let r : Rec = record { number = number; moment = moment; kind = Said s i piece; missed = missed } in
     let fs = facts g h in let n = length h + 1 in let es = of_asked g fs s (asked_of piece) in let cs = caps fs s in
-    let ls = answered g.server (Some label) n (reply s es) (copies es) in let first = answer-some g.server label n (reply s es) (copies es) in
+    let ls = answered g.server (Some label) n (reply s es) (copies es) in let once = answered-once g.server label n (reply s es) (copies es) in let first = answer-some g.server label n (copies es) ls once.1 in
     let kind = legal.2 in let open_ : shut h s ≡ false = kind.3 in let known : s ≤ sessions h = kind.1 in
     let before : nat_le s (sessions h) ≡ true = grind (arith, nat_tests) in
     let not_last : ((s == s) && is_quit piece) ≡ false = ap (λ b. b && is_quit piece) (eq-eqb s s refl) ∙ eq in
@@ -79,4 +80,4 @@ labelled-once answered-once g later h number moment missed s i piece label legal
     let now : owed g (r ∷ h) s ≡ owed g h s ++ Lines n (rendered cs moment ls) ∷ [] =
     ap (λ b. owed g h s ++ cond b [] (delivery g h (Said s i piece) moment s)) (either (misses r s) (shut h s) em open_) ∙ ap (λ xs. owed g h s ++ xs) given in
     let more = grows g later (r ∷ h) s in
-    (ls, more.0, more.1 ∙ ap (λ xs. xs ++ more.0) now ∙ append_assoc (owed g h s) (Lines n (rendered cs moment ls) ∷ []) more.0, answered-once g.server label n (reply s es) (copies es))
+    (ls, more.0, more.1 ∙ ap (λ xs. xs ++ more.0) now ∙ append_assoc (owed g h s) (Lines n (rendered cs moment ls) ∷ []) more.0, once)
