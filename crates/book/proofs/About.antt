@@ -1,12 +1,12 @@
 -- Who was never opened is owed nothing, isn't shut and isn't gone.
 use Rattle.std.proofs.lemmas.Bool.Decides.{eqb_tells, nat_tests}
-use Rattle.std.proofs.Common.{◌≡◌, ◌≢◌, inl, inr, ℕ, ◌+◌, ◌<◌, Bool, true, false, ◌||◌, ◌==◌, nat_le, cond, List, [], ◌∷◌, length, arith, refl, sym, ap, ◌∙◌, ne_eqb}
+use Rattle.std.proofs.Common.{◌≡◌, ◌≢◌, inl, inr, ℕ, ℤ, ◌+◌, ◌<◌, Bool, true, false, ◌||◌, ◌==◌, nat_le, cond, List, [], ◌∷◌, length, arith, refl, sym, ap, ◌∙◌, ne_eqb}
 use Rattle.std.specs.List.{list_any}
 use Rattle.chronicle.specs.declared.record.Kind.{Kind}
 use Rattle.chronicle.specs.declared.record.Kind.TheVariants as kind
 use Rattle.chronicle.specs.History.{Rec, sessions, said_by, accepted, misses, ends, shut, leaves, gone}
 use Rattle.outbox.specs.declared.item.Item.{Item}
-use Rattle.deeds.specs.Deeds.{facts, lines}
+use Rattle.deeds.specs.Deeds.{facts, text}
 use Rattle.registration.specs.declared.settings.Settings.{Settings}
 use Rattle.book.specs.Owed.{item, delivery, owed}
 use Rattle.book.specs.Legal.{IsKind, AreMissed, IsLegal}
@@ -25,31 +25,31 @@ leaves-none h (kind.Hung s w) t i l = refl
 leaves-none h (kind.Gone s) t i l = let ne : s ≢ t = let j = i.1 in omega arith in ne_eqb s t ne
 
 -- a record gives nothing to who was never opened
-delivery-none : (g : Settings) (h : List Rec) (k : Kind) (t : ℕ) → IsKind h k → sessions h < t → delivery g h k t ≡ []
-delivery-none g h k t ik before =
+delivery-none : (g : Settings) (h : List Rec) (k : Kind) (moment : ℤ) (t : ℕ) → IsKind h k → sessions h < t → delivery g h k moment t ≡ []
+delivery-none g h k moment t ik before =
     let late : nat_le t (sessions h) ≡ false = grind (arith, nat_tests) in
-    rw (ends-none h k t ik before) (ap (λ b. item (length h + 1) (cond b (lines g (facts g h) k t) [])) late)
+    rw (ends-none h k t ik before) (ap (λ b. item (length h + 1) (cond b (text g (facts g h) k moment (length h + 1) t) [])) late)
 
 -- nothing is owed to who was never opened
 pub not_owed : (g : Settings) (h : List Rec) (t : ℕ) → IsLegal g h → sessions h < t → owed g h t ≡ []
 not_owed g [] t i l = refl
 not_owed g (r ∷ h) t i l =
     let before : sessions h < t = omega arith in let E : List Item = [] in
-    let d = delivery-none g h r.kind t i.2 before in
+    let d = delivery-none g h r.kind r.moment t i.2 before in
     rw (not_owed g h t i.4 before) (rw d (elim (misses r t || shut h t) as (λ b. cond b E E ≡ E) [ true ↦ refl | false ↦ refl ]))
 
 -- nor is it shut, and nothing of it was accepted
-missed_not : (g : Settings) (h : List Rec) (k : Kind) (ts : List ℕ) (t : ℕ) → delivery g h k t ≡ [] → AreMissed g h k ts → list_any (λ u. u == t) ts ≡ false
-missed_not g h k [] t d a = refl
-missed_not g h k (u ∷ ts) t d a =
+missed_not : (g : Settings) (h : List Rec) (k : Kind) (moment : ℤ) (ts : List ℕ) (t : ℕ) → delivery g h k moment t ≡ [] → AreMissed g h k moment ts → list_any (λ u. u == t) ts ≡ false
+missed_not g h k moment [] t d a = refl
+missed_not g h k moment (u ∷ ts) t d a =
     elim (eqb_tells u t) [
-      | inl same ↦ absurd (a.0 (ap (delivery g h k) same.1 ∙ d))
-      | inr other ↦ rw other.0 (missed_not g h k ts t d a.3)
+      | inl same ↦ absurd (a.0 (ap (delivery g h k moment) same.1 ∙ d))
+      | inr other ↦ rw other.0 (missed_not g h k moment ts t d a.3)
     ]
 
 pub not_shut : (g : Settings) (h : List Rec) (t : ℕ) → IsLegal g h → sessions h < t → shut h t ≡ false
 not_shut g [] t i l = refl
-not_shut g (r ∷ h) t i l = let before : sessions h < t = omega arith in rw (missed_not g h r.kind r.missed t (delivery-none g h r.kind t i.2 before) i.3) (rw (ends-none h r.kind t i.2 before) (not_shut g h t i.4 before))
+not_shut g (r ∷ h) t i l = let before : sessions h < t = omega arith in rw (missed_not g h r.kind r.moment r.missed t (delivery-none g h r.kind r.moment t i.2 before) i.3) (rw (ends-none h r.kind t i.2 before) (not_shut g h t i.4 before))
 
 pub not_gone : (g : Settings) (h : List Rec) (t : ℕ) → IsLegal g h → sessions h < t → gone h t ≡ false
 not_gone g [] t i l = refl

@@ -1,5 +1,5 @@
 -- All that a book keeps stands for its history where a record is appended.
-use Rattle.std.proofs.Common.{◌≡◌, ℕ, ℤ, ◌+◌, ◌-◌, ◌<◌, ◌≤◌, Bool, true, false, ◌&&◌, ◌||◌, ◌==◌, List, [], ◌∷◌, ◌++◌, length, slice_set, slice_index_or, Option, Some, arith, refl, sym, ap, ◌∙◌, subst, length-append, append-nil, eq-eqb}
+use Rattle.std.proofs.Common.{◌≡◌, ℕ, ℤ, ◌+◌, ◌-◌, ◌<◌, ◌≤◌, Bool, true, false, ◌&&◌, ◌||◌, ◌==◌, List, [], ◌∷◌, ◌++◌, length, slice_set, slice_index_or, Option, Some, None, arith, refl, sym, ap, ◌∙◌, subst, length-append, append-nil, eq-eqb}
 use Rattle.std.proofs.lemmas.List.{get_or-set_same, set-get_or}
 use Rattle.roster.specs.declared.deed.Deed.TheVariants.{Ended}
 use Rattle.line_grammar.specs.declared.splitter.Piece.{Piece}
@@ -12,7 +12,9 @@ use Rattle.outbox.specs.Ring.{Waiting, has_room, with_put}
 use Rattle.outbox.specs.declared.item.Item.TheVariants.{Last}
 use Rattle.roster.specs.declared.deed.Deed.{Deed}
 use Rattle.commands.specs.Asked.{asked_of}
-use Rattle.roster.specs.LookBack.{after, opened}
+use Rattle.roster.specs.LookBack.{after, caps, opened}
+use Rattle.labels_batches.specs.Labels.{label_of}
+use Rattle.deeds.specs.Deeds.{spelled}
 use Rattle.roster.specs.Legal.{IsOpened}
 use Rattle.deeds.specs.Rows.{of_asked}
 use Rattle.deeds.specs.Departure.{departs}
@@ -51,18 +53,19 @@ module _ (j : journal.Shown) (g : Settings) (known : List Deed) (seats : List Se
 
   pub said_plan : (b : Turn) (piece : Piece) (moment : ℤ) (place number : ℕ) (quits : Bool) (plan : List Planned)
       → MayBegin (shown j g boxes none busy) b moment → place + 1 ≡ b.session → number ≡ length j.history + 1 → quits ≡ is_quit piece
-      → plan ≡ planned_from seats (place + 1) number (of_asked g known (place + 1) (asked_of piece)) quits
-      → plan ≡ plan_of g j.history (Said b.session b.next piece) (length boxes)
+      → plan ≡ planned_from seats (place + 1) number (spelled g known (place + 1) (label_of (caps known (place + 1)) piece) (of_asked g known (place + 1) (asked_of piece)) moment number) quits
+      → plan ≡ plan_of g j.history (Said b.session b.next piece) moment (length boxes)
   said_plan b piece moment place number quits plan may ep en eq eplan =
       let h = j.history in let s = b.session in let k = Said s b.next piece in
       let from : 0 < s = may.turn.from_1 in let to : s ≤ length seats = seated s may.turn.opened in
       let own : ends k s ≡ quits = ap (λ c. c && is_quit piece) (eq-eqb s s refl) ∙ sym eq in
-      eplan ∙ ap (λ (y : ℕ). planned_from seats y number (of_asked g known y (asked_of piece)) quits) ep ∙ ap (λ (fs : List Deed). planned_from seats s number (of_asked g fs s (asked_of piece)) quits) i.facts
-      ∙ plan_right g h seats k quits number (length boxes) i.each_seat en i.places (i.places ∙ sym i.sound.sessions) from to own refl (λ t ne. (quiet k t refl ne).0)
+      eplan ∙ ap (λ (y : ℕ). planned_from seats y number (spelled g known y (label_of (caps known y) piece) (of_asked g known y (asked_of piece)) moment number) quits) ep
+      ∙ ap (λ (fs : List Deed). planned_from seats s number (spelled g fs s (label_of (caps fs s) piece) (of_asked g fs s (asked_of piece)) moment number) quits) i.facts
+      ∙ plan_right g h seats k moment quits number (length boxes) i.each_seat en i.places (i.places ∙ sym i.sound.sessions) from to own refl (λ t ne. (quiet k t refl ne).0)
 
   pub said_kept : (k : journal.Shown) (more_known : List Deed) (plan : List Planned) (b : Turn) (piece : Piece) (moment : ℤ) (place : ℕ) (quits : Bool) (x : Seat)
       → MayBegin (shown j g boxes none busy) b moment → place + 1 ≡ b.session → quits ≡ is_quit piece
-      → plan ≡ plan_of g j.history (Said b.session b.next piece) (length boxes)
+      → plan ≡ plan_of g j.history (Said b.session b.next piece) moment (length boxes)
       → k.history ≡ fresh_record j.history moment (Said b.session b.next piece) ∷ j.history → k.limit ≡ j.limit → length plan ≤ k.left → held j.history ≤ k.room
       → more_known ≡ after known (deeds_of (of_asked g known (place + 1) (asked_of piece))) → opened more_known ≡ opened known → x ≡ slice_index_or seats place x
       → IsKept k g more_known (slice_set seats place (record { shut = quits; gone = x.gone; accepted = x.accepted + 1 })) boxes plan true
@@ -99,16 +102,16 @@ module _ (j : journal.Shown) (g : Settings) (known : List Deed) (seats : List Se
 
   -- ---- a session is gone
 
-  pub gone_plan : (place number : ℕ) (plan : List Planned) → to_sweep j.history ≡ Some (place + 1) → number ≡ length j.history + 1
-      → plan ≡ planned_from seats (place + 1) number (departs known (place + 1)) false
-      → plan ≡ plan_of g j.history (Gone (place + 1)) (length boxes)
-  gone_plan place number plan next en eplan =
+  pub gone_plan : (place number : ℕ) (moment : ℤ) (plan : List Planned) → to_sweep j.history ≡ Some (place + 1) → number ≡ length j.history + 1
+      → plan ≡ planned_from seats (place + 1) number (spelled g known (place + 1) None (departs known (place + 1)) moment number) false
+      → plan ≡ plan_of g j.history (Gone (place + 1)) moment (length boxes)
+  gone_plan place number moment plan next en eplan =
       let h = j.history in let s = place + 1 in let k = Gone s in let is = swept_is h s next in
-      eplan ∙ ap (λ (fs : List Deed). planned_from seats s number (departs fs s) false) i.facts ∙ plan_right g h seats k false number (length boxes) i.each_seat en i.places (i.places ∙ sym i.sound.sessions) is.0 (seated s is.1) refl refl (λ t ne. refl)
+      eplan ∙ ap (λ (fs : List Deed). planned_from seats s number (spelled g fs s None (departs fs s) moment number) false) i.facts ∙ plan_right g h seats k moment false number (length boxes) i.each_seat en i.places (i.places ∙ sym i.sound.sessions) is.0 (seated s is.1) refl refl (λ t ne. refl)
 
   pub gone_kept : (k : journal.Shown) (more_known : List Deed) (plan : List Planned) (moment : ℤ) (place : ℕ) (x : Seat)
       → MaySweep (shown j g boxes none busy) moment → to_sweep j.history ≡ Some (place + 1)
-      → plan ≡ plan_of g j.history (Gone (place + 1)) (length boxes)
+      → plan ≡ plan_of g j.history (Gone (place + 1)) moment (length boxes)
       → k.history ≡ fresh_record j.history moment (Gone (place + 1)) ∷ j.history → k.limit ≡ j.limit → length plan ≤ k.left → held j.history ≤ k.room + 1
       → more_known ≡ after known (deeds_of (departs known (place + 1))) → opened more_known ≡ opened known → x ≡ slice_index_or seats place x
       → IsKept k g more_known (slice_set seats place (record { shut = x.shut; gone = true; accepted = x.accepted })) boxes plan true
@@ -154,7 +157,7 @@ module _ (j : journal.Shown) (g : Settings) (known : List Deed) (seats : List Se
         gone = ap (λ (y : Seat). y.gone) seat ∙ was.gone;
         accepted = ap (λ (y : Seat). y.accepted) seat ∙ was.accepted ∙ sym (ap length (append-nil (accepted h s)));
       })
-      (sym (plan_hung g h s w (length boxes) may.not_shut))
+      (sym (plan_hung g h s w moment (length boxes) may.not_shut))
 
   idle : (s : ℕ) (moment : ℤ) → MayHang (shown j g boxes none busy) s moment → none ≡ []
   idle s moment may = i.sound.idle may.idle

@@ -9,50 +9,32 @@ use Rattle.chronicle.specs.History.{Rec, actor, sessions, ends, shut}
 use Rattle.chronicle.specs.Journal.{fresh_record, miss}
 use Rattle.chronicle.specs.Journal as journal
 use Rattle.outbox.specs.declared.item.Item.{Item}
-use Rattle.outbox.specs.declared.item.Item.TheVariants.{Lines, Last}
+use Rattle.outbox.specs.declared.item.Item.TheVariants.{Last}
 use Rattle.outbox.specs.Ring.{Waiting, has_room, with_put}
-use Rattle.line_grammar.specs.Spelling.{untagged}
-use Rattle.numerics.specs.declared.outgoing.Out.{Out}
-use Rattle.numerics.specs.Outgoing.{octets}
-use Rattle.drafts.specs.Effects.{lines_to}
-use Rattle.deeds.specs.Deeds.{effects, facts, lines, text}
+use Rattle.deeds.specs.Deeds.{facts, text}
 use Rattle.registration.specs.declared.settings.Settings.{Settings}
 use Rattle.book.specs.declared.plan.Planned.{Planned}
 use Rattle.book.specs.declared.seat.Seat.{Seat}
 use Rattle.book.specs.Owed.{item, told, reason}
-use Rattle.book.specs.Seats.{IsSeat, seat_at, text_item, told as tells, told_to, told_own, planned_from}
+use Rattle.book.specs.Seats.{IsSeat, seat_at, told as tells, told_to, told_own, planned_from}
 use Rattle.book.specs.Book.{Shown, due, puts, others, plan_by, plan_of, begun, outbox_at, delivered, dropped, put_next, put_all, finished, done}
 use Rattle.book.proofs.Begun.{plan_hung}
 use Rattle.book.proofs.KeptSteps.{shown, shown_with}
 
 -- ---- the plan is that of the record
 
-text_some : (l : Out) (ls : List Out) → (b : ℕ) × (bs : List ℕ) × (text (l ∷ ls) ≡ b ∷ bs)
-unfolding octets
-text_some l ls = ended_some (take 510 (untagged l.source l.command l.params l.colon)) (text ls)
-  where
-    ended_some : (xs ys : List ℕ) → (b : ℕ) × (bs : List ℕ) × ((xs ++ 13 ∷ 10 ∷ []) ++ ys ≡ b ∷ bs)
-    ended_some [] ys = (13, 10 ∷ ys, refl)
-    ended_some (x ∷ xs) ys = (x, (xs ++ 13 ∷ 10 ∷ []) ++ ys, refl)
-
--- where there is a line there is a text
-item_is : (n : ℕ) (ls : List Out) → item n ls ≡ text_item n (text ls)
-item_is n [] = refl
-item_is n (l ∷ ls) = let some = text_some l ls in ap (λ xs. Lines n xs ∷ []) some.2 ∙ sym (ap (text_item n) some.2)
-
 -- what a session is due that was opened before the record, which doesn't end it
-due_told : (g : Settings) (h : List Rec) (k : Kind) (t : ℕ) → t ≤ sessions h → ends k t ≡ false → due g h k t ≡ tells (shut h t) (length h + 1) (text (lines g (facts g h) k t))
-due_told g h k t known e =
+due_told : (g : Settings) (h : List Rec) (k : Kind) (moment : ℤ) (t : ℕ) → t ≤ sessions h → ends k t ≡ false → due g h k moment t ≡ tells (shut h t) (length h + 1) (text g (facts g h) k moment (length h + 1) t)
+due_told g h k moment t known e =
     let before : nat_le t (sessions h) ≡ true = grind (arith, nat_tests) in
-    ap (λ b. cond (shut h t) [] (cond b (Last (length h + 1) (reason k) ∷ []) (item (length h + 1) (told g h k t)))) e
-    ∙ ap (λ b. cond (shut h t) [] (item (length h + 1) (cond b (lines g (facts g h) k t) []))) before
-    ∙ ap (λ xs. cond (shut h t) [] xs) (item_is (length h + 1) (lines g (facts g h) k t))
+    ap (λ b. cond (shut h t) [] (cond b (Last (length h + 1) (reason k) ∷ []) (item (length h + 1) (told g h k moment t)))) e
+    ∙ ap (λ b. cond (shut h t) [] (item (length h + 1) (cond b (text g (facts g h) k moment (length h + 1) t) []))) before
 
 -- what the record's own session is due
-due_own : (g : Settings) (h : List Rec) (k : Kind) (quits : Bool) (t : ℕ) → t ≤ sessions h → ends k t ≡ quits → reason k ≡ Quit → due g h k t ≡ told_own (shut h t) (length h + 1) (text (lines g (facts g h) k t)) quits
-due_own g h k true t known e why =
-    ap (λ b. cond (shut h t) [] (cond b (Last (length h + 1) (reason k) ∷ []) (item (length h + 1) (told g h k t)))) e ∙ ap (λ w. cond (shut h t) [] (Last (length h + 1) w ∷ [])) why
-due_own g h k false t known e why = due_told g h k t known e
+due_own : (g : Settings) (h : List Rec) (k : Kind) (moment : ℤ) (quits : Bool) (t : ℕ) → t ≤ sessions h → ends k t ≡ quits → reason k ≡ Quit → due g h k moment t ≡ told_own (shut h t) (length h + 1) (text g (facts g h) k moment (length h + 1) t) quits
+due_own g h k moment true t known e why =
+    ap (λ b. cond (shut h t) [] (cond b (Last (length h + 1) (reason k) ∷ []) (item (length h + 1) (told g h k moment t)))) e ∙ ap (λ w. cond (shut h t) [] (Last (length h + 1) w ∷ [])) why
+due_own g h k moment false t known e why = due_told g h k moment t known e
 
 pub others_same : (f g : ℕ → List Item) (s t n m : ℕ) → 0 < t → t + n ≤ m + 1 → ((u : ℕ) → 0 < u → u ≤ m → s ≢ u → f u ≡ g u) → others f s t n ≡ others g s t n
 others_same f g s t zero m from to h = refl
@@ -62,23 +44,23 @@ others_same f g s t (suc n) m from to h =
       | inr other ↦ rw (h t from (omega arith) (λ e. other.1 (sym e))) refl
     ])
 
-pub plan_right : (g : Settings) (h : List Rec) (seats : List Seat) (k : Kind) (quits : Bool) (number n : ℕ) → ((t : ℕ) → 0 < t → t ≤ length seats → IsSeat (seat_at seats t) h t) → number ≡ length h + 1 → length seats ≡ n → length seats ≡ sessions h
+pub plan_right : (g : Settings) (h : List Rec) (seats : List Seat) (k : Kind) (moment : ℤ) (quits : Bool) (number n : ℕ) → ((t : ℕ) → 0 < t → t ≤ length seats → IsSeat (seat_at seats t) h t) → number ≡ length h + 1 → length seats ≡ n → length seats ≡ sessions h
     → 0 < actor k → actor k ≤ length seats → ends k (actor k) ≡ quits → reason k ≡ Quit → ((t : ℕ) → actor k ≢ t → ends k t ≡ false)
-    → planned_from seats (actor k) number (effects g (facts g h) k) quits ≡ plan_of g h k n
-plan_right g h seats k quits number n seat en el all from to own why others_ =
-    let s = actor k in let es = effects g (facts g h) k in
-    let mine : told_own (seat_at seats s).shut number (text (lines_to s es s)) quits ≡ due g h k s =
-    ap (λ b. told_own b number (text (lines_to s es s)) quits) (seat s from to).shut ∙ ap (λ (m : ℕ). told_own (shut h s) m (text (lines_to s es s)) quits) en ∙ sym (due_own g h k quits s (omega arith) own why) in
-    let each : (u : ℕ) → 0 < u → u ≤ length seats → s ≢ u → told_to seats number s es u ≡ due g h k u = λ u above below ne.
-    ap (λ b. tells b number (text (lines_to s es u))) (seat u above below).shut ∙ ap (λ (m : ℕ). tells (shut h u) m (text (lines_to s es u))) en ∙ sym (due_told g h k u (omega arith) (others_ u ne)) in
-    ap (λ xs. puts s xs ++ others (told_to seats number s es) s 1 (length seats)) mine
-    ∙ ap (λ ps. puts s (due g h k s) ++ ps) (others_same (told_to seats number s es) (due g h k) s 1 (length seats) (length seats) (lit< tt) (omega arith) each)
-    ∙ ap (λ (m : ℕ). plan_by (due g h k) s m) el
+    → planned_from seats (actor k) number (text g (facts g h) k moment number) quits ≡ plan_of g h k moment n
+plan_right g h seats k moment quits number n seat en el all from to own why others_ =
+    let s = actor k in let f : ℕ → ℕ → List ℕ = text g (facts g h) k moment in
+    let mine : told_own (seat_at seats s).shut number (f number s) quits ≡ due g h k moment s =
+    ap (λ b. told_own b number (f number s) quits) (seat s from to).shut ∙ ap (λ (m : ℕ). told_own (shut h s) m (f m s) quits) en ∙ sym (due_own g h k moment quits s (omega arith) own why) in
+    let each : (u : ℕ) → 0 < u → u ≤ length seats → s ≢ u → told_to seats number (f number) u ≡ due g h k moment u = λ u above below ne.
+    ap (λ b. tells b number (f number u)) (seat u above below).shut ∙ ap (λ (m : ℕ). tells (shut h u) m (f m u)) en ∙ sym (due_told g h k moment u (omega arith) (others_ u ne)) in
+    ap (λ xs. puts s xs ++ others (told_to seats number (f number)) s 1 (length seats)) mine
+    ∙ ap (λ ps. puts s (due g h k moment s) ++ ps) (others_same (told_to seats number (f number)) (due g h k moment) s 1 (length seats) (length seats) (lit< tt) (omega arith) each)
+    ∙ ap (λ (m : ℕ). plan_by (due g h k moment) s m) el
 
 -- ---- the state
 
 pub begun_is : (j k : journal.Shown) (g : Settings) (boxes : List (Option Waiting)) (none plan : List Planned) (busy : Bool) (kind : Kind) (moment : ℤ)
-    → k.history ≡ fresh_record j.history moment kind ∷ j.history → k.limit ≡ j.limit → plan ≡ plan_of g j.history kind (length boxes)
+    → k.history ≡ fresh_record j.history moment kind ∷ j.history → k.limit ≡ j.limit → plan ≡ plan_of g j.history kind moment (length boxes)
     → shown k g boxes plan true ≡ begun (shown j g boxes none busy) kind moment
 begun_is j k g boxes none plan busy kind moment eh el ep =
     shown_with j k (fresh_record j.history moment kind ∷ j.history) g boxes plan true eh el
@@ -88,7 +70,7 @@ begun_is j k g boxes none plan busy kind moment eh el ep =
 pub hung_is : (m : Shown) (s : ℕ) (w : Why) (moment : ℤ) → shut m.history s ≡ false
     → done m (Hung s w) moment ≡ finished (put_next (begun m (Hung s w) moment) (record { session = s; item = Last (length m.history + 1) w } ∷ []))
 hung_is m s w moment open_ =
-    let p : Planned = record { session = s; item = Last (length m.history + 1) w } in let one = plan_hung m.settings m.history s w (length m.outboxes) open_ in
+    let p : Planned = record { session = s; item = Last (length m.history + 1) w } in let one = plan_hung m.settings m.history s w moment (length m.outboxes) open_ in
     let b = begun m (Hung s w) moment in
     ap (λ ps. finished (put_all b ps)) one
 

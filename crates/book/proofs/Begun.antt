@@ -1,6 +1,6 @@
 -- A book stays sound where a record is appended whose deliveries are planned.
 use Rattle.std.proofs.lemmas.Bool.Decides.{eqb_tells}
-use Rattle.std.proofs.Common.{◌≡◌, ◌≢◌, ◌⊎◌, inl, inr, ℕ, zero, suc, ◌+◌, ◌<◌, ◌≤◌, Bool, true, false, ◌||◌, ◌==◌, nat_le, cond, List, [], ◌∷◌, ◌++◌, length, sum_by, arith, refl, sym, ap, ◌∙◌, subst, append-nil, eq-eqb, ne_eqb, zero-add, lit<, lit≤}
+use Rattle.std.proofs.Common.{◌≡◌, ◌≢◌, ◌⊎◌, inl, inr, ℕ, ℤ, zero, suc, ◌+◌, ◌<◌, ◌≤◌, Bool, true, false, ◌||◌, ◌==◌, nat_le, cond, List, [], ◌∷◌, ◌++◌, length, sum_by, arith, refl, sym, ap, ◌∙◌, subst, append-nil, eq-eqb, ne_eqb, zero-add, lit<, lit≤}
 use Rattle.std.proofs.lemmas.List.Sums.{sum_by-cons}
 use Rattle.chronicle.specs.declared.why.Why.{Why}
 use Rattle.chronicle.specs.declared.record.Kind.{Kind}
@@ -11,7 +11,6 @@ use Rattle.outbox.specs.declared.item.Item.{Item}
 use Rattle.registration.specs.declared.settings.Settings.{Settings}
 use Rattle.book.specs.declared.plan.Planned.{Planned}
 use Rattle.outbox.specs.declared.item.Item.TheVariants.{Last}
-use Rattle.numerics.specs.declared.outgoing.Out.{Out}
 use Rattle.book.specs.Owed.{told, item, reason, delivery}
 use Rattle.book.specs.Legal.{IsKind}
 use Rattle.roster.specs.LookBack.{numbers}
@@ -68,14 +67,14 @@ planned_plan f s n t from to =
 
 -- ---- each delivery of the plan is owed
 
-due_cases : (g : Settings) (h : List Rec) (k : Kind) (t : ℕ) → (due g h k t ≡ []) ⊎ ((x : Item) × (due g h k t ≡ x ∷ []) × (delivery g h k t ≡ x ∷ []) × (shut h t ≡ false))
-due_cases g h k t =
+due_cases : (g : Settings) (h : List Rec) (k : Kind) (moment : ℤ) (t : ℕ) → (due g h k moment t ≡ []) ⊎ ((x : Item) × (due g h k moment t ≡ x ∷ []) × (delivery g h k moment t ≡ x ∷ []) × (shut h t ≡ false))
+due_cases g h k moment t =
     let L = Last (length h + 1) (reason k) in
-    elim (shut h t) as (λ b. (cond b [] (delivery g h k t) ≡ []) ⊎ ((x : Item) × (cond b [] (delivery g h k t) ≡ x ∷ []) × (delivery g h k t ≡ x ∷ []) × (b ≡ false))) [
+    elim (shut h t) as (λ b. (cond b [] (delivery g h k moment t) ≡ []) ⊎ ((x : Item) × (cond b [] (delivery g h k moment t) ≡ x ∷ []) × (delivery g h k moment t ≡ x ∷ []) × (b ≡ false))) [
       | true ↦ inl refl
-      | false ↦ elim (ends k t) as (λ e. (cond e (L ∷ []) (item (length h + 1) (told g h k t)) ≡ []) ⊎ ((x : Item) × (cond e (L ∷ []) (item (length h + 1) (told g h k t)) ≡ x ∷ []) × (cond e (L ∷ []) (item (length h + 1) (told g h k t)) ≡ x ∷ []) × (false ≡ false))) [
+      | false ↦ elim (ends k t) as (λ e. (cond e (L ∷ []) (item (length h + 1) (told g h k moment t)) ≡ []) ⊎ ((x : Item) × (cond e (L ∷ []) (item (length h + 1) (told g h k moment t)) ≡ x ∷ []) × (cond e (L ∷ []) (item (length h + 1) (told g h k moment t)) ≡ x ∷ []) × (false ≡ false))) [
         | true ↦ inr (_, refl, refl, refl)
-        | false ↦ elim (told g h k t) as (λ ls. (item (length h + 1) ls ≡ []) ⊎ ((x : Item) × (item (length h + 1) ls ≡ x ∷ []) × (item (length h + 1) ls ≡ x ∷ []) × (false ≡ false))) [
+        | false ↦ elim (told g h k moment t) as (λ ls. (item (length h + 1) ls ≡ []) ⊎ ((x : Item) × (item (length h + 1) ls ≡ x ∷ []) × (item (length h + 1) ls ≡ x ∷ []) × (false ≡ false))) [
           | [] ↦ inl refl
           | l ∷ ls ↦ inr (_, refl, refl, refl)
         ]
@@ -83,25 +82,25 @@ due_cases g h k t =
     ]
 
 -- the parts of a plan for one session, before a plan in which it has nothing
-puts_ok : (g : Settings) (r : Rec) (h : List Rec) (n t : ℕ) (ps : List Planned) → r.missed ≡ [] → 0 < t → t ≤ n → planned ps t ≡ [] → IsPlan g (r ∷ h) n ps → IsPlan g (r ∷ h) n (puts t (due g h r.kind t) ++ ps)
+puts_ok : (g : Settings) (r : Rec) (h : List Rec) (n t : ℕ) (ps : List Planned) → r.missed ≡ [] → 0 < t → t ≤ n → planned ps t ≡ [] → IsPlan g (r ∷ h) n ps → IsPlan g (r ∷ h) n (puts t (due g h r.kind r.moment t) ++ ps)
 puts_ok g r h n t ps nobody from to none i =
     let P : List Item → Type 0 = λ xs. IsPlan g (r ∷ h) n (puts t xs ++ ps) in
-    elim (due_cases g h r.kind t) [
+    elim (due_cases g h r.kind r.moment t) [
       | inl e ↦ subst P (sym e) i
       | inr some ↦ subst P (sym some.1) (from, to, none, (some.2, some.3, rw nobody refl), i)
     ]
 
-others_ok : (g : Settings) (r : Rec) (h : List Rec) (n s k j : ℕ) → r.missed ≡ [] → 0 < k → k + j ≤ n + 1 → IsPlan g (r ∷ h) n (others (due g h r.kind) s k j)
+others_ok : (g : Settings) (r : Rec) (h : List Rec) (n s k j : ℕ) → r.missed ≡ [] → 0 < k → k + j ≤ n + 1 → IsPlan g (r ∷ h) n (others (due g h r.kind r.moment) s k j)
 others_ok g r h n s k zero nobody from to = tt
 others_ok g r h n s k (suc j) nobody from to =
-    let rest = others (due g h r.kind) s (k + 1) j in let ok = others_ok g r h n s (k + 1) j nobody (omega arith) (omega arith) in
-    elim (k == s) as (λ c. IsPlan g (r ∷ h) n (cond c [] (puts k (due g h r.kind k)) ++ rest)) [
+    let rest = others (due g h r.kind r.moment) s (k + 1) j in let ok = others_ok g r h n s (k + 1) j nobody (omega arith) (omega arith) in
+    elim (k == s) as (λ c. IsPlan g (r ∷ h) n (cond c [] (puts k (due g h r.kind r.moment k)) ++ rest)) [
       | true ↦ ok
-      | false ↦ puts_ok g r h n k rest nobody from (omega arith) (others_before (due g h r.kind) s (k + 1) j k (omega arith)) ok
+      | false ↦ puts_ok g r h n k rest nobody from (omega arith) (others_before (due g h r.kind r.moment) s (k + 1) j k (omega arith)) ok
     ]
 
-pub plan_ok : (g : Settings) (r : Rec) (h : List Rec) (n s : ℕ) → r.missed ≡ [] → 0 < s → s ≤ n → IsPlan g (r ∷ h) n (plan_by (due g h r.kind) s n)
-plan_ok g r h n s nobody from to = puts_ok g r h n s (others (due g h r.kind) s 1 n) nobody from to (others_actor (due g h r.kind) s 1 n) (others_ok g r h n s 1 n nobody (lit< tt) (omega arith))
+pub plan_ok : (g : Settings) (r : Rec) (h : List Rec) (n s : ℕ) → r.missed ≡ [] → 0 < s → s ≤ n → IsPlan g (r ∷ h) n (plan_by (due g h r.kind r.moment) s n)
+plan_ok g r h n s nobody from to = puts_ok g r h n s (others (due g h r.kind r.moment) s 1 n) nobody from to (others_actor (due g h r.kind r.moment) s 1 n) (others_ok g r h n s 1 n nobody (lit< tt) (omega arith))
 
 -- ---- the step
 
@@ -114,8 +113,8 @@ begun_sound m k moment i free none from to is in_time room_ =
     let same : opened_by k + sessions h ≡ sessions h = ap (λ (j : ℕ). j + sessions h) none ∙ zero-add (sessions h) in
     record {
       owed = λ t above below here.
-          ap (λ xs. (outbox_at m.outboxes t).taken ++ (outbox_at m.outboxes t).queue ++ xs) (planned_plan (due g h k) (actor k) n t above below)
-          ∙ ap (λ xs. xs ++ due g h k t) (sym (nothing t) ∙ i.owed t above below here);
+          ap (λ xs. (outbox_at m.outboxes t).taken ++ (outbox_at m.outboxes t).queue ++ xs) (planned_plan (due g h k moment) (actor k) n t above below)
+          ∙ ap (λ xs. xs ++ due g h k moment t) (sym (nothing t) ∙ i.owed t above below here);
       reaped = λ t above below away. rw (i.reaped t above below away) (elim (leaves k t) as (λ b. (b || true) ≡ true) [ true ↦ refl | false ↦ refl ]);
       plan = plan_ok g r h n (actor k) refl from to;
       idle = λ e. absurd (let f : true ≡ false = e in cc);
@@ -169,17 +168,13 @@ others_none f s k (suc n) none =
       | inr other ↦ rw other.0 (rw (none k (λ e. other.1 (sym e))) refl)
     ])
 
-nothing_due : (n : ℕ) (b c : Bool) → (let E : List Item = [] in cond b E (item n (let N : List Out = [] in cond c N N))) ≡ []
+nothing_due : (n : ℕ) (b c : Bool) → (let E : List Item = [] in cond b E (item n (let N : List ℕ = [] in cond c N N))) ≡ []
 nothing_due n true c = refl
 nothing_due n false true = refl
 nothing_due n false false = refl
 
-pub plan_hung : (g : Settings) (h : List Rec) (s : ℕ) (w : Why) (n : ℕ) → shut h s ≡ false → plan_of g h (Hung s w) n ≡ record { session = s; item = Last (length h + 1) w } ∷ []
-plan_hung g h s w n open_ =
-    let mine : due g h (Hung s w) s ≡ Last (length h + 1) w ∷ [] = rw open_ (rw (eq-eqb s s refl) refl) in
-    let rest : others (due g h (Hung s w)) s 1 n ≡ [] = others_none (due g h (Hung s w)) s 1 n (λ t ne. rw (ne_eqb s t ne) (nothing_due (length h + 1) (shut h t) (nat_le t (sessions h)))) in
-    ap (λ xs. puts s xs ++ others (due g h (Hung s w)) s 1 n) mine ∙ ap (λ ps. record { session = s; item = Last (length h + 1) w } ∷ ps) rest
-
--- a plan is no longer than the list of sessions
-item_short : (g : Settings) (h : List Rec) (k : Kind) (t : ℕ) → length (due g h k t) ≤ 1
-item_short g h k t = elim (due_cases g h k t) [ inl e ↦ let P : List Item → Type 0 = λ xs. length xs ≤ 1 in subst P (sym e) (lit≤ tt) | inr some ↦ let P : List Item → Type 0 = λ xs. length xs ≤ 1 in subst P (sym some.1) (lit≤ tt) ]
+pub plan_hung : (g : Settings) (h : List Rec) (s : ℕ) (w : Why) (moment : ℤ) (n : ℕ) → shut h s ≡ false → plan_of g h (Hung s w) moment n ≡ record { session = s; item = Last (length h + 1) w } ∷ []
+plan_hung g h s w moment n open_ =
+    let mine : due g h (Hung s w) moment s ≡ Last (length h + 1) w ∷ [] = rw open_ (rw (eq-eqb s s refl) refl) in
+    let rest : others (due g h (Hung s w) moment) s 1 n ≡ [] = others_none (due g h (Hung s w) moment) s 1 n (λ t ne. rw (ne_eqb s t ne) (nothing_due (length h + 1) (shut h t) (nat_le t (sessions h)))) in
+    ap (λ xs. puts s xs ++ others (due g h (Hung s w) moment) s 1 n) mine ∙ ap (λ ps. record { session = s; item = Last (length h + 1) w } ∷ ps) rest

@@ -220,7 +220,7 @@ pub begun_kept : (j k : journal.Shown) (g : Settings) (known more_known : List D
     → k.history ≡ fresh_record j.history moment kind ∷ j.history → k.limit ≡ j.limit → length plan ≤ k.left → held (fresh_record j.history moment kind ∷ j.history) ≤ k.room
     → more_known ≡ after known (deeds g known kind) → told_of.opened more_known ≡ told_of.opened known
     → places ≡ slice_set seats (actor kind - 1) v → IsSeat v (fresh_record j.history moment kind ∷ j.history) (actor kind)
-    → plan ≡ plan_of g j.history kind (length boxes)
+    → plan ≡ plan_of g j.history kind moment (length boxes)
     → IsKept k g more_known places boxes plan true
 begun_kept j k g known more_known seats places boxes none plan kind moment v i opens from to is in_time limit_ eh el room_ free ek same ep iv eplan =
     let h = j.history in let s = actor kind in let r = fresh_record h moment kind in

@@ -11,10 +11,13 @@ use Rattle.chronicle.specs.Journal.{fresh_record}
 use Rattle.outbox.specs.declared.item.Item.{Item}
 use Rattle.book.specs.declared.seat.Seat.{Seat}
 use Rattle.outbox.specs.Ring.{Waiting}
-use Rattle.numerics.specs.declared.outgoing.Out.{Out}
+use Rattle.registration.specs.declared.caps.Caps.{Caps}
+use Rattle.labels_batches.specs.declared.answers.Tagged.{Tagged}
+use Rattle.labels_batches.specs.Rendered.{rendered}
+use Rattle.deeds.specs.Deeds.{facts}
 use Rattle.book.specs.Owed.{item, owed}
 use Rattle.book.specs.Seats.{no_seat, kept_by, IsSeat, seat_at}
-use Rattle.roster.specs.LookBack.{numbers}
+use Rattle.roster.specs.LookBack.{caps, numbers}
 use Rattle.book.specs.Book.{Shown, MayOpen, box_of, kept_for, held, planned, opened, IsSound}
 use Rattle.book.proofs.About.{not_owed}
 
@@ -36,16 +39,16 @@ held_more h f n small =
 pub opened_held : (h : List Rec) (n : ℕ) (host : List ℕ) (moment : _) → held (fresh_record h moment (Opened n host) ∷ h) ≤ held h + 2
 opened_held h n host moment = held_more h (kept_for h) (sessions h) (λ t. kept_small (gone h t) (shut h t))
 
-nothing_told : (b c : Bool) → (let N : List Out = [] in cond b (cond c N N) N) ≡ []
-nothing_told true true = refl
-nothing_told true false = refl
-nothing_told false c = refl
+nothing_told : (cs : Caps) (moment : ℤ) (b c : Bool) → (let N : List Tagged = [] in cond b (rendered cs moment (cond c N N)) []) ≡ []
+nothing_told cs moment true true = refl
+nothing_told cs moment true false = refl
+nothing_told cs moment false c = refl
 
 pub opened_sound : (m : Shown) (host : List ℕ) (moment : ℤ) (box : Waiting) → IsSound m → MayOpen m moment → (box.queue ≡ []) × (box.taken ≡ []) → IsSound (opened m host moment box)
 opened_sound m host moment box i may fresh =
     let h = m.history in let g = m.settings in let n = length m.outboxes in let r = fresh_record h moment (Opened (sessions h + 1) host) in
     let boxes = m.outboxes ++ Some box ∷ [] in let more : length boxes ≡ n + 1 = length-append m.outboxes (Some box ∷ []) in
-    let same : (t : ℕ) → owed g (r ∷ h) t ≡ owed g h t = λ t. let E : List Item = [] in ap (λ xs. owed g h t ++ cond (misses r t || shut h t) [] (item (length h + 1) xs)) (nothing_told (nat_le t (sessions h)) ((sessions h + 1) == t)) ∙ ap (λ xs. owed g h t ++ xs) (elim (misses r t || shut h t) as (λ b. cond b E E ≡ E) [ true ↦ refl | false ↦ refl ]) ∙ append-nil (owed g h t) in
+    let same : (t : ℕ) → owed g (r ∷ h) t ≡ owed g h t = λ t. let E : List Item = [] in ap (λ xs. owed g h t ++ cond (misses r t || shut h t) [] (item (length h + 1) xs)) (nothing_told (caps (facts g h) t) moment (nat_le t (sessions h)) ((sessions h + 1) == t)) ∙ ap (λ xs. owed g h t ++ xs) (elim (misses r t || shut h t) as (λ b. cond b E E ≡ E) [ true ↦ refl | false ↦ refl ]) ∙ append-nil (owed g h t) in
     let count : sessions (r ∷ h) ≡ n + 1 = let e = i.sessions in let goal : 1 + sessions h ≡ n + 1 = omega arith in goal in
     let idle : m.plan ≡ [] = i.idle may.idle in
     let last : (t : ℕ) → t ≡ n + 1 → slice_index_or boxes (t - 1) None ≡ Some box = λ t e. let p : n ≡ t - 1 = omega arith in get_or_push m.outboxes (Some box) None (t - 1) p in

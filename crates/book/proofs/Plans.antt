@@ -1,32 +1,45 @@
 -- What each session hears of a record, and the plan that is made of it.
-use Rattle.std.proofs.Common.{◌≡◌, ◌≢◌, ℕ, suc, ◌+◌, ◌-◌, ◌<◌, ◌==◌, Bool, true, false, cond, List, [], ◌∷◌, ◌++◌, filter, map, length, take, get_or, slice_index_or, arith, refl, sym, ap, ◌∙◌, subst, append_assoc, append-nil, eq-eqb, ne_eqb, lit<}
+use Rattle.std.proofs.Common.{◌≡◌, ◌≢◌, ℕ, ℤ, suc, ◌+◌, ◌-◌, ◌<◌, ◌==◌, Bool, true, false, cond, List, [], ◌∷◌, ◌++◌, filter, map, length, take, get_or, slice_index_or, Option, None, arith, refl, sym, ap, ◌∙◌, subst, append_assoc, append-nil, eq-eqb, ne_eqb, lit<}
 use Rattle.std.proofs.lemmas.List.{take_more}
 use Rattle.std.specs.List.{flat_map}
 use Rattle.numerics.specs.declared.outgoing.Out.{Out}
-use Rattle.numerics.specs.Outgoing.{octets}
+use Rattle.registration.specs.declared.caps.Caps.{Caps}
+use Rattle.labels_batches.specs.declared.answers.Tagged.{Tagged}
+use Rattle.labels_batches.specs.Answers.{answered, tagged_as}
+use Rattle.labels_batches.specs.Rendered.{rendered, spelled_line}
+use Rattle.labels_batches.specs.Spellings.{spelled_for}
 use Rattle.outbox.specs.declared.item.Item.{Item}
 use Rattle.drafts.specs.declared.effect.Effect.{Effect}
 use Rattle.drafts.specs.declared.effect.Effect.TheVariants.{Establish, Answer, Show, Copy}
 use Rattle.deeds.specs.declared.verdict.Shown.{Shown}
 use Rattle.deeds.specs.declared.verdict.Verdict.{Verdict}
-use Rattle.drafts.specs.Effects.{heard, reply, copies, due, lines_to}
-use Rattle.deeds.specs.Deeds.{text}
+use Rattle.drafts.specs.Effects.{heard, reply, copies, due}
+use Rattle.deeds.specs.Deeds.{spelled}
 use Rattle.deeds.specs.Rows.{of_asked}
 use Rattle.commands.specs.declared.asked.Asked.{Asked}
 use Rattle.roster.specs.declared.deed.Deed.{Deed}
+use Rattle.roster.specs.LookBack.{caps}
 use Rattle.deeds.specs.Verdicts.{shown, IsVerdict}
 use Rattle.registration.specs.declared.settings.Settings.{Settings}
 use Rattle.book.specs.declared.plan.Planned.{Planned}
 use Rattle.book.specs.declared.seat.Seat.{Seat}
 use Rattle.book.specs.Book.{puts, others}
-use Rattle.book.specs.Seats.{no_seat, seat_at, told, told_to, told_own, heard_text, repeated, planned_for, planned_for_verdict, planned_from}
+use Rattle.book.specs.Seats.{no_seat, seat_at, told, told_to, told_own, heard_of, heard_text, repeated, planned_for, planned_with, planned_from}
 use Rattle.book.proofs.Begins.{others_same}
 
 -- ---- texts
 
-pub text-append : (xs ys : List Out) → text (xs ++ ys) ≡ text xs ++ text ys
-text-append [] ys = refl
-text-append (x ∷ xs) ys = ap (λ bs. octets x ++ bs) (text-append xs ys) ∙ sym (append_assoc (octets x) (text xs) (text ys))
+rendered-append : (cs : Caps) (moment : ℤ) (xs ys : List Tagged) → rendered cs moment (xs ++ ys) ≡ rendered cs moment xs ++ rendered cs moment ys
+rendered-append cs moment [] ys = refl
+rendered-append cs moment (x ∷ xs) ys = ap (λ bs. spelled_line cs moment x ++ bs) (rendered-append cs moment xs ys) ∙ sym (append_assoc (spelled_line cs moment x) (rendered cs moment xs) (rendered cs moment ys))
+
+-- lines that are no part of an answer
+abbrev shown_text : Caps → ℤ → List Out → List ℕ
+shown_text cs moment ls = rendered cs moment (map (tagged_as None) ls)
+
+shown-append : (cs : Caps) (moment : ℤ) (xs ys : List Out) → shown_text cs moment (xs ++ ys) ≡ shown_text cs moment xs ++ shown_text cs moment ys
+shown-append cs moment [] ys = refl
+shown-append cs moment (x ∷ xs) ys = ap (λ bs. spelled_for cs moment x ++ bs) (shown-append cs moment xs ys) ∙ sym (append_assoc (spelled_for cs moment x) (shown_text cs moment xs) (shown_text cs moment ys))
 
 repeated-append : (xs ys line : List ℕ) (t : ℕ) → repeated (xs ++ ys) line t ≡ repeated xs line t ++ repeated ys line t
 repeated-append [] ys line t = refl
@@ -45,21 +58,21 @@ pub repeated_more : (hearers line : List ℕ) (t k h : ℕ) → k < length heare
 repeated_more hearers line t k h l is =
     ap (λ xs. repeated xs line t) (take_more hearers k h l ∙ ap (λ (y : ℕ). take k hearers ++ y ∷ []) (sym is)) ∙ repeated-append (take k hearers) (h ∷ []) line t ∙ ap (λ bs. repeated (take k hearers) line t ++ bs) (once (h == t) h line)
 
-each_line : (line : Out) (hs : List ℕ) → flat_map (λ (h : ℕ). octets line) hs ≡ text (map (λ (h : ℕ). line) hs)
-each_line line [] = refl
-each_line line (h ∷ hs) = ap (λ bs. octets line ++ bs) (each_line line hs)
+each_line : (cs : Caps) (moment : ℤ) (line : Out) (hs : List ℕ) → flat_map (λ (h : ℕ). spelled_for cs moment line) hs ≡ rendered cs moment (map (tagged_as None) (map (λ (h : ℕ). line) hs))
+each_line cs moment line [] = refl
+each_line cs moment line (h ∷ hs) = ap (λ bs. spelled_for cs moment line ++ bs) (each_line cs moment line hs)
 
-pub repeated_line : (hearers : List ℕ) (line : Out) (t : ℕ) → repeated hearers (octets line) t ≡ text (heard hearers line t)
-repeated_line hearers line t = each_line line (filter (λ h. h == t) hearers)
+pub repeated_line : (fs : List Deed) (moment : ℤ) (x : Shown) (t : ℕ) → repeated x.hearers (spelled_for (caps fs t) moment x.line) t ≡ heard_of fs moment x t
+repeated_line fs moment x t = each_line (caps fs t) moment x.line (filter (λ h. h == t) x.hearers)
 
-heard_text-append : (xs ys : List Shown) (t : ℕ) → heard_text (xs ++ ys) t ≡ heard_text xs t ++ heard_text ys t
-heard_text-append [] ys t = refl
-heard_text-append (x ∷ xs) ys t = ap (λ bs. text (heard x.hearers x.line t) ++ bs) (heard_text-append xs ys t) ∙ sym (append_assoc (text (heard x.hearers x.line t)) (heard_text xs t) (heard_text ys t))
+heard_text-append : (fs : List Deed) (moment : ℤ) (xs ys : List Shown) (t : ℕ) → heard_text fs moment (xs ++ ys) t ≡ heard_text fs moment xs t ++ heard_text fs moment ys t
+heard_text-append fs moment [] ys t = refl
+heard_text-append fs moment (x ∷ xs) ys t = ap (λ bs. heard_of fs moment x t ++ bs) (heard_text-append fs moment xs ys t) ∙ sym (append_assoc (heard_of fs moment x t) (heard_text fs moment xs t) (heard_text fs moment ys t))
 
-pub heard_more : (all : List Shown) (t k : ℕ) (x : Shown) → k < length all → x ≡ get_or all k x → heard_text (take (k + 1) all) t ≡ heard_text (take k all) t ++ text (heard x.hearers x.line t)
-heard_more all t k x l is =
-    ap (λ (xs : List Shown). heard_text xs t) (take_more all k x l ∙ ap (λ (y : Shown). take k all ++ y ∷ []) (sym is)) ∙ heard_text-append (take k all) (x ∷ []) t
-    ∙ ap (λ bs. heard_text (take k all) t ++ bs) (append-nil (text (heard x.hearers x.line t)))
+pub heard_more : (fs : List Deed) (moment : ℤ) (all : List Shown) (t k : ℕ) (x : Shown) → k < length all → x ≡ get_or all k x → heard_text fs moment (take (k + 1) all) t ≡ heard_text fs moment (take k all) t ++ heard_of fs moment x t
+heard_more fs moment all t k x l is =
+    ap (λ (xs : List Shown). heard_text fs moment xs t) (take_more all k x l ∙ ap (λ (y : Shown). take k all ++ y ∷ []) (sym is)) ∙ heard_text-append fs moment (take k all) (x ∷ []) t
+    ∙ ap (λ bs. heard_text fs moment (take k all) t ++ bs) (append-nil (heard_of fs moment x t))
 
 -- so much more is heard
 pub hears_more : (new was old a b c : List ℕ) → new ≡ was ++ c → was ≡ old ++ a → b ≡ a ++ c → new ≡ old ++ b
@@ -67,23 +80,25 @@ hears_more new was old a b c e f g = e ∙ ap (λ xs. xs ++ c) f ∙ append_asso
 
 -- ---- the plan of a verdict is that of its effects
 
-heard_shown : (es : List Effect) (t : ℕ) → heard_text (shown es) t ≡ text (due es t)
-heard_shown [] t = refl
-heard_shown (Establish d ∷ es) t = heard_shown es t
-heard_shown (Answer l ∷ es) t = heard_shown es t
-heard_shown (Show hs l ∷ es) t = ap (λ bs. text (heard hs l t) ++ bs) (heard_shown es t) ∙ sym (text-append (heard hs l t) (due es t))
-heard_shown (Copy l ∷ es) t = heard_shown es t
+heard_shown : (fs : List Deed) (moment : ℤ) (es : List Effect) (t : ℕ) → heard_text fs moment (shown es) t ≡ shown_text (caps fs t) moment (due es t)
+heard_shown fs moment [] t = refl
+heard_shown fs moment (Establish d ∷ es) t = heard_shown fs moment es t
+heard_shown fs moment (Answer l ∷ es) t = heard_shown fs moment es t
+heard_shown fs moment (Show hs l ∷ es) t = ap (λ bs. shown_text (caps fs t) moment (heard hs l t) ++ bs) (heard_shown fs moment es t) ∙ sym (shown-append (caps fs t) moment (heard hs l t) (due es t))
+heard_shown fs moment (Copy l ∷ es) t = heard_shown fs moment es t
 
-pub planned_same : (seats : List Seat) (s number : ℕ) (v : Verdict) (es : List Effect) (quits : Bool) → IsVerdict v s es → planned_for_verdict seats s number v quits ≡ planned_from seats s number es quits
-planned_same seats s number v es quits i =
-    let own : text v.reply.items ++ text v.copies.items ≡ text (lines_to s es s) =
-    ap (λ (ls : List Out). text ls ++ text v.copies.items) i.reply ∙ ap (λ (ls : List Out). text (reply s es) ++ text ls) i.copies ∙ sym (text-append (reply s es) (copies es))
-    ∙ ap (λ b. text (cond b (reply s es ++ copies es) (due es s))) (sym (eq-eqb s s refl)) in
-    let each : (u : ℕ) → s ≢ u → heard_text v.others.items u ≡ text (lines_to s es u) = λ u ne.
-    ap (λ (xs : List Shown). heard_text xs u) i.others ∙ heard_shown es u ∙ ap (λ b. text (cond b (reply s es ++ copies es) (due es u))) (sym (ne_eqb s u ne)) in
-    ap (λ bs. puts s (told_own (seat_at seats s).shut number bs quits) ++ others (λ t. told (seat_at seats t).shut number (heard_text v.others.items t)) s 1 (length seats)) own
-    ∙ ap (λ ps. puts s (told_own (seat_at seats s).shut number (text (lines_to s es s)) quits) ++ ps)
-    (others_same (λ t. told (seat_at seats t).shut number (heard_text v.others.items t)) (told_to seats number s es) s 1 (length seats) (length seats) (lit< tt) (omega arith) (λ u from to ne. ap (told (seat_at seats u).shut number) (each u ne)))
+pub planned_same : (seats : List Seat) (g : Settings) (fs : List Deed) (s number : ℕ) (label : Option (List ℕ)) (v : Verdict) (es : List Effect) (moment : ℤ) (quits : Bool) → IsVerdict v s es
+    → planned_with seats s number (rendered (caps fs s) moment (answered g.server label number v.reply.items v.copies.items)) (heard_text fs moment v.others.items) quits ≡ planned_from seats s number (spelled g fs s label es moment number) quits
+planned_same seats g fs s number label v es moment quits i =
+    let f = spelled g fs s label es moment number in
+    let own : rendered (caps fs s) moment (answered g.server label number v.reply.items v.copies.items) ≡ f s =
+    ap (λ (ls : List Out). rendered (caps fs s) moment (answered g.server label number ls v.copies.items)) i.reply ∙ ap (λ (ls : List Out). rendered (caps fs s) moment (answered g.server label number (reply s es) ls)) i.copies
+    ∙ ap (λ b. rendered (caps fs s) moment (cond b (answered g.server label number (reply s es) (copies es)) (map (tagged_as None) (due es s)))) (sym (eq-eqb s s refl)) in
+    let each : (u : ℕ) → s ≢ u → heard_text fs moment v.others.items u ≡ f u = λ u ne.
+    ap (λ (xs : List Shown). heard_text fs moment xs u) i.others ∙ heard_shown fs moment es u ∙ ap (λ b. rendered (caps fs u) moment (cond b (answered g.server label number (reply s es) (copies es)) (map (tagged_as None) (due es u)))) (sym (ne_eqb s u ne)) in
+    ap (λ bs. planned_with seats s number bs (heard_text fs moment v.others.items) quits) own
+    ∙ ap (λ ps. puts s (told_own (seat_at seats s).shut number (f s) quits) ++ ps)
+    (others_same (told_to seats number (heard_text fs moment v.others.items)) (told_to seats number f) s 1 (length seats) (length seats) (lit< tt) (omega arith) (λ u from to ne. ap (told (seat_at seats u).shut number) (each u ne)))
 
 -- the verdict on a line of a session, by whatever names
 pub verdict_at : (v : Verdict) (s t : ℕ) (g : Settings) (fs : List Deed) (k m : Asked) → s ≡ t → k ≡ m → IsVerdict v s (of_asked g fs s k) → IsVerdict v t (of_asked g fs t m)
@@ -106,14 +121,14 @@ goes_back seats number s texts k n t seat bytes plan more en l et es eb ep em =
 
 -- ---- the whole
 
-pub planned_whole : (seats : List Seat) (place s number : ℕ) (v : Verdict) (quits : Bool) (texts : List (List ℕ)) (own : List ℕ) (plan more : List Planned) → s ≡ place + 1 → own ≡ text v.reply.items ++ text v.copies.items
-    → ((i : ℕ) → i < length seats → slice_index_or texts i [] ≡ heard_text v.others.items (i + 1)) → plan ≡ others (planned_for seats number texts) s 1 (length seats)
-    → more ≡ puts s (told_own (slice_index_or seats place no_seat).shut number own quits) ++ plan → more ≡ planned_for_verdict seats (place + 1) number v quits
-planned_whole seats place s number v quits texts own plan more es eo h ep em =
+pub planned_whole : (seats : List Seat) (fs : List Deed) (moment : ℤ) (place s number : ℕ) (all : List Shown) (quits : Bool) (texts : List (List ℕ)) (own : List ℕ) (plan more : List Planned) → s ≡ place + 1
+    → ((i : ℕ) → i < length seats → slice_index_or texts i [] ≡ heard_text fs moment all (i + 1)) → plan ≡ others (planned_for seats number texts) s 1 (length seats)
+    → more ≡ puts s (told_own (slice_index_or seats place no_seat).shut number own quits) ++ plan → more ≡ planned_with seats (place + 1) number own (heard_text fs moment all) quits
+planned_whole seats fs moment place s number all quits texts own plan more es h ep em =
     let at : place ≡ s - 1 = omega arith in
-    let f : ℕ → List Item = λ t. told (seat_at seats t).shut number (heard_text v.others.items t) in
-    let mine = ap (λ (j : ℕ). told_own (slice_index_or seats j no_seat).shut number own quits) at ∙ ap (λ bs. told_own (seat_at seats s).shut number bs quits) eo in
+    let f : ℕ → List Item = told_to seats number (heard_text fs moment all) in
+    let mine = ap (λ (j : ℕ). told_own (slice_index_or seats j no_seat).shut number own quits) at in
     let rest = others_same (planned_for seats number texts) f s 1 (length seats) (length seats) (lit< tt) (omega arith)
-    (λ u from to ne. let l : u - 1 < length seats = omega arith in let e : u - 1 + 1 ≡ u = omega arith in ap (told (seat_at seats u).shut number) (h (u - 1) l ∙ ap (heard_text v.others.items) e)) in
-    em ∙ ap (λ xs. puts s xs ++ plan) mine ∙ ap (λ ps. puts s (told_own (seat_at seats s).shut number (text v.reply.items ++ text v.copies.items) quits) ++ ps) (ep ∙ rest)
-    ∙ ap (λ (j : ℕ). planned_for_verdict seats j number v quits) es
+    (λ u from to ne. let l : u - 1 < length seats = omega arith in let e : u - 1 + 1 ≡ u = omega arith in ap (told (seat_at seats u).shut number) (h (u - 1) l ∙ ap (heard_text fs moment all) e)) in
+    em ∙ ap (λ xs. puts s xs ++ plan) mine ∙ ap (λ ps. puts s (told_own (seat_at seats s).shut number own quits) ++ ps) (ep ∙ rest)
+    ∙ ap (λ (j : ℕ). planned_with seats j number own (heard_text fs moment all) quits) es

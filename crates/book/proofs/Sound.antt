@@ -4,7 +4,7 @@ use Rattle.std.proofs.lemmas.List.{append_cancel_right, get_or-set_same, get_or-
 use Rattle.std.proofs.lemmas.List.Folds.{list_any-append}
 use Rattle.std.proofs.lemmas.List.Sums.{sum_by-cons}
 use Rattle.std.proofs.lemmas.Bool.Decides.{eqb_tells}
-use Rattle.std.proofs.Common.{◌≡◌, ◌≢◌, inl, inr, ℕ, ◌+◌, ◌-◌, ◌<◌, ◌≤◌, Bool, true, false, ◌||◌, ◌==◌, cond, List, [], ◌∷◌, ◌++◌, length, slice_set, slice_index_or, sum_by, take, drop, Option, Some, None, arith, refl, sym, ap, ◌∙◌, subst, append-nil, append_assoc, eq-eqb, ne_eqb, lit≤}
+use Rattle.std.proofs.Common.{◌≡◌, ◌≢◌, inl, inr, ℕ, ℤ, ◌+◌, ◌-◌, ◌<◌, ◌≤◌, Bool, true, false, ◌||◌, ◌==◌, cond, List, [], ◌∷◌, ◌++◌, length, slice_set, slice_index_or, sum_by, take, drop, Option, Some, None, arith, refl, sym, ap, ◌∙◌, subst, append-nil, append_assoc, eq-eqb, ne_eqb, lit≤}
 use Rattle.std.specs.List.{list_any}
 use Rattle.std.specs.Option.{is_some}
 use Rattle.chronicle.specs.declared.record.Kind.{Kind}
@@ -46,7 +46,7 @@ plan_after g r h n s (q ∷ qs) e p =
 -- the session that missed it
 owed_missed : (g : Settings) (r : Rec) (h : List Rec) (had : List Item) (p : Planned) (ps : List Planned) → planned ps p.session ≡ [] → IsOwed g (r ∷ h) p → had ++ planned (p ∷ ps) p.session ≡ owed g (r ∷ h) p.session → had ++ planned ps p.session ≡ owed g (more r p.session ∷ h) p.session
 owed_missed g r h had p ps none own k =
-    let s = p.session in let d = delivery g h r.kind s in
+    let s = p.session in let d = delivery g h r.kind r.moment s in
     let head : planned (p ∷ ps) s ≡ p.item ∷ [] = rw (eq-eqb s s refl) (ap (λ xs. p.item ∷ xs) none) in
     let last : cond (misses r s || shut h s) [] d ≡ p.item ∷ [] = rw (own.2, own.1) own.0 in
     let got : had ++ p.item ∷ [] ≡ owed g h s ++ p.item ∷ [] = ap (λ xs. had ++ xs) (sym head) ∙ k ∙ ap (λ xs. owed g h s ++ xs) last in
@@ -57,17 +57,17 @@ owed_missed g r h had p ps none own k =
 owed_elsewhere : (g : Settings) (r : Rec) (h : List Rec) (had : List Item) (p : Planned) (ps : List Planned) (t : ℕ) → p.session ≢ t → had ++ planned (p ∷ ps) t ≡ owed g (r ∷ h) t → had ++ planned ps t ≡ owed g (more r p.session ∷ h) t
 owed_elsewhere g r h had p ps t ne k =
     ap (λ (c : Bool). had ++ cond c (p.item ∷ planned ps t) (planned ps t)) (sym (ne_eqb p.session t ne)) ∙ k
-    ∙ ap (λ (c : Bool). owed g h t ++ cond (c || shut h t) [] (delivery g h r.kind t)) (sym (misses_other r p.session t ne))
+    ∙ ap (λ (c : Bool). owed g h t ++ cond (c || shut h t) [] (delivery g h r.kind r.moment t)) (sym (misses_other r p.session t ne))
 
 list_any-push_fresh : (t s : ℕ) (ts : List ℕ) → list_any (λ u. u == t) ts ≡ false → s ≢ t → list_any (λ u. u == t) (ts ++ s ∷ []) ≡ false
 list_any-push_fresh t s ts e ne = list_any-append (λ u. u == t) ts (s ∷ []) ∙ rw e (rw (ne_eqb s t ne) refl)
 
-missed_more : (g : Settings) (h : List Rec) (k : Kind) (ts : List ℕ) (s : ℕ) → delivery g h k s ≢ [] → shut h s ≡ false → list_any (λ u. u == s) ts ≡ false → AreMissed g h k ts → AreMissed g h k (ts ++ s ∷ [])
-missed_more g h k [] s d o f a = (d, o, refl, tt)
-missed_more g h k (t ∷ ts) s d o f a =
+missed_more : (g : Settings) (h : List Rec) (k : Kind) (moment : ℤ) (ts : List ℕ) (s : ℕ) → delivery g h k moment s ≢ [] → shut h s ≡ false → list_any (λ u. u == s) ts ≡ false → AreMissed g h k moment ts → AreMissed g h k moment (ts ++ s ∷ [])
+missed_more g h k moment [] s d o f a = (d, o, refl, tt)
+missed_more g h k moment (t ∷ ts) s d o f a =
     elim (eqb_tells t s) [
       | inl same ↦ absurd (let g : true ≡ false = sym (rw same.0 refl) ∙ f in cc)
-      | inr other ↦ (a.0, a.1, list_any-push_fresh t s ts a.2 (λ e. other.1 (sym e)), missed_more g h k ts s d o (let g : (false || list_any (λ u. u == s) ts) ≡ false = rw other.0 at f in g) a.3)
+      | inr other ↦ (a.0, a.1, list_any-push_fresh t s ts a.2 (λ e. other.1 (sym e)), missed_more g h k moment ts s d o (let g : (false || list_any (λ u. u == s) ts) ≡ false = rw other.0 at f in g) a.3)
     ]
 
 -- the sum of what is kept free falls where more is shut
@@ -113,7 +113,7 @@ dropped_at (r ∷ h) limit g boxes busy p ps i =
       reaped = λ t from to away. i.reaped t from to away;
       plan = plan_after g r h (length boxes) p.session ps i.plan.2 i.plan.4;
       idle = λ e. absurd (let f : p ∷ ps ≡ [] = i.idle e in cc);
-      legal = (i.legal.0, i.legal.1, i.legal.2, missed_more g h r.kind r.missed p.session (λ e. let f : p.item ∷ [] ≡ [] = sym own.0 ∙ e in cc) own.1 own.2 i.legal.3, i.legal.4);
+      legal = (i.legal.0, i.legal.1, i.legal.2, missed_more g h r.kind r.moment r.missed p.session (λ e. let f : p.item ∷ [] ≡ [] = sym own.0 ∙ e in cc) own.1 own.2 i.legal.3, i.legal.4);
       sessions = i.sessions;
       room =
           let less = held_missed r h p.session in let old : length (r ∷ h) + held (r ∷ h) ≤ limit = i.room in

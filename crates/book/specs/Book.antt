@@ -61,8 +61,8 @@ held h = sum_by (kept_for h) (numbers 1 (sessions h))
 
 -- ---- the plan of a record: its deliveries, the actor's first, then by session number, to sessions that weren't shut before it
 
-abbrev pub due : Settings → List Rec → Kind → ℕ → List Item
-due g h k t = cond (shut h t) [] (delivery g h k t)
+abbrev pub due : Settings → List Rec → Kind → ℤ → ℕ → List Item
+due g h k moment t = cond (shut h t) [] (delivery g h k moment t)
 
 abbrev pub puts : ℕ → List Item → List Planned
 puts t xs = map (λ x. record { session = t; item = x }) xs
@@ -75,8 +75,8 @@ others f s t (suc n) = cond (t == s) [] (puts t (f t)) ++ others f s (t + 1) n
 abbrev pub plan_by : (ℕ → List Item) → ℕ → ℕ → List Planned
 plan_by f s n = puts s (f s) ++ others f s 1 n
 
-abbrev pub plan_of : Settings → List Rec → Kind → ℕ → List Planned
-plan_of g h k n = plan_by (due g h k) (actor k) n
+abbrev pub plan_of : Settings → List Rec → Kind → ℤ → ℕ → List Planned
+plan_of g h k moment n = plan_by (due g h k moment) (actor k) n
 
 -- what of a plan is for t
 abbrev pub planned : List Planned → ℕ → List Item
@@ -103,7 +103,7 @@ opened m host moment box =
 -- a record was appended, and its deliveries are planned
 abbrev pub begun : Shown → Kind → ℤ → Shown
 begun m k moment =
-    record { history = fresh_record m.history moment k ∷ m.history; limit = m.limit; settings = m.settings; outboxes = m.outboxes; plan = plan_of m.settings m.history k (length m.outboxes); busy = true }
+    record { history = fresh_record m.history moment k ∷ m.history; limit = m.limit; settings = m.settings; outboxes = m.outboxes; plan = plan_of m.settings m.history k moment (length m.outboxes); busy = true }
 
 -- a planned delivery was put at the end of its outbox
 abbrev pub delivered : Shown → Planned → List Planned → Shown
@@ -137,7 +137,7 @@ finished m = record { history = m.history; limit = m.limit; settings = m.setting
 
 -- a record was appended, and all its deliveries were put or missed
 abbrev pub done : Shown → Kind → ℤ → Shown
-done m k moment = finished (put_all (begun m k moment) (plan_of m.settings m.history k (length m.outboxes)))
+done m k moment = finished (put_all (begun m k moment) (plan_of m.settings m.history k moment (length m.outboxes)))
 
 -- the front of a session's outbox was taken
 abbrev pub taken : Shown → ℕ → Shown
@@ -166,7 +166,7 @@ to_sweep h = first (is_to_sweep h) (numbers 1 (sessions h))
 -- p is what the newest record owes its session, which isn't shut and didn't miss it
 abbrev pub IsOwed : Settings → List Rec → Planned → Type 0
 IsOwed g [] p = ⊥
-IsOwed g (r ∷ h) p = (delivery g h r.kind p.session ≡ p.item ∷ []) × (shut h p.session ≡ false) × (misses r p.session ≡ false)
+IsOwed g (r ∷ h) p = (delivery g h r.kind r.moment p.session ≡ p.item ∷ []) × (shut h p.session ≡ false) × (misses r p.session ≡ false)
 
 -- each delivery of a plan is owed by the newest record, to one of n sessions, and no session has two
 abbrev pub IsPlan : Settings → List Rec → ℕ → List Planned → Type 0

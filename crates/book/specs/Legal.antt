@@ -1,5 +1,5 @@
 -- Which histories are legal: this project's own journal.
-use Rattle.std.specs.Prelude.{◌≡◌, ◌≢◌, ℕ, ◌+◌, ◌<◌, ◌≤◌, ◌==◌, true, false, List, [], ◌∷◌, length}
+use Rattle.std.specs.Prelude.{◌≡◌, ◌≢◌, ℕ, ℤ, ◌+◌, ◌<◌, ◌≤◌, ◌==◌, true, false, List, [], ◌∷◌, length}
 use Rattle.std.specs.List.{list_any}
 use Rattle.chronicle.specs.declared.record.Kind.{Kind}
 use Rattle.chronicle.specs.declared.record.Kind.TheVariants.{Opened, Said, Hung, Gone}
@@ -16,10 +16,10 @@ IsKind h (Hung s why) = (0 < s) × (s ≤ sessions h) × (shut h s ≡ false)
 IsKind h (Gone s) = (0 < s) × (s ≤ sessions h) × (shut h s ≡ true) × (gone h s ≡ false)
 
 -- each session that missed a record was owed something by it, and stands once
-abbrev pub AreMissed : Settings → List Rec → Kind → List ℕ → Type 0
-AreMissed g h k [] = Unit {0}
-AreMissed g h k (t ∷ ts) = (delivery g h k t ≢ []) × (shut h t ≡ false) × (list_any (λ u. u == t) ts ≡ false) × AreMissed g h k ts
+abbrev pub AreMissed : Settings → List Rec → Kind → ℤ → List ℕ → Type 0
+AreMissed g h k moment [] = Unit {0}
+AreMissed g h k moment (t ∷ ts) = (delivery g h k moment t ≢ []) × (shut h t ≡ false) × (list_any (λ u. u == t) ts ≡ false) × AreMissed g h k moment ts
 
 abbrev pub IsLegal : Settings → List Rec → Type 0
 IsLegal g [] = Unit {0}
-IsLegal g (r ∷ h) = (r.number ≡ length h + 1) × IsMomentAfter (last_moment h) r.moment × IsKind h r.kind × AreMissed g h r.kind r.missed × IsLegal g h
+IsLegal g (r ∷ h) = (r.number ≡ length h + 1) × IsMomentAfter (last_moment h) r.moment × IsKind h r.kind × AreMissed g h r.kind r.moment r.missed × IsLegal g h

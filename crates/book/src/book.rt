@@ -543,7 +543,7 @@ impl Book {
         let room = self.held();
         let session = SessionId::new(place as u64 + 1);
         let number = RecordNumber::new(self.journal.len() as u64 + 1);
-        let prepared = prepare_gone(self.alloc, &self.roster, &self.seats, place, number)?;
+        let prepared = prepare_gone(self.alloc, &self.roster, &self.seats, place, number, moment)?;
         let Prepared {
             deeds,
             plan,

@@ -1,20 +1,25 @@
 //! The deliveries of a record, before they are put.
-ghost use Rattle.std.specs.Prelude.{◌≡◌, ℕ, ◌<◌, ◌≤◌, ◌+◌, ◌-◌, ◌++◌, ◌==◌, [], false, cond, length, replicate, slice_index_or, vec_capacity, OnOk, IfOk};
+ghost use Rattle.std.specs.Prelude.{◌≡◌, ℕ, ◌<◌, ◌≤◌, ◌≤ℤ◌, ◌+◌, ◌-◌, ◌++◌, ◌==◌, [], false, cond, length, pos, replicate, slice_index_or, vec_capacity, None, OnOk, IfOk};
 ghost use Rattle.chronicle.specs.History.{is_quit};
-ghost use Rattle.roster.specs.LookBack.{after, opened};
+ghost use Rattle.roster.specs.LookBack.{after, caps, opened};
 ghost use Rattle.roster.specs.Legal.{IsOpened, AreNext};
 ghost use Rattle.commands.specs.Asked.{asked_of};
-ghost use Rattle.drafts.specs.Effects.{deeds_of, heard};
+ghost use Rattle.labels_batches.specs.Labels.{label_of};
+ghost use Rattle.labels_batches.specs.Answers.{answered};
+ghost use Rattle.labels_batches.specs.Rendered.{rendered};
+ghost use Rattle.labels_batches.specs.Spellings.{picked};
+ghost use Rattle.drafts.specs.Effects.{deeds_of};
 ghost use Rattle.deeds.specs.Departure.{departs};
 ghost use Rattle.deeds.specs.Rows.{of_asked};
-ghost use Rattle.deeds.specs.Deeds.{text};
+ghost use Rattle.deeds.specs.Deeds.{spelled};
 ghost use Rattle.book.specs.Book.{puts, others};
-ghost use Rattle.book.specs.Seats.{told, told_own, heard_text, repeated, planned_for, planned_for_verdict, planned_from};
+ghost use Rattle.book.specs.Seats.{told, told_own, heard_of, heard_text, repeated, planned_for, planned_from, planned_with};
 
 use crate::seat::Seat;
 use chronicle::{Moment, RecordNumber, SessionId, Why};
 use commands::read_piece;
 use deeds::{Shown, Verdict, decide, decide_gone};
+use labels_batches::{Spellings, label_of, render, spell, wrap};
 use line_grammar::{Octets, Piece};
 use numerics::Out;
 use outbox::Item;
@@ -50,65 +55,109 @@ fn blank_texts(alloc: Global, count: usize) -> Result<Vec<Octets>, AllocError>
     Ok(texts)
 }
 
-/// Adds octets to what a session hears, where it has a text.
-fn tell_one(texts: &mut [Octets], session: SessionId, line: &[u8]) -> Result<(), AllocError>
-    ensures { OnOk result ((i : ℕ) → i < length texts.old → slice_index_or texts.new i [] ≡ slice_index_or texts.old i [] ++ cond (session == i + 1) line.now []) }
+/// Adds a line to what a session hears, where it has a text.
+fn tell_one(
+    roster: &Roster,
+    texts: &mut [Octets],
+    session: SessionId,
+    line: &Spellings,
+) -> Result<(), AllocError>
+    ensures { OnOk result ((i : ℕ) → i < length texts.old → slice_index_or texts.new i [] ≡ slice_index_or texts.old i [] ++ cond (session == i + 1) (picked line.now (caps roster.now.facts (i + 1))) []) }
 {
     let number = session.number() as usize;
     if number == 0 || texts.len() < number {
         return Ok(());
     }
     let text = &mut texts[number - 1];
-    text.extend_from_slice(line)
+    text.extend_from_slice(line.pick(roster.enrol_of(session).caps))
 }
 
-/// Adds octets to what each of some sessions hears.
-fn tell_each(texts: &mut [Octets], hearers: &[SessionId], line: &[u8]) -> Result<(), AllocError>
-    ensures { OnOk result ((i : ℕ) → i < length texts.old → slice_index_or texts.new i [] ≡ slice_index_or texts.old i [] ++ repeated hearers.now line.now (i + 1)) }
+/// Adds a line to what each of some sessions hears.
+fn tell_each(
+    roster: &Roster,
+    texts: &mut [Octets],
+    hearers: &[SessionId],
+    line: &Spellings,
+) -> Result<(), AllocError>
+    ensures { OnOk result ((i : ℕ) → i < length texts.old → slice_index_or texts.new i [] ≡ slice_index_or texts.old i [] ++ repeated hearers.now (picked line.now (caps roster.now.facts (i + 1))) (i + 1)) }
 {
     for hearer in hearers {
-        tell_one(texts, *hearer, line)?;
+        tell_one(roster, texts, *hearer, line)?;
     }
     Ok(())
 }
 
-/// Adds a line to what its hearers hear.
-fn tell_line(alloc: Global, texts: &mut [Octets], shown: &Shown) -> Result<(), AllocError>
-    ensures { OnOk result ((i : ℕ) → i < length texts.old → slice_index_or texts.new i [] ≡ slice_index_or texts.old i [] ++ text (heard shown.now.hearers shown.now.line (i + 1))) }
+/// Adds a line to what its hearers hear, as each takes it.
+fn tell_line(
+    alloc: Global,
+    roster: &Roster,
+    texts: &mut [Octets],
+    shown: &Shown,
+    moment: Moment,
+) -> Result<(), AllocError>
+    requires from_1970 { pos 0 ≤ℤ moment }
+    requires to_9998 { moment ≤ℤ pos 253370764799999 }
+    ensures { OnOk result ((i : ℕ) → i < length texts.old → slice_index_or texts.new i [] ≡ slice_index_or texts.old i [] ++ heard_of roster.now.facts moment shown.now (i + 1)) }
 {
-    let line = shown.line.octets(alloc)?;
-    tell_each(texts, shown.hearers.as_slice(), line.as_slice())?;
+    let spellings = spell(alloc, &shown.line, moment)?;
+    tell_each(roster, texts, shown.hearers.as_slice(), &spellings)?;
     Ok(())
 }
 
 /// Adds lines to what their hearers hear, each of which is spelled once.
-fn tell(alloc: Global, texts: &mut [Octets], shown: &[Shown]) -> Result<(), AllocError>
-    ensures { OnOk result ((i : ℕ) → i < length texts.old → slice_index_or texts.new i [] ≡ slice_index_or texts.old i [] ++ heard_text shown.now (i + 1)) }
+fn tell(
+    alloc: Global,
+    roster: &Roster,
+    texts: &mut [Octets],
+    shown: &[Shown],
+    moment: Moment,
+) -> Result<(), AllocError>
+    requires from_1970 { pos 0 ≤ℤ moment }
+    requires to_9998 { moment ≤ℤ pos 253370764799999 }
+    ensures { OnOk result ((i : ℕ) → i < length texts.old → slice_index_or texts.new i [] ≡ slice_index_or texts.old i [] ++ heard_text roster.now.facts moment shown.now (i + 1)) }
 {
     for one in shown {
-        tell_line(alloc, texts, one)?;
+        tell_line(alloc, roster, texts, one, moment)?;
     }
     Ok(())
 }
 
 /// What each of so many sessions hears of lines that are shown.
-fn heard_texts(alloc: Global, count: usize, shown: &[Shown]) -> Result<Vec<Octets>, AllocError>
+fn heard_texts(
+    alloc: Global,
+    roster: &Roster,
+    count: usize,
+    shown: &[Shown],
+    moment: Moment,
+) -> Result<Vec<Octets>, AllocError>
+    requires from_1970 { pos 0 ≤ℤ moment }
+    requires to_9998 { moment ≤ℤ pos 253370764799999 }
     ensures count { IfOk result (λ v. length v.items ≡ count) }
-    ensures texts { IfOk result (λ v. (i : ℕ) → i < count → slice_index_or v.items i [] ≡ heard_text shown.now (i + 1)) }
+    ensures texts { IfOk result (λ v. (i : ℕ) → i < count → slice_index_or v.items i [] ≡ heard_text roster.now.facts moment shown.now (i + 1)) }
 {
     let mut texts = blank_texts(alloc, count)?;
-    tell(alloc, &mut texts, shown)?;
+    tell(alloc, roster, &mut texts, shown, moment)?;
     Ok(texts)
 }
 
-/// Adds what goes out of lines.
-fn push_lines(alloc: Global, octets: &mut Octets, lines: &[Out]) -> Result<(), AllocError>
-    ensures { OnOk result (octets.new ≡ octets.old ++ text lines.now) }
+/// What the actor of a record is told: the answer, under the label of its line, and what it sent to itself.
+fn own_text(
+    alloc: Global,
+    roster: &Roster,
+    actor: SessionId,
+    label: &Option<Octets>,
+    number: RecordNumber,
+    moment: Moment,
+    reply: Vec<Out>,
+    copies: Vec<Out>,
+) -> Result<Octets, AllocError>
+    requires from_1970 { pos 0 ≤ℤ moment }
+    requires to_9998 { moment ≤ℤ pos 253370764799999 }
+    ensures { IfOk result (λ t. t ≡ rendered (caps roster.now.facts actor) moment (answered roster.now.settings.server label.now number reply.items copies.items)) }
 {
-    for line in lines {
-        octets.extend_from_slice(line.octets(alloc)?.as_slice())?;
-    }
-    Ok(())
+    let server = roster.settings().server.as_slice();
+    let lines = wrap(alloc, server, label.as_ref(), number, reply, copies)?;
+    render(alloc, &lines, roster.enrol_of(actor).caps, moment)
 }
 
 // ---- the plan, from its end to its front
@@ -180,46 +229,63 @@ fn plan_others(
     Ok(plan)
 }
 
-/// The deliveries of a verdict: the actor's first, then by session number.
+/// The deliveries of a record: the actor's text first, then what others hear, by session number.
 fn plan_for(
     alloc: Global,
+    roster: &Roster,
     seats: &[Seat],
     place: usize,
     number: RecordNumber,
-    verdict: &Verdict,
+    moment: Moment,
+    own: Octets,
+    shown: &[Shown],
     quits: bool,
 ) -> Result<VecDeque<Planned>, AllocError>
-    requires { place < length seats.now }
-    ensures { IfOk result (λ plan. plan.items ≡ planned_for_verdict seats.now (place + 1) number verdict.now quits) }
+    requires seated { place < length seats.now }
+    requires from_1970 { pos 0 ≤ℤ moment }
+    requires to_9998 { moment ≤ℤ pos 253370764799999 }
+    ensures { IfOk result (λ plan. plan.items ≡ planned_with seats.now (place + 1) number own (heard_text roster.now.facts moment shown.now) quits) }
 {
     let actor = SessionId::new(place as u64 + 1);
-    let texts = heard_texts(alloc, seats.len(), &verdict.others)?;
+    let texts = heard_texts(alloc, roster, seats.len(), shown, moment)?;
     let mut plan = plan_others(alloc, seats, texts, actor, number)?;
-    let mut own = Octets::from_vec(Vec::new(alloc));
-    push_lines(alloc, &mut own, &verdict.reply)?;
-    push_lines(alloc, &mut own, &verdict.copies)?;
     plan_own(&mut plan, &seats[place], actor, number, own, quits)?;
     Ok(plan)
 }
 
-/// Plans what a verdict tells, and makes room for those who miss it.
+/// Plans what a verdict on a record tells, and makes room for those who miss it.
 fn with_room(
     alloc: Global,
+    roster: &Roster,
     seats: &[Seat],
     place: usize,
     number: RecordNumber,
+    moment: Moment,
+    label: &Option<Octets>,
     verdict: Verdict,
     quits: bool,
 ) -> Result<Prepared, AllocError>
-    requires { place < length seats.now }
+    requires seated { place < length seats.now }
+    requires from_1970 { pos 0 ≤ℤ moment }
+    requires to_9998 { moment ≤ℤ pos 253370764799999 }
     ensures deeds { IfOk result (λ p. p.deeds.items ≡ verdict.deeds.items) }
-    ensures plan { IfOk result (λ p. p.plan.items ≡ planned_for_verdict seats.now (place + 1) number verdict quits) }
+    ensures plan { IfOk result (λ p. p.plan.items ≡ planned_with seats.now (place + 1) number (rendered (caps roster.now.facts (place + 1)) moment (answered roster.now.settings.server label.now number verdict.reply.items verdict.copies.items)) (heard_text roster.now.facts moment verdict.others.items) quits) }
     ensures missed { IfOk result (λ p. (p.missed.items ≡ []) × (length p.plan.items ≤ vec_capacity p.missed)) }
 {
-    let plan = plan_for(alloc, seats, place, number, &verdict, quits)?;
+    let Verdict {
+        deeds,
+        reply,
+        copies,
+        others,
+    } = verdict;
+    let actor = SessionId::new(place as u64 + 1);
+    let own = own_text(alloc, roster, actor, label, number, moment, reply, copies)?;
+    let plan = plan_for(
+        alloc, roster, seats, place, number, moment, own, &others, quits,
+    )?;
     let missed = Vec::with_capacity(alloc, plan.len())?;
     Ok(Prepared {
-        deeds: verdict.deeds,
+        deeds,
         plan,
         missed,
     })
@@ -237,18 +303,23 @@ pub(crate) fn prepare_line(
 ) -> Result<(Prepared, bool), AllocError>
     requires seated { place < length seats.now }
     requires known { IsOpened roster.now.facts (place + 1) }
+    requires from_1970 { pos 0 ≤ℤ moment }
+    requires to_9998 { moment ≤ℤ pos 253370764799999 }
     ensures deeds { IfOk result (λ p. p.0.deeds.items ≡ deeds_of (of_asked roster.now.settings roster.now.facts (place + 1) (asked_of piece.now))) }
     ensures next { IfOk result (λ p. AreNext roster.now.facts p.0.deeds.items) }
     ensures opened { IfOk result (λ p. opened (after roster.now.facts p.0.deeds.items) ≡ opened roster.now.facts) }
     ensures quits { IfOk result (λ p. p.1 ≡ is_quit piece.now) }
-    ensures plan { IfOk result (λ p. p.0.plan.items ≡ planned_from seats.now (place + 1) number (of_asked roster.now.settings roster.now.facts (place + 1) (asked_of piece.now)) p.1) }
+    ensures plan { IfOk result (λ p. p.0.plan.items ≡ planned_from seats.now (place + 1) number (spelled roster.now.settings roster.now.facts (place + 1) (label_of (caps roster.now.facts (place + 1)) piece.now) (of_asked roster.now.settings roster.now.facts (place + 1) (asked_of piece.now)) moment number) p.1) }
     ensures missed { IfOk result (λ p. (p.0.missed.items ≡ []) × (length p.0.plan.items ≤ vec_capacity p.0.missed)) }
 {
+    let session = SessionId::new(place as u64 + 1);
+    let label = label_of(alloc, roster.enrol_of(session).caps, piece)?;
     let asked = read_piece(alloc, piece)?;
     let quits = asked.is_quit();
-    let session = SessionId::new(place as u64 + 1);
     let verdict = decide(alloc, roster, session, &asked, moment)?;
-    let prepared = with_room(alloc, seats, place, number, verdict, quits)?;
+    let prepared = with_room(
+        alloc, roster, seats, place, number, moment, &label, verdict, quits,
+    )?;
     Ok((prepared, quits))
 }
 
@@ -259,18 +330,23 @@ pub(crate) fn prepare_gone(
     seats: &[Seat],
     place: usize,
     number: RecordNumber,
+    moment: Moment,
 ) -> Result<Prepared, AllocError>
     requires seated { place < length seats.now }
     requires known { IsOpened roster.now.facts (place + 1) }
+    requires from_1970 { pos 0 ≤ℤ moment }
+    requires to_9998 { moment ≤ℤ pos 253370764799999 }
     ensures deeds { IfOk result (λ p. p.deeds.items ≡ deeds_of (departs roster.now.facts (place + 1))) }
     ensures next { IfOk result (λ p. AreNext roster.now.facts p.deeds.items) }
     ensures opened { IfOk result (λ p. opened (after roster.now.facts p.deeds.items) ≡ opened roster.now.facts) }
-    ensures plan { IfOk result (λ p. p.plan.items ≡ planned_from seats.now (place + 1) number (departs roster.now.facts (place + 1)) false) }
+    ensures plan { IfOk result (λ p. p.plan.items ≡ planned_from seats.now (place + 1) number (spelled roster.now.settings roster.now.facts (place + 1) None (departs roster.now.facts (place + 1)) moment number) false) }
     ensures missed { IfOk result (λ p. (p.missed.items ≡ []) × (length p.plan.items ≤ vec_capacity p.missed)) }
 {
     let session = SessionId::new(place as u64 + 1);
     let verdict = decide_gone(alloc, roster, session)?;
-    with_room(alloc, seats, place, number, verdict, false)
+    with_room(
+        alloc, roster, seats, place, number, moment, &None, verdict, false,
+    )
 }
 
 /// Establishes the facts of a record, for which room was made. It takes no memory.

@@ -4,6 +4,10 @@ use Rattle.line_grammar.specs.declared.message.Message.{Message}
 use Rattle.line_grammar.specs.declared.splitter.Piece.TheVariants as piece
 use Rattle.line_grammar.specs.Reading.{reading, parameters, with_command}
 use Rattle.casemapping.specs.Fold.{fold_of}
+use Rattle.std.specs.Str.{is_utf8, chars}
+use lib.Utf8.{encode}
+use Rattle.message_tags.specs.Tags.{counting_tags, key_shape}
+use Rattle.message_tags.specs.ClientOnly.{client_only_data}
 use Rattle.commands.specs.declared.names.CommandName.TheVariants as name
 use Rattle.commands.specs.declared.command.CapSubcommand.TheVariants as cap
 use Rattle.commands.specs.declared.command.Command.TheVariants as command
@@ -20,7 +24,7 @@ use Rattle.commands.specs.Asked.{read_as, asked_of}
 abbrev of : List ℕ → Asked
 of line = asked_of (piece.Line line)
 
--- what it is read as, be its command served or not
+-- what it is read as
 abbrev read_as_given : Option Message → Asked
 read_as_given None = Nothing
 read_as_given (Some m) = read_as (command_of m)
@@ -28,10 +32,10 @@ read_as_given (Some m) = read_as (command_of m)
 abbrev read_of : List ℕ → Asked
 read_of line = read_as_given (reading line)
 
--- what isn't served is unknown whatever its shape, as it was given
-unserved : (of (codes "tagmsg #a") ≡ Fails (fault.UnknownCommand (codes "tagmsg"))) × (of (codes "whois") ≡ Fails fault.NoNicknameGiven) × (of (codes "TAGMSG") ≡ Fails (fault.UnknownCommand (codes "TAGMSG"))) × (of (codes "NOTICE") ≡ Asks (command.Notice [] [])) × (of (codes "JOIN") ≡ Fails (fault.NeedMoreParams name.Join))
+-- faults of shape
+faults : (of (codes "whois") ≡ Fails fault.NoNicknameGiven) × (of (codes "TAGMSG") ≡ Fails (fault.NoRecipient name.Tagmsg)) × (of (codes "NOTICE") ≡ Asks (command.Notice [] [] [])) × (of (codes "JOIN") ≡ Fails (fault.NeedMoreParams name.Join))
 unfolding asked_of reading parameters with_command command_of named with_params
-unserved = (refl, refl, refl, refl, refl)
+faults = (refl, refl, refl, refl)
 
 abbrev target : List ℕ → List ℕ → JoinTarget
 target channel key = record { channel = channel; key = key }
@@ -84,12 +88,12 @@ more_of_channels : (read_of (codes "INVITE bo") ≡ Fails (fault.NeedMoreParams 
 unfolding asked_of reading parameters with_command command_of named with_params
 more_of_channels = (refl, refl, refl, refl, refl, refl)
 
-talking : (of (codes "PRIVMSG") ≡ Fails (fault.NoRecipient name.Privmsg)) × (of (codes "PRIVMSG :") ≡ Fails (fault.NoRecipient name.Privmsg)) × (of (codes "PRIVMSG bo") ≡ Fails fault.NoTextToSend) × (of (codes "PRIVMSG bo :") ≡ Fails fault.NoTextToSend) × (of (codes "PRIVMSG bo,#a :hi") ≡ Asks (command.Privmsg (codes "bo" ∷ codes "#a" ∷ []) (codes "hi"))) × (of (codes "PRIVMSG , hi") ≡ Asks (command.Privmsg [] (codes "hi")))
-unfolding asked_of reading parameters with_command command_of named with_params is_same fold_of
+talking : (of (codes "PRIVMSG") ≡ Fails (fault.NoRecipient name.Privmsg)) × (of (codes "PRIVMSG :") ≡ Fails (fault.NoRecipient name.Privmsg)) × (of (codes "PRIVMSG bo") ≡ Fails fault.NoTextToSend) × (of (codes "PRIVMSG bo :") ≡ Fails fault.NoTextToSend) × (of (codes "PRIVMSG bo,#a :hi") ≡ Asks (command.Privmsg (codes "bo" ∷ codes "#a" ∷ []) (codes "hi") [])) × (of (codes "@+k=v;l;+k PRIVMSG , hi") ≡ Asks (command.Privmsg [] (codes "hi") (codes "+k")))
+unfolding asked_of reading parameters with_command command_of named with_params is_same fold_of counting_tags key_shape client_only_data is_utf8 chars encode
 talking = (refl, refl, refl, refl, refl, refl)
 
-more_talking : (read_of (codes "NOTICE") ≡ Asks (command.Notice [] [])) × (read_of (codes "NOTICE bo :") ≡ Asks (command.Notice [] [])) × (read_of (codes "NOTICE bo :hi") ≡ Asks (command.Notice (codes "bo" ∷ []) (codes "hi"))) × (read_of (codes "@+k=v TAGMSG") ≡ Fails (fault.NoRecipient name.Tagmsg)) × (read_of (codes "@+k=v TAGMSG bo,bo") ≡ Asks (command.Tagmsg (codes "bo" ∷ []))) × (read_of (codes "AWAY") ≡ Asks (command.Away [])) × (read_of (codes "AWAY :back soon") ≡ Asks (command.Away (codes "back soon")))
-unfolding asked_of reading parameters with_command command_of named with_params is_same fold_of
+more_talking : (read_of (codes "NOTICE") ≡ Asks (command.Notice [] [] [])) × (read_of (codes "NOTICE bo :") ≡ Asks (command.Notice [] [] [])) × (read_of (codes "NOTICE bo :hi") ≡ Asks (command.Notice (codes "bo" ∷ []) (codes "hi") [])) × (read_of (codes "@+k=v TAGMSG") ≡ Fails (fault.NoRecipient name.Tagmsg)) × (read_of (codes "@+k=v TAGMSG bo,bo") ≡ Asks (command.Tagmsg (codes "bo" ∷ []) (codes "+k=v"))) × (read_of (codes "AWAY") ≡ Asks (command.Away [])) × (read_of (codes "AWAY :back soon") ≡ Asks (command.Away (codes "back soon")))
+unfolding asked_of reading parameters with_command command_of named with_params is_same fold_of counting_tags key_shape client_only_data is_utf8 chars encode
 more_talking = (refl, refl, refl, refl, refl, refl, refl)
 
 queries : (read_of (codes "NAMES") ≡ Asks (command.Names None)) × (read_of (codes "NAMES :") ≡ Asks (command.Names (Some []))) × (read_of (codes "LIST #b,#a") ≡ Asks (command.List (Some (codes "#b" ∷ codes "#a" ∷ [])))) × (read_of (codes "WHO") ≡ Asks (command.Who None)) × (read_of (codes "WHOIS") ≡ Fails fault.NoNicknameGiven) × (read_of (codes "WHOIS al :") ≡ Fails fault.NoNicknameGiven) × (read_of (codes "WHOIS x al") ≡ Asks (command.Whois (codes "al"))) × (of (codes "MOTD :") ≡ Asks (command.Motd (Some [])))

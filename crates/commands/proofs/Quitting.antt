@@ -12,14 +12,14 @@ use Rattle.commands.specs.declared.names.CommandName.{CommandName}
 use Rattle.commands.specs.declared.names.CommandName.TheVariants.{Cap, Authenticate, Pass, Nick, User, Ping, Pong, Quit, Join, Part, Kick, Invite, Topic, Mode, Privmsg, Notice, Tagmsg, Away, Names, List as ListChannels, Who, Whois, Motd}
 use Rattle.commands.specs.declared.command.Command.{Command}
 use Rattle.commands.specs.declared.command.ReadFault.{ReadFault}
-use Rattle.commands.specs.Names.{is_served, name_text, names_but_quit, named}
+use Rattle.commands.specs.Names.{name_text, names_but_quit, named}
 use Rattle.commands.specs.Params.{first_or_empty}
 use Rattle.commands.specs.Lists.{is_empty}
 use Rattle.commands.specs.Registering.{user_name, cap_req, cap_subcommand, user_command}
 use Rattle.commands.specs.Talking.{second_or_empty}
 use Rattle.commands.specs.Queries.{nick_asked}
 use Rattle.commands.specs.Commands.{with_params, known_or_not, command_of}
-use Rattle.commands.specs.Asked.{read_as, served_or_not, asked_by, asked_of, asks_for_quit}
+use Rattle.commands.specs.Asked.{read_as, asked_by, asked_of, asks_for_quit}
 
 -- whether it was read as QUIT
 abbrev is_quit_read : Result Command ReadFault → Bool
@@ -49,42 +49,42 @@ abbrev is_other : CommandName → Bool
 is_other Quit = false
 is_other other = true
 
-not_quit : (name : CommandName) → is_other name ≡ true → (ps : List (List ℕ)) → is_quit_read (with_params name ps) ≡ false
+not_quit : (name : CommandName) → is_other name ≡ true → (td : List ℕ) (ps : List (List ℕ)) → is_quit_read (with_params name td ps) ≡ false
 unfolding with_params
-not_quit Cap e [] = refl
-not_quit Cap e (sub ∷ ps) = no_cap sub ps
-not_quit Authenticate e [] = refl
-not_quit Authenticate e (p ∷ ps) = refl
-not_quit Pass e [] = refl
-not_quit Pass e (p ∷ ps) = refl
-not_quit Nick e ps = either (is_empty (first_or_empty ps)) _ _ refl refl
-not_quit User e ps = no_user ps
-not_quit Ping e ps = either (is_empty (first_or_empty ps)) _ _ refl refl
-not_quit Pong e ps = refl
-not_quit Quit e ps = cc
-not_quit Join e [] = refl
-not_quit Join e (p ∷ ps) = refl
-not_quit Part e [] = refl
-not_quit Part e (p ∷ ps) = refl
-not_quit Kick e [] = refl
-not_quit Kick e (p ∷ []) = refl
-not_quit Kick e (p ∷ q ∷ ps) = refl
-not_quit Invite e [] = refl
-not_quit Invite e (p ∷ []) = refl
-not_quit Invite e (p ∷ q ∷ ps) = refl
-not_quit Topic e [] = refl
-not_quit Topic e (p ∷ ps) = refl
-not_quit Mode e [] = refl
-not_quit Mode e (p ∷ ps) = refl
-not_quit Privmsg e ps = either (is_empty (first_or_empty ps)) _ _ refl (either (is_empty (second_or_empty ps)) _ _ refl refl)
-not_quit Notice e ps = either (is_empty (first_or_empty ps) || is_empty (second_or_empty ps)) _ _ refl refl
-not_quit Tagmsg e ps = either (is_empty (first_or_empty ps)) _ _ refl refl
-not_quit Away e ps = refl
-not_quit Names e ps = refl
-not_quit ListChannels e ps = refl
-not_quit Who e ps = refl
-not_quit Whois e ps = either (is_empty (nick_asked ps)) _ _ refl refl
-not_quit Motd e ps = refl
+not_quit Cap e td [] = refl
+not_quit Cap e td (sub ∷ ps) = no_cap sub ps
+not_quit Authenticate e td [] = refl
+not_quit Authenticate e td (p ∷ ps) = refl
+not_quit Pass e td [] = refl
+not_quit Pass e td (p ∷ ps) = refl
+not_quit Nick e td ps = either (is_empty (first_or_empty ps)) _ _ refl refl
+not_quit User e td ps = no_user ps
+not_quit Ping e td ps = either (is_empty (first_or_empty ps)) _ _ refl refl
+not_quit Pong e td ps = refl
+not_quit Quit e td ps = cc
+not_quit Join e td [] = refl
+not_quit Join e td (p ∷ ps) = refl
+not_quit Part e td [] = refl
+not_quit Part e td (p ∷ ps) = refl
+not_quit Kick e td [] = refl
+not_quit Kick e td (p ∷ []) = refl
+not_quit Kick e td (p ∷ q ∷ ps) = refl
+not_quit Invite e td [] = refl
+not_quit Invite e td (p ∷ []) = refl
+not_quit Invite e td (p ∷ q ∷ ps) = refl
+not_quit Topic e td [] = refl
+not_quit Topic e td (p ∷ ps) = refl
+not_quit Mode e td [] = refl
+not_quit Mode e td (p ∷ ps) = refl
+not_quit Privmsg e td ps = either (is_empty (first_or_empty ps)) _ _ refl (either (is_empty (second_or_empty ps)) _ _ refl refl)
+not_quit Notice e td ps = either (is_empty (first_or_empty ps) || is_empty (second_or_empty ps)) _ _ refl refl
+not_quit Tagmsg e td ps = either (is_empty (first_or_empty ps)) _ _ refl refl
+not_quit Away e td ps = refl
+not_quit Names e td ps = refl
+not_quit ListChannels e td ps = refl
+not_quit Who e td ps = refl
+not_quit Whois e td ps = either (is_empty (nick_asked ps)) _ _ refl refl
+not_quit Motd e td ps = refl
 
 first_true : (a b : Bool) → (a && b) ≡ true → a ≡ true
 first_true true b e = refl
@@ -99,7 +99,7 @@ none_found : (p : CommandName → Bool) (m : Message) (names : List CommandName)
 none_found p m [] e = refl
 none_found p m (name ∷ names) e =
     elim (cases_Bool (p name)) [
-      | inl is ↦ rw is (not_quit name (first_true (is_other name) (list_all is_other names) e) m.params)
+      | inl is ↦ rw is (not_quit name (first_true (is_other name) (list_all is_other names) e) m.tags m.params)
       | inr isnt ↦ rw isnt (none_found p m names (second_true (is_other name) (list_all is_other names) e))
     ]
 
@@ -112,25 +112,9 @@ quit_read : (m : Message) → is_quit_read (command_of m) ≡ str_eq_ignore_asci
 unfolding command_of named
 quit_read m = found_first (λ known. str_eq_ignore_ascii_case m.command (name_text known)) m names_but_quit refl
 
--- QUIT is served
-not_served-other : (name : CommandName) → is_served name ≡ false → is_other name ≡ true
-not_served-other Quit e = cc
-not_served-other other e = refl
-
-asked-quits : (found : Option CommandName) (m : Message) → named m.command ≡ found → asks_for_quit (served_or_not found m) ≡ str_eq_ignore_ascii_case m.command (codes "QUIT")
-unfolding command_of
-asked-quits None m e = quit_read m
-asked-quits (Some name) m e =
-    elim (cases_Bool (is_served name)) [
-      | inl is ↦ rw is (quit_read m)
-      | inr isnt ↦
-          let read : is_quit_read (command_of m) ≡ false = rw e (not_quit name (not_served-other name isnt) m.params) in
-          rw isnt (sym read ∙ quit_read m)
-    ]
-
 of_message : (m : Option Message) → asks_for_quit (asked_by m) ≡ asks_to_quit m
 of_message None = refl
-of_message (Some m) = asked-quits (named m.command) m refl
+of_message (Some m) = quit_read m
 
 pub quit_is : (piece : Piece) → asks_for_quit (asked_of piece) ≡ is_quit piece
 unfolding asked_of is_quit

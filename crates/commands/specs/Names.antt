@@ -1,5 +1,5 @@
 -- The names of commands: RFC 2812, section 3, with those of IRCv3 Capability Negotiation, SASL 3.1 and message-tags. They are taken in either case.
-use Rattle.std.specs.Prelude.{ℕ, Bool, true, false, List, [], ◌∷◌, codes, Option}
+use Rattle.std.specs.Prelude.{ℕ, List, [], ◌∷◌, codes, Option}
 use Rattle.std.specs.List.{find}
 use Rattle.std.specs.Str.{str_eq_ignore_ascii_case}
 use Rattle.commands.specs.declared.names.CommandName.{CommandName}
@@ -29,32 +29,6 @@ name_text ListChannels = codes "LIST"
 name_text Who = codes "WHO"
 name_text Whois = codes "WHOIS"
 name_text Motd = codes "MOTD"
-
--- whether the server serves it
-abbrev pub is_served : CommandName → Bool
-is_served Cap = true
-is_served Authenticate = true
-is_served Pass = true
-is_served Nick = true
-is_served User = true
-is_served Ping = true
-is_served Pong = true
-is_served Quit = true
-is_served Join = true
-is_served Part = true
-is_served Kick = true
-is_served Invite = true
-is_served Topic = true
-is_served Mode = true
-is_served Privmsg = true
-is_served Notice = true
-is_served Tagmsg = false
-is_served Away = true
-is_served Names = true
-is_served ListChannels = true
-is_served Who = true
-is_served Whois = true
-is_served Motd = true
 
 abbrev pub names_but_quit : List CommandName
 names_but_quit =

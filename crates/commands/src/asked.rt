@@ -1,15 +1,15 @@
 //! What an accepted piece asks for.
 ghost use Rattle.std.specs.Prelude.{◌≡◌, IfOk, Some};
 ghost use Rattle.chronicle.specs.History.{is_quit};
-ghost use Rattle.commands.specs.Asked.{asked_by, asked_of, asks_for_quit, not_served};
+ghost use Rattle.commands.specs.Asked.{asked_by, asked_of, asks_for_quit};
 ghost use Rattle.line_grammar.specs.Reading.{reading};
 
-use crate::{Command, CommandName, ReadFault, read};
-use line_grammar::{LineFault, Message, Octets, Piece, parse};
+use crate::{Command, ReadFault, read};
+use line_grammar::{LineFault, Message, Piece, parse};
 use std::alloc::{AllocError, Global};
 
 /// What a piece asks for.
-#[derive(Debug, Drop)]
+#[derive(Drop)]
 pub enum Asked {
     /// Nothing: the line holds NUL, or has no command.
     Nothing,
@@ -30,22 +30,9 @@ impl Asked {
     }
 }
 
-/// What a command asks for that isn't served: an unknown command.
-fn not_served(message: &Message) -> Result<Asked, AllocError>
-    ensures { IfOk result (λ asked. asked ≡ not_served message.now) }
-{
-    let name = message.command.clone()?;
-    Ok(Asked::Fault(ReadFault::UnknownCommand { name }))
-}
-
 fn asked_by(alloc: Global, message: &Message) -> Result<Asked, AllocError>
     ensures { IfOk result (λ asked. asked ≡ asked_by (Some message.now)) }
 {
-    if let Some(name) = CommandName::read(message.command.as_slice()) {
-        if !name.is_served() {
-            return not_served(message);
-        }
-    }
     match read(alloc, message) {
         Ok(command) => Ok(Asked::Command(command)),
         Err(ReadFault::Memory) => Err(AllocError),

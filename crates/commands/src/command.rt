@@ -7,7 +7,7 @@ use line_grammar::Octets;
 use std::alloc::AllocError;
 
 /// What CAP asks for (IRCv3 Capability Negotiation).
-#[derive(Debug, Drop)]
+#[derive(Drop)]
 pub enum CapSubcommand {
     /// The capabilities that there are, with their values where the client's version is 302 or later.
     Ls { shows_values: bool },
@@ -21,7 +21,7 @@ pub enum CapSubcommand {
 
 /// What a message asks for. Names and texts are as given. A list of names has no empty one, and none
 /// that repeats another in either case.
-#[derive(Debug, Drop)]
+#[derive(Drop)]
 pub enum Command {
     /// To negotiate capabilities (IRCv3 Capability Negotiation).
     Cap(CapSubcommand),
@@ -86,16 +86,19 @@ pub enum Command {
     Privmsg {
         targets: Texts,
         text: Octets,
+        tags: Octets,
     },
     /// The same, never answered with a numeric. For nobody, where the targets or the text were missing or
     /// empty (section 3.3.2).
     Notice {
         targets: Texts,
         text: Octets,
+        tags: Octets,
     },
     /// Tags alone, for users and channels (IRCv3 message-tags).
     Tagmsg {
         targets: Texts,
+        tags: Octets,
     },
     /// To be away with this text, or here again where it is empty (section 4.1).
     Away {
@@ -125,7 +128,7 @@ pub enum Command {
 
 /// Why a message asks for nothing that can be done: the numeric that answers it, by what the message says
 /// alone (RFC 2812, section 5.2).
-#[derive(Debug, Drop)]
+#[derive(Drop)]
 pub enum ReadFault {
     /// 421, with the command as given.
     UnknownCommand { name: Octets },

@@ -6,7 +6,7 @@ use std::alloc::AllocError;
 use std::marker::Model;
 
 /// A channel to join.
-#[derive(Debug, Drop)]
+#[derive(Drop)]
 pub struct JoinTarget {
     /// Its name, as given.
     pub channel: Octets,
@@ -15,7 +15,7 @@ pub struct JoinTarget {
 }
 
 /// Channels to join, in order.
-#[derive(Debug, Drop)]
+#[derive(Drop)]
 pub struct JoinTargets {
     targets: Vec<JoinTarget>,
 }

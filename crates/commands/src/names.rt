@@ -1,10 +1,10 @@
 //! The names of commands (RFC 2812, section 3; IRCv3 Capability Negotiation, SASL 3.1 and message-tags).
 ghost use Rattle.std.specs.Prelude.{◌≡◌};
 ghost use Rattle.std.specs.Str.{str_eq_ignore_ascii_case};
-ghost use Rattle.commands.specs.Names.{is_served, name_text, named};
+ghost use Rattle.commands.specs.Names.{name_text, named};
 
 /// The name of a command that is known.
-#[derive(Clone, Copy, Debug, PartialEq)]
+#[derive(Clone, Copy)]
 pub enum CommandName {
     Cap,
     Authenticate,
@@ -98,37 +98,6 @@ impl CommandName {
             CommandName::Who => b"WHO",
             CommandName::Whois => b"WHOIS",
             CommandName::Motd => b"MOTD",
-        }
-    }
-
-    /// Whether the server serves it. What it doesn't serve yet is answered as if it were unknown.
-    pub fn is_served(self) -> bool
-        ensures { result ≡ is_served self }
-    {
-        match self {
-            CommandName::Cap => true,
-            CommandName::Authenticate => true,
-            CommandName::Pass => true,
-            CommandName::Nick => true,
-            CommandName::User => true,
-            CommandName::Ping => true,
-            CommandName::Pong => true,
-            CommandName::Quit => true,
-            CommandName::Join => true,
-            CommandName::Part => true,
-            CommandName::Kick => true,
-            CommandName::Invite => true,
-            CommandName::Topic => true,
-            CommandName::Mode => true,
-            CommandName::Privmsg => true,
-            CommandName::Notice => true,
-            CommandName::Tagmsg => false,
-            CommandName::Away => true,
-            CommandName::Names => true,
-            CommandName::List => true,
-            CommandName::Who => true,
-            CommandName::Whois => true,
-            CommandName::Motd => true,
         }
     }
 }

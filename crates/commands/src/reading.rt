@@ -13,9 +13,14 @@ use line_grammar::{Message, Octets};
 use std::alloc::Global;
 
 #[tactic(auto, unfolding(crate::specs::Commands::with_params))]
-fn read_params(alloc: Global, name: CommandName, params: &[Octets]) -> Result<Command, ReadFault>
-    ensures ok { IfOk result (λ command. with_params name params.now ≡ Ok command) }
-    ensures err { IfErr result (λ fault. (fault ≡ ReadFault.Memory) ⊎ (with_params name params.now ≡ Err fault)) }
+fn read_params(
+    alloc: Global,
+    name: CommandName,
+    tag_data: &[u8],
+    params: &[Octets],
+) -> Result<Command, ReadFault>
+    ensures ok { IfOk result (λ command. with_params name tag_data.now params.now ≡ Ok command) }
+    ensures err { IfErr result (λ fault. (fault ≡ ReadFault.Memory) ⊎ (with_params name tag_data.now params.now ≡ Err fault)) }
 {
     match name {
         CommandName::Cap => read_cap(alloc, params),
@@ -32,9 +37,9 @@ fn read_params(alloc: Global, name: CommandName, params: &[Octets]) -> Result<Co
         CommandName::Invite => read_invite(params),
         CommandName::Topic => read_topic(params),
         CommandName::Mode => read_mode(alloc, params),
-        CommandName::Privmsg => read_privmsg(alloc, params),
-        CommandName::Notice => read_notice(alloc, params),
-        CommandName::Tagmsg => read_tagmsg(alloc, params),
+        CommandName::Privmsg => read_privmsg(alloc, tag_data, params),
+        CommandName::Notice => read_notice(alloc, tag_data, params),
+        CommandName::Tagmsg => read_tagmsg(alloc, tag_data, params),
         CommandName::Away => read_away(alloc, params),
         CommandName::Names => read_names_asked(alloc, params),
         CommandName::List => read_list(alloc, params),
@@ -52,7 +57,10 @@ pub fn read(alloc: Global, message: &Message) -> Result<Command, ReadFault>
     ensures err { IfErr result (λ fault. (fault ≡ ReadFault.Memory) ⊎ (command_of message.now ≡ Err fault)) }
 {
     match CommandName::read(message.command.as_slice()) {
-        Some(name) => read_params(alloc, name, message.params.as_slice()),
+        Some(name) => {
+            let tag_data = message.tags.as_slice();
+            read_params(alloc, name, tag_data, message.params.as_slice())
+        }
         None => {
             let name = message.command.clone()?;
             Err(ReadFault::UnknownCommand { name })

@@ -1,12 +1,13 @@
 //! The commands that send texts (RFC 2812, sections 3.3.1, 3.3.2 and 4.1; IRCv3 message-tags).
 ghost use Rattle.std.specs.Prelude.{◌≡◌, ◌⊎◌, IfOk, IfErr};
-ghost use Rattle.commands.specs.Talking.{privmsg_command, notice_command, tagmsg_command, away_command, second_or_empty};
+ghost use Rattle.commands.specs.Talking.{privmsg_command, notice_command, tagmsg_command, away_command, relayed, second_or_empty};
 
 use crate::lists::read_names;
 use crate::params::first;
 use crate::{Command, CommandName, ReadFault, Texts};
 use line_grammar::Octets;
-use std::alloc::Global;
+use message_tags::{client_only, tags_of};
+use std::alloc::{AllocError, Global};
 
 /// The second parameter. Empty where there is none.
 fn second(params: &[Octets]) -> &[u8]
@@ -18,9 +19,21 @@ fn second(params: &[Octets]) -> &[u8]
     }
 }
 
-pub(crate) fn read_privmsg(alloc: Global, params: &[Octets]) -> Result<Command, ReadFault>
-    ensures ok { IfOk result (λ command. privmsg_command params.now ≡ Ok command) }
-    ensures err { IfErr result (λ fault. (fault ≡ ReadFault.Memory) ⊎ (privmsg_command params.now ≡ Err fault)) }
+/// The tags that are passed on.
+fn relayed(alloc: Global, tag_data: &[u8]) -> Result<Octets, AllocError>
+    ensures { IfOk result (λ t. t ≡ relayed tag_data.now) }
+{
+    let tags = tags_of(alloc, tag_data)?;
+    client_only(alloc, &tags)
+}
+
+pub(crate) fn read_privmsg(
+    alloc: Global,
+    tag_data: &[u8],
+    params: &[Octets],
+) -> Result<Command, ReadFault>
+    ensures ok { IfOk result (λ command. privmsg_command tag_data.now params.now ≡ Ok command) }
+    ensures err { IfErr result (λ fault. (fault ≡ ReadFault.Memory) ⊎ (privmsg_command tag_data.now params.now ≡ Err fault)) }
 {
     let list = first(params);
     if list.is_empty() {
@@ -33,12 +46,21 @@ pub(crate) fn read_privmsg(alloc: Global, params: &[Octets]) -> Result<Command, 
         return Err(ReadFault::NoTextToSend);
     }
     let targets = read_names(alloc, list)?;
-    Ok(Command::Privmsg { targets, text })
+    let tags = relayed(alloc, tag_data)?;
+    Ok(Command::Privmsg {
+        targets,
+        text,
+        tags,
+    })
 }
 
-pub(crate) fn read_notice(alloc: Global, params: &[Octets]) -> Result<Command, ReadFault>
-    ensures ok { IfOk result (λ command. notice_command params.now ≡ Ok command) }
-    ensures err { IfErr result (λ fault. (fault ≡ ReadFault.Memory) ⊎ (notice_command params.now ≡ Err fault)) }
+pub(crate) fn read_notice(
+    alloc: Global,
+    tag_data: &[u8],
+    params: &[Octets],
+) -> Result<Command, ReadFault>
+    ensures ok { IfOk result (λ command. notice_command tag_data.now params.now ≡ Ok command) }
+    ensures err { IfErr result (λ fault. (fault ≡ ReadFault.Memory) ⊎ (notice_command tag_data.now params.now ≡ Err fault)) }
 {
     let list = first(params);
     let text = second(params);
@@ -46,16 +68,26 @@ pub(crate) fn read_notice(alloc: Global, params: &[Octets]) -> Result<Command, R
         return Ok(Command::Notice {
             targets: Texts::from_vec(Vec::new(alloc)),
             text: Octets::from_vec(Vec::new(alloc)),
+            tags: Octets::from_vec(Vec::new(alloc)),
         });
     }
     let targets = read_names(alloc, list)?;
     let text = Octets::copied(alloc, text)?;
-    Ok(Command::Notice { targets, text })
+    let tags = relayed(alloc, tag_data)?;
+    Ok(Command::Notice {
+        targets,
+        text,
+        tags,
+    })
 }
 
-pub(crate) fn read_tagmsg(alloc: Global, params: &[Octets]) -> Result<Command, ReadFault>
-    ensures ok { IfOk result (λ command. tagmsg_command params.now ≡ Ok command) }
-    ensures err { IfErr result (λ fault. (fault ≡ ReadFault.Memory) ⊎ (tagmsg_command params.now ≡ Err fault)) }
+pub(crate) fn read_tagmsg(
+    alloc: Global,
+    tag_data: &[u8],
+    params: &[Octets],
+) -> Result<Command, ReadFault>
+    ensures ok { IfOk result (λ command. tagmsg_command tag_data.now params.now ≡ Ok command) }
+    ensures err { IfErr result (λ fault. (fault ≡ ReadFault.Memory) ⊎ (tagmsg_command tag_data.now params.now ≡ Err fault)) }
 {
     let list = first(params);
     if list.is_empty() {
@@ -64,7 +96,8 @@ pub(crate) fn read_tagmsg(alloc: Global, params: &[Octets]) -> Result<Command, R
         });
     }
     let targets = read_names(alloc, list)?;
-    Ok(Command::Tagmsg { targets })
+    let tags = relayed(alloc, tag_data)?;
+    Ok(Command::Tagmsg { targets, tags })
 }
 
 pub(crate) fn read_away(alloc: Global, params: &[Octets]) -> Result<Command, ReadFault>

@@ -1,19 +1,20 @@
 -- What each kind of record does, and so the facts of a history and the lines of a record: RFC 2812, section 3.1 (registration, QUIT).
-use Rattle.std.specs.Prelude.{ℕ, List, [], ◌∷◌}
-use Rattle.std.specs.List.{flat_map}
+use Rattle.std.specs.Prelude.{ℕ, ℤ, ◌==◌, cond, List, [], ◌∷◌, map, Option, None}
 use Rattle.commands.specs.Asked.{asked_of}
 use Rattle.registration.specs.declared.settings.Settings.{Settings}
 use Rattle.chronicle.specs.declared.record.Kind.{Kind}
 use Rattle.chronicle.specs.declared.record.Kind.TheVariants as kind
 use Rattle.chronicle.specs.History.{Rec, actor}
-use Rattle.numerics.specs.declared.outgoing.Out.{Out}
-use Rattle.numerics.specs.Outgoing.{octets}
+use Rattle.labels_batches.specs.declared.answers.Tagged.{Tagged}
+use Rattle.labels_batches.specs.Labels.{label_of}
+use Rattle.labels_batches.specs.Answers.{answered, tagged_as}
+use Rattle.labels_batches.specs.Rendered.{rendered}
 use Rattle.roster.specs.declared.deed.Deed.{Deed}
 use Rattle.roster.specs.declared.deed.Deed.TheVariants.{Opened, Ended}
-use Rattle.roster.specs.LookBack.{after}
+use Rattle.roster.specs.LookBack.{after, caps}
 use Rattle.drafts.specs.declared.effect.Effect.{Effect}
 use Rattle.drafts.specs.declared.effect.Effect.TheVariants.{Establish}
-use Rattle.drafts.specs.Effects.{deeds_of, lines_to}
+use Rattle.drafts.specs.Effects.{deeds_of, reply, copies, due}
 use Rattle.deeds.specs.Departure.{departs}
 use Rattle.deeds.specs.Rows.{of_asked}
 
@@ -33,10 +34,19 @@ abbrev pub facts : Settings → List Rec → List Deed
 facts g [] = []
 facts g (r ∷ h) = after (facts g h) (deeds g (facts g h) r.kind)
 
--- all lines of a record to t, its own session or another
-abbrev pub lines : Settings → List Deed → Kind → ℕ → List Out
-lines g fs k t = lines_to (actor k) (effects g fs k) t
+-- the label of its line, where that counts by the capabilities that the session had before it
+abbrev pub label_in : List Deed → Kind → Option (List ℕ)
+label_in fs (kind.Said s i piece) = label_of (caps fs s) piece
+label_in fs k = None
 
--- what goes out of lines
-abbrev pub text : List Out → List ℕ
-text ls = flat_map octets ls
+-- all lines of record n of s to t: to s itself the answer, under this label, and what it sent to itself; to another what it is shown
+abbrev pub lines : Settings → ℕ → Option (List ℕ) → List Effect → ℕ → ℕ → List Tagged
+lines g s label es n t = cond (s == t) (answered g.server label n (reply s es) (copies es)) (map (tagged_as None) (due es t))
+
+-- as t takes them at the record's moment, by the capabilities that it had before it
+abbrev pub spelled : Settings → List Deed → ℕ → Option (List ℕ) → List Effect → ℤ → ℕ → ℕ → List ℕ
+spelled g fs s label es moment n t = rendered (caps fs t) moment (lines g s label es n t)
+
+-- the text of record n of this kind and moment to t
+abbrev pub text : Settings → List Deed → Kind → ℤ → ℕ → ℕ → List ℕ
+text g fs k moment n t = spelled g fs (actor k) (label_in fs k) (effects g fs k) moment n t

@@ -8,7 +8,7 @@ use Rattle.roster.specs.LookBack.{after, registered}
 use Rattle.commands.specs.declared.asked.Asked.{Asked}
 use Rattle.commands.specs.declared.asked.Asked.TheVariants.{Nothing, TooLong, Command as Asks, Fault as Fails}
 use Rattle.commands.specs.declared.command.Command.{Command}
-use Rattle.commands.specs.declared.command.Command.TheVariants.{Cap, Authenticate, Pass, Nick, User, Ping, Pong, Quit, Join, Part, Kick, Invite, Topic, Mode, Privmsg, Notice, Away, Names, List as ListChannels, Who, Whois, Motd}
+use Rattle.commands.specs.declared.command.Command.TheVariants.{Cap, Authenticate, Pass, Nick, User, Ping, Pong, Quit, Join, Part, Kick, Invite, Topic, Mode, Privmsg, Notice, Tagmsg, Away, Names, List as ListChannels, Who, Whois, Motd}
 use Rattle.commands.specs.declared.command.ReadFault.{ReadFault}
 use Rattle.commands.specs.declared.command.ReadFault.TheVariants.{UnknownCommand, NeedMoreParams, NoNicknameGiven, NoRecipient, NoTextToSend, NoOrigin, InvalidCapSubcommand, Memory}
 use Rattle.commands.specs.Names.{name_text}
@@ -62,8 +62,9 @@ converses g fs s (Kick channel nicks text) = kicks g fs s channel nicks text
 converses g fs s (Invite nick channel) = invites g fs s nick channel
 converses g fs s (Topic channel text) = topics g fs s channel text
 converses g fs s (Mode target changes) = modes g fs s target changes
-converses g fs s (Privmsg targets text) = sends g fs s verb.Privmsg targets text
-converses g fs s (Notice targets text) = sends g fs s verb.Notice targets text
+converses g fs s (Privmsg targets text tags) = sends g fs s (record { verb = verb.Privmsg; text = Some text; tags = tags }) targets
+converses g fs s (Notice targets text tags) = sends g fs s (record { verb = verb.Notice; text = Some text; tags = tags }) targets
+converses g fs s (Tagmsg targets tags) = sends g fs s (record { verb = verb.Tagmsg; text = None; tags = tags }) targets
 converses g fs s (Away text) = goes_away g fs s text
 converses g fs s k = queries g fs s k
 
@@ -80,7 +81,7 @@ served g fs s k = converses g fs s k
 
 -- who isn't registered is told so, but not after NOTICE
 abbrev pub turned_away : Settings → List Deed → ℕ → Command → List Effect
-turned_away g fs s (Notice targets text) = []
+turned_away g fs s (Notice targets text tags) = []
 turned_away g fs s k = tells g fs s numeric.NotRegistered ∷ []
 
 abbrev pub asked : Settings → List Deed → ℕ → Command → List Effect

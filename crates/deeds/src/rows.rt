@@ -1,11 +1,13 @@
 //! What comes of a command.
-ghost use Rattle.std.specs.Prelude.{◌≡◌, ◌∷◌, [], option_copied, IfOk, OnOk};
+ghost use Rattle.std.specs.Prelude.{◌≡◌, ◌∷◌, [], Some, None, option_copied, IfOk, OnOk};
 ghost use Rattle.roster.specs.LookBack.{after, opened};
 ghost use Rattle.roster.specs.Legal.{IsOpened, AreNext};
 ghost use Rattle.drafts.specs.declared.effect.Effect.TheVariants.{Answer};
 ghost use Rattle.drafts.specs.Drafted.{grown};
 ghost use Rattle.drafts.specs.Lines.{pong_line};
 ghost use Rattle.drafts.specs.Replies.{tells_all};
+ghost use Rattle.talk_commands.specs.declared.verb.Verb.TheVariants.{Tagmsg};
+ghost use Rattle.talk_commands.specs.Talking.{sends};
 ghost use Rattle.deeds.specs.Welcome.{motd_asked};
 ghost use Rattle.deeds.specs.Rows.{asked, converses, fault_numeric, is_for_registered, of_asked, of_command, queries, refused, served, turned_away};
 ghost use Rattle.deeds.specs.Verdicts.{IsVerdict};
@@ -16,7 +18,7 @@ use crate::verdict::{Verdict, verdict_of};
 use crate::welcome::motd_asked;
 use channel_commands::{invite, join, kick, part, set_topic};
 use chronicle::{Moment, SessionId};
-use commands::{Asked, Command, ReadFault};
+use commands::{Asked, Command, ReadFault, Texts};
 use drafts::{Draft, pong_line, tell, tell_all};
 use line_grammar::Octets;
 use mode_commands::change_modes;
@@ -24,7 +26,7 @@ use numerics::Numeric;
 use query_commands::{ask_who, ask_whois, list, names};
 use roster::Roster;
 use std::alloc::{AllocError, Global};
-use talk_commands::{Verb, go_away, send};
+use talk_commands::{Sending, Verb, go_away, send};
 
 /// Answers PING.
 fn pong(draft: &mut Draft, token: &[u8]) -> Result<(), AllocError>
@@ -79,6 +81,47 @@ fn query(draft: &mut Draft, session: SessionId, command: &Command) -> Result<(),
     }
 }
 
+/// Sends a text to targets.
+fn send_text(
+    draft: &mut Draft,
+    session: SessionId,
+    verb: Verb,
+    targets: &Texts,
+    text: &Octets,
+    tags: &Octets,
+) -> Result<(), AllocError>
+    requires { draft.old.facts ≡ draft.old.base }
+    ensures { OnOk result (draft.new ≡ grown draft.old (sends draft.old.settings draft.old.facts session (record { verb = verb; text = Some text.now; tags = tags.now }) targets.now)) }
+{
+    let text = Some(text);
+    send(
+        draft,
+        session,
+        &Sending { verb, text, tags },
+        targets.as_slice(),
+    )
+}
+
+/// Sends tags to targets.
+fn send_tags(
+    draft: &mut Draft,
+    session: SessionId,
+    targets: &Texts,
+    tags: &Octets,
+) -> Result<(), AllocError>
+    requires { draft.old.facts ≡ draft.old.base }
+    ensures { OnOk result (draft.new ≡ grown draft.old (sends draft.old.settings draft.old.facts session (record { verb = Tagmsg; text = None; tags = tags.now }) targets.now)) }
+{
+    let verb = Verb::Tagmsg;
+    let text = None;
+    send(
+        draft,
+        session,
+        &Sending { verb, text, tags },
+        targets.as_slice(),
+    )
+}
+
 /// Does what a command about channels and texts asks for.
 fn converse(draft: &mut Draft, session: SessionId, command: &Command) -> Result<(), AllocError>
     requires opened { IsOpened draft.old.facts session }
@@ -98,12 +141,17 @@ fn converse(draft: &mut Draft, session: SessionId, command: &Command) -> Result<
         Command::Mode { target, changes } => {
             change_modes(draft, session, target, changes.as_slice())
         }
-        Command::Privmsg { targets, text } => {
-            send(draft, session, Verb::Privmsg, targets.as_slice(), text)
-        }
-        Command::Notice { targets, text } => {
-            send(draft, session, Verb::Notice, targets.as_slice(), text)
-        }
+        Command::Privmsg {
+            targets,
+            text,
+            tags,
+        } => send_text(draft, session, Verb::Privmsg, targets, text, tags),
+        Command::Notice {
+            targets,
+            text,
+            tags,
+        } => send_text(draft, session, Verb::Notice, targets, text, tags),
+        Command::Tagmsg { targets, tags } => send_tags(draft, session, targets, tags),
         Command::Away { text } => go_away(draft, session, text),
         other => query(draft, session, other),
     }

@@ -1,5 +1,5 @@
 -- Names of channels, and which deeds may come next.
-use Rattle.std.proofs.Common.{◌≡◌, inl, inr, ℕ, Bool, ◌⊎◌, true, false, cond, List, [], ◌∷◌, ◌++◌, Option, Some, None, option_copied, unwrap_or, Bor, refl, sym, ap, ◌∙◌}
+use Rattle.std.proofs.Common.{◌≡◌, inl, inr, ℕ, Bool, ◌⊎◌, true, false, cond, List, [], ◌∷◌, ◌++◌, Option, Some, None, option_copied, unwrap_or, Bor, refl, sym, subst, ap, ◌∙◌}
 use Rattle.std.specs.Option.{option_or, option_map}
 use Rattle.roster.specs.Laws.{ChannelsHaveOneName, SpelledNamesAreNames}
 use Rattle.roster.specs.declared.deed.Deed.{Deed}
@@ -88,3 +88,6 @@ seen_changed fs k x i e =
     ap (λ b. cond b (lasting (changed x (state fs k.name))) (state fs k.name)) (is_same-refl k.name) ∙ ap (λ st. lasting (changed x st)) i.state
     ∙ ap (λ b. cond b (changed x k.state) nothing) e in
     record { there = ap (λ (st : State). is_some_one st.members) now ∙ e; state = now; lasts = e }
+
+pub seen_after : (fs gs : List Deed) (k j : Seen) (x : Change) → gs ≡ Changed k.name x ∷ fs → j ≡ record { name = k.name; state = changed x k.state } → IsSeen fs k → is_some_one (changed x k.state).members ≡ true → IsSeen gs j
+seen_after fs gs k j x facts now i e = subst (λ (hs : List Deed). IsSeen hs j) (sym facts) (subst (IsSeen (Changed k.name x ∷ fs)) (sym now) (seen_changed fs k x i e))

@@ -1,5 +1,5 @@
 -- What a record does is a list of effects, in order; what follows from them for its own session and for each other (this project's own promise).
-use Rattle.std.specs.Prelude.{ℕ, ◌==◌, cond, List, [], ◌∷◌, ◌++◌, filter, map}
+use Rattle.std.specs.Prelude.{ℕ, ◌==◌, List, [], ◌∷◌, ◌++◌, filter, map}
 use Rattle.numerics.specs.declared.outgoing.Out.{Out}
 use Rattle.roster.specs.declared.deed.Deed.{Deed}
 use Rattle.drafts.specs.declared.effect.Effect.{Effect}
@@ -47,7 +47,3 @@ shown_by (Copy line) t = []
 abbrev pub due : List Effect → ℕ → List Out
 due [] t = []
 due (e ∷ es) t = shown_by e t ++ due es t
-
--- all lines of effects of s to t: its reply and what it sent to itself besides, or what another is shown
-abbrev pub lines_to : ℕ → List Effect → ℕ → List Out
-lines_to s es t = cond (s == t) (reply s es ++ copies es) (due es t)

@@ -15,6 +15,102 @@ use std::{env, fs};
 /// The file in which Linux tells how much memory a process ever had.
 const STATUS: &str = "/proc/self/status";
 
+/// Sessions on one server, of which the first says a line again and again.
+struct Scene {
+    name: &'static str,
+    members: u64,
+    // How many items an outbox holds.
+    sendq: usize,
+    // What each says to begin with, once it has a nickname.
+    start: &'static [&'static str],
+    line: &'static str,
+    // The first session that is told of the line. All later ones are, too.
+    told: u64,
+    // How often the line is said before the time is taken, and then.
+    before: u64,
+    lines: u64,
+}
+
+const TEXT: &str = "PRIVMSG #room :hello, all\r\n";
+
+const PLAIN: &[&str] = &["USER u 0 * :Some One\r\n", "JOIN #room\r\n"];
+
+const WITH_MOMENTS: &[&str] = &[
+    "CAP REQ server-time\r\n",
+    "USER u 0 * :Some One\r\n",
+    "CAP END\r\n",
+    "JOIN #room\r\n",
+];
+
+const WITH_LABELS: &[&str] = &[
+    "CAP REQ :batch labeled-response\r\n",
+    "USER u 0 * :Some One\r\n",
+    "CAP END\r\n",
+];
+
+const SCENES: [Scene; 6] = [
+    Scene {
+        name: "100 sessions",
+        members: 100,
+        sendq: 200,
+        start: PLAIN,
+        line: TEXT,
+        told: 2,
+        before: 0,
+        lines: 4_927,
+    },
+    Scene {
+        name: "100 sessions with server-time",
+        members: 100,
+        sendq: 200,
+        start: WITH_MOMENTS,
+        line: TEXT,
+        told: 2,
+        before: 0,
+        lines: 4_927,
+    },
+    Scene {
+        name: "labelled PINGs",
+        members: 1,
+        sendq: 200,
+        start: WITH_LABELS,
+        line: "@label=7 PING x\r\n",
+        told: 1,
+        before: 0,
+        lines: 100_000,
+    },
+    Scene {
+        name: "2 sessions after 10,000 records",
+        members: 2,
+        sendq: 200,
+        start: PLAIN,
+        line: TEXT,
+        told: 2,
+        before: 10_000,
+        lines: 14_286,
+    },
+    Scene {
+        name: "1,000 sessions",
+        members: 1_000,
+        sendq: 1_200,
+        start: PLAIN,
+        line: TEXT,
+        told: 2,
+        before: 0,
+        lines: 500,
+    },
+    Scene {
+        name: "2 sessions after 1,000,000 records",
+        members: 2,
+        sendq: 200,
+        start: PLAIN,
+        line: TEXT,
+        told: 2,
+        before: 1_000_000,
+        lines: 14_286,
+    },
+];
+
 /// What a step makes, where it isn't refused.
 fn take(play: &mut Play, event: Event) -> Option<Note>
     requires { IsWellShaped event }
@@ -50,45 +146,55 @@ fn connect(alloc: Global, play: &mut Play) -> Option<()> {
     go(play, Event::Connect { host, moment })
 }
 
-/// Reads one line of a session, and has worker 1 accept it, with all that it owes. It answers how many deliveries those were.
-fn say(alloc: Global, play: &mut Play, session: SessionId, line: &[u8]) -> Option<u64> {
-    let worker = WorkerId::new(1);
-    let moment = Moment::new(0);
-    let octets = Octets::copied(alloc, line).ok()?;
-    go(play, Event::Feed { session, octets })?;
-    go(play, Event::Pick { worker, session })?;
-    go(play, Event::Begin { worker, moment })?;
+/// Puts all that worker 1's line owes. It answers how many deliveries those were.
+fn put_all(play: &mut Play) -> u64 {
     let mut deliveries = 0u64;
     for _ in 0..u64::MAX {
         if !puts(play) {
             break;
         }
-        deliveries = deliveries.checked_add(1)?;
+        deliveries = deliveries.wrapping_add(1);
     }
+    deliveries
+}
+
+/// Reads one line of a session, and has worker 1 accept it, with all that it owes. It answers how many deliveries those were.
+fn say(alloc: Global, play: &mut Play, session: SessionId, line: &str) -> Option<u64> {
+    let worker = WorkerId::new(1);
+    let moment = Moment::new(0);
+    let octets = Octets::copied(alloc, line.as_bytes()).ok()?;
+    go(play, Event::Feed { session, octets })?;
+    go(play, Event::Pick { worker, session })?;
+    go(play, Event::Begin { worker, moment })?;
+    let deliveries = put_all(play);
     go(play, Event::End { worker })?;
     Some(deliveries)
 }
 
-/// Takes so many items, one of each session but the first.
-fn take_items(play: &mut Play, members: u64) -> Option<()> {
-    for other in 1..members {
-        let session = SessionId::new(other + 1);
-        if !takes_item(play, session) {
-            return None;
-        }
+/// Says these lines.
+fn say_all(alloc: Global, play: &mut Play, session: SessionId, lines: &[&str]) -> Option<()> {
+    for line in lines {
+        say(alloc, play, session, line)?;
     }
     Some(())
 }
 
-/// Takes all that waits for the first sessions.
-fn empty(play: &mut Play, members: u64) -> Option<()> {
-    for place in 0..members {
-        let session = SessionId::new(place + 1);
-        for _ in 0..members {
-            go(play, Event::Take { session })?;
+/// Takes an item of each session from the first that is told. It answers how many those were.
+fn take_items(play: &mut Play, scene: &Scene) -> u64 {
+    let mut items = 0u64;
+    for place in scene.told..scene.members.saturating_add(1) {
+        if takes_item(play, SessionId::new(place)) {
+            items = items.wrapping_add(1);
         }
     }
-    Some(())
+    items
+}
+
+/// Takes all that waits for a session: what it was told before it joined, and of each that joined.
+fn empty(play: &mut Play, session: SessionId, members: u64) {
+    for _ in 0..members.saturating_add(3) {
+        let _ = takes_item(play, session);
+    }
 }
 
 /// What the server is told when it starts.
@@ -103,79 +209,71 @@ fn settings(alloc: Global) -> Option<Settings> {
         created: Moment::new(0),
         motd: None,
         accounts: Accounts::new(alloc),
-        sessions: 100,
+        sessions: 1_024,
     })
 }
 
-/// The session at a place, from 0, registers and joins the channel.
-fn enter(alloc: Global, play: &mut Play, place: u64) -> Option<()> {
+/// A session comes, with a nickname of its own.
+fn enter(alloc: Global, play: &mut Play, session: u64) -> Option<()> {
     connect(alloc, play)?;
-    let session = SessionId::new(place.checked_add(1)?);
-    let nick = format!(in alloc; "NICK n{place}\r\n").ok()?;
-    say(alloc, play, session, nick.as_bytes())?;
-    say(alloc, play, session, b"USER u 0 * :Some One\r\n")?;
-    say(alloc, play, session, b"JOIN #room\r\n")?;
+    let nick = format!(in alloc; "NICK n{session}\r\n").ok()?;
+    say(alloc, play, SessionId::new(session), nick.as_str())?;
     Some(())
 }
 
-/// So many sessions join a channel, and take what waits for them.
-fn fill(alloc: Global, play: &mut Play, members: u64) -> Option<()> {
-    for place in 0..members {
-        enter(alloc, play, place)?;
+/// The sessions of a scene come, and take what waits for them.
+fn fill(alloc: Global, play: &mut Play, scene: &Scene) -> Option<()> {
+    let past = scene.members.saturating_add(1);
+    for session in 1..past {
+        enter(alloc, play, session)?;
+        say_all(alloc, play, SessionId::new(session), scene.start)?;
     }
-    empty(play, members)
+    for session in 1..past {
+        empty(play, SessionId::new(session), scene.members);
+    }
+    Some(())
 }
 
-/// A play in which so many sessions are on one channel.
-fn room(alloc: Global, members: u64, limit: usize) -> Option<Play> {
+/// A play in which the sessions of a scene are there.
+fn play_of(alloc: Global, scene: &Scene) -> Option<Play> {
     let settings = settings(alloc)?;
-    let mut play = Play::new(alloc, settings, limit, 1, 200).ok()?;
-    fill(alloc, &mut play, members)?;
+    let mut play = Play::new(alloc, settings, 10_000_000, 1, scene.sendq).ok()?;
+    fill(alloc, &mut play, scene)?;
     Some(play)
 }
 
-/// Has the first session say so many lines, each of which all others are told. It answers how many steps that took.
-fn talk(alloc: Global, play: &mut Play, members: u64, lines: u64) -> Option<u64> {
+/// Has the first session say its line so often, and whoever is told take it. It answers how many steps that took.
+fn talk(alloc: Global, play: &mut Play, scene: &Scene, lines: u64) -> Option<u64> {
     let mut steps = 0u64;
     for _ in 0..lines {
-        let puts = say(
-            alloc,
-            play,
-            SessionId::new(1),
-            b"PRIVMSG #room :hello, all\r\n",
-        )?;
-        if puts.checked_add(1)? != members {
+        let puts = say(alloc, play, SessionId::new(1), scene.line)?;
+        if puts == 0 || take_items(play, scene) != puts {
             return None;
         }
-        take_items(play, members)?;
-        // Feed, Pick, Begin, a Put that finds nothing left, End, and a Put and a Take of each other.
-        steps = steps.checked_add(puts.checked_mul(2)?)?.checked_add(5)?;
+        // Feed, Pick, Begin, a Put that finds nothing left, End, and a Put and a Take of each delivery.
+        steps = steps.wrapping_add(puts.wrapping_mul(2)).wrapping_add(5);
     }
     Some(steps)
 }
 
-/// Microseconds that so many lines took, and how many steps they were.
-fn timed<R: Clock>(
-    rt: &R,
-    alloc: Global,
-    play: &mut Play,
-    members: u64,
-    lines: u64,
-) -> Option<(u64, u64)> {
+/// Microseconds that a scene's lines took, and how many steps they were.
+fn timed(rt: &HostRuntime, play: &mut Play, scene: &Scene) -> Option<(u64, u64)> {
+    talk(rt.alloc(), play, scene, scene.before)?;
     let start = Instant::now(rt).ok()?;
-    let steps = talk(alloc, play, members, lines)?;
+    let steps = talk(rt.alloc(), play, scene, scene.lines)?;
     let took = start.elapsed(rt).ok()?;
-    let seconds = took.as_secs().checked_mul(1_000_000)?;
-    let micros = seconds.checked_add(took.subsec_micros() as u64)?;
-    Some((micros.max(1), steps))
+    let seconds = took.as_secs().saturating_mul(1_000_000);
+    Some((seconds.saturating_add(took.subsec_micros() as u64), steps))
 }
 
-/// Tells how long steps took.
-fn tell(rt: &impl Print, what: &str, micros: u64, steps: u64) -> Option<()> {
-    let rate = steps.checked_mul(1_000_000)? / micros.max(1);
-    let nanos = micros.checked_mul(1000)? / steps.max(1);
+/// Tells how fast so many lines were, of so many steps.
+fn tell(rt: &impl Print, scene: &Scene, micros: u64, steps: u64) -> Option<()> {
+    let name = scene.name;
+    let records = scene.lines.saturating_mul(1_000_000) / micros.max(1);
+    let rate = steps.saturating_mul(1_000_000) / micros.max(1);
+    let nanos = micros.saturating_mul(1000) / steps.max(1);
     println!(rt;
-        "{what}: {steps} steps in {micros} us, {rate} steps a second, {nanos} ns a step"
+        "{name}: {steps} steps, {records} records a second, {rate} steps a second, {nanos} ns a step"
     ).ok()
 }
 
@@ -190,41 +288,26 @@ fn tell_memory(rt: &(impl Print + Files + Alloc)) -> Option<()> {
     Some(())
 }
 
-/// Times a room's first session, which says so many lines.
-fn measure(rt: &HostRuntime, play: &mut Play, members: u64, lines: u64, what: &str) -> Option<()> {
-    let (micros, steps) = timed(rt, rt.alloc(), play, members, lines)?;
-    tell(rt, what, micros, steps)
+/// Times a scene.
+fn measure(rt: &HostRuntime, scene: &Scene) -> Option<()> {
+    let mut play = play_of(rt.alloc(), scene)?;
+    let (micros, steps) = timed(rt, &mut play, scene)?;
+    tell(rt, scene, micros, steps)
 }
 
-/// A million steps in a channel of 100 sessions.
-fn fan_out(rt: &HostRuntime) -> Option<()> {
-    let mut play = room(rt.alloc(), 100, 10_000)?;
-    measure(rt, &mut play, 100, 4_927, "100 sessions")?;
-    tell_memory(rt)
-}
-
-/// 100,000 steps in a channel of two sessions, after so many lines.
-fn measure_after(rt: &HostRuntime, play: &mut Play, before: u64, what: &str) -> Option<()> {
-    let _ = talk(rt.alloc(), play, 2, before)?;
-    measure(rt, play, 2, 14_286, what)
-}
-
-/// Steps after 10,000 records and after 1,000,000.
-fn many_records(rt: &HostRuntime) -> Option<()> {
-    let mut play = room(rt.alloc(), 2, 10_000_000)?;
-    measure_after(rt, &mut play, 10_000, "after 10,000 records")?;
-    measure_after(rt, &mut play, 975_712, "after 1,000,000 records")?;
-    tell_memory(rt)
+fn measure_all(rt: &HostRuntime) -> Option<()> {
+    for scene in &SCENES {
+        measure(rt, scene)?;
+        tell_memory(rt)?;
+    }
+    Some(())
 }
 
 fn main(rt: HostRuntime) -> ExitCode {
     let Ok(args) = env::args(&rt) else {
         return ExitCode::FAILURE;
     };
-    if args.count() < 2 {
-        return ExitCode::SUCCESS;
-    }
-    if fan_out(&rt).is_none() || many_records(&rt).is_none() {
+    if args.count() >= 2 && measure_all(&rt).is_none() {
         return ExitCode::FAILURE;
     }
     ExitCode::SUCCESS

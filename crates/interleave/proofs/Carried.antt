@@ -135,7 +135,7 @@ missed_owed : (g : Settings) (h : List Rec) (s t : ℕ) → ShutBefore h t → o
 missed_owed g [] s t b = absurd b
 missed_owed g (r ∷ h) s t b =
     let n : Rec = record { number = r.number; moment = r.moment; kind = r.kind; missed = r.missed ++ s ∷ [] } in
-    owed_by (owed g h t) (delivery g h r.kind t) (misses n t) (shut h t) b ∙ sym (owed_by (owed g h t) (delivery g h r.kind t) (misses r t) (shut h t) b)
+    owed_by (owed g h t) (delivery g h r.kind r.moment t) (misses n t) (shut h t) b ∙ sym (owed_by (owed g h t) (delivery g h r.kind r.moment t) (misses r t) (shut h t) b)
 
 missed_accepted : (h : List Rec) (s t : ℕ) → accepted (miss h s) t ≡ accepted h t
 missed_accepted [] s t = refl
@@ -157,7 +157,7 @@ begun_carries m k moment t f e =
     let r : Rec = fresh_record m.history moment k in
     record {
       accepted = ap (λ xs. accepted m.history t ++ xs) e ∙ append-nil (accepted m.history t);
-      box = same_box (slice_index_or m.outboxes (t - 1) None) (owed m.settings m.history t) (owed m.settings (r ∷ m.history) t) (λ away. owed_by (owed m.settings m.history t) (delivery m.settings m.history k t) (misses r t) (shut m.history t) (before_shut m.history t (f away)));
+      box = same_box (slice_index_or m.outboxes (t - 1) None) (owed m.settings m.history t) (owed m.settings (r ∷ m.history) t) (λ away. owed_by (owed m.settings m.history t) (delivery m.settings m.history k moment t) (misses r t) (shut m.history t) (before_shut m.history t (f away)));
       before = λ b. before_shut m.history t b;
     }
 
@@ -184,7 +184,7 @@ pub done_carries : (m : Shown) (k : Kind) (moment : ℤ) (t : ℕ) → (is_here 
 done_carries m k moment t f e =
     let n : Shown = begun m k moment in
     let one : Carries m n t = begun_carries m k moment t f e in
-    let all = carries_then m n (put_all n (plan_of m.settings m.history k (length m.outboxes))) t one (puts_carry n (plan_of m.settings m.history k (length m.outboxes)) t (λ away. one.before (f away))) in
+    let all = carries_then m n (put_all n (plan_of m.settings m.history k moment (length m.outboxes))) t one (puts_carry n (plan_of m.settings m.history k moment (length m.outboxes)) t (λ away. one.before (f away))) in
     record { accepted = all.accepted; box = all.box; before = all.before }
 
 -- ---- how many outboxes there are
@@ -205,7 +205,7 @@ puts_length m [] = refl
 puts_length m (p ∷ ps) = puts_length (put_next m (p ∷ ps)) ps ∙ put_length m p ps
 
 pub done_length : (m : Shown) (k : Kind) (moment : ℤ) → length (done m k moment).outboxes ≡ length m.outboxes
-done_length m k moment = puts_length (begun m k moment) (plan_of m.settings m.history k (length m.outboxes))
+done_length m k moment = puts_length (begun m k moment) (plan_of m.settings m.history k moment (length m.outboxes))
 
 -- ---- a plan has nothing for who was shut before
 

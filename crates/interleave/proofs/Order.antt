@@ -6,8 +6,6 @@ use Rattle.chronicle.specs.History.{Rec, misses, ends, shut}
 use Rattle.registration.specs.declared.settings.Settings.{Settings}
 use Rattle.outbox.specs.declared.item.Item.{Item}
 use Rattle.outbox.specs.declared.item.Item.TheVariants.{Lines, Last}
-use Rattle.numerics.specs.declared.outgoing.Out.{Out}
-use Rattle.deeds.specs.Deeds.{text}
 use Rattle.book.specs.Owed.{item, told, reason, delivery, owed}
 use Rattle.line_grammar.specs.declared.splitter.Piece.{Piece}
 use Rattle.line_grammar.specs.Lines.{lines}
@@ -52,10 +50,10 @@ last_up n xs why u =
     let y : Item = Last (n + 1) why in
     record { rises = rising_push n y xs u.rises u.most (omega arith); most = most_push n (n + 1) y xs (omega arith) u.most (omega arith) }
 
-item_up : (n : ℕ) (xs : List Item) (ls : List Out) → IsUpTo n xs → IsUpTo (n + 1) (xs ++ item (n + 1) ls)
+item_up : (n : ℕ) (xs : List Item) (bs : List ℕ) → IsUpTo n xs → IsUpTo (n + 1) (xs ++ item (n + 1) bs)
 item_up n xs [] u = subst (IsUpTo (n + 1)) (sym (append-nil xs)) (record { rises = u.rises; most = most_more n (n + 1) xs (omega arith) u.most })
-item_up n xs (l ∷ ls) u =
-    let y : Item = Lines (n + 1) (text (l ∷ ls)) in
+item_up n xs (b ∷ bs) u =
+    let y : Item = Lines (n + 1) (b ∷ bs) in
     record { rises = rising_push n y xs u.rises u.most (omega arith); most = most_push n (n + 1) y xs (omega arith) u.most (omega arith) }
 
 owed_up : (g : Settings) (h : List Rec) (t : ℕ) → IsUpTo (length h) (owed g h t)
@@ -63,12 +61,12 @@ owed_up g [] t = record { rises = tt; most = tt }
 owed_up g (r ∷ h) t =
     let one : length h + 1 ≡ length (r ∷ h) = omega arith in
     subst (λ (n : ℕ). IsUpTo n (owed g (r ∷ h) t)) one
-    (elim (misses r t || shut h t) as (λ (b : Bool). IsUpTo (length h + 1) (owed g h t ++ cond b [] (delivery g h r.kind t))) [
+    (elim (misses r t || shut h t) as (λ (b : Bool). IsUpTo (length h + 1) (owed g h t ++ cond b [] (delivery g h r.kind r.moment t))) [
       | true ↦ item_up (length h) (owed g h t) [] (owed_up g h t)
       | false ↦
-          elim (ends r.kind t) as (λ (b : Bool). IsUpTo (length h + 1) (owed g h t ++ cond b (Last (length h + 1) (reason r.kind) ∷ []) (item (length h + 1) (told g h r.kind t)))) [
+          elim (ends r.kind t) as (λ (b : Bool). IsUpTo (length h + 1) (owed g h t ++ cond b (Last (length h + 1) (reason r.kind) ∷ []) (item (length h + 1) (told g h r.kind r.moment t)))) [
             | true ↦ last_up (length h) (owed g h t) (reason r.kind) (owed_up g h t)
-            | false ↦ item_up (length h) (owed g h t) (told g h r.kind t) (owed_up g h t)
+            | false ↦ item_up (length h) (owed g h t) (told g h r.kind r.moment t) (owed_up g h t)
           ]
     ])
 
@@ -127,11 +125,11 @@ shut_stays g [] h t e = (e, refl)
 shut_stays g (r ∷ later) h t e =
     let before = shut_stays g later h t e in (
       shut_more (misses r t) (ends r.kind t) (shut (later ++ h) t) before.0,
-      owed_nothing (owed g (later ++ h) t) (delivery g (later ++ h) r.kind t) (misses r t) (shut (later ++ h) t) before.0 ∙ before.1,
+      owed_nothing (owed g (later ++ h) t) (delivery g (later ++ h) r.kind r.moment t) (misses r t) (shut (later ++ h) t) before.0 ∙ before.1,
     )
 
 -- what the record owes that shuts a session
-closing : (g : Settings) (r : Rec) (h : List Rec) (t : ℕ) (b c d : Bool) → ends r.kind t ≡ c → (b || c || d) ≡ true → (end : List Item) × IsErrorAtMost end × (owed g h t ++ cond (b || d) [] (cond c (Last (length h + 1) (reason r.kind) ∷ []) (item (length h + 1) (told g h r.kind t))) ≡ owed g h t ++ end)
+closing : (g : Settings) (r : Rec) (h : List Rec) (t : ℕ) (b c d : Bool) → ends r.kind t ≡ c → (b || c || d) ≡ true → (end : List Item) × IsErrorAtMost end × (owed g h t ++ cond (b || d) [] (cond c (Last (length h + 1) (reason r.kind) ∷ []) (item (length h + 1) (told g h r.kind r.moment t))) ≡ owed g h t ++ end)
 closing g r h t true c d is e = ([], tt, refl)
 closing g r h t false true true is e = ([], tt, refl)
 closing g r h t false true false is e = (Last (length h + 1) (reason r.kind) ∷ [], tt, refl)

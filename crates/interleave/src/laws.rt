@@ -1,5 +1,7 @@
 //! What follows for a user. These functions do nothing: each states a law.
-ghost use Rattle.interleave.specs.Laws.{OnceInOrder, TakenInOrder, AcceptedIsPrefixOfSent, ErrorAtMostAfterTheClose};
+ghost use Rattle.interleave.specs.Laws.{OnceInOrder, TakenInOrder, AcceptedIsPrefixOfSent, ErrorAtMostAfterTheClose, LabelledOnce};
+
+use labels_batches::answered_once;
 
 /// A history owes a session at most one delivery of each record, and the deliveries stand in the order of the records.
 pub fn once_in_order()
@@ -21,3 +23,11 @@ pub fn accepted_is_prefix_of_sent()
 pub fn error_at_most_after_the_close()
     ensures { ErrorAtMostAfterTheClose }
 {}
+
+/// A line with a label that counts by the capabilities that its session had before it, other than QUIT, is answered once where its
+/// record doesn't miss the session: one delivery, whose answer has the label once and is whole.
+pub fn labelled_once()
+    ensures { LabelledOnce }
+{
+    answered_once();
+}

@@ -11,6 +11,7 @@ ghost use Rattle.interleave.specs.Limits.{IsWellSet};
 use crate::event::{BookRefusal, Event, Note, PlayRefusal, StepRefusal, of_open, of_put, of_sweep};
 use crate::inbox;
 use crate::inbox::{Inbox, move_to, tell_taken};
+use crate::laws::labelled_once;
 use crate::worker::{Place, WorkerId};
 use book::{Book, BookFault, Plan, Ring, Settings, TakeRefusal};
 use chronicle::{Moment, SessionId, Why};
@@ -83,6 +84,7 @@ impl Play {
     ghost use Rattle.interleave.specs.Steps.{IsWellShaped, IsStep, IsDone};
     ghost use Rattle.interleave.specs.Runs.{IsRun, sent, took};
     ghost use Rattle.interleave.specs.Order.{IsPrefix, IsRising};
+    ghost use Rattle.interleave.specs.Laws.{IsAnsweredOnce};
 
     /// A play with no sessions, for at most `limit` records, 1 to 64 workers, and outboxes for `sendq` items, 1 to 4,096.
     pub fn new(
@@ -522,7 +524,7 @@ impl Play {
 
     /// Takes one event. A refusal changes nothing. After each: what was taken of a session, then what waits for it or was left,
     /// then what the plan still has for it, is what the history owes it; the accepted lines, then the line in a worker's hand,
-    /// then the unread ones, are the lines of what was fed.
+    /// then the unread ones, are the lines of what was fed; and each accepted line with a label that counts is answered once, whole.
     pub fn step(&mut self, event: &Event) -> Result<Note, StepRefusal>
         requires { IsWellShaped event.now }
         ensures step { IsStep self.old event.now result self.new }
@@ -530,7 +532,9 @@ impl Play {
         ensures legal { IsLegal self.new.book.settings self.new.book.history }
         ensures taken_is_owed { ForEach self.new (λ t. taken_of self.new t ++ queue_of self.new t ++ planned_for self.new t ≡ owed self.new.book.settings self.new.book.history t) }
         ensures accepted_is_sent { ForEach self.new (λ t. accepted self.new.book.history t ++ in_hand self.new t ++ unread self.new t ≡ lines (inbox_at self.new t).fed) }
+        ensures answered_once { IsAnsweredOnce self.new.book.settings self.new.book.history }
     {
+        labelled_once();
         let answer = match self.refuses(event) {
             Some(refusal) => Err(refusal),
             None => self.perform(event),
@@ -552,8 +556,10 @@ impl Play {
         ensures taken_is_prefix { IfOk result (λ notes. ForEach self.new (λ t. IsPrefix (taken_of self.old t ++ took t events.now notes.items) (owed self.new.book.settings self.new.book.history t))) }
         ensures accepted_is_prefix { IfOk result (λ notes. ForEach self.new (λ t. IsPrefix (accepted self.new.book.history t) (lines ((inbox_at self.old t).fed ++ sent t events.now notes.items)))) }
         ensures in_order { IfOk result (λ notes. ForEach self.new (λ t. IsRising (taken_of self.old t ++ took t events.now notes.items))) }
+        ensures answered_once { IsAnsweredOnce self.new.book.settings self.new.book.history }
     {
         self.sound();
+        labelled_once();
         let mut notes = Vec::new(self.alloc);
         notes.reserve(events.len())?;
         for event in events {

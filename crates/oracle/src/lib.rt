@@ -1,18 +1,23 @@
-//! A test oracle: what the records of a book say, read anew from the first of them, one after the other and without tables.
+//! A test oracle: what the records of a book say, obeyed anew from the first of them, one after the other.
 //!
-//! It is written apart from `commands`, `deeds` and `book` and shares no code with them, so that a test can compare what these keep with
-//! what the records say. It is slow: each answer reads all records. It knows NICK, USER, PING, PONG, QUIT, and JOIN and PRIVMSG of any
-//! names, where no channel has modes but those with which it was made, and takes every other command for unknown; and it knows one
-//! server, `irc.example` of version `halld-1`, created at the moment 0, without a message of the day.
+//! It is written from what the server speaks, apart from `commands`, `deeds` and the crates below them, and shares no code with them, so
+//! that a test can compare two things. It is plain and slow: sessions and channels stand in two lists that are searched from their
+//! beginning, and each answer reads all records. It knows one server: `irc.example`, `halld`, of version `halld-1`, created at the moment
+//! 0, without a message of the day, and with one account, `al` with the password `bc`.
 #![tactic(auto)]
 
-mod facts;
-mod lines;
-mod message;
+mod channels;
+mod joining;
+mod modes;
+mod obeying;
 mod owed;
-mod records;
-mod refusals;
+mod queries;
+mod registering;
+mod rendering;
+mod replies;
+mod talking;
+mod words;
+mod world;
 
-pub use facts::{Fact, slow_nick, slow_on};
-pub use owed::{slow_owed, slow_shut};
-pub use records::slow_facts;
+pub use owed::{Reader, slow_nick, slow_on, slow_owed};
+pub use world::World;

@@ -1,341 +1,217 @@
-//! What is owed to a session.
-use crate::facts::{Fact, farewell, is_enrolled, share, slow_nick, slow_on, spelled, user_called};
-use crate::lines::{pong, refusing, sent, told_members, welcome};
-use crate::message::{is_command, message_of, names_of, param};
-use crate::records::{establish, record_at};
-use crate::refusals::{Refusal, names_channel, no_channel, refused, refused_target, too_many};
+//! What the records of a book say.
+use crate::joining::leave;
+use crate::obeying::{end, is_quit, obey};
+use crate::rendering::{Style, label_of, text_of};
+use crate::replies::TOO_LONG;
+use crate::world::{World, new_client};
 use book::Book;
-use casemapping::{is_channel, same};
-use chronicle::{Kind, Record, SessionId, Why};
-use line_grammar::{Message, Octets, Piece};
+use chronicle::{Kind, Record, RecordNumber, SessionId, Why};
+use line_grammar::{LineFault, Message, Octets, Piece, parse};
 use outbox::Item;
 use std::alloc::{AllocError, Global};
 
-/// The line of a text to one target, to a session that gets it.
-fn of_target(
-    alloc: Global,
-    facts: &[Fact],
-    by: SessionId,
-    target: &[u8],
-    text: &[u8],
-    to: SessionId,
-) -> Result<Option<Octets>, AllocError> {
-    if !names_channel(target) {
-        return match (user_called(facts, target), slow_nick(facts, to)) {
-            (Some(user), Some(nick)) if user == to => {
-                let rest = [b" PRIVMSG ", nick.as_slice(), b" :", text];
-                Ok(Some(sent(alloc, facts, by, rest)?))
-            }
-            _ => Ok(None),
-        };
-    }
-    if by == to || !slow_on(facts, by, target) || !slow_on(facts, to, target) {
-        return Ok(None);
-    }
-    let rest = [b" PRIVMSG ", spelled(facts, target), b" :", text];
-    Ok(Some(sent(alloc, facts, by, rest)?))
+/// The nickname of a session after some records: the last that it took, until it is gone.
+pub fn slow_nick(world: &World, session: SessionId) -> Option<&[u8]> {
+    let nick = &world.client(session).nick;
+    if nick.is_empty() { None } else { Some(nick) }
 }
 
-/// The numerics that refuse targets of a text.
-fn of_refused(
-    alloc: Global,
-    facts: &[Fact],
-    by: SessionId,
-    targets: &[&[u8]],
-) -> Result<Vec<u8>, AllocError> {
-    let mut lines = Vec::new(alloc);
-    for target in targets {
-        if let Some(refusal) = refused_target(facts, by, target) {
-            lines.extend_from_slice(refusing(alloc, facts, by, &refusal)?.as_slice())?;
-        }
-    }
-    Ok(lines)
+/// Whether a session is on a channel after some records. Channels are compared folded.
+pub fn slow_on(world: &World, session: SessionId, channel: &[u8]) -> bool {
+    world.is_on(world.place_of(channel), session)
 }
 
-/// The lines of a text to a session. Its sender is answered before it gets what it sent to itself.
-fn of_text(
-    alloc: Global,
-    facts: &[Fact],
-    by: SessionId,
-    message: &Message,
-    to: SessionId,
-) -> Result<Option<Octets>, AllocError> {
-    let targets = names_of(alloc, param(message, 0))?;
-    if let Some(fifth) = targets.get(4) {
-        return if by == to {
-            Ok(Some(refusing(alloc, facts, to, &too_many(fifth))?))
-        } else {
-            Ok(None)
-        };
-    }
-    let mut lines = Vec::new(alloc);
-    if by == to {
-        lines = of_refused(alloc, facts, by, &targets)?;
-    }
-    for target in &targets {
-        if let Some(line) = of_target(alloc, facts, by, target, param(message, 1), to)? {
-            lines.extend_from_slice(line.as_slice())?;
-        }
-    }
-    if lines.is_empty() {
-        return Ok(None);
-    }
-    Ok(Some(Octets::from_vec(lines)))
+/// The record at a place, from 0.
+fn record_at(book: &Book, place: usize) -> Option<&Record> {
+    book.record(RecordNumber::new((place as u64).saturating_add(1)))
 }
 
-/// Whether a session has just this nickname.
-fn is_called(facts: &[Fact], session: SessionId, nick: &[u8]) -> bool {
-    match slow_nick(facts, session) {
-        Some(own) => own.as_slice() == nick,
-        None => false,
-    }
+fn open(world: &mut World, host: &[u8]) {
+    let mut client = new_client(world.alloc);
+    client.host = world.copy(host);
+    client.farewell = world.copy(Why::SendQ.text().as_bytes());
+    let is_done = world.clients.push(client).is_ok();
+    world.note(is_done);
 }
 
-/// The line of a new nickname, to its session and to each that shares a channel with it.
-fn of_nick(
-    alloc: Global,
-    facts: &[Fact],
-    by: SessionId,
-    nick: &[u8],
-    to: SessionId,
-) -> Result<Option<Octets>, AllocError> {
-    let is_shown = is_enrolled(facts, by) && !is_called(facts, by, nick);
-    if !is_shown || by != to && !share(facts, by, to) {
-        return Ok(None);
-    }
-    Ok(Some(sent(alloc, facts, by, [b" NICK ", nick, b"", b""])?))
-}
-
-/// The line of a message to a session.
-fn of_message(
-    alloc: Global,
-    facts: &[Fact],
-    by: SessionId,
-    message: &Message,
-    to: SessionId,
-) -> Result<Option<Octets>, AllocError> {
-    if let Some(refusal) = refused(facts, by, message) {
-        return if by == to {
-            Ok(Some(refusing(alloc, facts, to, &refusal)?))
-        } else {
-            Ok(None)
-        };
-    }
-    if is_command(message, b"PING") && by == to {
-        return Ok(Some(pong(alloc, param(message, 0))?));
-    }
-    if is_command(message, b"PRIVMSG") {
-        return of_text(alloc, facts, by, message, to);
-    }
-    if is_command(message, b"NICK") {
-        return of_nick(alloc, facts, by, param(message, 0), to);
-    }
-    Ok(None)
-}
-
-/// The answer to a line that is too long.
-const TOO_LONG: Refusal<'static> = Refusal {
-    code: "417",
-    name: None,
-    text: "Input line was too long",
-};
-
-/// The line of a piece to a session.
-fn of_piece(
-    alloc: Global,
-    facts: &[Fact],
-    by: SessionId,
-    record: &Record,
-    to: SessionId,
-) -> Result<Option<Octets>, AllocError> {
-    if let Some(message) = message_of(alloc, record)? {
-        return of_message(alloc, facts, by, &message, to);
-    }
-    let is_long = matches!(
-        &record.kind,
-        Kind::Said {
-            piece: Piece::TooLong,
-            ..
-        }
-    );
-    if is_long && by == to {
-        return Ok(Some(refusing(alloc, facts, to, &TOO_LONG)?));
-    }
-    Ok(None)
-}
-
-/// The line of a record to a session, by the facts before it.
-fn of_record(
-    alloc: Global,
-    facts: &[Fact],
-    record: &Record,
-    to: SessionId,
-) -> Result<Option<Octets>, AllocError> {
-    match &record.kind {
-        Kind::Said { session, .. } => of_piece(alloc, facts, *session, record, to),
-        Kind::Gone { session } if *session != to && share(facts, *session, to) => {
-            let rest = [b" QUIT :", farewell(facts, *session), b"", b""];
-            Ok(Some(sent(alloc, facts, *session, rest)?))
-        }
-        _ => Ok(None),
-    }
-}
-
-/// The lines of a channel that a session joins by one of the facts after so many, or the numeric that refuses its name.
-fn of_join(
-    alloc: Global,
-    facts: &[Fact],
-    before: usize,
-    by: SessionId,
-    channel: &[u8],
-) -> Result<Vec<u8>, AllocError> {
-    let mut lines = Vec::new(alloc);
-    if !is_channel(channel) {
-        lines.extend_from_slice(refusing(alloc, facts, by, &no_channel(channel))?.as_slice())?;
-    }
-    for fact in facts.iter().skip(before) {
-        if let Fact::Joined(_, name) = fact
-            && same(name.as_slice(), channel)
-        {
-            let rest = [b" JOIN ", name.as_slice(), b"", b""];
-            lines.extend_from_slice(sent(alloc, facts, by, rest)?.as_slice())?;
-            let members = told_members(alloc, facts, name.as_slice(), by)?;
-            lines.extend_from_slice(members.as_slice())?;
-        }
-    }
-    Ok(lines)
-}
-
-/// The lines of what a session joins to itself, name by name.
-fn of_own_joins(
-    alloc: Global,
-    facts: &[Fact],
-    before: usize,
-    by: SessionId,
-    record: &Record,
-) -> Result<Vec<u8>, AllocError> {
-    let mut lines = Vec::new(alloc);
-    if let Some(message) = message_of(alloc, record)?
-        && is_command(&message, b"JOIN")
-    {
-        for channel in &names_of(alloc, param(&message, 0))? {
-            lines.extend_from_slice(&of_join(alloc, facts, before, by, channel)?)?;
-        }
-    }
-    Ok(lines)
-}
-
-/// The lines of what the facts after so many establish, to another who is on the channel then, or of a registration.
-fn of_facts(
-    alloc: Global,
-    facts: &[Fact],
-    before: usize,
-    to: SessionId,
-) -> Result<Vec<u8>, AllocError> {
-    let mut lines = Vec::new(alloc);
-    for fact in facts.iter().skip(before) {
-        match fact {
-            Fact::Joined(by, name) if *by != to && slow_on(facts, to, name.as_slice()) => {
-                let rest = [b" JOIN ", name.as_slice(), b"", b""];
-                lines.extend_from_slice(sent(alloc, facts, *by, rest)?.as_slice())?;
-            }
-            Fact::Enrolled(by) if *by == to => {
-                lines.extend_from_slice(welcome(alloc, facts, to)?.as_slice())?;
-            }
-            _ => {}
-        }
-    }
-    Ok(lines)
-}
-
-/// The lines of a record to a session by the facts after so many, which the record established.
-fn of_new(
-    alloc: Global,
-    facts: &[Fact],
-    before: usize,
-    record: &Record,
-    to: SessionId,
-) -> Result<Option<Octets>, AllocError> {
-    let lines = match &record.kind {
-        Kind::Said { session, .. } if *session == to => {
-            let mut lines = of_own_joins(alloc, facts, before, to, record)?;
-            lines.extend_from_slice(&of_facts(alloc, facts, before, to)?)?;
-            lines
-        }
-        _ => of_facts(alloc, facts, before, to)?,
+/// The message of a piece, where it is one.
+fn message_of(world: &World, piece: &Piece) -> Option<Message> {
+    let Piece::Line(line) = piece else {
+        return None;
     };
-    if lines.is_empty() {
-        return Ok(None);
-    }
-    Ok(Some(Octets::from_vec(lines)))
+    let parsed = parse(world.alloc, line.as_slice());
+    world.note(!matches!(&parsed, Err(LineFault::Memory)));
+    parsed.ok()
 }
 
-/// Why a record ends a session by what it says.
-fn end_of(alloc: Global, record: &Record, to: SessionId) -> Result<Option<Why>, AllocError> {
+/// Does what a piece says, and answers the label of what it is answered by, escaped.
+fn say(world: &mut World, by: SessionId, piece: &Piece) -> Vec<u8> {
+    if matches!(piece, Piece::TooLong) {
+        world.numeric(by, TOO_LONG);
+    }
+    let Some(message) = message_of(world, piece) else {
+        return Vec::new(world.alloc);
+    };
+    let label = label_of(world, by, &message);
+    obey(world, by, &message);
+    label
+}
+
+/// Takes a session from its channels, and its nickname from it.
+fn forget(world: &mut World, session: SessionId) {
+    if session != world.watched && world.share(session, world.watched) {
+        let line = world.said(session, b" QUIT :", &world.client(session).farewell, b"");
+        world.tell(world.watched, line);
+    }
+    for place in 0..world.channels.len() {
+        leave(world, place, session);
+    }
+    let client = world.client_mut(session);
+    client.nick.clear();
+    client.is_registered = false;
+}
+
+/// Does what a record says, and answers the label of the line of the session that is watched, escaped.
+fn replay(world: &mut World, record: &Record) -> Vec<u8> {
+    world.told.clear();
     match &record.kind {
-        Kind::Hung { session, why } if *session == to => Ok(Some(*why)),
-        Kind::Said { session, .. } if *session == to => match message_of(alloc, record)? {
-            Some(message) if is_command(&message, b"QUIT") => Ok(Some(Why::Quit)),
-            _ => Ok(None),
-        },
-        _ => Ok(None),
-    }
-}
-
-/// Whether a session missed a record, or is ended by it.
-fn shuts(alloc: Global, record: &Record, to: SessionId) -> Result<bool, AllocError> {
-    let ends = end_of(alloc, record, to)?.is_some();
-    Ok(ends || record.missed.as_slice().contains(&to))
-}
-
-/// Whether a session missed a record of the book, or was ended by one: by its QUIT or by a Hung record. Fails where there is no memory
-/// to read a line.
-pub fn slow_shut(alloc: Global, book: &Book, to: SessionId) -> Result<bool, AllocError> {
-    let mut shut = false;
-    for place in 0..book.len() {
-        if let Some(record) = record_at(book, place) {
-            shut = shut || shuts(alloc, record, to)?;
-        }
-    }
-    Ok(shut)
-}
-
-/// Adds what a record establishes, and answers what it tells a session.
-fn told_by(
-    alloc: Global,
-    facts: &mut Vec<Fact>,
-    record: &Record,
-    to: SessionId,
-) -> Result<Option<Item>, AllocError> {
-    let number = record.number;
-    let before = facts.len();
-    let earlier = of_record(alloc, facts, record, to)?;
-    establish(alloc, facts, record)?;
-    let later = of_new(alloc, facts, before, record, to)?;
-    if let Some(why) = end_of(alloc, record, to)? {
-        return Ok(Some(Item::Last { number, why }));
-    }
-    Ok(earlier.or(later).map(|text| Item::Lines { number, text }))
-}
-
-/// All that the records of the book owe to a session, in their order, but for each record that it missed and each after it was shut.
-/// Fails where there is no memory.
-pub fn slow_owed(alloc: Global, book: &Book, to: SessionId) -> Result<Vec<Item>, AllocError> {
-    let mut facts = Vec::new(alloc);
-    let mut owed = Vec::new(alloc);
-    let mut shut = false;
-    for place in 0..book.len() {
-        if let Some(record) = record_at(book, place) {
-            let told = told_by(alloc, &mut facts, record, to)?;
-            let missed = record.missed.as_slice().contains(&to);
-            if let Some(item) = told
-                && !shut
-                && !missed
-            {
-                owed.push(item)?;
+        Kind::Opened { host, .. } => open(world, host.as_slice()),
+        Kind::Said { session, piece, .. } => {
+            let label = say(world, *session, piece);
+            if *session == world.watched {
+                return label;
             }
-            shut = shut || shuts(alloc, record, to)?;
+        }
+        Kind::Hung { session, why } => end(world, *session, *why, b""),
+        Kind::Gone { session } => forget(world, *session),
+    }
+    Vec::new(world.alloc)
+}
+
+/// What a record tells the session that is watched.
+fn told_by(world: &mut World, record: &Record) -> Option<Item> {
+    let number = record.number;
+    let style = Style {
+        capabilities: world.client(world.watched).capabilities,
+        moment: record.moment,
+        number: number.number(),
+    };
+    let label = replay(world, record);
+    if let Some(why) = end_of(world, record) {
+        return Some(Item::Last { number, why });
+    }
+    let text = text_of(world, &style, &label);
+    if text.is_empty() {
+        return None;
+    }
+    let text = Octets::from_vec(text);
+    Some(Item::Lines { number, text })
+}
+
+/// Why a record ends the session that is watched, by what it says.
+fn end_of(world: &World, record: &Record) -> Option<Why> {
+    match &record.kind {
+        Kind::Hung { session, why } if *session == world.watched => Some(*why),
+        Kind::Said { session, piece, .. } if *session == world.watched => {
+            match message_of(world, piece) {
+                Some(message) if is_quit(&message) => Some(Why::Quit),
+                _ => None,
+            }
+        }
+        _ => None,
+    }
+}
+
+/// Reads the records of a book in turn, for one session.
+#[derive(Drop)]
+pub struct Reader {
+    world: World,
+    next: usize,
+    owed: Vec<Item>,
+    is_shut: bool,
+}
+
+impl Reader {
+    /// A reader who has read nothing yet.
+    pub fn new(alloc: Global, session: SessionId) -> Reader {
+        Reader {
+            world: World::new(alloc, session),
+            next: 0,
+            owed: Vec::new(alloc),
+            is_shut: false,
         }
     }
-    Ok(owed)
+
+    fn miss(&mut self, record: &Record) -> bool {
+        let is_missed = record.missed.as_slice().contains(&self.world.watched);
+        self.is_shut = self.is_shut || is_missed;
+        is_missed
+    }
+
+    /// Looks again at the record that was read last: whoever hadn't missed it may have missed it since.
+    fn look_again(&mut self, record: &Record) {
+        let is_newest_owed = match self.owed.last() {
+            Some(item) => number_of(item) == record.number,
+            None => false,
+        };
+        if self.miss(record) && is_newest_owed {
+            let _ = self.owed.pop();
+        }
+    }
+
+    fn read(&mut self, record: &Record) {
+        let was_shut = self.is_shut;
+        let told = told_by(&mut self.world, record);
+        let is_missed = self.miss(record);
+        self.is_shut = self.is_shut || end_of(&self.world, record).is_some();
+        if let Some(item) = told
+            && !was_shut
+            && !is_missed
+        {
+            let is_done = self.owed.push(item).is_ok();
+            self.world.note(is_done);
+        }
+    }
+
+    /// Reads the records that are new. Once it failed for want of memory it fails for good.
+    pub fn read_on(&mut self, book: &Book) -> Result<(), AllocError> {
+        if let Some(record) = book.record(RecordNumber::new(self.next as u64)) {
+            self.look_again(record);
+        }
+        for place in self.next..book.len() {
+            if let Some(record) = record_at(book, place) {
+                self.read(record);
+            }
+        }
+        self.next = book.len();
+        self.world.checked()
+    }
+
+    /// All that the records owe to the session, in their order, but for each record that it missed and each after it was shut.
+    pub fn owed(&self) -> &[Item] {
+        &self.owed
+    }
+
+    /// Whether the session missed a record, or was ended by one: by its QUIT or by a Hung record.
+    pub fn is_shut(&self) -> bool {
+        self.is_shut
+    }
+
+    /// What holds after the records.
+    pub fn world(&self) -> &World {
+        &self.world
+    }
+}
+
+fn number_of(item: &Item) -> RecordNumber {
+    match item {
+        Item::Lines { number, .. } | Item::Last { number, .. } => *number,
+    }
+}
+
+/// All that the records of the book owe to a session, read from the first of them. Fails where there is no memory.
+pub fn slow_owed(alloc: Global, book: &Book, to: SessionId) -> Result<Vec<Item>, AllocError> {
+    let mut reader = Reader::new(alloc, to);
+    reader.read_on(book)?;
+    Ok(reader.owed)
 }

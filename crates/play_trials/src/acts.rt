@@ -48,15 +48,24 @@ pub(crate) enum Told {
     Refused(StepRefusal),
 }
 
+/// The one account: `al`, whose password is `bc`.
+fn accounts(alloc: Global) -> Result<Accounts, AllocError> {
+    let file = b"al a ba7816bf8f01cfea414140de5dae2223b00361a396177a9cb410ff61f20015ad";
+    match Accounts::read(alloc, file) {
+        Ok(accounts) => Ok(accounts),
+        Err(_) => Accounts::read(alloc, file).map_err(|_| AllocError),
+    }
+}
+
 /// The settings that the oracle knows, for so many sessions.
 pub(crate) fn settings(alloc: Global, sessions: usize) -> Result<Settings, AllocError> {
     Ok(Settings {
         server: copied(alloc, b"irc.example")?,
-        info: copied(alloc, b"")?,
+        info: copied(alloc, b"halld")?,
         version: copied(alloc, b"halld-1")?,
         created: Moment::new(0),
         motd: None,
-        accounts: Accounts::new(alloc),
+        accounts: accounts(alloc)?,
         sessions,
     })
 }

@@ -9,6 +9,10 @@ mod again;
 #[cfg(test)]
 mod books;
 #[cfg(test)]
+mod growths;
+#[cfg(test)]
 mod plays;
+#[cfg(test)]
+mod texts;
 #[cfg(test)]
 mod thousand;

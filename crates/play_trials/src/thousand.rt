@@ -1,53 +1,101 @@
 //! A thousand steps, after each of which what is told is compared with what the records say.
 use crate::acts::{Act, Told, brief, play, take_step};
 use crate::again::copied;
-use interleave::{
-    BookRefusal, Item, LineRefusal, Note, Octets, Play, RecordNumber, SessionId, StepRefusal, Why,
-};
-use oracle::{Fact, slow_facts, slow_nick, slow_on, slow_owed, slow_shut};
+use crate::texts::{FIRST, MET, MORE, SCRIPT, SCRIPT_MET};
+use interleave::{BookRefusal, Item, LineRefusal, Note, Octets, Play, SessionId, StepRefusal, Why};
+use oracle::{Reader, World, slow_nick, slow_on, slow_owed};
 use std::alloc::{AllocError, Global};
 use std::process::Abort;
 use std::test::Fail;
 
 const STEPS: usize = 1000;
 
-const LIMIT: usize = 80;
-
 const WORKERS: usize = 3;
 
-const SENDQ: usize = 5;
+/// More than any outbox holds.
+const MOST_TAKEN: usize = 16;
 
-/// What clients send: first what registers each of five, and then what any may send at any time.
-const TEXTS: [&str; 19] = [
-    "NICK al\r\nUSER a 0 * :Al\r\nJOIN #a\r\n",
-    "NICK Bo[\r\nuser b@c 0 * :Bo\r\nJOIN #b\r\nJOIN #a\r\n",
-    "JOIN #A\r\nUSER f 0 * :F\r\nnick bO{\r\nJOIN #A\r\n",
-    "NICK cy\r\nPRIVMSG\r\nUSER c 0 * :Cy\r\nJOIN #A\r\nPRIVMSG #a\r\n",
-    "NICK dee\r\nUSER dee 0 * :Dee\r\nJOIN #a\r\nJOIN #B\r\n",
-    "PRIVMSG #A,al,,#a :hello\r\n",
-    "PRIVMSG cy,#b,bo{,nobody :hi\r\nFOO\r\n",
-    "PRIVMSG #a :so",
-    " long\r\n:x privmsg #B hm\r\n",
-    "NICK 1\r\nUSER @ 0 * :No\r\nUSER e 0 *\r\nNICK ed\r\nUSER e 0 * :Ed\r\nJOIN #b\r\n",
-    "JOIN #A,b,#c,#B\r\nPRIVMSG #a,#none :again\r\n",
-    "PRIVMSG #a :bye\r\nQUIT :tired\r\n",
-    "NICK AL\r\n",
-    "nick cy\r\nNICK Cy\r\n",
-    "NICK\r\nNICK :a b\r\nUSER g 0 * :G\r\n",
-    "PING\r\nPING x\r\nping :a b\r\nPONG\r\n",
-    "JOIN\r\nPRIVMSG\r\nPRIVMSG #a\r\nPRIVMSG al,cy,Al,#a,dee,ed :all\r\n",
-    "PING ____________________________________________________________________________________________________\
-____________________________________________________________________________________________________\
-____________________________________________________________________________________________________\
-____________________________________________________________________________________________________\
-___________________________________________________________________________________________________\r\n",
-    "NICK ____________________________________________________________________________________________________\
-____________________________________________________________________________________________________\
-____________________________________________________________________________________________________\
-____________________________________________________________________________________________________\
-____________________________________________________________________________________________________\
-____________________________________________________________________________________________________\r\n",
+/// After how many steps what is left to be taken is looked at; it is so before each session is given up, too.
+const LOOKS: usize = 100;
+
+/// A play: the number from which its steps are drawn, how many records its journal takes, and how many items an outbox.
+#[derive(Clone, Copy)]
+struct Draw {
+    seed: u64,
+    limit: usize,
+    sendq: usize,
+}
+
+/// One with a journal that is full soon, two with small outboxes, and others in which more lines are said.
+const PLAYS: [Draw; 12] = [
+    Draw {
+        seed: 1,
+        limit: 80,
+        sendq: 5,
+    },
+    Draw {
+        seed: 2,
+        limit: 300,
+        sendq: 5,
+    },
+    Draw {
+        seed: 3,
+        limit: 300,
+        sendq: 10,
+    },
+    Draw {
+        seed: 4,
+        limit: 300,
+        sendq: 10,
+    },
+    Draw {
+        seed: 5,
+        limit: 300,
+        sendq: 10,
+    },
+    Draw {
+        seed: 6,
+        limit: 300,
+        sendq: 10,
+    },
+    Draw {
+        seed: 7,
+        limit: 300,
+        sendq: 10,
+    },
+    Draw {
+        seed: 8,
+        limit: 300,
+        sendq: 10,
+    },
+    Draw {
+        seed: 9,
+        limit: 300,
+        sendq: 10,
+    },
+    Draw {
+        seed: 10,
+        limit: 300,
+        sendq: 10,
+    },
+    Draw {
+        seed: 11,
+        limit: 300,
+        sendq: 10,
+    },
+    Draw {
+        seed: 12,
+        limit: 300,
+        sendq: 10,
+    },
 ];
+
+/// The first step's moment, shortly before the end of a day of February in a leap year.
+const FIRST_MOMENT: i64 = 951_782_399_500;
+
+fn moment_of(at: usize) -> i64 {
+    FIRST_MOMENT.saturating_add_unsigned(at as u64)
+}
 
 /// The kinds of notes and refusals that come at least once, and at last all others.
 const KINDS: [&str; 27] = [
@@ -126,35 +174,41 @@ struct Watched {
     taken: Vec<Item>,
     rest: Vec<Item>,
     is_reaped: bool,
-    owed: Vec<Item>,
-    is_shut: bool,
+    reader: Reader,
+    is_fed: bool,
 }
 
 /// What the test saw so far.
 #[derive(Drop)]
 struct Seen {
-    facts: Vec<Fact>,
+    draw: Draw,
+    reader: Reader,
     acts: Vec<Act>,
     sessions: Vec<Watched>,
     holder: Option<u64>,
     picker: Option<u64>,
     is_stuck: bool,
-    records: (usize, usize),
+    is_put: bool,
+    jobs: [bool; WORKERS + 1],
+    next_text: usize,
 }
 
-fn nothing_seen(alloc: Global) -> Result<Seen, AllocError> {
+fn nothing_seen(alloc: Global, draw: Draw) -> Result<Seen, AllocError> {
     let acts = match Vec::with_capacity(alloc, STEPS) {
         Ok(acts) => acts,
         Err(_) => Vec::with_capacity(alloc, STEPS)?,
     };
     Ok(Seen {
-        facts: Vec::new(alloc),
+        draw,
+        reader: Reader::new(alloc, SessionId::new(0)),
         acts,
         sessions: Vec::new(alloc),
         holder: None,
         picker: None,
         is_stuck: false,
-        records: (0, 0),
+        is_put: false,
+        jobs: [false; WORKERS + 1],
+        next_text: (draw.seed as usize).wrapping_mul(11),
     })
 }
 
@@ -172,21 +226,38 @@ fn after(number: u64) -> u64 {
         .wrapping_add(1_442_695_040_888_963_407)
 }
 
-/// What a client sends: what the session's own text says, or any text.
-fn text_of(draw: u64, session: u64) -> &'static str {
-    if draw % 2 == 0 {
-        TEXTS[(session % 5) as usize]
-    } else {
-        TEXTS[(draw / 2 % 19) as usize]
+/// What a client sends: first what registers it, and then the next of the texts that any may send.
+fn text_of(session: u64, seen: &Seen) -> &'static str {
+    match seen.sessions.get(session.wrapping_sub(1) as usize) {
+        Some(watched) if !watched.is_fed => FIRST[(session % 6) as usize],
+        _ => MORE[seen.next_text % 60],
     }
 }
 
-/// The step of the worker who picked last, or a pick.
+/// Whether a worker picked a line that it didn't end and didn't give back.
+fn has_job(seen: &Seen, worker: u64) -> bool {
+    match seen.jobs.get(worker as usize) {
+        Some(has_job) => *has_job,
+        None => false,
+    }
+}
+
+fn set_job(seen: &mut Seen, worker: u64, has_job: bool) {
+    if let Some(job) = seen.jobs.get_mut(worker as usize) {
+        *job = has_job;
+    }
+}
+
+/// The step of the worker who picked last, or a pick, or what becomes of an earlier one.
 fn next_act(draw: u64, session: u64, worker: u64, seen: &Seen) -> Act {
     let Some(picker) = seen.picker else {
-        return Act::Pick(worker, session);
+        return if has_job(seen, worker) {
+            Act::Begin(worker)
+        } else {
+            Act::Pick(worker, session)
+        };
     };
-    if draw < 40 || draw < 80 && seen.is_stuck {
+    if draw < 35 || draw < 90 && seen.is_stuck {
         Act::Back(picker)
     } else {
         Act::Begin(picker)
@@ -197,23 +268,24 @@ fn next_act(draw: u64, session: u64, worker: u64, seen: &Seen) -> Act {
 fn free_act(draw: u64, session: u64, worker: u64, seen: &Seen) -> Act {
     match draw % 100 {
         0..=2 => Act::Connect,
-        3..=12 => Act::Feed(session, text_of(draw / 1800, session)),
-        13..=17 => Act::Pick(worker, session),
-        18..=19 => Act::Begin(worker),
-        20 => Act::Put(worker),
-        21..=26 => Act::Take(session),
-        27 => Act::Hang(worker, session, Why::ReadEnded),
-        28..=30 => Act::Sweep(worker),
-        31..=34 => Act::Reap(alive(seen, draw / 100 % 2, true)),
+        3..=7 => Act::Feed(session, text_of(session, seen)),
+        8..=9 => Act::Pick(worker, session),
+        10 => Act::Begin(worker),
+        11 => Act::Put(worker),
+        12..=23 => Act::Take(session),
+        24 => Act::Hang(worker, session, Why::ReadEnded),
+        25..=27 => Act::Sweep(worker),
+        28..=30 => Act::Reap(alive(seen, draw / 100 % 2, true)),
         place => next_act(place, session, worker, seen),
     }
 }
 
 /// The step that a number says where a worker holds the lock.
-fn held_act(draw: u64, session: u64, worker: u64, holder: u64) -> Act {
+fn held_act(draw: u64, session: u64, worker: u64, holder: u64, seen: &Seen) -> Act {
     match draw % 100 {
-        0..=44 => Act::Put(holder),
-        45..=79 => Act::End(holder),
+        0..=75 if seen.is_put => Act::End(holder),
+        0..=75 => Act::Put(holder),
+        76..=79 => Act::End(holder),
         80..=81 => Act::Put(worker),
         82 => Act::Begin(worker),
         83..=92 => Act::Pick(worker, session),
@@ -228,7 +300,7 @@ fn alive(seen: &Seen, place: u64, is_shut: bool) -> u64 {
     let mut before = 0u64;
     let mut found = 1;
     for (at, watched) in seen.sessions.iter().enumerate() {
-        if !watched.is_reaped && watched.is_shut == is_shut && before <= place {
+        if !watched.is_reaped && watched.reader.is_shut() == is_shut && before <= place {
             found = at as u64 + 1;
             before = before.saturating_add(1);
         }
@@ -248,7 +320,7 @@ fn act_of(number: u64, seen: &Seen) -> Act {
     };
     let worker = 1 + draw / 100 % 3;
     match seen.holder {
-        Some(holder) => held_act(draw, session, worker, holder),
+        Some(holder) => held_act(draw, session, worker, holder, seen),
         None => free_act(draw, session, worker, seen),
     }
 }
@@ -268,12 +340,13 @@ fn watch(alloc: Global, sessions: &mut Vec<Watched>) -> Result<(), AllocError> {
         Ok(()) => {}
         Err(_) => sessions.reserve(1)?,
     }
+    let session = SessionId::new((sessions.len() as u64).saturating_add(1));
     sessions.push(Watched {
         taken: Vec::new(alloc),
         rest: Vec::new(alloc),
         is_reaped: false,
-        owed: Vec::new(alloc),
-        is_shut: false,
+        reader: Reader::new(alloc, session),
+        is_fed: false,
     })?;
     Ok(())
 }
@@ -282,21 +355,36 @@ fn seen_of(sessions: &mut Vec<Watched>, session: u64) -> Option<&mut Watched> {
     sessions.get_mut(session.checked_sub(1)? as usize)
 }
 
-/// Keeps who holds the lock, and who picked a line last and hasn't begun it.
+/// Keeps who holds the lock, whether all is put, and who picked a line last and hasn't begun it.
 fn note_workers(seen: &mut Seen, act: Act, told: Told) {
     match (act, told) {
         (Act::Pick(worker, _), Told::Picked) => {
             seen.picker = Some(worker);
             seen.is_stuck = false;
+            set_job(seen, worker, true);
         }
         (Act::Begin(worker), Told::Record(_)) => {
             seen.picker = None;
+            seen.is_put = false;
             seen.holder = Some(worker);
         }
-        (Act::Begin(_), Told::Refused(StepRefusal::Book(_))) => seen.is_stuck = true,
-        (Act::Back(_), Told::Back) => seen.picker = None,
-        (Act::Sweep(worker), Told::Swept(Some(_))) => seen.holder = Some(worker),
-        (_, Told::Done(_)) => seen.holder = None,
+        (_, Told::Refused(StepRefusal::NothingLeft)) => seen.is_put = true,
+        (Act::Begin(worker), Told::Refused(StepRefusal::Book(_))) => {
+            seen.picker = Some(worker);
+            seen.is_stuck = true;
+        }
+        (Act::Back(worker), Told::Back) => {
+            seen.picker = None;
+            set_job(seen, worker, false);
+        }
+        (Act::Sweep(worker), Told::Swept(Some(_))) => {
+            seen.is_put = false;
+            seen.holder = Some(worker);
+        }
+        (Act::End(worker), Told::Done(_)) => {
+            seen.holder = None;
+            set_job(seen, worker, false);
+        }
         _ => {}
     }
 }
@@ -309,7 +397,7 @@ fn take_all(
     session: u64,
     items: &mut Vec<Item>,
 ) -> Result<(), AllocError> {
-    for _ in 0..SENDQ {
+    for _ in 0..MOST_TAKEN {
         if let Ok(Note::Item(item)) = take_step(rt, alloc, play, Act::Take(session), 0)? {
             keep(items, item)?;
         }
@@ -360,7 +448,7 @@ fn repeat(
     seen: &mut Seen,
 ) -> Result<(), AllocError> {
     for (at, act) in seen.acts.iter().enumerate() {
-        let _ = take_step(rt, alloc, copy, *act, at as i64)?;
+        let _ = take_step(rt, alloc, copy, *act, moment_of(at))?;
     }
     take_queues(rt, alloc, copy, &mut seen.sessions)?;
     match seen.holder {
@@ -371,16 +459,34 @@ fn repeat(
 
 /// Takes the same steps in a play of its own, and there all that is left for each session.
 fn look_ahead(rt: &impl Abort, alloc: Global, seen: &mut Seen) -> Result<(), Fail> {
-    let mut copy = play(alloc, LIMIT, WORKERS, SENDQ)?;
+    let mut copy = play(alloc, seen.draw.limit, WORKERS, seen.draw.sendq)?;
     repeat(rt, alloc, &mut copy, seen)?;
     Ok(())
 }
 
 /// Whether what was taken is the first of what is owed, and what is left is the rest.
-fn is_told(watched: &Watched) -> bool {
-    match watched.owed.split_at_checked(watched.taken.len()) {
+fn is_all_told(watched: &Watched) -> bool {
+    let owed = watched.reader.owed();
+    match owed.split_at_checked(watched.taken.len()) {
         Some((first, rest)) => first == watched.taken.as_slice() && rest == watched.rest.as_slice(),
         None => false,
+    }
+}
+
+/// Whether what was taken last is owed at its place.
+fn is_last_told(watched: &Watched) -> bool {
+    match watched.taken.split_last() {
+        Some((last, before)) => watched.reader.owed().get(before.len()) == Some(last),
+        None => true,
+    }
+}
+
+/// Whether what was taken is owed, and what is left, where that was looked at.
+fn is_told(watched: &Watched, is_looked_at: bool) -> bool {
+    if is_looked_at {
+        is_all_told(watched)
+    } else {
+        is_last_told(watched)
     }
 }
 
@@ -392,70 +498,58 @@ fn owed(alloc: Global, play: &Play, session: SessionId) -> Result<Vec<Item>, All
     }
 }
 
-fn is_shut(alloc: Global, play: &Play, session: SessionId) -> Result<bool, AllocError> {
-    match slow_shut(alloc, play.book(), session) {
-        Ok(shut) => Ok(shut),
-        Err(_) => slow_shut(alloc, play.book(), session),
+/// Reads the records that are new, and all of them where a growth was refused.
+fn read_on(
+    alloc: Global,
+    play: &Play,
+    reader: &mut Reader,
+    session: SessionId,
+) -> Result<(), AllocError> {
+    match reader.read_on(play.book()) {
+        Ok(()) => Ok(()),
+        Err(_) => {
+            *reader = Reader::new(alloc, session);
+            reader.read_on(play.book())
+        }
     }
 }
 
-fn facts_of(alloc: Global, play: &Play) -> Result<Vec<Fact>, AllocError> {
-    match slow_facts(alloc, play.book()) {
-        Ok(facts) => Ok(facts),
-        Err(_) => slow_facts(alloc, play.book()),
-    }
-}
-
-/// Whether the book knows of a session what the facts of the records say.
-fn is_known(play: &Play, facts: &[Fact], session: SessionId, channels: &[Octets]) -> bool {
+/// Whether the book knows of a session what the records say.
+fn is_known(play: &Play, world: &World, session: SessionId, channels: &[Octets]) -> bool {
     let book = play.book();
     for channel in channels {
-        if book.is_on(session, channel) != slow_on(facts, session, channel.as_slice()) {
+        if book.is_on(session, channel) != slow_on(world, session, channel.as_slice()) {
             return false;
         }
     }
-    match (book.nick_of(session), slow_nick(facts, session)) {
-        (Some(nick), Some(want)) => nick == want,
+    match (book.nick_of(session), slow_nick(world, session)) {
+        (Some(nick), Some(want)) => nick.as_slice() == want,
         (nick, want) => nick.is_none() && want.is_none(),
     }
 }
 
-/// How many records there are, and how many sessions missed the newest: all say the same until one of these changes.
-fn records_of(play: &Play) -> (usize, usize) {
-    let count = play.book().len();
-    match play.book().record(RecordNumber::new(count as u64)) {
-        Some(newest) => (count, newest.missed.as_slice().len()),
-        None => (0, 0),
-    }
-}
-
-/// Reads the records anew where they changed.
+/// Reads what is new for each session.
 fn read_back(alloc: Global, play: &Play, seen: &mut Seen) -> Result<(), AllocError> {
-    if seen.records == records_of(play) {
-        return Ok(());
-    }
-    seen.records = records_of(play);
-    seen.facts = facts_of(alloc, play)?;
+    read_on(alloc, play, &mut seen.reader, SessionId::new(0))?;
     for (place, watched) in seen.sessions.iter_mut().enumerate() {
         let session = SessionId::new(place as u64 + 1);
-        watched.owed = owed(alloc, play, session)?;
-        watched.is_shut = is_shut(alloc, play, session)?;
+        read_on(alloc, play, &mut watched.reader, session)?;
     }
     Ok(())
 }
 
 /// Compares each session that was ever opened with the records.
-fn compare_all(rt: &impl Abort, play: &Play, seen: &Seen, channels: &[Octets]) {
+fn compare_all(rt: &impl Abort, play: &Play, seen: &Seen, is_looked_at: bool, channels: &[Octets]) {
     let at = seen.acts.len();
     for (place, watched) in seen.sessions.iter().enumerate() {
         let session = SessionId::new(place as u64 + 1);
         assert!(rt;
-            is_known(play, &seen.facts, session, channels),
+            is_known(play, seen.reader.world(), session, channels),
             "{session:?} at {at}"
         );
         let is_open = play.book().is_open(session);
-        assert!(rt; is_open != watched.is_shut, "{session:?} at {at}");
-        assert!(rt; is_told(watched), "{session:?} at {at}");
+        assert!(rt; is_open != watched.reader.is_shut(), "{session:?} at {at}");
+        assert!(rt; is_told(watched, is_looked_at), "{session:?} at {at}");
     }
 }
 
@@ -482,6 +576,13 @@ fn note(
             }
         }
         (Act::Connect, Ok(_)) => watch(alloc, &mut seen.sessions)?,
+        (Act::Feed(session, _), Ok(_)) => {
+            if let Some(watched) = seen_of(&mut seen.sessions, session) {
+                let is_next = watched.is_fed;
+                watched.is_fed = true;
+                seen.next_text = seen.next_text.wrapping_add(is_next as usize);
+            }
+        }
         _ => {}
     }
     Ok(told)
@@ -496,16 +597,19 @@ fn take_next(
     act: Act,
     channels: &[Octets],
 ) -> Result<Told, Fail> {
-    if matches!(&act, Act::Reap(_)) {
+    let at = seen.acts.len();
+    let answer = take_step(rt, alloc, play, act, moment_of(at))?;
+    if matches!(&answer, Ok(Note::Left(_))) {
         look_ahead(rt, alloc, seen)?;
     }
-    let at = seen.acts.len() as i64;
-    let answer = take_step(rt, alloc, play, act, at)?;
     seen.acts.push(act)?;
     let told = note(rt, alloc, seen, act, answer)?;
-    look_ahead(rt, alloc, seen)?;
+    let is_looked_at = (at + 1) % LOOKS == 0;
+    if is_looked_at {
+        look_ahead(rt, alloc, seen)?;
+    }
     read_back(alloc, play, seen)?;
-    compare_all(rt, play, seen, channels);
+    compare_all(rt, play, seen, is_looked_at, channels);
     Ok(told)
 }
 
@@ -516,31 +620,144 @@ fn take_steps(
     play: &mut Play,
     seen: &mut Seen,
     channels: &[Octets],
-) -> Result<[u64; KINDS.len()], Fail> {
-    let mut counts = [0u64; KINDS.len()];
-    let mut number = 1;
+    counts: &mut [u64],
+) -> Result<(), Fail> {
+    let mut number = seen.draw.seed;
     for _ in 0..STEPS {
         number = after(number);
         let act = act_of(number, seen);
         let told = take_next(rt, alloc, play, seen, act, channels)?;
-        count(&mut counts, told);
+        count(counts, told);
     }
-    Ok(counts)
+    Ok(())
 }
 
-/// Takes the steps, and compares how often each kind of answer came.
-fn compare_steps(rt: &impl Abort, alloc: Global, play: &mut Play) -> Result<(), Fail> {
-    let channels = [copied(alloc, b"#a")?, copied(alloc, b"#B")?];
-    let mut seen = nothing_seen(alloc)?;
-    let counts = take_steps(rt, alloc, play, &mut seen, &channels)?;
-    for (count, kind) in counts.iter().zip(KINDS.iter()) {
-        assert!(rt; *count > 0, "{kind} in {counts:?}");
+/// Whether a text holds another.
+fn holds(text: &[u8], wanted: &[u8]) -> bool {
+    for (at, octet) in text.iter().enumerate() {
+        if wanted.first() == Some(octet)
+            && let Some(rest) = text.get(at..)
+            && rest.starts_with(wanted)
+        {
+            return true;
+        }
+    }
+    false
+}
+
+/// Counts in how many items of these something to be met stands.
+fn count_met(items: &[Item], wanted: &[&str], met: &mut [u64]) {
+    for item in items {
+        if let Item::Lines { text, .. } = item {
+            for (count, wanted) in met.iter_mut().zip(wanted.iter()) {
+                if holds(text.as_slice(), wanted.as_bytes()) {
+                    *count = count.saturating_add(1);
+                }
+            }
+        }
+    }
+}
+
+/// Takes the steps of a play, and counts the answers by their kinds, and what is met.
+fn play_steps(
+    rt: &impl Abort,
+    alloc: Global,
+    draw: Draw,
+    counts: &mut [u64],
+    met: &mut [u64],
+) -> Result<(), Fail> {
+    let channels = [
+        copied(alloc, b"#a")?,
+        copied(alloc, b"#B")?,
+        copied(alloc, b"&b")?,
+    ];
+    let mut play = play(alloc, draw.limit, WORKERS, draw.sendq)?;
+    let mut seen = nothing_seen(alloc, draw)?;
+    take_steps(rt, alloc, &mut play, &mut seen, &channels, counts)?;
+    count_all(rt, alloc, &play, &seen, &MET, met)
+}
+
+/// Counts what is met in all that is owed, as it is read at once.
+fn count_all(
+    rt: &impl Abort,
+    alloc: Global,
+    play: &Play,
+    seen: &Seen,
+    wanted: &[&str],
+    met: &mut [u64],
+) -> Result<(), Fail> {
+    for (place, watched) in seen.sessions.iter().enumerate() {
+        let session = SessionId::new(place as u64 + 1);
+        let all = owed(alloc, play, session)?;
+        assert!(rt; all.as_slice() == watched.reader.owed());
+        count_met(&all, wanted, met);
     }
     Ok(())
 }
 
 #[test]
 fn a_thousand_steps(rt: HostRuntime) -> Result<(), Fail> {
-    let mut play = play(rt.alloc(), LIMIT, WORKERS, SENDQ)?;
-    compare_steps(&rt, rt.alloc(), &mut play)
+    let mut counts = [0u64; KINDS.len()];
+    let mut met = [0u64; MET.len()];
+    for draw in &PLAYS {
+        play_steps(&rt, rt.alloc(), *draw, &mut counts, &mut met)?;
+    }
+    for (count, kind) in counts.iter().zip(KINDS.iter()) {
+        assert!(rt; *count > 0, "{kind} in {counts:?}");
+    }
+    for (count, wanted) in met.iter().zip(MET.iter()) {
+        assert!(rt; *count > 0, "{wanted} in {met:?}");
+    }
+    Ok(())
+}
+
+/// Feeds a session, has its lines done, and takes what they bring.
+fn say_lines(
+    rt: &impl Abort,
+    alloc: Global,
+    play: &mut Play,
+    seen: &mut Seen,
+    session: u64,
+    text: &'static str,
+) -> Result<(), Fail> {
+    let _ = take_next(rt, alloc, play, seen, Act::Feed(session, text), &[])?;
+    for _ in 0..4 {
+        let _ = take_next(rt, alloc, play, seen, Act::Pick(1, session), &[])?;
+        let _ = take_next(rt, alloc, play, seen, Act::Begin(1), &[])?;
+        let _ = take_next(rt, alloc, play, seen, Act::Put(1), &[])?;
+        let _ = take_next(rt, alloc, play, seen, Act::Put(1), &[])?;
+        let _ = take_next(rt, alloc, play, seen, Act::End(1), &[])?;
+        let _ = take_next(rt, alloc, play, seen, Act::Take(1), &[])?;
+        let _ = take_next(rt, alloc, play, seen, Act::Take(2), &[])?;
+    }
+    Ok(())
+}
+
+/// Takes the steps of the script, and counts what is met.
+fn script_steps(rt: &impl Abort, alloc: Global, met: &mut [u64]) -> Result<(), Fail> {
+    let draw = Draw {
+        seed: 0,
+        limit: 100,
+        sendq: 10,
+    };
+    let mut play = play(alloc, draw.limit, WORKERS, draw.sendq)?;
+    let mut seen = nothing_seen(alloc, draw)?;
+    let _ = take_next(rt, alloc, &mut play, &mut seen, Act::Connect, &[])?;
+    let _ = take_next(rt, alloc, &mut play, &mut seen, Act::Connect, &[])?;
+    for (session, text) in &SCRIPT {
+        say_lines(rt, alloc, &mut play, &mut seen, *session, text)?;
+    }
+    look_ahead(rt, alloc, &mut seen)?;
+    compare_all(rt, &play, &seen, true, &[]);
+    count_all(rt, alloc, &play, &seen, &SCRIPT_MET, met)
+}
+
+#[test]
+fn a_script(rt: HostRuntime) -> Result<(), Fail> {
+    let mut met = [0u64; SCRIPT_MET.len()];
+    script_steps(&rt, rt.alloc(), &mut met)?;
+    for (count, wanted) in met.iter().zip(SCRIPT_MET.iter()) {
+        assert!(rt; *count > 0, "{wanted} in {met:?}");
+    }
+    Ok(())
 }

@@ -1,20 +1,11 @@
 -- What is left of a list as it is taken one by one.
-use Rattle.std.proofs.Common.{◌≡◌, ℕ, zero, suc, ◌+◌, ◌<◌, ◌≤◌, Bool, true, false, cond, List, [], ◌∷◌, ◌++◌, filter, map, flat_map, length, get_or, drop, slice_get, arith, Option, Some, None, option_to_list, if◌then◌else◌, refl, sym, ap, ◌∙◌}
+use Rattle.std.proofs.Common.{◌≡◌, ℕ, zero, suc, ◌+◌, ◌<◌, ◌≤◌, true, false, cond, List, [], ◌∷◌, ◌++◌, filter, map, flat_map, length, get_or, drop, slice_get, arith, Option, Some, None, option_to_list, if◌then◌else◌, refl, sym, ap, ◌∙◌}
 use Rattle.std.proofs.lemmas.Option.{get_or_from_slice_get}
 use Rattle.roster.specs.declared.deed.Deed.{Deed}
 use Rattle.roster.specs.LookBack.{state}
 use Rattle.drafts.proofs.Turns.{dropped, none_left}
 use Rattle.query_commands.specs.Visible.{of_one}
 use Rattle.query_commands.specs.Whois.{channel_title, is_shared, title_for}
-
-filter_one : {A : Type 0} (p : A → Bool) (x : A) (xs : List A) → filter p (x ∷ xs) ≡ filter p (x ∷ []) ++ filter p xs
-filter_one p x xs = elim (p x) as (λ b. cond b (x ∷ filter p xs) (filter p xs) ≡ cond b (x ∷ []) [] ++ filter p xs) [
-  | true ↦ refl
-  | false ↦ refl
-]
-
-pub filter_more : {A : Type 0} (p : A → Bool) (xs : List A) (i : ℕ) (x : A) → i < length xs → x ≡ get_or xs i x → filter p (x ∷ []) ++ filter p (drop (i + 1) xs) ≡ filter p (drop i xs)
-filter_more p xs i x l is = sym (ap (filter p) (dropped xs i x l is) ∙ filter_one p x (drop (i + 1) xs))
 
 within : {A : Type 0} (xs : List A) (i : ℕ) (x : A) → slice_get xs i ≡ Some x → i < length xs
 within {A} [] i x e = absurd (let f : ◌≡◌ {A = Option A} None (Some x) = e in cc)

@@ -110,18 +110,9 @@ connect h1
 1> :~ 421 * Version :Unknown command
 ";
 
-/// A command that is to come, with and without its parameter.
-const NOT_SERVED: &str = "\
-1 @+a=b TAGMSG #a
-1> :~ 421 al TAGMSG :Unknown command
-1 tagmsg
-1> :~ 421 al tagmsg :Unknown command
-";
-
 #[test]
-fn commands_that_are_not_served(rt: HostRuntime) -> Result<(), Fail> {
+fn commands_that_are_unknown(rt: HostRuntime) -> Result<(), Fail> {
     tell_talk(rt.alloc(), &[UNKNOWN])?;
-    tell_talk(rt.alloc(), &[AL, NOT_SERVED])?;
     Ok(())
 }
 

@@ -1,45 +1,62 @@
 -- A text establishes no fact.
-use Rattle.std.proofs.Common.{◌≡◌, ℕ, Bool, true, false, ◌==◌, List, [], ◌∷◌, ◌++◌, Option, Some, None, refl, ap, ◌∙◌, cond}
+use Rattle.std.proofs.Common.{◌≡◌, ℕ, Bool, true, false, ◌&&◌, ◌==◌, List, [], ◌∷◌, ◌++◌, filter, Option, Some, None, refl, ap, ◌∙◌, cond}
 use Rattle.std.specs.List.{flat_map}
 use Rattle.numerics.specs.declared.numeric.Numeric.{Numeric}
+use Rattle.numerics.specs.declared.outgoing.Out.{Out}
 use Rattle.registration.specs.declared.settings.Settings.{Settings}
 use Rattle.roster.specs.declared.deed.Deed.{Deed}
-use Rattle.roster.specs.LookBack.{away, found, state, name_of}
+use Rattle.roster.specs.LookBack.{away, caps, found, state, name_of, nick}
 use Rattle.drafts.specs.declared.effect.Effect.{Effect}
+use Rattle.drafts.specs.declared.effect.Effect.TheVariants.{Answer, Show}
 use Rattle.drafts.specs.Effects.{deeds_of}
-use Rattle.drafts.specs.Lines.{prefix}
+use Rattle.drafts.specs.Lines.{prefix, title}
 use Rattle.drafts.proofs.Replay.{deeds_of-append}
 use Rattle.talk_commands.specs.declared.verb.Verb.{Verb}
-use Rattle.talk_commands.specs.declared.verb.Verb.TheVariants.{Privmsg, Notice}
-use Rattle.talk_commands.specs.Talking.{answers, may_speak, names_channel, delivers, tells_away, to_channel, to_user, to_one}
+use Rattle.talk_commands.specs.declared.verb.Verb.TheVariants.{Privmsg, Notice, Tagmsg}
+use Rattle.talk_commands.specs.Lines.{Sent, sent_line}
+use Rattle.talk_commands.specs.Talking.{answers, echoes, keeps, may_speak, names_channel, delivers, reaches, tells_away, to_channel, to_user, to_one}
 
 answers-quiet : (g : Settings) (fs : List Deed) (s : ℕ) (v : Verb) (n : Numeric) → deeds_of (answers g fs s v n) ≡ []
 answers-quiet g fs s Privmsg n = refl
 answers-quiet g fs s Notice n = refl
+answers-quiet g fs s Tagmsg n = refl
 
 either_quiet : (b : Bool) (xs ys : List Effect) → deeds_of xs ≡ [] → deeds_of ys ≡ [] → deeds_of (cond b xs ys) ≡ []
 either_quiet true xs ys e f = e
 either_quiet false xs ys e f = f
 
-channel-quiet : (g : Settings) (fs : List Deed) (s : ℕ) (v : Verb) (x c : List ℕ) (o : Option (List ℕ)) → deeds_of (to_channel g fs s v x c o) ≡ []
-channel-quiet g fs s v x c None = answers-quiet g fs s v _
-channel-quiet g fs s v x c (Some n) = either_quiet (may_speak (state fs c) s (prefix fs s)) _ _ refl (answers-quiet g fs s v _)
+both-quiet : (xs ys : List Effect) → deeds_of xs ≡ [] → deeds_of ys ≡ [] → deeds_of (xs ++ ys) ≡ []
+both-quiet xs ys e f = deeds_of-append xs ys ∙ ap (λ ds. ds ++ deeds_of ys) e ∙ f
+
+echo-quiet : (fs : List Deed) (s : ℕ) (b : Sent) (l : Out) → deeds_of (echoes fs s b l) ≡ []
+echo-quiet fs s b l = either_quiet ((caps fs s).echo_message && reaches fs b s) (Answer l ∷ []) [] refl refl
+
+kept-quiet : (fs : List Deed) (s : ℕ) (b : Sent) (l : Out) → deeds_of (keeps fs s b l) ≡ []
+kept-quiet fs s b l = either_quiet (reaches fs b s) _ _ refl refl
+
+channel-quiet : (g : Settings) (fs : List Deed) (s : ℕ) (b : Sent) (c : List ℕ) (o : Option (List ℕ)) → deeds_of (to_channel g fs s b c o) ≡ []
+channel-quiet g fs s b c None = answers-quiet g fs s b.verb _
+channel-quiet g fs s b c (Some n) = either_quiet (may_speak (state fs c) s (prefix fs s)) _ _ (echo-quiet fs s b (sent_line b (prefix fs s) n)) (answers-quiet g fs s b.verb _)
 
 away-quiet : (g : Settings) (fs : List Deed) (s : ℕ) (v : Verb) (t : ℕ) (o : Option (List ℕ)) → deeds_of (tells_away g fs s v t o) ≡ []
-away-quiet g fs s v t None = refl
-away-quiet g fs s v t (Some x) = answers-quiet g fs s v _
+away-quiet g fs s Privmsg t None = refl
+away-quiet g fs s Privmsg t (Some x) = refl
+away-quiet g fs s Notice t o = refl
+away-quiet g fs s Tagmsg t o = refl
 
-delivered : (b : Bool) (x y : Effect) (es : List Effect) → deeds_of (x ∷ []) ≡ [] → deeds_of (y ∷ []) ≡ [] → deeds_of es ≡ [] → deeds_of (cond b x y ∷ es) ≡ []
-delivered true x y es e f h = deeds_of-append (x ∷ []) es ∙ ap (λ ds. ds ++ deeds_of es) e ∙ h
-delivered false x y es e f h = deeds_of-append (y ∷ []) es ∙ ap (λ ds. ds ++ deeds_of es) f ∙ h
+delivers-quiet : (fs : List Deed) (s : ℕ) (b : Sent) (t : ℕ) (l : Out) → deeds_of (delivers fs s b t l) ≡ []
+delivers-quiet fs s b t l =
+    let other : List Effect = Show (filter (reaches fs b) (t ∷ [])) l ∷ [] in
+    both-quiet (cond (t == s) (keeps fs s b l) other) (echoes fs s b l) (either_quiet (t == s) (keeps fs s b l) other (kept-quiet fs s b l) refl) (echo-quiet fs s b l)
 
-user-quiet : (g : Settings) (fs : List Deed) (s : ℕ) (v : Verb) (x n : List ℕ) (o : Option ℕ) → deeds_of (to_user g fs s v x n o) ≡ []
-user-quiet g fs s v x n None = answers-quiet g fs s v _
-user-quiet g fs s v x n (Some t) = delivered (t == s) _ _ (tells_away g fs s v t (away fs t)) refl refl (away-quiet g fs s v t (away fs t))
+user-quiet : (g : Settings) (fs : List Deed) (s : ℕ) (b : Sent) (n : List ℕ) (o : Option ℕ) → deeds_of (to_user g fs s b n o) ≡ []
+user-quiet g fs s b n None = answers-quiet g fs s b.verb _
+user-quiet g fs s b n (Some t) =
+    let l = sent_line b (prefix fs s) (title (nick fs t)) in both-quiet (delivers fs s b t l) (tells_away g fs s b.verb t (away fs t)) (delivers-quiet fs s b t l) (away-quiet g fs s b.verb t (away fs t))
 
-pub one-quiet : (g : Settings) (fs : List Deed) (s : ℕ) (v : Verb) (x c : List ℕ) → deeds_of (to_one g fs s v x c) ≡ []
-one-quiet g fs s v x c = either_quiet (names_channel c) _ _ (channel-quiet g fs s v x c (name_of fs c)) (user-quiet g fs s v x c (found fs c))
+pub one-quiet : (g : Settings) (fs : List Deed) (s : ℕ) (b : Sent) (c : List ℕ) → deeds_of (to_one g fs s b c) ≡ []
+one-quiet g fs s b c = either_quiet (names_channel c) _ _ (channel-quiet g fs s b c (name_of fs c)) (user-quiet g fs s b c (found fs c))
 
-pub all-quiet : (g : Settings) (fs : List Deed) (s : ℕ) (v : Verb) (x : List ℕ) (cs : List (List ℕ)) → deeds_of (flat_map (to_one g fs s v x) cs) ≡ []
-all-quiet g fs s v x [] = refl
-all-quiet g fs s v x (c ∷ cs) = deeds_of-append (to_one g fs s v x c) (flat_map (to_one g fs s v x) cs) ∙ ap (λ ds. ds ++ deeds_of (flat_map (to_one g fs s v x) cs)) (one-quiet g fs s v x c) ∙ all-quiet g fs s v x cs
+pub all-quiet : (g : Settings) (fs : List Deed) (s : ℕ) (b : Sent) (cs : List (List ℕ)) → deeds_of (flat_map (to_one g fs s b) cs) ≡ []
+all-quiet g fs s b [] = refl
+all-quiet g fs s b (c ∷ cs) = both-quiet (to_one g fs s b c) (flat_map (to_one g fs s b) cs) (one-quiet g fs s b c) (all-quiet g fs s b cs)

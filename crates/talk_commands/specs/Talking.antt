@@ -1,24 +1,39 @@
--- What PRIVMSG and NOTICE do: RFC 2812, sections 3.3.1 and 3.3.2, and who may speak on a channel: RFC 2811, sections 4.2.3, 4.2.4 and 4.3.1.
-use Rattle.std.specs.Prelude.{ℕ, Bool, true, false, not, ◌&&◌, ◌||◌, ◌==◌, nat_lt, List, [], ◌∷◌, ◌++◌, length, slice_index_or, Option, Some, None, if◌then◌else◌}
+-- What PRIVMSG, NOTICE and TAGMSG do: RFC 2812, sections 3.3.1 and 3.3.2, IRCv3 message-tags and IRCv3 echo-message; and who may speak on a channel: RFC 2811, sections 4.2.3, 4.2.4 and 4.3.1.
+use Rattle.std.specs.Prelude.{ℕ, Bool, true, false, not, ◌&&◌, ◌||◌, ◌==◌, nat_lt, List, [], ◌∷◌, ◌++◌, filter, length, slice_index_or, Option, Some, None, if◌then◌else◌}
 use Rattle.std.specs.List.{flat_map}
 use Rattle.channel_state.specs.State.{State, among, is_banned, without}
 use Rattle.numerics.specs.declared.numeric.Numeric.{Numeric}
+use Rattle.numerics.specs.declared.outgoing.Out.{Out}
 use Rattle.numerics.specs.declared.numeric.Numeric.TheVariants.{NoSuchChannel, CannotSendToChan, NoSuchNick, TooManyTargets, Away}
 use Rattle.registration.specs.declared.settings.Settings.{Settings}
 use Rattle.roster.specs.declared.deed.Deed.{Deed}
-use Rattle.roster.specs.LookBack.{nick, away, found, state, name_of}
+use Rattle.roster.specs.LookBack.{nick, away, caps, found, state, name_of}
 use Rattle.drafts.specs.declared.effect.Effect.{Effect}
-use Rattle.drafts.specs.declared.effect.Effect.TheVariants.{Show, Copy}
+use Rattle.drafts.specs.declared.effect.Effect.TheVariants.{Answer, Show, Copy}
 use Rattle.drafts.specs.Lines.{title, prefix}
 use Rattle.drafts.specs.Replies.{tells}
 use Rattle.talk_commands.specs.declared.verb.Verb.{Verb}
-use Rattle.talk_commands.specs.declared.verb.Verb.TheVariants.{Privmsg, Notice}
-use Rattle.talk_commands.specs.Lines.{text_line}
+use Rattle.talk_commands.specs.declared.verb.Verb.TheVariants.{Privmsg, Notice, Tagmsg}
+use Rattle.talk_commands.specs.Lines.{Sent, sent_line}
 
 -- a numeric, which NOTICE never gets
 abbrev pub answers : Settings → List Deed → ℕ → Verb → Numeric → List Effect
-answers g fs s Privmsg n = tells g fs s n ∷ []
 answers g fs s Notice n = []
+answers g fs s v n = tells g fs s n ∷ []
+
+-- ---- whom it reaches
+
+-- TAGMSG reaches those alone who take tags, and nobody where it has none
+abbrev pub reached : List Deed → Verb → List ℕ → ℕ → Bool
+reached fs Tagmsg tags t = not (length tags == 0) && (caps fs t).message_tags
+reached fs v tags t = true
+
+abbrev pub reaches : List Deed → Sent → ℕ → Bool
+reaches fs b t = reached fs b.verb b.tags t
+
+-- its sender gets it back as a part of the answer, if it wants to
+abbrev pub echoes : List Deed → ℕ → Sent → Out → List Effect
+echoes fs s b l = if (caps fs s).echo_message && reaches fs b s then Answer l ∷ [] else []
 
 -- ---- a channel
 
@@ -32,29 +47,36 @@ is_barred k s source = k.modes.moderated || (k.modes.no_outside && not (among s 
 abbrev pub may_speak : State → ℕ → List ℕ → Bool
 may_speak k s source = has_rank k s || not (is_barred k s source)
 
--- to the other members of a channel that is there
-abbrev pub to_channel : Settings → List Deed → ℕ → Verb → List ℕ → List ℕ → Option (List ℕ) → List Effect
-to_channel g fs s v text c None = answers g fs s v (NoSuchChannel c)
-to_channel g fs s v text c (Some n) =
-    if may_speak (state fs c) s (prefix fs s) then Show (without s (state fs c).members) (text_line v (prefix fs s) n text) ∷ []
-    else answers g fs s v (CannotSendToChan n)
+-- to the other members of a channel
+abbrev pub shows : List Deed → ℕ → Sent → List ℕ → Out → List Effect
+shows fs s b members l = Show (filter (reaches fs b) (without s members)) l ∷ echoes fs s b l
+
+abbrev pub to_open : Settings → List Deed → ℕ → Sent → List ℕ → State → List Effect
+to_open g fs s b n k =
+    if may_speak k s (prefix fs s) then shows fs s b k.members (sent_line b (prefix fs s) n)
+    else answers g fs s b.verb (CannotSendToChan n)
+
+abbrev pub to_channel : Settings → List Deed → ℕ → Sent → List ℕ → Option (List ℕ) → List Effect
+to_channel g fs s b c None = answers g fs s b.verb (NoSuchChannel c)
+to_channel g fs s b c (Some n) = to_open g fs s b n (state fs c)
 
 -- ---- a user
 
 -- what a session sends to itself is given to it besides
-abbrev pub delivers : List Deed → ℕ → Verb → List ℕ → ℕ → Effect
-delivers fs s v text t =
-    if t == s then Copy (text_line v (prefix fs s) (title (nick fs t)) text)
-    else Show (t ∷ []) (text_line v (prefix fs s) (title (nick fs t)) text)
+abbrev pub keeps : List Deed → ℕ → Sent → Out → List Effect
+keeps fs s b l = if reaches fs b s then Copy l ∷ [] else []
 
--- the sender is told that the user is away
+abbrev pub delivers : List Deed → ℕ → Sent → ℕ → Out → List Effect
+delivers fs s b t l = (if t == s then keeps fs s b l else Show (filter (reaches fs b) (t ∷ [])) l ∷ []) ++ echoes fs s b l
+
+-- the sender of a PRIVMSG is told that the user is away
 abbrev pub tells_away : Settings → List Deed → ℕ → Verb → ℕ → Option (List ℕ) → List Effect
-tells_away g fs s v t None = []
-tells_away g fs s v t (Some text) = answers g fs s v (Away (title (nick fs t)) text)
+tells_away g fs s Privmsg t (Some text) = tells g fs s (Away (title (nick fs t)) text) ∷ []
+tells_away g fs s v t text = []
 
-abbrev pub to_user : Settings → List Deed → ℕ → Verb → List ℕ → List ℕ → Option ℕ → List Effect
-to_user g fs s v text n None = answers g fs s v (NoSuchNick n)
-to_user g fs s v text n (Some t) = delivers fs s v text t ∷ tells_away g fs s v t (away fs t)
+abbrev pub to_user : Settings → List Deed → ℕ → Sent → List ℕ → Option ℕ → List Effect
+to_user g fs s b n None = answers g fs s b.verb (NoSuchNick n)
+to_user g fs s b n (Some t) = delivers fs s b t (sent_line b (prefix fs s) (title (nick fs t))) ++ tells_away g fs s b.verb t (away fs t)
 
 -- ---- several targets
 
@@ -63,13 +85,13 @@ abbrev pub names_channel : List ℕ → Bool
 names_channel [] = false
 names_channel (b ∷ bs) = b == 35 || b == 38
 
-abbrev pub to_one : Settings → List Deed → ℕ → Verb → List ℕ → List ℕ → List Effect
-to_one g fs s v text target =
-    if names_channel target then to_channel g fs s v text target (name_of fs target)
-    else to_user g fs s v text target (found fs target)
+abbrev pub to_one : Settings → List Deed → ℕ → Sent → List ℕ → List Effect
+to_one g fs s b target =
+    if names_channel target then to_channel g fs s b target (name_of fs target)
+    else to_user g fs s b target (found fs target)
 
 -- to each target in turn, or to nobody where there are more than four
-abbrev pub sends : Settings → List Deed → ℕ → Verb → List (List ℕ) → List ℕ → List Effect
-sends g fs s v targets text =
-    if nat_lt 4 (length targets) then answers g fs s v (TooManyTargets (slice_index_or targets 4 []))
-    else flat_map (to_one g fs s v text) targets
+abbrev pub sends : Settings → List Deed → ℕ → Sent → List (List ℕ) → List Effect
+sends g fs s b targets =
+    if nat_lt 4 (length targets) then answers g fs s b.verb (TooManyTargets (slice_index_or targets 4 []))
+    else flat_map (to_one g fs s b) targets

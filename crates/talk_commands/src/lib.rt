@@ -1,4 +1,5 @@
-//! What the commands that carry texts do: PRIVMSG, NOTICE and AWAY (RFC 2812, sections 3.3 and 4.1).
+//! What the commands that carry texts or tags do: PRIVMSG, NOTICE, TAGMSG and AWAY (RFC 2812, sections 3.3 and 4.1; IRCv3 message-tags;
+//! IRCv3 echo-message).
 #![tactic(auto)]
 
 mod away;
@@ -7,4 +8,4 @@ mod verb;
 
 pub use away::{AWAYLEN, go_away};
 pub use talking::send;
-pub use verb::Verb;
+pub use verb::{Sending, Verb};

@@ -1,40 +1,28 @@
-//! PRIVMSG and NOTICE (RFC 2812, sections 3.3.1 and 3.3.2; RFC 2811, sections 4.2 and 4.3).
-ghost use Rattle.std.specs.Prelude.{◌≡◌, ◌∷◌, [], OnOk};
+//! PRIVMSG, NOTICE and TAGMSG (RFC 2812, sections 3.3.1 and 3.3.2; RFC 2811, sections 4.2 and 4.3; IRCv3 message-tags; IRCv3
+//! echo-message).
+ghost use Rattle.std.specs.Prelude.{◌≡◌, ◌==◌, ◌∷◌, ◌++◌, [], cond, filter, IfOk, OnOk};
 ghost use Rattle.std.specs.List.{flat_map};
 ghost use Rattle.roster.specs.LookBack.{away, found, name_of, state};
+ghost use Rattle.drafts.specs.declared.effect.Effect.TheVariants.{Show};
 ghost use Rattle.drafts.specs.Denials.{denied};
 ghost use Rattle.drafts.specs.Drafted.{grown};
 ghost use Rattle.drafts.specs.Lines.{prefix};
-ghost use Rattle.talk_commands.specs.Talking.{answers, delivers, is_barred, has_rank, may_speak, names_channel, sends, tells_away, to_channel, to_one, to_user};
+ghost use Rattle.talk_commands.specs.Lines.{sent_line};
+ghost use Rattle.talk_commands.specs.Talking.{answers, delivers, echoes, is_barred, keeps, may_speak, names_channel, reaches, sends, shows, tells_away, to_channel, to_one, to_open, to_user};
 
-use crate::Verb;
+use crate::{Sending, Verb};
 use channel_state::ChannelState;
 use chronicle::SessionId;
 use drafts::{Denial, Draft, deny, prefix_of, tell, title_of};
 use line_grammar::Octets;
-use numerics::Numeric;
-use roster::Sessions;
-use std::alloc::AllocError;
+use numerics::{Numeric, Out};
+use roster::{Roster, Sessions};
+use std::alloc::{AllocError, Global};
 
 /// The most targets of a text.
 const MAX_TARGETS: usize = 4;
 
-/// Answers a session with a numeric, but not to NOTICE.
-fn answer(
-    draft: &mut Draft,
-    session: SessionId,
-    verb: Verb,
-    numeric: Numeric,
-) -> Result<(), AllocError>
-    ensures { OnOk result (draft.new ≡ grown draft.old (answers draft.old.settings draft.old.facts session verb numeric)) }
-{
-    if verb == Verb::Notice {
-        return Ok(());
-    }
-    tell(draft, session, numeric)
-}
-
-/// Answers a session that a text isn't sent, but not to NOTICE.
+/// Answers a session that something isn't sent, but not to NOTICE.
 fn refuse(
     draft: &mut Draft,
     session: SessionId,
@@ -45,10 +33,74 @@ fn refuse(
     ensures { OnOk result (draft.new ≡ grown draft.old (answers draft.old.settings draft.old.facts session verb (denied denial name.now))) }
 {
     match verb {
-        Verb::Privmsg => deny(draft, session, denial, name),
         Verb::Notice => Ok(()),
+        Verb::Privmsg | Verb::Tagmsg => deny(draft, session, denial, name),
     }
 }
+
+// ---- whom it reaches
+
+/// Whether it reaches a session.
+fn reaches(roster: &Roster, sending: &Sending<'_>, session: SessionId) -> bool
+    ensures { result ≡ reaches roster.now.facts sending.now session }
+{
+    match sending.verb {
+        Verb::Tagmsg => !sending.tags.is_empty() && roster.enrol_of(session).caps.message_tags,
+        Verb::Privmsg | Verb::Notice => true,
+    }
+}
+
+/// Adds a session that it reaches.
+fn push_reached(
+    roster: &Roster,
+    sending: &Sending<'_>,
+    hearers: &mut Sessions,
+    session: SessionId,
+) -> Result<(), AllocError>
+    ensures { OnOk result (hearers.new ≡ hearers.old ++ filter (reaches roster.now.facts sending.now) (session ∷ [])) }
+{
+    if !reaches(roster, sending, session) {
+        return Ok(());
+    }
+    hearers.push(session)
+}
+
+/// Those of some sessions whom it reaches.
+fn reached(
+    alloc: Global,
+    roster: &Roster,
+    sending: &Sending<'_>,
+    sessions: &[SessionId],
+) -> Result<Sessions, AllocError>
+    ensures { IfOk result (λ v. v ≡ filter (reaches roster.now.facts sending.now) sessions.now) }
+{
+    let mut hearers = Sessions::from_vec(Vec::new(alloc));
+    for session in sessions {
+        push_reached(roster, sending, &mut hearers, *session)?;
+    }
+    Ok(hearers)
+}
+
+/// Gives a session back what it sent, as a part of the answer, where it wants to have it.
+fn echo(
+    draft: &mut Draft,
+    session: SessionId,
+    sending: &Sending<'_>,
+    from: &[u8],
+    target: &[u8],
+) -> Result<(), AllocError>
+    requires first { draft.old.facts ≡ draft.old.base }
+    ensures { OnOk result (draft.new ≡ grown draft.old (echoes draft.old.facts session sending.now (sent_line sending.now from.now target.now))) }
+{
+    let wants = draft.before().enrol_of(session).caps.echo_message;
+    if !wants || !reaches(draft.before(), sending, session) {
+        return Ok(());
+    }
+    let line = sending.line(draft.alloc(), from, target)?;
+    draft.answer(line)
+}
+
+// ---- a channel
 
 /// Whether those without a rank may not speak.
 fn is_barred(state: &ChannelState, session: SessionId, source: &[u8]) -> bool
@@ -65,102 +117,168 @@ fn may_speak(state: &ChannelState, session: SessionId, source: &[u8]) -> bool
     state.is_operator(session) || state.has_voice(session) || !is_barred(state, session, source)
 }
 
-/// Sends a text to the other members of a channel that is there.
+/// Shows it to those of some sessions whom it reaches.
+fn show(
+    draft: &mut Draft,
+    sending: &Sending<'_>,
+    sessions: &[SessionId],
+    line: Out,
+) -> Result<(), AllocError>
+    requires { draft.old.facts ≡ draft.old.base }
+    ensures { OnOk result (draft.new ≡ grown draft.old (Show (filter (reaches draft.old.facts sending.now) sessions.now) line ∷ [])) }
+{
+    let hearers = reached(draft.alloc(), draft.before(), sending, sessions)?;
+    draft.show(hearers, line)
+}
+
+/// Sends it to the other members of a channel.
+#[tactic(auto, using(drafts::proofs::Replay::grown_grown))]
+fn send_to_members(
+    draft: &mut Draft,
+    session: SessionId,
+    sending: &Sending<'_>,
+    from: &[u8],
+    name: &[u8],
+    members: &[SessionId],
+) -> Result<(), AllocError>
+    requires { draft.old.facts ≡ draft.old.base }
+    ensures { OnOk result (draft.new ≡ grown draft.old (shows draft.old.facts session sending.now members.now (sent_line sending.now from.now name.now))) }
+{
+    let line = sending.line(draft.alloc(), from, name)?;
+    let mut others = Sessions::copied(draft.alloc(), members)?;
+    others.remove(session);
+    show(draft, sending, others.as_slice(), line)?;
+    echo(draft, session, sending, from, name)
+}
+
+/// Sends it to a channel that is there, where the session may speak.
+fn send_to_open(
+    draft: &mut Draft,
+    session: SessionId,
+    sending: &Sending<'_>,
+    name: &Octets,
+    state: &ChannelState,
+) -> Result<(), AllocError>
+    requires { draft.old.facts ≡ draft.old.base }
+    ensures { OnOk result (draft.new ≡ grown draft.old (to_open draft.old.settings draft.old.facts session sending.now name.now state.now.state)) }
+{
+    let from = prefix_of(draft, session)?;
+    if !may_speak(state, session, from.as_slice()) {
+        return refuse(draft, session, sending.verb, Denial::CannotSendToChan, name);
+    }
+    let (from, name) = (from.as_slice(), name.as_slice());
+    send_to_members(draft, session, sending, from, name, state.members())
+}
+
+/// Sends it to a channel.
 fn send_to_channel(
     draft: &mut Draft,
     session: SessionId,
-    verb: Verb,
-    text: &Octets,
+    sending: &Sending<'_>,
     channel: &Octets,
 ) -> Result<(), AllocError>
-    requires first { draft.old.facts ≡ draft.old.base }
-    ensures { OnOk result (draft.new ≡ grown draft.old (to_channel draft.old.settings draft.old.facts session verb text.now channel.now (name_of draft.old.facts channel.now))) }
+    requires { draft.old.facts ≡ draft.old.base }
+    ensures { OnOk result (draft.new ≡ grown draft.old (to_channel draft.old.settings draft.old.facts session sending.now channel.now (name_of draft.old.facts channel.now))) }
 {
     let before = draft.before();
     let (Some(name), Some(state)) = (
         before.name_of(channel.as_slice()),
         before.state_of(channel.as_slice()),
     ) else {
-        return refuse(draft, session, verb, Denial::NoSuchChannel, channel);
+        return refuse(draft, session, sending.verb, Denial::NoSuchChannel, channel);
     };
-    let from = prefix_of(draft, session)?;
-    if !may_speak(state, session, from.as_slice()) {
-        return refuse(draft, session, verb, Denial::CannotSendToChan, name);
-    }
-    let mut hearers = Sessions::copied(draft.alloc(), state.members())?;
-    hearers.remove(session);
-    let line = verb.line(
-        draft.alloc(),
-        from.as_slice(),
-        name.as_slice(),
-        text.as_slice(),
-    )?;
-    draft.show(hearers, line)
+    send_to_open(draft, session, sending, name, state)
 }
 
-/// Delivers a text to a user, or besides the answer where that is its sender.
+// ---- a user
+
+/// Hands it to a user, or besides the answer to its sender.
+fn hand(
+    draft: &mut Draft,
+    session: SessionId,
+    sending: &Sending<'_>,
+    user: SessionId,
+    line: Out,
+) -> Result<(), AllocError>
+    requires { draft.old.facts ≡ draft.old.base }
+    ensures { OnOk result (draft.new ≡ grown draft.old (cond (user == session) (keeps draft.old.facts session sending.now line) (Show (filter (reaches draft.old.facts sending.now) (user ∷ [])) line ∷ []))) }
+{
+    if user != session {
+        return show(draft, sending, &[user], line);
+    }
+    if !reaches(draft.before(), sending, session) {
+        return Ok(());
+    }
+    draft.copy(line)
+}
+
+/// Delivers it to a user.
+#[tactic(auto, using(drafts::proofs::Replay::grown_grown))]
 fn deliver(
     draft: &mut Draft,
     session: SessionId,
-    verb: Verb,
-    text: &Octets,
+    sending: &Sending<'_>,
     user: SessionId,
+    from: &[u8],
+    name: &[u8],
 ) -> Result<(), AllocError>
-    requires first { draft.old.facts ≡ draft.old.base }
-    ensures { OnOk result (draft.new ≡ grown draft.old (delivers draft.old.facts session verb text.now user ∷ [])) }
+    requires { draft.old.facts ≡ draft.old.base }
+    ensures { OnOk result (draft.new ≡ grown draft.old (delivers draft.old.facts session sending.now user (sent_line sending.now from.now name.now))) }
 {
-    let from = prefix_of(draft, session)?;
-    let name = title_of(draft.alloc(), draft.before().nick_of(user))?;
-    let line = verb.line(
-        draft.alloc(),
-        from.as_slice(),
-        name.as_slice(),
-        text.as_slice(),
-    )?;
-    if user == session {
-        return draft.copy(line);
-    }
-    let mut hearers = Sessions::from_vec(Vec::new(draft.alloc()));
-    hearers.push(user)?;
-    draft.show(hearers, line)
+    let line = sending.line(draft.alloc(), from, name)?;
+    hand(draft, session, sending, user, line)?;
+    echo(draft, session, sending, from, name)
 }
 
-/// Tells a sender that a user is away.
+/// Tells the sender of a PRIVMSG that a user is away.
 fn tell_away(
     draft: &mut Draft,
     session: SessionId,
     verb: Verb,
     user: SessionId,
 ) -> Result<(), AllocError>
-    requires first { draft.old.facts ≡ draft.old.base }
+    requires { draft.old.facts ≡ draft.old.base }
     ensures { OnOk result (draft.new ≡ grown draft.old (tells_away draft.old.settings draft.old.facts session verb user (away draft.old.facts user))) }
 {
+    if verb != Verb::Privmsg {
+        return Ok(());
+    }
     let Some(text) = draft.before().away_of(user) else {
         return Ok(());
     };
     let nick = title_of(draft.alloc(), draft.before().nick_of(user))?;
     let text = text.clone()?;
-    answer(draft, session, verb, Numeric::Away { nick, text })
+    tell(draft, session, Numeric::Away { nick, text })
 }
 
-/// Sends a text to a user.
+/// Sends it to a user.
 #[tactic(auto, using(drafts::proofs::Replay::grown_grown))]
 fn send_to_user(
     draft: &mut Draft,
     session: SessionId,
-    verb: Verb,
-    text: &Octets,
+    sending: &Sending<'_>,
     nick: &Octets,
 ) -> Result<(), AllocError>
-    requires first { draft.old.facts ≡ draft.old.base }
-    ensures { OnOk result (draft.new ≡ grown draft.old (to_user draft.old.settings draft.old.facts session verb text.now nick.now (found draft.old.facts nick.now))) }
+    requires { draft.old.facts ≡ draft.old.base }
+    ensures { OnOk result (draft.new ≡ grown draft.old (to_user draft.old.settings draft.old.facts session sending.now nick.now (found draft.old.facts nick.now))) }
 {
     let Some(user) = draft.before().find(nick.as_slice()) else {
-        return refuse(draft, session, verb, Denial::NoSuchNick, nick);
+        return refuse(draft, session, sending.verb, Denial::NoSuchNick, nick);
     };
-    deliver(draft, session, verb, text, user)?;
-    tell_away(draft, session, verb, user)
+    let from = prefix_of(draft, session)?;
+    let name = title_of(draft.alloc(), draft.before().nick_of(user))?;
+    deliver(
+        draft,
+        session,
+        sending,
+        user,
+        from.as_slice(),
+        name.as_slice(),
+    )?;
+    tell_away(draft, session, sending.verb, user)
 }
+
+// ---- several targets
 
 /// Whether a name begins like a channel's.
 fn names_channel(name: &[u8]) -> bool
@@ -169,55 +287,52 @@ fn names_channel(name: &[u8]) -> bool
     matches!(name.first(), Some(b'#' | b'&'))
 }
 
-/// Sends a text to a target.
+/// Sends it to a target.
 fn send_to(
     draft: &mut Draft,
     session: SessionId,
-    verb: Verb,
-    text: &Octets,
+    sending: &Sending<'_>,
     target: &Octets,
 ) -> Result<(), AllocError>
-    requires first { draft.old.facts ≡ draft.old.base }
-    ensures { OnOk result (draft.new ≡ grown draft.old (to_one draft.old.settings draft.old.facts session verb text.now target.now)) }
+    requires { draft.old.facts ≡ draft.old.base }
+    ensures { OnOk result (draft.new ≡ grown draft.old (to_one draft.old.settings draft.old.facts session sending.now target.now)) }
 {
     if names_channel(target.as_slice()) {
-        return send_to_channel(draft, session, verb, text, target);
+        return send_to_channel(draft, session, sending, target);
     }
-    send_to_user(draft, session, verb, text, target)
+    send_to_user(draft, session, sending, target)
 }
 
-/// Sends a text to each target in turn.
+/// Sends it to each target in turn.
 fn send_to_each(
     draft: &mut Draft,
     session: SessionId,
-    verb: Verb,
-    text: &Octets,
+    sending: &Sending<'_>,
     targets: &[Octets],
 ) -> Result<(), AllocError>
-    requires first { draft.old.facts ≡ draft.old.base }
-    ensures { OnOk result (draft.new ≡ grown draft.old (flat_map (to_one draft.old.settings draft.old.facts session verb text.now) targets.now)) }
+    requires { draft.old.facts ≡ draft.old.base }
+    ensures { OnOk result (draft.new ≡ grown draft.old (flat_map (to_one draft.old.settings draft.old.facts session sending.now) targets.now)) }
 {
     for target in targets {
-        send_to(draft, session, verb, text, target)?;
+        send_to(draft, session, sending, target)?;
     }
     Ok(())
 }
 
-/// Sends a text to users and channels, in turn, or to nobody where more than four are named. A session may speak on a channel
-/// where it has a rank, or where neither a mode nor a ban bars it.
+/// Sends a text or tags to users and channels, in turn, or to nobody where more than four are named. A session may speak on a
+/// channel where it has a rank, or where neither a mode nor a ban bars it. TAGMSG reaches those alone who take tags.
 pub fn send(
     draft: &mut Draft,
     session: SessionId,
-    verb: Verb,
+    sending: &Sending<'_>,
     targets: &[Octets],
-    text: &Octets,
 ) -> Result<(), AllocError>
-    requires first { draft.old.facts ≡ draft.old.base }
-    ensures { OnOk result (draft.new ≡ grown draft.old (sends draft.old.settings draft.old.facts session verb targets.now text.now)) }
+    requires { draft.old.facts ≡ draft.old.base }
+    ensures { OnOk result (draft.new ≡ grown draft.old (sends draft.old.settings draft.old.facts session sending.now targets.now)) }
 {
     if targets.len() > MAX_TARGETS {
         let fifth = &targets[MAX_TARGETS];
-        return refuse(draft, session, verb, Denial::TooManyTargets, fifth);
+        return refuse(draft, session, sending.verb, Denial::TooManyTargets, fifth);
     }
-    send_to_each(draft, session, verb, text, targets)
+    send_to_each(draft, session, sending, targets)
 }

@@ -1,4 +1,4 @@
-use Rattle.std.proofs.Common.{arith, ◌≡◌, ◌+◌, ℕ, List, false, subst}
+use Rattle.std.proofs.Common.{arith, ◌≡◌, ◌+◌, ℕ, List, None, false, subst}
 use Rattle.std.specs.Result.{IfOk}
 use Rattle.deeds.specs.Departure.{departs}
 use Rattle.deeds.specs.Verdicts.{IsVerdict}
@@ -11,4 +11,4 @@ returns-clause-plan c =
     let s = c.args.place + 1 in let v = c.in_ok-verdict.verdict in let fs = c.args.roster.now.facts in
     let session : c.new-session.result ≡ s = let e = c.new-session.ensures in omega arith in
     let is : IsVerdict v s (departs fs s) = subst (λ (j : ℕ). IsVerdict v j (departs fs j)) session c.in_ok-verdict.ensures.verdict in
-    subst (λ (ps : List Planned). IfOk c.with_room.result (λ p. p.plan.items ≡ ps)) (planned_same c.args.seats.now s c.args.number v (departs fs s) false is) c.with_room.ensures.plan
+    subst (λ (ps : List Planned). IfOk c.with_room.result (λ p. p.plan.items ≡ ps)) (planned_same c.args.seats.now c.args.roster.now.settings fs s c.args.number None v (departs fs s) c.args.moment false is) c.with_room.ensures.plan

@@ -5,7 +5,7 @@ use Rattle.talk_commands.specs.Talking.{to_one}
 use Rattle.talk_commands.proofs.talking.send_to_each.Given as goal
 
 abbrev pub invariant-loop-target : goal.invariant-loop-target
-invariant-loop-target l = let d = l.fn.draft in let row = to_one d.settings d.facts l.session l.verb l.text in record {
+invariant-loop-target l = let d = l.fn.draft in let row = to_one d.settings d.facts l.session l.sending in record {
   settings : l.draft.settings ≡ d.settings;
   base : l.draft.base ≡ d.base;
   facts : l.draft.facts ≡ d.facts;

@@ -6,7 +6,9 @@ use Rattle.chronicle.specs.History.{accepted}
 use Rattle.chronicle.specs.Journal.{fresh_record}
 use Rattle.registration.specs.declared.settings.Settings.{Settings}
 use Rattle.roster.specs.declared.deed.Deed.{Deed}
-use Rattle.roster.specs.LookBack.{after, opened}
+use Rattle.roster.specs.LookBack.{after, caps, opened}
+use Rattle.labels_batches.specs.Labels.{label_of}
+use Rattle.deeds.specs.Deeds.{spelled}
 use Rattle.drafts.specs.Effects.{deeds_of}
 use Rattle.commands.specs.Asked.{asked_of}
 use Rattle.deeds.specs.Rows.{of_asked}
@@ -58,13 +60,14 @@ history c =
 limit : (c : goal.After-result-1) → c.append.new.self.limit ≡ c.self.inside.journal.limit
 limit c = c.append.ensures.appended.limit ∙ c.reserve.ensures.same.limit
 
-plan : (c : goal.After-result-1) → c.in_ok-prepared.prepared.plan.items ≡ plan_of c.self.inside.roster.settings c.self.inside.journal.history (Said c.args.baton.now.session c.args.baton.now.next c.args.piece.now) (length c.self.inside.outboxes.items)
+plan : (c : goal.After-result-1) → c.in_ok-prepared.prepared.plan.items ≡ plan_of c.self.inside.roster.settings c.self.inside.journal.history (Said c.args.baton.now.session c.args.baton.now.next c.args.piece.now) c.args.moment (length c.self.inside.outboxes.items)
 plan c =
-    let a = c.self.inside in let q = c.in_ok-prepared.quits in let es = of_asked a.roster.settings a.roster.facts (c.in_ok-place.place + 1) (asked_of c.args.piece.now) in
+    let a = c.self.inside in let q = c.in_ok-prepared.quits in let t = c.in_ok-place.place + 1 in
+    let f = spelled a.roster.settings a.roster.facts t (label_of (caps a.roster.facts t) c.args.piece.now) (of_asked a.roster.settings a.roster.facts t (asked_of c.args.piece.now)) c.args.moment c.new-number.result in
     let number : c.new-number.result ≡ length a.journal.history + 1 = grind (arith, common_steps) in
     let seats : c.deref.result.now ≡ a.seats.items = c.deref.ensures.value in
-    let made : c.in_ok-prepared.prepared.plan.items ≡ planned_from a.seats.items (c.in_ok-place.place + 1) c.new-number.result es q =
-    c.in_ok-prepared.ensures.plan ∙ ap (λ (xs : List Seat). planned_from xs (c.in_ok-place.place + 1) c.new-number.result es q) seats in
+    let made : c.in_ok-prepared.prepared.plan.items ≡ planned_from a.seats.items (c.in_ok-place.place + 1) c.new-number.result f q =
+    c.in_ok-prepared.ensures.plan ∙ ap (λ (xs : List Seat). planned_from xs (c.in_ok-place.place + 1) c.new-number.result f q) seats in
     said_plan a.journal a.roster.settings a.roster.facts a.seats.items a.outboxes.items a.plan.items a.busy c.self.invariant c.args.baton.now c.args.piece.now c.args.moment c.in_ok-place.place
     c.new-number.result q c.in_ok-prepared.prepared.plan.items (may c) c.in_ok-place.ensures.place number c.in_ok-prepared.ensures.quits made
 

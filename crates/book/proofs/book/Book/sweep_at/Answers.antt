@@ -1,4 +1,4 @@
-use Rattle.std.proofs.Common.{arith, ◌≡◌, ◌+◌, ◌<◌, ◌≤◌, ◌∷◌, true, false, length, slice_set, vec_len, Some, ℕ, List, [], zero-add, refl, ap, sym, ◌∙◌, subst}
+use Rattle.std.proofs.Common.{arith, ◌≡◌, ◌+◌, ◌<◌, ◌≤◌, ◌∷◌, true, false, length, slice_set, vec_len, Some, None, ℕ, List, [], zero-add, refl, ap, sym, ◌∙◌, subst}
 use Rattle.std.proofs.lemmas.Grind.{common_steps}
 use Rattle.chronicle.specs.declared.record.Kind.TheVariants.{Gone}
 use Rattle.chronicle.specs.Journal.{fresh_record}
@@ -6,6 +6,7 @@ use Rattle.registration.specs.declared.settings.Settings.{Settings}
 use Rattle.roster.specs.declared.deed.Deed.{Deed}
 use Rattle.roster.specs.LookBack.{after, opened}
 use Rattle.drafts.specs.Effects.{deeds_of}
+use Rattle.deeds.specs.Deeds.{spelled}
 use Rattle.deeds.specs.Departure.{departs}
 use Rattle.book.specs.Seats.{planned_from}
 use Rattle.book.specs.declared.seat.Seat.{Seat}
@@ -69,14 +70,14 @@ history c =
 limit : (c : goal.After-self-2-1) → c.append.new.self.limit ≡ c.self.inside.journal.limit
 limit c = c.append.ensures.appended.limit ∙ c.reserve.ensures.same.limit
 
-plan : (c : goal.After-self-2-1) → c.in_ok-prepared.prepared.plan.items ≡ plan_of c.self.inside.roster.settings c.self.inside.journal.history (Gone (c.args.place + 1)) (length c.self.inside.outboxes.items)
+plan : (c : goal.After-self-2-1) → c.in_ok-prepared.prepared.plan.items ≡ plan_of c.self.inside.roster.settings c.self.inside.journal.history (Gone (c.args.place + 1)) c.args.moment (length c.self.inside.outboxes.items)
 plan c =
-    let a = c.self.inside in let es = departs a.roster.facts (c.args.place + 1) in let next = subst (λ m. to_sweep m.history ≡ Some (c.args.place + 1)) (sym c.self.view_is) c.requires.next in
+    let a = c.self.inside in let t = c.args.place + 1 in let f = spelled a.roster.settings a.roster.facts t None (departs a.roster.facts t) c.args.moment c.new-number.result in let next = subst (λ m. to_sweep m.history ≡ Some (c.args.place + 1)) (sym c.self.view_is) c.requires.next in
     let number : c.new-number.result ≡ length a.journal.history + 1 = grind (arith, common_steps) in
     let seats : c.deref.result.now ≡ a.seats.items = c.deref.ensures.value in
-    let made : c.in_ok-prepared.prepared.plan.items ≡ planned_from a.seats.items (c.args.place + 1) c.new-number.result es false =
-    c.in_ok-prepared.ensures.plan ∙ ap (λ (xs : List Seat). planned_from xs (c.args.place + 1) c.new-number.result es false) seats in
-    gone_plan a.journal a.roster.settings a.roster.facts a.seats.items a.outboxes.items a.plan.items a.busy c.self.invariant c.args.place c.new-number.result c.in_ok-prepared.prepared.plan.items
+    let made : c.in_ok-prepared.prepared.plan.items ≡ planned_from a.seats.items (c.args.place + 1) c.new-number.result f false =
+    c.in_ok-prepared.ensures.plan ∙ ap (λ (xs : List Seat). planned_from xs (c.args.place + 1) c.new-number.result f false) seats in
+    gone_plan a.journal a.roster.settings a.roster.facts a.seats.items a.outboxes.items a.plan.items a.busy c.self.invariant c.args.place c.new-number.result c.args.moment c.in_ok-prepared.prepared.plan.items
     next number made
 
 settings : (c : goal.After-self-2-1) → c.commit.new.roster.settings ≡ c.self.inside.roster.settings

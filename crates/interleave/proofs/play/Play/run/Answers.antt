@@ -34,3 +34,9 @@ returns-clause-accepted_is_prefix c t from to =
 pub returns-clause-in_order : goal.returns-clause-in_order
 returns-clause-in_order c t from to =
     prefix_rises c.loop-event.self.book.settings c.loop-event.self.book.history t (taken_of c.args.self.now t ++ took t c.args.events.now c.loop-event.notes.items) (returns-clause-taken_is_prefix c t from to)
+
+pub returns-in_err-reserve-clause-answered_once : goal.returns-in_err-reserve-clause-answered_once
+returns-in_err-reserve-clause-answered_once c = c.labelled_once.ensures _ _ c.sound.ensures.book.legal
+
+pub returns-clause-answered_once : goal.returns-clause-answered_once
+returns-clause-answered_once c = c.labelled_once.ensures _ _ c.sound-2.ensures.book.legal

@@ -1,0 +1,5 @@
+use Rattle.interleave.proofs.Answered.{labelled-once}
+use Rattle.interleave.proofs.laws.labelled_once.Goals as goal
+
+pub returns : goal.returns
+returns c = labelled-once c.answered_once.ensures

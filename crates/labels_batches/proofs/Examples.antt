@@ -1,0 +1,73 @@
+-- The definitions at work, computed.
+use Rattle.std.proofs.Common.{◌≡◌, ℕ, pos, true, false, replicate, List, [], ◌∷◌, ◌++◌, codes, Some, None, refl}
+use Rattle.std.specs.Str.{is_utf8, chars}
+use Rattle.std.specs.Fmt.{digits}
+use lib.Utf8.{encode}
+use Rattle.line_grammar.specs.declared.splitter.Piece.TheVariants.{Line, TooLong}
+use Rattle.line_grammar.specs.Reading.{reading, parameters, with_command}
+use Rattle.line_grammar.specs.Spelling.{untagged}
+use Rattle.message_tags.specs.Tags.{counting_tags, key_shape, last_value}
+use Rattle.numerics.specs.declared.outgoing.Out.{Out}
+use Rattle.numerics.specs.CivilTime.{time_text, civil_date, falls_in}
+use Rattle.numerics.specs.Outgoing.{line, octets}
+use Rattle.registration.specs.declared.caps.Caps.{Caps}
+use Rattle.registration.specs.Caps.{none_on}
+use Rattle.labels_batches.specs.Labels.{label_of}
+use Rattle.labels_batches.specs.Answers.{answered}
+use Rattle.labels_batches.specs.Rendered.{rendered, spelled_line}
+
+abbrev server : List ℕ
+server = codes "irc.example"
+
+abbrev crlf : List ℕ
+crlf = 13 ∷ 10 ∷ []
+
+abbrev on : Caps
+on = record none_on { batch = true; labeled_response = true }
+
+abbrev pong : Out
+pong = line server (codes "PONG") (server ∷ codes "x" ∷ []) false
+
+abbrev hi : List ℕ → Out
+hi tags = record (line (codes "al!a@h1") (codes "PRIVMSG") (codes "al" ∷ codes "hi" ∷ []) true) { tags = tags }
+
+-- no line is acknowledged, and one line has the label
+short :
+    (rendered on (pos 0) (answered server (Some (codes "8")) 5 [] []) ≡ codes "@label=8 :irc.example ACK" ++ crlf)
+    × (rendered on (pos 0) (answered server (Some (codes "a;b c")) 4 (pong ∷ []) []) ≡ codes "@label=a\\:b\\sc :irc.example PONG irc.example x" ++ crlf)
+    × (rendered on (pos 0) (answered server None 4 (pong ∷ []) []) ≡ codes ":irc.example PONG irc.example x" ++ crlf)
+unfolding spelled_line octets untagged
+short = (refl, refl, refl)
+
+-- several lines stand in a batch
+batch :
+    rendered on (pos 0) (answered server (Some (codes "j")) 9 (pong ∷ pong ∷ []) [])
+    ≡ codes "@label=j :irc.example BATCH +9 labeled-response" ++ crlf ++ codes "@batch=9 :irc.example PONG irc.example x" ++ crlf ++ codes "@batch=9 :irc.example PONG irc.example x" ++ crlf ++ codes ":irc.example BATCH -9" ++ crlf
+unfolding spelled_line octets untagged digits
+batch = refl
+
+-- who sends to itself gets the echo with the label, and then the text
+to_oneself : rendered on (pos 0) (answered server (Some (codes "s")) 9 (hi [] ∷ []) (hi [] ∷ [])) ≡ codes "@label=s :al!a@h1 PRIVMSG al :hi" ++ crlf ++ codes ":al!a@h1 PRIVMSG al :hi" ++ crlf
+unfolding spelled_line octets untagged
+to_oneself = refl
+
+-- the label, the moment, and the tags of another client, each for who takes it
+all_tags :
+    (rendered (record on { server_time = true; message_tags = true }) (pos 0) (answered server (Some (codes "7")) 4 (hi (codes "+k=v") ∷ []) []) ≡ codes "@label=7;time=1970-01-01T00:00:00.000Z;+k=v :al!a@h1 PRIVMSG al :hi" ++ crlf)
+    × (rendered (record none_on { message_tags = true }) (pos 0) (answered server None 4 (hi (codes "+k=v") ∷ []) []) ≡ codes "@+k=v :al!a@h1 PRIVMSG al :hi" ++ crlf)
+    × (rendered none_on (pos 0) (answered server None 4 (hi (codes "+k=v") ∷ []) []) ≡ codes ":al!a@h1 PRIVMSG al :hi" ++ crlf)
+unfolding spelled_line octets untagged time_text civil_date falls_in
+all_tags = (refl, refl, refl)
+
+-- which label a line has
+labels :
+    (label_of on (Line (codes "@label=7;label=8 PING x")) ≡ Some (codes "8"))
+    × (label_of on (Line (codes "@label=a\\:b PING x")) ≡ Some (codes "a;b"))
+    × (label_of on (Line (codes "@label= PING x")) ≡ None)
+    × (label_of on (Line (codes "@label=" ++ replicate 64 108 ++ codes " PING x")) ≡ Some (replicate 64 108))
+    × (label_of on (Line (codes "@label=" ++ replicate 65 108 ++ codes " PING x")) ≡ None)
+    × (label_of (record on { batch = false }) (Line (codes "@label=7 PING x")) ≡ None)
+    × (label_of on (Line (codes "@label=7 P-")) ≡ None)
+    × (label_of on TooLong ≡ None)
+unfolding reading parameters with_command counting_tags key_shape last_value is_utf8 chars encode
+labels = (refl, refl, refl, refl, refl, refl, refl, refl)

@@ -1,0 +1,3 @@
+mod Examples
+pub mod Alike
+pub mod Once

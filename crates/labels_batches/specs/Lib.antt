@@ -1,0 +1,5 @@
+pub mod Labels
+pub mod Answers
+pub mod Rendered
+pub mod Spellings
+pub mod Whole

@@ -1,0 +1,151 @@
+//! Lines with their tags, as a receiver takes them (IRCv3 message-tags; IRCv3 server-time).
+ghost use Rattle.std.specs.Prelude.{◌≡◌, ◌++◌, ◌≤ℤ◌, pos, IfOk, OnOk};
+ghost use Rattle.numerics.specs.CivilTime.{time_text};
+ghost use Rattle.labels_batches.specs.Rendered.{answered_tag, ended, relayed_tags, rendered, spelled_line, tag_block, tag_text, timed, with_tag};
+
+use crate::{AnswerTag, Tagged};
+use chronicle::Moment;
+use line_grammar::Octets;
+use message_tags::escape;
+use numerics::{TimeFault, time_text};
+use registration::Caps;
+use std::alloc::{AllocError, Global};
+
+/// Adds a tag.
+fn push_tag(block: &mut Octets, tag: &[u8]) -> Result<(), AllocError>
+    ensures { OnOk result (block.new ≡ with_tag block.old tag.now) }
+{
+    let mark = if block.is_empty() { b"@" } else { b";" };
+    block.extend_from_slice(mark)?;
+    block.extend_from_slice(tag)
+}
+
+/// A tag of an answer.
+fn tag_text(alloc: Global, tag: &AnswerTag) -> Result<Octets, AllocError>
+    ensures { IfOk result (λ t. t ≡ tag_text tag.now) }
+{
+    match tag {
+        AnswerTag::Label(label) => {
+            let mut text = Octets::copied(alloc, b"label=")?;
+            text.extend_from_slice(escape(alloc, label.as_slice())?.as_slice())?;
+            Ok(text)
+        }
+        AnswerTag::Batch(number) => {
+            let number = number.number();
+            Octets::copied(alloc, format!(in alloc; "batch={number}")?.as_bytes())
+        }
+    }
+}
+
+/// The tags of an answer.
+fn answered_tag(alloc: Global, tag: &Option<AnswerTag>) -> Result<Octets, AllocError>
+    ensures { IfOk result (λ b. b ≡ answered_tag tag.now) }
+{
+    let mut block = Octets::from_vec(Vec::new(alloc));
+    if let Some(tag) = tag {
+        push_tag(&mut block, tag_text(alloc, tag)?.as_slice())?;
+    }
+    Ok(block)
+}
+
+/// The text of a record's moment.
+fn moment_text(alloc: Global, moment: Moment) -> Result<Octets, AllocError>
+    requires from_1970 { pos 0 ≤ℤ moment }
+    requires to_9998 { moment ≤ℤ pos 253370764799999 }
+    ensures { IfOk result (λ t. t ≡ time_text moment) }
+{
+    match time_text(alloc, moment.milliseconds()) {
+        Ok(text) => Ok(text),
+        Err(TimeFault::OutOfRange) => unreachable!(),
+        Err(TimeFault::Memory) => Err(AllocError),
+    }
+}
+
+/// Adds the moment, where the receiver takes it.
+pub(crate) fn push_time(
+    alloc: Global,
+    block: &mut Octets,
+    caps: Caps,
+    moment: Moment,
+) -> Result<(), AllocError>
+    requires from_1970 { pos 0 ≤ℤ moment }
+    requires to_9998 { moment ≤ℤ pos 253370764799999 }
+    ensures { OnOk result (block.new ≡ timed caps moment block.old) }
+{
+    if !caps.server_time {
+        return Ok(());
+    }
+    let mut tag = Octets::copied(alloc, b"time=")?;
+    tag.extend_from_slice(moment_text(alloc, moment)?.as_slice())?;
+    push_tag(block, tag.as_slice())
+}
+
+/// Adds the tags of another client, where the receiver takes them.
+pub(crate) fn push_relayed(block: &mut Octets, caps: Caps, tags: &Octets) -> Result<(), AllocError>
+    ensures { OnOk result (block.new ≡ relayed_tags caps tags.now block.old) }
+{
+    if !caps.message_tags || tags.is_empty() {
+        return Ok(());
+    }
+    push_tag(block, tags.as_slice())
+}
+
+/// The tags of a line.
+fn tag_block(alloc: Global, line: &Tagged, caps: Caps, moment: Moment) -> Result<Octets, AllocError>
+    requires from_1970 { pos 0 ≤ℤ moment }
+    requires to_9998 { moment ≤ℤ pos 253370764799999 }
+    ensures { IfOk result (λ b. b ≡ tag_block caps moment line.now) }
+{
+    let mut block = answered_tag(alloc, &line.tag)?;
+    push_time(alloc, &mut block, caps, moment)?;
+    push_relayed(&mut block, caps, &line.line.tags)?;
+    Ok(block)
+}
+
+/// Ends tags.
+pub(crate) fn end(block: &mut Octets) -> Result<(), AllocError>
+    ensures { OnOk result (block.new ≡ ended block.old) }
+{
+    if block.is_empty() {
+        return Ok(());
+    }
+    block.extend_from_slice(b" ")
+}
+
+/// Adds a line with its tags.
+#[tactic(auto, unfolding(crate::specs::Rendered::spelled_line))]
+fn push_line(
+    alloc: Global,
+    text: &mut Octets,
+    line: &Tagged,
+    caps: Caps,
+    moment: Moment,
+) -> Result<(), AllocError>
+    requires from_1970 { pos 0 ≤ℤ moment }
+    requires to_9998 { moment ≤ℤ pos 253370764799999 }
+    ensures { OnOk result (text.new ≡ text.old ++ spelled_line caps moment line.now) }
+{
+    let mut block = tag_block(alloc, line, caps, moment)?;
+    end(&mut block)?;
+    text.extend_from_slice(block.as_slice())?;
+    text.extend_from_slice(line.line.octets(alloc)?.as_slice())
+}
+
+/// Lines as a receiver of these capabilities takes them, at their record's moment, each cut to 510 octets without its tags and
+/// ended by CR LF: the tag of an answer first, then the moment (server-time), then the tags that another client sent (message-tags).
+pub fn render(
+    alloc: Global,
+    lines: &[Tagged],
+    caps: Caps,
+    moment: Moment,
+) -> Result<Octets, AllocError>
+    requires from_1970 { pos 0 ≤ℤ moment }
+    requires to_9998 { moment ≤ℤ pos 253370764799999 }
+    ensures { IfOk result (λ t. t ≡ rendered caps moment lines.now) }
+{
+    let mut text = Octets::from_vec(Vec::new(alloc));
+    for line in lines {
+        push_line(alloc, &mut text, line, caps, moment)?;
+    }
+    Ok(text)
+}

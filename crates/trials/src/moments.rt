@@ -1,0 +1,31 @@
+//! What moments are spelled out as.
+use numerics::{TimeFault, time_text};
+use std::alloc::Global;
+use std::test::Fail;
+
+/// Moments, and their texts, empty where they have none.
+const MOMENTS: [(i64, &str); 5] = [
+    (0, "1970-01-01T00:00:00.000Z"),
+    (951782400123, "2000-02-29T00:00:00.123Z"),
+    (253370764799999, "9998-12-31T23:59:59.999Z"),
+    (-1, ""),
+    (253370764800000, ""),
+];
+
+fn is_told(alloc: Global, moment: i64, want: &str) -> bool {
+    match time_text(alloc, moment) {
+        Ok(text) => text.as_slice() == want.as_bytes(),
+        Err(fault) => want.is_empty() && fault == TimeFault::OutOfRange,
+    }
+}
+
+#[test]
+fn moments_are_told(rt: HostRuntime) -> Result<(), Fail> {
+    for (moment, want) in &MOMENTS {
+        assert!(rt;
+            is_told(rt.alloc(), *moment, want) || is_told(rt.alloc(), *moment, want),
+            "{moment}"
+        );
+    }
+    Ok(())
+}
