@@ -1,6 +1,7 @@
 -- What each session hears of a record, and the plan that is made of it.
-use Rattle.std.proofs.Common.{◌≡◌, ◌≢◌, ℕ, ℤ, suc, ◌+◌, ◌-◌, ◌<◌, ◌==◌, Bool, true, false, cond, List, [], ◌∷◌, ◌++◌, filter, map, length, take, get_or, slice_index_or, Option, None, arith, refl, sym, ap, ◌∙◌, subst, append_assoc, append-nil, eq-eqb, ne_eqb, lit<}
-use Rattle.std.proofs.lemmas.List.{take_more}
+use Rattle.std.proofs.Common.{◌≡◌, ◌≢◌, ℕ, ℤ, suc, ◌+◌, ◌-◌, ◌<◌, ◌==◌, Bool, true, false, cond, List, [], ◌∷◌, ◌++◌, filter, map, length, take, get_or, slice_index_or, slice_set, Option, None, inl, inr, arith, refl, sym, ap, ◌∙◌, subst, append_assoc, append-nil, eq-eqb, ne_eqb, lit<}
+use Rattle.std.proofs.lemmas.List.{take_more, get_or-set_same, get_or-set_other, get_or_default}
+use Rattle.std.proofs.lemmas.Bool.{cases_eq}
 use Rattle.std.specs.List.{flat_map}
 use Rattle.numerics.specs.declared.outgoing.Out.{Out}
 use Rattle.registration.specs.declared.caps.Caps.{Caps}
@@ -74,6 +75,19 @@ heard_more fs moment all t k x l is =
     ap (λ (xs : List Shown). heard_text fs moment xs t) (take_more all k x l ∙ ap (λ (y : Shown). take k all ++ y ∷ []) (sym is)) ∙ heard_text-append fs moment (take k all) (x ∷ []) t
     ∙ ap (λ bs. heard_text fs moment (take k all) t ++ bs) (append-nil (heard_of fs moment x t))
 
+-- where one text grows by what its session is told, each grows by what its own is
+pub told_at : (texts : List (List ℕ)) (k s : ℕ) (new none : List ℕ) (f : ℕ → List ℕ) → k + 1 ≡ s → k < length texts → new ≡ slice_index_or texts k none ++ f s → (i : ℕ) → i < length texts → slice_index_or (slice_set texts k new) i [] ≡ slice_index_or texts i [] ++ cond (s == i + 1) (f (i + 1)) []
+told_at texts k s new none f es l en i li = elim (cases_eq i k) [
+  | inl e ↦
+      let it : s ≡ i + 1 = omega arith in
+      ap (λ (j : ℕ). slice_index_or (slice_set texts k new) j []) e ∙ get_or-set_same texts k new [] l ∙ en ∙ ap (λ bs. bs ++ f s) (get_or_default texts k none [] l)
+      ∙ ap (λ (j : ℕ). slice_index_or texts j [] ++ f s) (sym e) ∙ ap (λ (j : ℕ). slice_index_or texts i [] ++ f j) it
+      ∙ ap (λ b. slice_index_or texts i [] ++ cond b (f (i + 1)) []) (sym (eq-eqb s (i + 1) it))
+  | inr ne ↦
+      let other : s ≢ i + 1 = λ e. ne (omega arith) in
+      get_or-set_other texts k i new [] ne ∙ sym (append-nil (slice_index_or texts i [])) ∙ ap (λ b. slice_index_or texts i [] ++ cond b (f (i + 1)) []) (sym (ne_eqb s (i + 1) other))
+]
+
 -- so much more is heard
 pub hears_more : (new was old a b c : List ℕ) → new ≡ was ++ c → was ≡ old ++ a → b ≡ a ++ c → new ≡ old ++ b
 hears_more new was old a b c e f g = e ∙ ap (λ xs. xs ++ c) f ∙ append_assoc old a c ∙ ap (λ xs. old ++ xs) (sym g)
@@ -101,8 +115,8 @@ planned_same seats g fs s number label v es moment quits i =
     (others_same (told_to seats number (heard_text fs moment v.others.items)) (told_to seats number f) s 1 (length seats) (length seats) (lit< tt) (omega arith) (λ u from to ne. ap (told (seat_at seats u).shut number) (each u ne)))
 
 -- the verdict on a line of a session, by whatever names
-pub verdict_at : (v : Verdict) (s t : ℕ) (g : Settings) (fs : List Deed) (k m : Asked) → s ≡ t → k ≡ m → IsVerdict v s (of_asked g fs s k) → IsVerdict v t (of_asked g fs t m)
-verdict_at v s t g fs k m es ek i = subst (λ (j : ℕ). IsVerdict v j (of_asked g fs j m)) es (subst (λ (c : Asked). IsVerdict v s (of_asked g fs s c)) ek i)
+pub verdict_at : (v : Verdict) (s t : ℕ) (g : Settings) (fs : List Deed) (k : Asked) → s ≡ t → IsVerdict v s (of_asked g fs s k) → IsVerdict v t (of_asked g fs t k)
+verdict_at v s t g fs k es i = subst (λ (j : ℕ). IsVerdict v j (of_asked g fs j k)) es i
 
 -- ---- from the last seat to the first
 

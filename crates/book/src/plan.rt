@@ -7,11 +7,12 @@ ghost use Rattle.commands.specs.Asked.{asked_of};
 ghost use Rattle.labels_batches.specs.Labels.{label_of};
 ghost use Rattle.labels_batches.specs.Answers.{answered};
 ghost use Rattle.labels_batches.specs.Rendered.{rendered};
-ghost use Rattle.labels_batches.specs.Spellings.{picked};
+ghost use Rattle.labels_batches.specs.Spellings.{spelled_for};
 ghost use Rattle.drafts.specs.Effects.{deeds_of};
 ghost use Rattle.deeds.specs.Departure.{departs};
 ghost use Rattle.deeds.specs.Rows.{of_asked};
 ghost use Rattle.deeds.specs.Deeds.{spelled};
+ghost use Rattle.deeds.specs.Verdicts.{IsVerdict};
 ghost use Rattle.book.specs.Book.{puts, others};
 ghost use Rattle.book.specs.Seats.{told, told_own, heard_of, heard_text, repeated, planned_for, planned_from, planned_with};
 
@@ -19,7 +20,7 @@ use crate::seat::Seat;
 use chronicle::{Moment, RecordNumber, SessionId, Why};
 use commands::read_piece;
 use deeds::{Shown, Verdict, decide, decide_gone};
-use labels_batches::{Spellings, label_of, render, spell, wrap};
+use labels_batches::{Spellings, label_of, render, wrap};
 use line_grammar::{Octets, Piece};
 use numerics::Out;
 use outbox::Item;
@@ -60,16 +61,18 @@ fn tell_one(
     roster: &Roster,
     texts: &mut [Octets],
     session: SessionId,
-    line: &Spellings,
+    line: &mut Spellings,
 ) -> Result<(), AllocError>
-    ensures { OnOk result ((i : ℕ) → i < length texts.old → slice_index_or texts.new i [] ≡ slice_index_or texts.old i [] ++ cond (session == i + 1) (picked line.now (caps roster.now.facts (i + 1))) []) }
+    ensures same { line.new ≡ line.old }
+    ensures texts { OnOk result ((i : ℕ) → i < length texts.old → slice_index_or texts.new i [] ≡ slice_index_or texts.old i [] ++ cond (session == i + 1) (spelled_for (caps roster.now.facts (i + 1)) line.old.moment line.old.line) []) }
 {
     let number = session.number() as usize;
     if number == 0 || texts.len() < number {
         return Ok(());
     }
-    let text = &mut texts[number - 1];
-    text.extend_from_slice(line.pick(roster.enrol_of(session).caps))
+    let caps = roster.enrol_of(session).caps;
+    line.push_to(&mut texts[number - 1], caps)?;
+    Ok(())
 }
 
 /// Adds a line to what each of some sessions hears.
@@ -77,9 +80,9 @@ fn tell_each(
     roster: &Roster,
     texts: &mut [Octets],
     hearers: &[SessionId],
-    line: &Spellings,
+    line: &mut Spellings,
 ) -> Result<(), AllocError>
-    ensures { OnOk result ((i : ℕ) → i < length texts.old → slice_index_or texts.new i [] ≡ slice_index_or texts.old i [] ++ repeated hearers.now (picked line.now (caps roster.now.facts (i + 1))) (i + 1)) }
+    ensures { OnOk result ((i : ℕ) → i < length texts.old → slice_index_or texts.new i [] ≡ slice_index_or texts.old i [] ++ repeated hearers.now (spelled_for (caps roster.now.facts (i + 1)) line.old.moment line.old.line) (i + 1)) }
 {
     for hearer in hearers {
         tell_one(roster, texts, *hearer, line)?;
@@ -99,8 +102,8 @@ fn tell_line(
     requires to_9998 { moment ≤ℤ pos 253370764799999 }
     ensures { OnOk result ((i : ℕ) → i < length texts.old → slice_index_or texts.new i [] ≡ slice_index_or texts.old i [] ++ heard_of roster.now.facts moment shown.now (i + 1)) }
 {
-    let spellings = spell(alloc, &shown.line, moment)?;
-    tell_each(roster, texts, shown.hearers.as_slice(), &spellings)?;
+    let mut line = Spellings::new(alloc, &shown.line, moment)?;
+    tell_each(roster, texts, shown.hearers.as_slice(), &mut line)?;
     Ok(())
 }
 
@@ -291,6 +294,27 @@ fn with_room(
     })
 }
 
+/// Decides what a piece of a session does, and whether it quits by it.
+fn decide_piece(
+    alloc: Global,
+    roster: &Roster,
+    session: SessionId,
+    piece: &Piece,
+    moment: Moment,
+) -> Result<(Verdict, bool), AllocError>
+    requires known { IsOpened roster.now.facts session }
+    requires from_1970 { pos 0 ≤ℤ moment }
+    requires to_9998 { moment ≤ℤ pos 253370764799999 }
+    ensures verdict { IfOk result (λ v. IsVerdict v.0 session (of_asked roster.now.settings roster.now.facts session (asked_of piece.now))) }
+    ensures next { IfOk result (λ v. AreNext roster.now.facts v.0.deeds.items) }
+    ensures opened { IfOk result (λ v. opened (after roster.now.facts v.0.deeds.items) ≡ opened roster.now.facts) }
+    ensures quits { IfOk result (λ v. v.1 ≡ is_quit piece.now) }
+{
+    let asked = read_piece(alloc, piece)?;
+    let verdict = decide(alloc, roster, session, &asked, moment)?;
+    Ok((verdict, asked.is_quit()))
+}
+
 /// Decides what a line of the session at a place does, and plans its deliveries.
 pub(crate) fn prepare_line(
     alloc: Global,
@@ -313,10 +337,8 @@ pub(crate) fn prepare_line(
     ensures missed { IfOk result (λ p. (p.0.missed.items ≡ []) × (length p.0.plan.items ≤ vec_capacity p.0.missed)) }
 {
     let session = SessionId::new(place as u64 + 1);
+    let (verdict, quits) = decide_piece(alloc, roster, session, piece, moment)?;
     let label = label_of(alloc, roster.enrol_of(session).caps, piece)?;
-    let asked = read_piece(alloc, piece)?;
-    let quits = asked.is_quit();
-    let verdict = decide(alloc, roster, session, &asked, moment)?;
     let prepared = with_room(
         alloc, roster, seats, place, number, moment, &label, verdict, quits,
     )?;

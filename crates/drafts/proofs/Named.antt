@@ -1,5 +1,5 @@
 -- Names of channels, and which deeds may come next.
-use Rattle.std.proofs.Common.{◌≡◌, inl, inr, ℕ, Bool, ◌⊎◌, true, false, cond, List, [], ◌∷◌, ◌++◌, Option, Some, None, option_copied, unwrap_or, Bor, refl, sym, subst, ap, ◌∙◌}
+use Rattle.std.proofs.Common.{◌≡◌, inl, inr, ℕ, Bool, ◌⊎◌, true, false, cond, List, [], ◌∷◌, ◌++◌, Option, Some, None, option_copied, unwrap_or, IfSome, Bor, refl, sym, subst, ap, ◌∙◌}
 use Rattle.std.specs.Option.{option_or, option_map}
 use Rattle.roster.specs.Laws.{ChannelsHaveOneName, SpelledNamesAreNames}
 use Rattle.roster.specs.declared.deed.Deed.{Deed}
@@ -80,6 +80,13 @@ pub seen_is : ChannelsHaveOneName → SpelledNamesAreNames → (fs : List Deed) 
 seen_is law spelled fs c e =
     let same : state fs (name fs c) ≡ state fs c = (law fs (name fs c) c (spelled fs c)).0 in
     record { there = ap (λ (st : State). is_some_one st.members) same ∙ e; state = same; lasts = e }
+
+-- a channel that is seen is known, and one whose name isn't known isn't there
+pub known : ChannelsHaveOneName → SpelledNamesAreNames → (fs : List Deed) (c : List ℕ) → IfSome (seen fs c) (IsSeen fs)
+known law spelled fs c = elim (either (has_member fs c)) [
+  | inl there ↦ rw there (seen_is law spelled fs c there)
+  | inr nobody ↦ rw nobody tt
+]
 
 -- and still is after a change that leaves somebody on it
 pub seen_changed : (fs : List Deed) (k : Seen) (x : Change) → IsSeen fs k → is_some_one (changed x k.state).members ≡ true → IsSeen (Changed k.name x ∷ fs) (record { name = k.name; state = changed x k.state })

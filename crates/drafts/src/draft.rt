@@ -1,5 +1,5 @@
 //! A draft: a roster, and what a record does to it so far.
-ghost use Rattle.std.specs.Prelude.{◌≡◌, ◌∷◌, ◌++◌, [], true, false, Some, option_copied, IfOk, IfSome, OnOk};
+ghost use Rattle.std.specs.Prelude.{◌≡◌, ◌∷◌, ◌++◌, [], true, false, cond, None, Some, option_copied, IfOk, IfSome, OnOk};
 ghost use Rattle.registration.specs.Enrol.{enrolment};
 ghost use Rattle.roster.specs.LookBack.{after, opened, host, nick, user, caps, exchange, registered, enrol, state, has_member, name};
 ghost use Rattle.roster.specs.declared.deed.Deed.TheVariants.{ChannelMade, Changed};
@@ -38,6 +38,27 @@ impl<'a> Model for Draft<'a> {
     ghost view = { λ a. record { settings = a.roster.now.settings; base = a.roster.now.facts; facts = after a.roster.now.facts (deeds_of a.effects.items); effects = a.effects.items } };
 
     ghost invariant = { λ a. IsDraft a.roster.now.facts (deeds_of a.effects.items) };
+}
+
+/// A channel by its name, where somebody is on it.
+fn there(name: Octets, state: ChannelState) -> Option<Seen>
+    ensures { result ≡ cond (is_some_one state.state.members) (Some (record { name = name; state = state.state })) None }
+{
+    let seen = Seen { name, state };
+    if seen.state.is_there() {
+        Some(seen)
+    } else {
+        None
+    }
+}
+
+/// A channel that a session has just made.
+fn made(alloc: Global, session: SessionId) -> Result<ChannelState, AllocError>
+    ensures { IfOk result (λ k. k.state ≡ made_by session) }
+{
+    let mut state = ChannelState::with_room(alloc, 1)?;
+    state.make(session);
+    Ok(state)
 }
 
 impl<'a> Draft<'a> {
@@ -206,17 +227,21 @@ impl<'a> Draft<'a> {
     {
         channels_have_one_name();
         spelled_names_are_names();
-        let state = self.state_of(channel)?;
-        if !state.is_there() {
+        let Some(name) = self.spelling(channel) else {
             return Ok(None);
-        }
-        match self.spelling(channel) {
-            Some(name) => {
-                let name = name.clone()?;
-                Ok(Some(Seen { name, state }))
-            }
-            None => Ok(None),
-        }
+        };
+        let name = name.clone()?;
+        let state = self.state_of(channel)?;
+        Ok(there(name, state))
+    }
+
+    /// Establishes that a session makes a channel that isn't there.
+    fn establish_made(&mut self, session: SessionId, channel: &Octets) -> Result<(), AllocError>
+        requires { has_member self.old.facts channel.now ≡ false }
+        ensures { OnOk result (self.new ≡ grown self.old (Establish (ChannelMade session channel.now) ∷ [])) }
+    {
+        let channel = channel.clone()?;
+        self.establish(Deed::ChannelMade { session, channel })
     }
 
     /// A session makes a channel that isn't there: the channel as it is then.
@@ -225,14 +250,9 @@ impl<'a> Draft<'a> {
         ensures grown { OnOk result (self.new ≡ grown self.old (Establish (ChannelMade session channel.now) ∷ [])) }
         ensures seen { IfOk result (λ k. k ≡ record { name = channel.now; state = made_by session }) }
     {
-        let mut state = ChannelState::with_room(self.alloc, 1)?;
-        state.make(session);
-        let made = channel.clone()?;
-        self.establish(Deed::ChannelMade {
-            session,
-            channel: made,
-        })?;
+        self.establish_made(session, channel)?;
         let name = channel.clone()?;
+        let state = made(self.alloc, session)?;
         Ok(Seen { name, state })
     }
 

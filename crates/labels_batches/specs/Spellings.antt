@@ -1,15 +1,31 @@
 -- A line that is no part of an answer, for receivers of any capabilities: of these only server-time and message-tags tell how it is spelled (IRCv3 server-time, IRCv3 message-tags).
-use Rattle.std.specs.Prelude.{ℕ, ℤ, List, None, if◌then◌else◌}
+use Rattle.std.specs.Prelude.{◌≡◌, ◌≤ℤ◌, pos, ℕ, ℤ, Bool, true, false, List, [], ◌++◌, codes, cond, Option, None, IfSome}
 use Rattle.numerics.specs.declared.outgoing.Out.{Out}
+use Rattle.numerics.specs.CivilTime.{time_text}
+use Rattle.numerics.specs.Outgoing.{octets}
 use Rattle.registration.specs.declared.caps.Caps.{Caps}
-use Rattle.labels_batches.specs.declared.spellings.Spellings.{Spellings}
 use Rattle.labels_batches.specs.Answers.{tagged_as}
-use Rattle.labels_batches.specs.Rendered.{spelled_line}
+use Rattle.labels_batches.specs.Rendered.{ended, spelled_line, with_tag}
 
 abbrev pub spelled_for : Caps → ℤ → Out → List ℕ
 spelled_for caps m l = spelled_line caps m (tagged_as None l)
 
-abbrev pub picked : Spellings → Caps → List ℕ
-picked s caps =
-    if caps.server_time then (if caps.message_tags then s.timed_and_tagged else s.timed)
-    else (if caps.message_tags then s.tagged else s.plain)
+-- a line at the moment of its record
+pub record Spelled : Type 0 where
+  pub line : Out
+  pub moment : ℤ
+
+-- a line with its moment or without, and with its tags or without
+abbrev pub spelled_with : Bool → Bool → ℤ → Out → List ℕ
+spelled_with time tags m l =
+    let timed = cond time (with_tag [] (codes "time=" ++ time_text m)) [] in
+    ended (cond tags (with_tag timed l.tags) timed) ++ octets l
+
+-- the spellings that are kept are those of the line, whose moment has a text
+pub record AreOf (l : Out) (m : ℤ) (plain : List ℕ) (timed tagged both : Option (List ℕ)) : Type 0 where
+  pub from_1970 : pos 0 ≤ℤ m
+  pub to_9998 : m ≤ℤ pos 253370764799999
+  pub is_plain : plain ≡ octets l
+  pub is_timed : IfSome timed (λ t. t ≡ spelled_with true false m l)
+  pub is_tagged : IfSome tagged (λ t. t ≡ spelled_with false true m l)
+  pub is_both : IfSome both (λ t. t ≡ spelled_with true true m l)

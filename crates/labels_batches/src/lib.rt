@@ -13,4 +13,4 @@ pub use labels::label_of;
 pub use laws::answered_once;
 pub use numerics::{TimeFault, time_text};
 pub use rendering::render;
-pub use spellings::{Spellings, spell};
+pub use spellings::Spellings;

@@ -1,5 +1,5 @@
 //! Lines with their tags, as a receiver takes them (IRCv3 message-tags; IRCv3 server-time).
-ghost use Rattle.std.specs.Prelude.{◌≡◌, ◌++◌, ◌≤ℤ◌, pos, IfOk, OnOk};
+ghost use Rattle.std.specs.Prelude.{◌≡◌, ◌++◌, ◌≤ℤ◌, codes, pos, IfOk, OnOk};
 ghost use Rattle.numerics.specs.CivilTime.{time_text};
 ghost use Rattle.labels_batches.specs.Rendered.{answered_tag, ended, relayed_tags, rendered, spelled_line, tag_block, tag_text, timed, with_tag};
 
@@ -12,7 +12,7 @@ use registration::Caps;
 use std::alloc::{AllocError, Global};
 
 /// Adds a tag.
-fn push_tag(block: &mut Octets, tag: &[u8]) -> Result<(), AllocError>
+pub(crate) fn push_tag(block: &mut Octets, tag: &[u8]) -> Result<(), AllocError>
     ensures { OnOk result (block.new ≡ with_tag block.old tag.now) }
 {
     let mark = if block.is_empty() { b"@" } else { b";" };
@@ -61,8 +61,23 @@ fn moment_text(alloc: Global, moment: Moment) -> Result<Octets, AllocError>
     }
 }
 
+/// Adds the moment.
+pub(crate) fn push_moment(
+    alloc: Global,
+    block: &mut Octets,
+    moment: Moment,
+) -> Result<(), AllocError>
+    requires from_1970 { pos 0 ≤ℤ moment }
+    requires to_9998 { moment ≤ℤ pos 253370764799999 }
+    ensures { OnOk result (block.new ≡ with_tag block.old (codes "time=" ++ time_text moment)) }
+{
+    let mut tag = Octets::copied(alloc, b"time=")?;
+    tag.extend_from_slice(moment_text(alloc, moment)?.as_slice())?;
+    push_tag(block, tag.as_slice())
+}
+
 /// Adds the moment, where the receiver takes it.
-pub(crate) fn push_time(
+fn push_time(
     alloc: Global,
     block: &mut Octets,
     caps: Caps,
@@ -75,13 +90,11 @@ pub(crate) fn push_time(
     if !caps.server_time {
         return Ok(());
     }
-    let mut tag = Octets::copied(alloc, b"time=")?;
-    tag.extend_from_slice(moment_text(alloc, moment)?.as_slice())?;
-    push_tag(block, tag.as_slice())
+    push_moment(alloc, block, moment)
 }
 
 /// Adds the tags of another client, where the receiver takes them.
-pub(crate) fn push_relayed(block: &mut Octets, caps: Caps, tags: &Octets) -> Result<(), AllocError>
+fn push_relayed(block: &mut Octets, caps: Caps, tags: &Octets) -> Result<(), AllocError>
     ensures { OnOk result (block.new ≡ relayed_tags caps tags.now block.old) }
 {
     if !caps.message_tags || tags.is_empty() {

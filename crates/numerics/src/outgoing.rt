@@ -65,7 +65,7 @@ impl Out {
     fn spelled(&self, alloc: Global) -> Result<Vec<u8>, AllocError>
         ensures { IfOk result (λ text. text.items ≡ spelled self.now) }
     {
-        let mut text = Vec::new(alloc);
+        let mut text = Vec::with_capacity(alloc, MAX_LINE + 2)?;
         push_untagged(
             &mut text,
             &self.source,

@@ -721,14 +721,19 @@ fn say_lines(
     text: &'static str,
 ) -> Result<(), Fail> {
     let _ = take_next(rt, alloc, play, seen, Act::Feed(session, text), &[])?;
+    let acts = [
+        Act::Pick(1, session),
+        Act::Begin(1),
+        Act::Put(1),
+        Act::Put(1),
+        Act::End(1),
+        Act::Take(1),
+        Act::Take(2),
+    ];
     for _ in 0..4 {
-        let _ = take_next(rt, alloc, play, seen, Act::Pick(1, session), &[])?;
-        let _ = take_next(rt, alloc, play, seen, Act::Begin(1), &[])?;
-        let _ = take_next(rt, alloc, play, seen, Act::Put(1), &[])?;
-        let _ = take_next(rt, alloc, play, seen, Act::Put(1), &[])?;
-        let _ = take_next(rt, alloc, play, seen, Act::End(1), &[])?;
-        let _ = take_next(rt, alloc, play, seen, Act::Take(1), &[])?;
-        let _ = take_next(rt, alloc, play, seen, Act::Take(2), &[])?;
+        for act in &acts {
+            let _ = take_next(rt, alloc, play, seen, *act, &[])?;
+        }
     }
     Ok(())
 }

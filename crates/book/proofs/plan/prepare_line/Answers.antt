@@ -15,15 +15,15 @@ pub returns-clause-deeds : goal.returns-clause-deeds
 returns-clause-deeds c =
     let s = c.args.place + 1 in let fs = c.args.roster.now.facts in let g = c.args.roster.now.settings in let k = asked_of c.args.piece.now in
     let session : c.new-session.result ≡ s = let e = c.new-session.ensures in omega arith in
-    let is = verdict_at c.in_ok-verdict.verdict c.new-session.result s g fs c.in_ok-asked.asked k session c.in_ok-asked.ensures.asked c.in_ok-verdict.ensures.verdict in
+    let is = verdict_at c.in_ok-verdict.verdict c.new-session.result s g fs k session c.in_ok-verdict.ensures.verdict in
     c.in_ok-prepared.ensures.deeds ∙ is.deeds
 
 pub returns-clause-plan : goal.returns-clause-plan
 returns-clause-plan c =
     let s = c.args.place + 1 in let fs = c.args.roster.now.facts in let g = c.args.roster.now.settings in let k = asked_of c.args.piece.now in
     let session : c.new-session.result ≡ s = let e = c.new-session.ensures in omega arith in
-    let is = verdict_at c.in_ok-verdict.verdict c.new-session.result s g fs c.in_ok-asked.asked k session c.in_ok-asked.ensures.asked c.in_ok-verdict.ensures.verdict in
-    let v = c.in_ok-verdict.verdict in let seats = c.args.seats.now in let n = c.args.number in let m = c.args.moment in let q = c.is_quit-quits.result in
+    let is = verdict_at c.in_ok-verdict.verdict c.new-session.result s g fs k session c.in_ok-verdict.ensures.verdict in
+    let v = c.in_ok-verdict.verdict in let seats = c.args.seats.now in let n = c.args.number in let m = c.args.moment in let q = c.in_ok-verdict.quits in
     let label : c.in_ok-label.label ≡ label_of (caps fs s) c.args.piece.now =
     c.in_ok-label.ensures ∙ ap (λ (cs : Caps). label_of cs c.args.piece.now) (ap (λ (e : Enrolment). e.caps) c.enrol_of.ensures) ∙ ap (λ (j : ℕ). label_of (caps fs j) c.args.piece.now) session in
     c.in_ok-prepared.ensures.plan
