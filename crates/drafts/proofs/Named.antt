@@ -1,5 +1,5 @@
 -- Names of channels, and which deeds may come next.
-use Rattle.std.proofs.Common.{◌≡◌, inl, inr, ℕ, Bool, ◌⊎◌, true, false, cond, List, [], ◌∷◌, ◌++◌, Option, Some, None, option_copied, unwrap_or, IfSome, Bor, refl, sym, subst, ap, ◌∙◌}
+use Rattle.std.proofs.Common.{◌≡◌, inl, inr, ℕ, Bool, ◌⊎◌, true, false, cond, List, [], ◌∷◌, Option, Some, None, option_copied, unwrap_or, IfSome, Bor, refl, sym, subst, ap, ◌∙◌}
 use Rattle.std.specs.Option.{option_or, option_map}
 use Rattle.roster.specs.Laws.{ChannelsHaveOneName, SpelledNamesAreNames}
 use Rattle.roster.specs.declared.deed.Deed.{Deed}
@@ -9,7 +9,7 @@ use Rattle.casemapping.proofs.SameNames.{is_same-refl}
 use Rattle.channel_state.specs.declared.change.Change.{Change}
 use Rattle.channel_state.specs.State.{State, is_some_one, without, made_by, changed, departed, lasting, nothing}
 use Rattle.roster.proofs.OnChannels.{members-lasting}
-use Rattle.roster.specs.LookBack.{after, state, members, has_member, name}
+use Rattle.roster.specs.LookBack.{after, state, has_member, name}
 use Rattle.roster.specs.Legal.{IsNext, AreNext}
 use Rattle.drafts.specs.declared.effect.Effect.{Effect}
 use Rattle.drafts.specs.declared.effect.Effect.TheVariants.{Establish, Answer, Show, Copy}

@@ -1,5 +1,5 @@
 -- Two of a receiver's capabilities tell how a line is spelled that is no part of an answer.
-use Rattle.std.proofs.Common.{◌≡◌, ℕ, ℤ, Bool, not, ◌&&◌, ◌==◌, List, length, ap, ◌∙◌, refl}
+use Rattle.std.proofs.Common.{◌≡◌, ℤ, Bool, not, ◌&&◌, ◌==◌, length, ap, ◌∙◌, refl}
 use Rattle.numerics.specs.declared.outgoing.Out.{Out}
 use Rattle.registration.specs.declared.caps.Caps.{Caps}
 use Rattle.labels_batches.specs.Rendered.{spelled_line}

@@ -1,11 +1,10 @@
 -- The answer to a labelled line has the label once, and is whole.
-use Rattle.std.proofs.Common.{◌≡◌, ◌≢◌, ℕ, ◌≤◌, inl, inr, Bool, List, [], ◌∷◌, ◌++◌, filter, map, length, Option, Some, None, arith, refl, ap, ne_eqb}
+use Rattle.std.proofs.Common.{◌≡◌, ◌≢◌, ℕ, ◌≤◌, inl, inr, List, [], ◌∷◌, ◌++◌, filter, map, length, Some, None, arith, refl, ap, ne_eqb}
 use Rattle.numerics.specs.declared.outgoing.Out.{Out}
-use Rattle.labels_batches.specs.declared.answers.AnswerTag.{AnswerTag}
 use Rattle.labels_batches.specs.declared.answers.AnswerTag.TheVariants.{Label, Batch}
 use Rattle.labels_batches.specs.declared.answers.Tagged.{Tagged}
-use Rattle.labels_batches.specs.Answers.{ack, answered, batch_ends, batch_opens, batched, tagged_as}
-use Rattle.labels_batches.specs.Whole.{is_label_tag, labels, IsWhole, IsAnswer, AnsweredOnce}
+use Rattle.labels_batches.specs.Answers.{ack, batch_ends, batch_opens, batched, tagged_as}
+use Rattle.labels_batches.specs.Whole.{is_label_tag, IsAnswer, AnsweredOnce}
 
 abbrev bare : List Out → List Tagged
 bare ls = map (tagged_as None) ls

@@ -2,7 +2,7 @@
 use Rattle.std.specs.Prelude.{◌≡◌, ℕ, ◌≤◌, ◌⊎◌, Bool, true, false, List, ◌∷◌, ◌++◌, filter, map, length, Option, Some, None}
 use Rattle.numerics.specs.declared.outgoing.Out.{Out}
 use Rattle.labels_batches.specs.declared.answers.AnswerTag.{AnswerTag}
-use Rattle.labels_batches.specs.declared.answers.AnswerTag.TheVariants.{Label, Batch}
+use Rattle.labels_batches.specs.declared.answers.AnswerTag.TheVariants.{Label}
 use Rattle.labels_batches.specs.declared.answers.Tagged.{Tagged}
 use Rattle.labels_batches.specs.Answers.{answered, batched, tagged_as}
 

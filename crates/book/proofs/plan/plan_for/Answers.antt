@@ -1,5 +1,4 @@
-use Rattle.std.proofs.Common.{arith, ◌≡◌, ◌+◌, ◌<◌, [], length, slice_index_or}
-use Rattle.book.specs.Seats.{heard_text}
+use Rattle.std.proofs.Common.{arith, ◌≡◌, ◌+◌}
 use Rattle.book.proofs.Plans.{planned_whole}
 use Rattle.book.proofs.plan.plan_for.Goals as goal
 

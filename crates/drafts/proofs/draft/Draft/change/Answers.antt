@@ -1,9 +1,7 @@
-use Rattle.std.proofs.Common.{arith, ◌≡◌, ◌∷◌, List, ap, sym, ◌∙◌}
+use Rattle.std.proofs.Common.{arith, ◌≡◌, ◌∷◌}
 use Rattle.std.proofs.lemmas.Grind.{common_steps}
-use Rattle.channel_state.specs.State.{State, changed}
-use Rattle.roster.specs.declared.deed.Deed.{Deed}
+use Rattle.channel_state.specs.State.{changed}
 use Rattle.roster.specs.declared.deed.Deed.TheVariants.{Changed}
-use Rattle.drafts.specs.Seen.{Seen, IsSeen}
 use Rattle.drafts.proofs.Named.{seen_after}
 use Rattle.drafts.proofs.draft.Draft.change.Goals as goal
 

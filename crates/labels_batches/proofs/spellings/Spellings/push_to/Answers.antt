@@ -1,4 +1,4 @@
-use Rattle.std.proofs.Common.{◌≡◌, ◌++◌, ◌&&◌, ◌==◌, not, length, ℕ, Bool, List, OnOk, refl, subst, sym, ap, ◌∙◌}
+use Rattle.std.proofs.Common.{◌≡◌, ◌++◌, ◌&&◌, ◌==◌, not, length, ℕ, List, OnOk, refl, subst, sym, ap, ◌∙◌}
 use Rattle.labels_batches.specs.Spellings.{Spelled}
 use Rattle.labels_batches.proofs.Alike.{as_taken_by}
 use Rattle.labels_batches.proofs.spellings.Spellings.push_to.Goals as goal
