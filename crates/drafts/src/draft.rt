@@ -1,7 +1,7 @@
 //! A draft: a roster, and what a record does to it so far.
 ghost use Rattle.std.specs.Prelude.{◌≡◌, ◌∷◌, ◌++◌, [], true, false, cond, None, Some, option_copied, IfOk, IfSome, OnOk};
 ghost use Rattle.registration.specs.Enrol.{enrolment};
-ghost use Rattle.roster.specs.LookBack.{after, opened, host, nick, user, caps, exchange, registered, enrol, state, has_member, name};
+ghost use Rattle.roster.specs.LookBack.{after, opened, host, nick, caps, exchange, registered, enrol, state, has_member, name};
 ghost use Rattle.roster.specs.declared.deed.Deed.TheVariants.{ChannelMade, Changed};
 ghost use Rattle.channel_state.specs.declared.change.Change.TheVariants.{Left};
 ghost use Rattle.channel_state.specs.State.{among, changed, is_some_one, made_by};
@@ -163,13 +163,6 @@ impl<'a> Draft<'a> {
         ensures { option_copied result ≡ nick self.now.facts session }
     {
         self.enrol_of(session).nick
-    }
-
-    /// The user name of a session.
-    pub(crate) fn user_of(&self, session: SessionId) -> Option<&Octets>
-        ensures { option_copied result ≡ user self.now.facts session }
-    {
-        self.enrol_of(session).user
     }
 
     /// What a session sent so far of an exchange of SASL that is open.

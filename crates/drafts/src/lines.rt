@@ -19,15 +19,19 @@ fn push_title(text: &mut Vec<u8>, name: Option<&Octets>) -> Result<(), AllocErro
     }
 }
 
+/// Octets that are reserved for `nick!user@host`. A longer one has them grow.
+const PREFIX_ROOM: usize = 96;
+
 /// Whom the lines of a session come from: `nick!user@host`, with a star for a name that isn't known yet.
 #[tactic(auto, unfolding(crate::specs::Lines::prefix))]
 pub fn prefix_of(draft: &Draft<'_>, session: SessionId) -> Result<Octets, AllocError>
     ensures { IfOk result (λ p. p ≡ prefix draft.now.facts session) }
 {
-    let mut text = Vec::new(draft.alloc());
-    push_title(&mut text, draft.nick_of(session))?;
+    let enrol = draft.enrol_of(session);
+    let mut text = Vec::with_capacity(draft.alloc(), PREFIX_ROOM)?;
+    push_title(&mut text, enrol.nick)?;
     text.extend_from_slice(b"!")?;
-    push_title(&mut text, draft.user_of(session))?;
+    push_title(&mut text, enrol.user)?;
     text.extend_from_slice(b"@")?;
     text.extend_from_slice(draft.host_of(session))?;
     Ok(Octets::from_vec(text))
