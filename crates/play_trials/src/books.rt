@@ -86,14 +86,13 @@ fn sweep_in_steps(book: &mut Book) -> Option<Done> {
     None
 }
 
-/// A book with its sessions 1 and 2, al and bo, who have joined a channel by records 1 to 8.
-fn meeting(rt: &impl Abort, alloc: Global) -> Result<(Book, Baton, Baton), Fail> {
-    let mut book = book(alloc, 40)?;
-    let (_, mut first) = open(rt, alloc, &mut book, b"h1")?;
-    let (_, mut second) = open(rt, alloc, &mut book, b"h2")?;
-    join(alloc, &mut book, &mut first, b"NICK al")?;
-    join(alloc, &mut book, &mut second, b"NICK bo")?;
-    Ok((book, first, second))
+/// Opens the sessions 1 and 2 of a book, al and bo, who join a channel by records 1 to 8.
+fn meet(rt: &impl Abort, alloc: Global, book: &mut Book) -> Result<(Baton, Baton), Fail> {
+    let (_, mut first) = open(rt, alloc, book, b"h1")?;
+    let (_, mut second) = open(rt, alloc, book, b"h2")?;
+    join(alloc, book, &mut first, b"NICK al")?;
+    join(alloc, book, &mut second, b"NICK bo")?;
+    Ok((first, second))
 }
 
 /// Has bo say something to al, once more where a growth was refused.
@@ -119,15 +118,21 @@ fn compare_said(rt: &impl Abort, book: &Book, done: &Done) {
     assert!(rt; book.record(done.number).is_some());
 }
 
-#[test]
-fn a_line_goes_in_steps(rt: HostRuntime) -> Result<(), Fail> {
-    let (mut book, _first, mut second) = meeting(&rt, rt.alloc())?;
-    let (step, actor, done) = said(rt.alloc(), &mut book, &mut second)?;
+/// Has bo say a line in steps, and compares what became of each.
+fn compare_steps(rt: &impl Abort, alloc: Global, book: &mut Book) -> Result<(), Fail> {
+    let (_first, mut second) = meet(rt, alloc, book)?;
+    let (step, actor, done) = said(alloc, book, &mut second)?;
     assert_eq!(rt; step, Some(Step::Put(SessionId::new(1))));
     assert_eq!(rt; actor, SessionId::new(2));
-    compare_said(&rt, &book, &done);
+    compare_said(rt, book, &done);
     book.sound();
     Ok(())
+}
+
+#[test]
+fn a_line_goes_in_steps(rt: HostRuntime) -> Result<(), Fail> {
+    let mut book = book(rt.alloc(), 40)?;
+    compare_steps(&rt, rt.alloc(), &mut book)
 }
 
 /// Begins a line and drops its plan.
@@ -228,10 +233,16 @@ fn end_first(rt: &impl Abort, alloc: Global, book: &mut Book, first: Baton) -> R
     Ok(())
 }
 
+/// Al and bo meet, and al ends.
+fn end_after_meeting(rt: &impl Abort, alloc: Global, book: &mut Book) -> Result<(), Fail> {
+    let (first, _second) = meet(rt, alloc, book)?;
+    end_first(rt, alloc, book, first)
+}
+
 #[test]
 fn a_session_ends(rt: HostRuntime) -> Result<(), Fail> {
-    let (mut book, first, _second) = meeting(&rt, rt.alloc())?;
-    end_first(&rt, rt.alloc(), &mut book, first)
+    let mut book = book(rt.alloc(), 40)?;
+    end_after_meeting(&rt, rt.alloc(), &mut book)
 }
 
 /// Sweeps a session in steps, once more where a growth was refused.
@@ -242,12 +253,10 @@ fn swept_in_steps(book: &mut Book) -> Option<Done> {
     }
 }
 
-/// A book whose session 1 has quit.
-fn after_a_quit(rt: &impl Abort, alloc: Global) -> Result<Book, Fail> {
-    let mut book = book(alloc, 40)?;
-    let (_, mut baton) = open(rt, alloc, &mut book, b"h1")?;
-    say(alloc, &mut book, &mut baton, b"QUIT")?;
-    Ok(book)
+/// Opens the session 1 of a book, which quits.
+fn quit(rt: &impl Abort, alloc: Global, book: &mut Book) -> Result<(), Fail> {
+    let (_, mut baton) = open(rt, alloc, book, b"h1")?;
+    say(alloc, book, &mut baton, b"QUIT")
 }
 
 /// Compares the sweep of a session that has quit.
@@ -262,10 +271,16 @@ fn compare_sweep(rt: &impl Abort, book: &mut Book) -> Result<(), Fail> {
     Ok(())
 }
 
+/// Sweeps a session after it has quit.
+fn sweep_after_a_quit(rt: &impl Abort, alloc: Global, book: &mut Book) -> Result<(), Fail> {
+    quit(rt, alloc, book)?;
+    compare_sweep(rt, book)
+}
+
 #[test]
 fn a_sweep_goes_in_steps(rt: HostRuntime) -> Result<(), Fail> {
-    let mut book = after_a_quit(&rt, rt.alloc())?;
-    compare_sweep(&rt, &mut book)
+    let mut book = book(rt.alloc(), 40)?;
+    sweep_after_a_quit(&rt, rt.alloc(), &mut book)
 }
 
 /// Sweeps, once more where a growth was refused.

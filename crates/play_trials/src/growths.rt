@@ -146,11 +146,16 @@ fn join(rt: &impl Abort, alloc: Global, play: &mut Play) -> Result<(), AllocErro
     Ok(())
 }
 
+/// Al and bo come, and al joins the channel.
+fn meet(rt: &impl Abort, alloc: Global, play: &mut Play) -> Result<(), Fail> {
+    compare(rt, alloc, play, &AL)?;
+    compare(rt, alloc, play, &BO)?;
+    join(rt, alloc, play)?;
+    Ok(())
+}
+
 #[test]
 fn a_labelled_line_without_memory_changes_nothing(rt: HostRuntime) -> Result<(), Fail> {
     let mut play = play(rt.alloc(), 100, 1, 8)?;
-    compare(&rt, rt.alloc(), &mut play, &AL)?;
-    compare(&rt, rt.alloc(), &mut play, &BO)?;
-    join(&rt, rt.alloc(), &mut play)?;
-    Ok(())
+    meet(&rt, rt.alloc(), &mut play)
 }

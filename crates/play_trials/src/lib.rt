@@ -13,6 +13,8 @@ mod growths;
 #[cfg(test)]
 mod plays;
 #[cfg(test)]
+mod script;
+#[cfg(test)]
 mod texts;
 #[cfg(test)]
 mod thousand;

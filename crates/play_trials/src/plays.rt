@@ -124,7 +124,7 @@ fn run_again(play: &mut Play) -> Result<Vec<Result<Note, StepRefusal>>, AllocErr
 }
 
 /// Compares a whole run.
-fn compare_run(rt: &impl Abort, alloc: Global, play: &mut Play) -> Result<(), AllocError> {
+fn compare_run(rt: &impl Abort, alloc: Global, play: &mut Play) -> Result<(), Fail> {
     compare(rt, alloc, play, &START)?;
     compare(rt, alloc, play, &BEFORE_THE_RUN)?;
     let notes = run_again(play)?;
@@ -136,6 +136,5 @@ fn compare_run(rt: &impl Abort, alloc: Global, play: &mut Play) -> Result<(), Al
 #[test]
 fn a_run_tells_the_same(rt: HostRuntime) -> Result<(), Fail> {
     let mut play = play(rt.alloc(), 100, 2, 8)?;
-    compare_run(&rt, rt.alloc(), &mut play)?;
-    Ok(())
+    compare_run(&rt, rt.alloc(), &mut play)
 }

@@ -1,7 +1,7 @@
 //! A thousand steps, after each of which what is told is compared with what the records say.
 use crate::acts::{Act, Told, brief, play, take_step};
 use crate::again::copied;
-use crate::texts::{FIRST, MET, MORE, SCRIPT, SCRIPT_MET};
+use crate::texts::{FIRST, MET, MORE};
 use interleave::{BookRefusal, Item, LineRefusal, Note, Octets, Play, SessionId, StepRefusal, Why};
 use oracle::{Reader, World, slow_nick, slow_on, slow_owed};
 use std::alloc::{AllocError, Global};
@@ -20,10 +20,10 @@ const LOOKS: usize = 100;
 
 /// A play: the number from which its steps are drawn, how many records its journal takes, and how many items an outbox.
 #[derive(Clone, Copy)]
-struct Draw {
-    seed: u64,
-    limit: usize,
-    sendq: usize,
+pub(crate) struct Draw {
+    pub(crate) seed: u64,
+    pub(crate) limit: usize,
+    pub(crate) sendq: usize,
 }
 
 /// One with a journal that is full soon, two with small outboxes, and others in which more lines are said.
@@ -180,7 +180,7 @@ struct Watched {
 
 /// What the test saw so far.
 #[derive(Drop)]
-struct Seen {
+pub(crate) struct Seen {
     draw: Draw,
     reader: Reader,
     acts: Vec<Act>,
@@ -193,7 +193,7 @@ struct Seen {
     next_text: usize,
 }
 
-fn nothing_seen(alloc: Global, draw: Draw) -> Result<Seen, AllocError> {
+pub(crate) fn nothing_seen(alloc: Global, draw: Draw) -> Result<Seen, AllocError> {
     let acts = match Vec::with_capacity(alloc, STEPS) {
         Ok(acts) => acts,
         Err(_) => Vec::with_capacity(alloc, STEPS)?,
@@ -210,6 +210,11 @@ fn nothing_seen(alloc: Global, draw: Draw) -> Result<Seen, AllocError> {
         jobs: [false; WORKERS + 1],
         next_text: (draw.seed as usize).wrapping_mul(11),
     })
+}
+
+/// The play of what is seen.
+pub(crate) fn play_of(alloc: Global, seen: &Seen) -> Result<Play, Fail> {
+    play(alloc, seen.draw.limit, WORKERS, seen.draw.sendq)
 }
 
 /// Counts an answer by its kind.
@@ -441,27 +446,21 @@ fn take_plan(
 }
 
 /// Takes the same steps in another play, and there all that is left for each session.
-fn repeat(
-    rt: &impl Abort,
-    alloc: Global,
-    copy: &mut Play,
-    seen: &mut Seen,
-) -> Result<(), AllocError> {
+fn repeat(rt: &impl Abort, alloc: Global, copy: &mut Play, seen: &mut Seen) -> Result<(), Fail> {
     for (at, act) in seen.acts.iter().enumerate() {
         let _ = take_step(rt, alloc, copy, *act, moment_of(at))?;
     }
     take_queues(rt, alloc, copy, &mut seen.sessions)?;
-    match seen.holder {
-        Some(holder) => take_plan(rt, alloc, copy, holder, &mut seen.sessions),
-        None => Ok(()),
+    if let Some(holder) = seen.holder {
+        take_plan(rt, alloc, copy, holder, &mut seen.sessions)?;
     }
+    Ok(())
 }
 
 /// Takes the same steps in a play of its own, and there all that is left for each session.
-fn look_ahead(rt: &impl Abort, alloc: Global, seen: &mut Seen) -> Result<(), Fail> {
-    let mut copy = play(alloc, seen.draw.limit, WORKERS, seen.draw.sendq)?;
-    repeat(rt, alloc, &mut copy, seen)?;
-    Ok(())
+pub(crate) fn look_ahead(rt: &impl Abort, alloc: Global, seen: &mut Seen) -> Result<(), Fail> {
+    let mut copy = play_of(alloc, seen)?;
+    repeat(rt, alloc, &mut copy, seen)
 }
 
 /// Whether what was taken is the first of what is owed, and what is left is the rest.
@@ -539,7 +538,13 @@ fn read_back(alloc: Global, play: &Play, seen: &mut Seen) -> Result<(), AllocErr
 }
 
 /// Compares each session that was ever opened with the records.
-fn compare_all(rt: &impl Abort, play: &Play, seen: &Seen, is_looked_at: bool, channels: &[Octets]) {
+pub(crate) fn compare_all(
+    rt: &impl Abort,
+    play: &Play,
+    seen: &Seen,
+    is_looked_at: bool,
+    channels: &[Octets],
+) {
     let at = seen.acts.len();
     for (place, watched) in seen.sessions.iter().enumerate() {
         let session = SessionId::new(place as u64 + 1);
@@ -589,7 +594,7 @@ fn note(
 }
 
 /// Takes a step, and compares what is told after it with what the records say.
-fn take_next(
+pub(crate) fn take_next(
     rt: &impl Abort,
     alloc: Global,
     play: &mut Play,
@@ -658,11 +663,12 @@ fn count_met(items: &[Item], wanted: &[&str], met: &mut [u64]) {
     }
 }
 
-/// Takes the steps of a play, and counts the answers by their kinds, and what is met.
-fn play_steps(
+/// Takes the steps in a play, and counts the answers by their kinds, and what is met.
+fn go_through(
     rt: &impl Abort,
     alloc: Global,
-    draw: Draw,
+    play: &mut Play,
+    seen: &mut Seen,
     counts: &mut [u64],
     met: &mut [u64],
 ) -> Result<(), Fail> {
@@ -671,14 +677,36 @@ fn play_steps(
         copied(alloc, b"#B")?,
         copied(alloc, b"&b")?,
     ];
-    let mut play = play(alloc, draw.limit, WORKERS, draw.sendq)?;
+    take_steps(rt, alloc, play, seen, &channels, counts)?;
+    count_all(rt, alloc, play, seen, &MET, met)
+}
+
+/// Takes the steps in a play of its own.
+fn play_through(
+    rt: &impl Abort,
+    alloc: Global,
+    seen: &mut Seen,
+    counts: &mut [u64],
+    met: &mut [u64],
+) -> Result<(), Fail> {
+    let mut play = play_of(alloc, seen)?;
+    go_through(rt, alloc, &mut play, seen, counts, met)
+}
+
+/// Takes the steps that a draw says.
+fn play_steps(
+    rt: &impl Abort,
+    alloc: Global,
+    draw: Draw,
+    counts: &mut [u64],
+    met: &mut [u64],
+) -> Result<(), Fail> {
     let mut seen = nothing_seen(alloc, draw)?;
-    take_steps(rt, alloc, &mut play, &mut seen, &channels, counts)?;
-    count_all(rt, alloc, &play, &seen, &MET, met)
+    play_through(rt, alloc, &mut seen, counts, met)
 }
 
 /// Counts what is met in all that is owed, as it is read at once.
-fn count_all(
+pub(crate) fn count_all(
     rt: &impl Abort,
     alloc: Global,
     play: &Play,
@@ -706,62 +734,6 @@ fn a_thousand_steps(rt: HostRuntime) -> Result<(), Fail> {
         assert!(rt; *count > 0, "{kind} in {counts:?}");
     }
     for (count, wanted) in met.iter().zip(MET.iter()) {
-        assert!(rt; *count > 0, "{wanted} in {met:?}");
-    }
-    Ok(())
-}
-
-/// Feeds a session, has its lines done, and takes what they bring.
-fn say_lines(
-    rt: &impl Abort,
-    alloc: Global,
-    play: &mut Play,
-    seen: &mut Seen,
-    session: u64,
-    text: &'static str,
-) -> Result<(), Fail> {
-    let _ = take_next(rt, alloc, play, seen, Act::Feed(session, text), &[])?;
-    let acts = [
-        Act::Pick(1, session),
-        Act::Begin(1),
-        Act::Put(1),
-        Act::Put(1),
-        Act::End(1),
-        Act::Take(1),
-        Act::Take(2),
-    ];
-    for _ in 0..4 {
-        for act in &acts {
-            let _ = take_next(rt, alloc, play, seen, *act, &[])?;
-        }
-    }
-    Ok(())
-}
-
-/// Takes the steps of the script, and counts what is met.
-fn script_steps(rt: &impl Abort, alloc: Global, met: &mut [u64]) -> Result<(), Fail> {
-    let draw = Draw {
-        seed: 0,
-        limit: 100,
-        sendq: 10,
-    };
-    let mut play = play(alloc, draw.limit, WORKERS, draw.sendq)?;
-    let mut seen = nothing_seen(alloc, draw)?;
-    let _ = take_next(rt, alloc, &mut play, &mut seen, Act::Connect, &[])?;
-    let _ = take_next(rt, alloc, &mut play, &mut seen, Act::Connect, &[])?;
-    for (session, text) in &SCRIPT {
-        say_lines(rt, alloc, &mut play, &mut seen, *session, text)?;
-    }
-    look_ahead(rt, alloc, &mut seen)?;
-    compare_all(rt, &play, &seen, true, &[]);
-    count_all(rt, alloc, &play, &seen, &SCRIPT_MET, met)
-}
-
-#[test]
-fn a_script(rt: HostRuntime) -> Result<(), Fail> {
-    let mut met = [0u64; SCRIPT_MET.len()];
-    script_steps(&rt, rt.alloc(), &mut met)?;
-    for (count, wanted) in met.iter().zip(SCRIPT_MET.iter()) {
         assert!(rt; *count > 0, "{wanted} in {met:?}");
     }
     Ok(())

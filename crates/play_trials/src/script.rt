@@ -1,0 +1,87 @@
+//! A script of what the thousand steps don't meet, compared after each step as those are.
+use crate::acts::Act;
+use crate::texts::{SCRIPT, SCRIPT_MET};
+use crate::thousand::{
+    Draw, Seen, compare_all, count_all, look_ahead, nothing_seen, play_of, take_next,
+};
+use interleave::Play;
+use std::alloc::Global;
+use std::process::Abort;
+use std::test::Fail;
+
+/// Feeds a session, has its lines done, and takes what they bring.
+fn say_lines(
+    rt: &impl Abort,
+    alloc: Global,
+    play: &mut Play,
+    seen: &mut Seen,
+    session: u64,
+    text: &'static str,
+) -> Result<(), Fail> {
+    let _ = take_next(rt, alloc, play, seen, Act::Feed(session, text), &[])?;
+    let acts = [
+        Act::Pick(1, session),
+        Act::Begin(1),
+        Act::Put(1),
+        Act::Put(1),
+        Act::End(1),
+        Act::Take(1),
+        Act::Take(2),
+    ];
+    for _ in 0..4 {
+        for act in &acts {
+            let _ = take_next(rt, alloc, play, seen, *act, &[])?;
+        }
+    }
+    Ok(())
+}
+
+/// Takes the steps of the script in a play, and counts what is met.
+fn say_script(
+    rt: &impl Abort,
+    alloc: Global,
+    play: &mut Play,
+    seen: &mut Seen,
+    met: &mut [u64],
+) -> Result<(), Fail> {
+    let _ = take_next(rt, alloc, play, seen, Act::Connect, &[])?;
+    let _ = take_next(rt, alloc, play, seen, Act::Connect, &[])?;
+    for (session, text) in &SCRIPT {
+        say_lines(rt, alloc, play, seen, *session, text)?;
+    }
+    look_ahead(rt, alloc, seen)?;
+    compare_all(rt, play, seen, true, &[]);
+    count_all(rt, alloc, play, seen, &SCRIPT_MET, met)
+}
+
+/// Takes them in a play of its own.
+fn play_script(
+    rt: &impl Abort,
+    alloc: Global,
+    seen: &mut Seen,
+    met: &mut [u64],
+) -> Result<(), Fail> {
+    let mut play = play_of(alloc, seen)?;
+    say_script(rt, alloc, &mut play, seen, met)
+}
+
+/// Takes the steps of the script.
+fn script_steps(rt: &impl Abort, alloc: Global, met: &mut [u64]) -> Result<(), Fail> {
+    let draw = Draw {
+        seed: 0,
+        limit: 100,
+        sendq: 10,
+    };
+    let mut seen = nothing_seen(alloc, draw)?;
+    play_script(rt, alloc, &mut seen, met)
+}
+
+#[test]
+fn a_script(rt: HostRuntime) -> Result<(), Fail> {
+    let mut met = [0u64; SCRIPT_MET.len()];
+    script_steps(&rt, rt.alloc(), &mut met)?;
+    for (count, wanted) in met.iter().zip(SCRIPT_MET.iter()) {
+        assert!(rt; *count > 0, "{wanted} in {met:?}");
+    }
+    Ok(())
+}
