@@ -1,6 +1,7 @@
 //! Messages in lines by the public standard's grammar, and what is held of a line that has no end yet.
 use line_grammar::{LineFault, Message, Octets, Piece, Splitter, is_writable, parse, write};
 use std::alloc::{AllocError, Global};
+use std::process::Abort;
 use std::test::Fail;
 
 /// Whether the pieces are these lines, where `None` stands for one that is too long.
@@ -92,7 +93,8 @@ type Reading = (
     bool,
 );
 
-const READINGS: [Reading; 27] = [
+/// Commands and parameters.
+const COMMANDS: [Reading; 13] = [
     (b"PING", b"", None, b"PING", &[], false),
     (b"PING x", b"", None, b"PING", &[b"x"], false),
     (b"   PING  x   ", b"", None, b"PING", &[b"x"], false),
@@ -134,6 +136,10 @@ const READINGS: [Reading; 27] = [
     ),
     (b"PRIVMSG :#a b", b"", None, b"PRIVMSG", &[b"#a b"], true),
     (b"MODE a:b c:", b"", None, b"MODE", &[b"a:b", b"c:"], false),
+];
+
+/// Sources and tags.
+const SOURCES: [Reading; 9] = [
     (b":nick PING", b"", Some(b"nick"), b"PING", &[], false),
     (
         b":nick!user@host PRIVMSG #a :x",
@@ -171,6 +177,10 @@ const READINGS: [Reading; 27] = [
         false,
     ),
     (b"@ PING x", b"", None, b"PING", &[b"x"], false),
+];
+
+/// As many parameters as a line has, and more.
+const FULL: [Reading; 5] = [
     (
         b"X 1 2 3 4 5 6 7 8 9 10 11 12 13",
         b"",
@@ -265,15 +275,32 @@ fn is_read(alloc: Global, reading: &Reading) -> bool {
     }
 }
 
-#[test]
-fn reads_lines(rt: HostRuntime) -> Result<(), Fail> {
-    for reading in &READINGS {
+/// Compares how lines are read, once more where a growth was refused.
+fn compare_readings(rt: &impl Abort, alloc: Global, readings: &[Reading]) {
+    for reading in readings {
         assert!(rt;
-            is_read(rt.alloc(), reading) || is_read(rt.alloc(), reading),
+            is_read(alloc, reading) || is_read(alloc, reading),
             "{:?}",
             reading.0
         );
     }
+}
+
+#[test]
+fn reads_commands(rt: HostRuntime) -> Result<(), Fail> {
+    compare_readings(&rt, rt.alloc(), &COMMANDS);
+    Ok(())
+}
+
+#[test]
+fn reads_sources_and_tags(rt: HostRuntime) -> Result<(), Fail> {
+    compare_readings(&rt, rt.alloc(), &SOURCES);
+    Ok(())
+}
+
+#[test]
+fn reads_as_many_parameters_as_a_line_has(rt: HostRuntime) -> Result<(), Fail> {
+    compare_readings(&rt, rt.alloc(), &FULL);
     Ok(())
 }
 
