@@ -16,6 +16,8 @@ const CHECKS: &str = "\
 1> :~ 403 al #b :No such channel
 1 INVITE cy b
 1> :~ 403 al b :No such channel
+1 INVITE : #a
+1> :~ 461 al INVITE :Not enough parameters
 1 INVITE cy :
 1> :~ 403 al * :No such channel
 3 INVITE bo #b

@@ -111,6 +111,17 @@ const TOO_MANY: &str = "\
 3> :al!a@h1 KICK #a cy :out
 ";
 
+/// They go in the order of the line.
+const IN_TURN: &str = "\
+1 KICK #a cy,dee,bo :out
+1> :al!a@h1 KICK #a cy :out
+1> :~ 401 al dee :No such nick/channel
+1> :al!a@h1 KICK #a bo :out
+2> :al!a@h1 KICK #a cy :out
+2> :al!a@h1 KICK #a bo :out
+3> :al!a@h1 KICK #a cy :out
+";
+
 /// Who put itself out goes on with the others, and sees no more of it.
 const ITSELF: &str = "\
 1 KICK #a al,cy,dee :all
@@ -141,6 +152,7 @@ const THE_LAST: &str = "\
 #[test]
 fn several_are_put_out(rt: HostRuntime) -> Result<(), Fail> {
     tell_talk(rt.alloc(), &[AL, BO, CY, AL_IN, BO_IN, CY_IN, TOO_MANY])?;
+    tell_talk(rt.alloc(), &[AL, BO, CY, AL_IN, BO_IN, CY_IN, IN_TURN])?;
     tell_talk(rt.alloc(), &[AL, BO, CY, AL_IN, BO_IN, CY_IN, ITSELF])?;
     tell_talk(rt.alloc(), &[AL, BO, AL_IN, THE_LAST])?;
     Ok(())

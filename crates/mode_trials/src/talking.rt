@@ -50,6 +50,9 @@ const SEVERAL: &str = "\
 1 PRIVMSG #a,bo :hi
 2> :al!a@h1 PRIVMSG #a :hi
 2> :al!a@h1 PRIVMSG bo :hi
+1 PRIVMSG bo,#a :hi
+2> :al!a@h1 PRIVMSG bo :hi
+2> :al!a@h1 PRIVMSG #a :hi
 3 PRIVMSG bo,#a,al :hi
 1> :cy!c@h3 PRIVMSG al :hi
 2> :cy!c@h3 PRIVMSG bo :hi

@@ -50,6 +50,36 @@ const FLAGS: &str = "\
 2> :~ 315 bo #a :End of WHO list
 ";
 
+/// Who comes again stands last, and who takes another nickname stays in its place.
+const AGAIN: &str = "\
+1 PART #a
+1> :al!a@h1 PART #a
+2> :al!a@h1 PART #a
+3> :al!a@h1 PART #a
+1 JOIN #a
+1> :al!a@h1 JOIN #a
+1> :~ 353 al = #a :bo cy al
+1> :~ 366 al #a :End of NAMES list
+2> :al!a@h1 JOIN #a
+3> :al!a@h1 JOIN #a
+3 NICK ann
+1> :cy!c@h3 NICK ann
+2> :cy!c@h3 NICK ann
+3> :cy!c@h3 NICK ann
+2 NICK zoe
+1> :bo!b@h2 NICK zoe
+2> :bo!b@h2 NICK zoe
+3> :bo!b@h2 NICK zoe
+1 WHO #a
+1> :~ 352 al #a b h2 ~ zoe H :0 Bo
+1> :~ 352 al #a c h3 ~ ann H :0 Cy
+1> :~ 352 al #a a h1 ~ al H :0 Al
+1> :~ 315 al #a :End of WHO list
+1 NAMES #a
+1> :~ 353 al = #a :zoe ann al
+1> :~ 366 al #a :End of NAMES list
+";
+
 /// A secret channel of Al.
 const SECRET: &str = "\
 1 MODE #a +s
@@ -79,5 +109,6 @@ fn who_is_on_a_channel(rt: HostRuntime) -> Result<(), Fail> {
     tell_talk(rt.alloc(), &[AL, BO, AL_IN, NAMES, SECRET])?;
     tell_talk(rt.alloc(), &[AL, BO, CY, AL_IN, BO_IN, INVISIBLE])?;
     tell_talk(rt.alloc(), &[AL, BO, CY, AL_IN, BO_IN, CY_IN, FLAGS])?;
+    tell_talk(rt.alloc(), &[AL, BO, CY, AL_IN, BO_IN, CY_IN, AGAIN])?;
     Ok(())
 }

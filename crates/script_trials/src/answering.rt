@@ -1,6 +1,6 @@
 //! Commands that are answered alone, those that aren't served, and lines that are none.
 use std::test::Fail;
-use talks::{AL, AL_IN, BO, BO_IN, tell_talk};
+use talks::{AL, AL_IN, BO, BO_IN, CY, CY_IN, tell_talk};
 
 const PING: &str = "\
 1 PING x y
@@ -88,11 +88,24 @@ tidy
 1> :bo!b@h2 QUIT :so
 ";
 
+/// Cy quits before Bo, and Bo is swept before Cy.
+const TWO_QUITS: &str = "\
+3 QUIT :first
+3> ERROR :Closing Link: h3 (Client Quit)
+2 QUIT :second
+2> ERROR :Closing Link: h2 (Client Quit)
+tidy
+1> :bo!b@h2 QUIT :second
+tidy
+1> :cy!c@h3 QUIT :first
+";
+
 #[test]
 fn quits(rt: HostRuntime) -> Result<(), Fail> {
     tell_talk(rt.alloc(), &[QUITS])?;
     tell_talk(rt.alloc(), &[AL, BO, AL_IN, BO_IN, AN_EMPTY_TEXT])?;
     tell_talk(rt.alloc(), &[AL, BO, AL_IN, BO_IN, THE_FIRST_WORD])?;
+    tell_talk(rt.alloc(), &[AL, BO, CY, AL_IN, BO_IN, CY_IN, TWO_QUITS])?;
     Ok(())
 }
 

@@ -111,6 +111,44 @@ fn a_session_ends_while_its_line_is_in_a_hand(rt: HostRuntime) -> Result<(), Fai
     Ok(())
 }
 
+/// Cy joins first, then Al, then Bo. Whose line it is is put first, and then the others by their numbers, as are those who
+/// are told of an end.
+const IN_ORDER: [(&str, &str); 27] = [
+    ("connect h3 0", "session 3"),
+    ("feed 3 \"NICK cy\\nUSER c 0 * :Cy\\nJOIN #a\\n\"", "read 3"),
+    ("feed 1 \"JOIN #a\\nQUIT\\n\"", "read 2"),
+    ("feed 2 \"JOIN #a\\nNICK bob\\n\"", "read 2"),
+    ("do 3 0", "record 8"),
+    ("do 3 0", "record 9"),
+    ("do 3 0", "record 10"),
+    ("do 1 0", "record 11"),
+    ("pick 2 2", "picked"),
+    ("begin 2 0", "record 12"),
+    ("put 2", "put 2"),
+    ("put 2", "put 1"),
+    ("put 2", "put 3"),
+    ("put 2", "refused NothingLeft"),
+    ("end 2", "done 12"),
+    ("pick 2 2", "picked"),
+    ("begin 2 0", "record 13"),
+    ("put 2", "put 2"),
+    ("put 2", "put 1"),
+    ("put 2", "put 3"),
+    ("end 2", "done 13"),
+    ("do 1 0", "record 14"),
+    ("sweep 2 0", "sweep 15"),
+    ("put 2", "put 2"),
+    ("put 2", "put 3"),
+    ("put 2", "refused NothingLeft"),
+    ("end 2", "done 15"),
+];
+
+#[test]
+fn deliveries_are_put_in_order(rt: HostRuntime) -> Result<(), Fail> {
+    tell_started(rt.alloc(), &IN_ORDER)?;
+    Ok(())
+}
+
 const BUSY: [(&str, &str); 16] = [
     ("pick 1 1", "picked"),
     ("do 2 0", "refused HasJob"),

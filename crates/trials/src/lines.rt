@@ -1,5 +1,9 @@
 //! Messages in lines by the public standard's grammar, and what is held of a line that has no end yet.
-use line_grammar::{LineFault, Message, Octets, Piece, Splitter, is_writable, parse, write};
+use line_grammar::{
+    LineFault, Message, Octets, Parameters, Piece, Splitter, WriteFault, is_writable, parse,
+    split_all, write,
+};
+use numerics::copied_all;
 use std::alloc::{AllocError, Global};
 use std::process::Abort;
 use std::test::Fail;
@@ -80,6 +84,65 @@ fn are_fed(alloc: Global) -> Result<bool, AllocError> {
 #[test]
 fn feeds_after_a_refused_growth(rt: HostRuntime) -> Result<(), Fail> {
     assert!(rt; are_fed(rt.alloc())?);
+    Ok(())
+}
+
+#[test]
+fn what_is_fed_in_turn_is_split_at_once(rt: HostRuntime) -> Result<(), Fail> {
+    let pieces = copied_all(rt.alloc(), &FEEDS)?;
+    let out = split_all(rt.alloc(), &pieces)?;
+    assert!(rt; are_lines(&out, &FED_LINES));
+    Ok(())
+}
+
+const FILL: [u8; 4095] = [b'x'; 4095];
+
+/// What stands before so many `x`, what stands after them, and how many octets the line has, `None` where it is too long.
+const LIMITS: [(&[u8], usize, &[u8], Option<usize>); 14] = [
+    (b"", 510, b"", Some(510)),
+    (b"", 511, b"", None),
+    (b"PING :", 504, b"", Some(510)),
+    (b"PING :", 505, b"", None),
+    (b"@", 4094, b" PING x", Some(4102)),
+    (b"@", 4095, b" PING x", None),
+    (b"@", 4094, b"", Some(4095)),
+    (b"@", 4095, b"", None),
+    (b"@a ", 510, b"", Some(513)),
+    (b"@a ", 511, b"", None),
+    (b"@ ", 510, b"", Some(512)),
+    (b"@ ", 511, b"", None),
+    (b" @", 508, b"", Some(510)),
+    (b" @", 509, b"", None),
+];
+
+/// How many octets a line has that is fed in three pieces, `None` where it is too long or isn't given.
+fn length_of(
+    alloc: Global,
+    front: &[u8],
+    count: usize,
+    back: &[u8],
+) -> Result<Option<usize>, AllocError> {
+    let mut splitter = Splitter::new(alloc);
+    let mut out = Vec::new(alloc);
+    splitter.feed(front, &mut out)?;
+    splitter.feed(&FILL[..count.min(FILL.len())], &mut out)?;
+    splitter.feed(back, &mut out)?;
+    splitter.feed(b"\r\n", &mut out)?;
+    match out.as_slice() {
+        [Piece::Line(line)] => Ok(Some(line.len())),
+        _ => Ok(None),
+    }
+}
+
+#[test]
+fn lines_have_limits(rt: HostRuntime) -> Result<(), Fail> {
+    for (front, count, back, want) in &LIMITS {
+        assert_eq!(rt;
+            length_of(rt.alloc(), front, *count, back)?,
+            *want,
+            "{front:?} {count}"
+        );
+    }
     Ok(())
 }
 
@@ -371,6 +434,54 @@ fn a_line_that_is_read_is_written(rt: HostRuntime) -> Result<(), Fail> {
             is_respelled(rt.alloc(), line) || is_respelled(rt.alloc(), line),
             "{line:?}"
         );
+    }
+    Ok(())
+}
+
+/// Parameters, whether the last is spelled with a colon, and the line, `None` where it can't be spelled.
+type Writing = (&'static [&'static [u8]], bool, Option<&'static [u8]>);
+
+const WRITINGS: [Writing; 9] = [
+    (&[b"#a", b"hi there"], true, Some(b"PRIVMSG #a :hi there")),
+    (&[b"", b"x"], false, None),
+    (&[b"", b"x"], true, None),
+    (&[b"x", b""], false, None),
+    (&[b"x", b""], true, Some(b"PRIVMSG x :")),
+    (&[b"#a", b"b c"], false, None),
+    (&[b"#a", b":b"], false, None),
+    (&[b"#a", b":b", b"c"], true, None),
+    (&[b"#a", b":b"], true, Some(b"PRIVMSG #a ::b")),
+];
+
+/// A PRIVMSG with these parameters.
+fn privmsg(alloc: Global, params: &[&[u8]], colon: bool) -> Result<Message, AllocError> {
+    Ok(Message {
+        tags: Octets::copied(alloc, b"")?,
+        source: None,
+        command: Octets::copied(alloc, b"PRIVMSG")?,
+        params: Parameters::from_vec(copied_all(alloc, params)?),
+        colon,
+    })
+}
+
+/// Whether a message is spelled so, or can't be.
+fn is_written(alloc: Global, row: &Writing) -> Result<bool, AllocError> {
+    let (params, colon, want) = *row;
+    let message = privmsg(alloc, params, colon)?;
+    if !is_writable(&message) {
+        return Ok(false);
+    }
+    match (write(alloc, &message), want) {
+        (Ok(line), Some(want)) => Ok(line.as_slice() == want),
+        (Err(fault), None) => Ok(fault == WriteFault::CannotSpell),
+        _ => Ok(false),
+    }
+}
+
+#[test]
+fn what_needs_a_colon_stands_last(rt: HostRuntime) -> Result<(), Fail> {
+    for row in &WRITINGS {
+        assert!(rt; is_written(rt.alloc(), row)?, "{:?}", row.0);
     }
     Ok(())
 }
