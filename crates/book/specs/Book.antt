@@ -1,5 +1,5 @@
 -- What clauses see of a book, and its steps: this project's own promise of how deliveries reach outboxes.
-use Rattle.std.specs.Prelude.{◌≡◌, ℕ, ℤ, zero, suc, ◌+◌, ◌-◌, ◌<◌, ◌≤◌, Bool, true, false, not, ◌&&◌, ◌==◌, cond, List, [], ◌∷◌, ◌++◌, length, map, sum_by, if◌then◌else◌, slice_index_or, slice_set, Option, Some, None}
+use Rattle.std.specs.Prelude.{◌≡◌, ℕ, ℤ, zero, suc, ◌+◌, ◌-◌, ◌<◌, ◌≤◌, Bool, true, false, not, ◌&&◌, ◌==◌, cond, List, [], ◌∷◌, ◌++◌, length, map, sum_by, if◌then◌else◌, slice_index_or, slice_set, Option, Some, None, IsSome}
 use Rattle.std.specs.Option.{is_some}
 use Rattle.chronicle.specs.declared.record.Kind.{Kind}
 use Rattle.chronicle.specs.declared.record.Kind.TheVariants.{Opened, Said, Hung, Gone}
@@ -248,10 +248,11 @@ pub record MaySweep (m : Shown) (moment : ℤ) : Type 0 where
   pub idle : m.busy ≡ false
   pub in_time : IsMomentAfter (last_moment m.history) moment
 
+-- want of memory comes only where there is a session to sweep
 abbrev pub IsSweepRefusal : Shown → ℤ → SweepRefusal → Type 0
 IsSweepRefusal m moment sweeping.Busy = m.busy ≡ true
 IsSweepRefusal m moment sweeping.BadMoment = (m.busy ≡ false) × (IsMomentAfter (last_moment m.history) moment → ⊥)
-IsSweepRefusal m moment sweeping.Memory = MaySweep m moment
+IsSweepRefusal m moment sweeping.Memory = MaySweep m moment × IsSome (to_sweep m.history)
 
 pub record MayReap (m : Shown) (s : ℕ) : Type 0 where
   pub idle : m.busy ≡ false

@@ -1,5 +1,5 @@
 //! The book: the journal and, for each session, its outbox.
-ghost use Rattle.std.specs.Prelude.{◌≡◌, ◌<◌, ◌≤◌, ◌+◌, ◌-◌, ◌^◌, ◌++◌, ◌↔◌, ◌==◌, [], ℕ, cond, sum_by, Some, None, true, false, length, slice_get, slice_set, vec_len, vec_capacity, IsTrue, IfOk, IfErr, IfSome, OnOk, OnErr, option_copied};
+ghost use Rattle.std.specs.Prelude.{◌≡◌, ◌≢◌, ◌<◌, ◌≤◌, ◌+◌, ◌-◌, ◌^◌, ◌++◌, ◌↔◌, ◌==◌, [], ℕ, cond, sum_by, Some, None, true, false, length, slice_get, slice_set, vec_len, vec_capacity, IsTrue, IfOk, IfErr, IfSome, OnOk, OnErr, option_copied};
 ghost use Rattle.std.specs.List.{list_any};
 ghost use Rattle.casemapping.specs.Names.{host_shape};
 ghost use Rattle.chronicle.specs.declared.record.Kind.TheVariants as kind;
@@ -177,6 +177,7 @@ impl Book {
         ensures ok { OnOk result (MayOpen self.now moment) }
         ensures fits { OnOk result (self.now.limit < 2 ^ 64) }
         ensures err { IfErr result (λ e. IsOpenRefusal self.now moment e) }
+        ensures no_memory { IfErr result (λ e. e ≢ OpenRefusal.Memory) }
     {
         let free = self.free();
         if self.busy {
@@ -192,6 +193,15 @@ impl Book {
             return Err(OpenRefusal::BadMoment);
         }
         Ok(())
+    }
+
+    /// Whether a session may be opened at a moment: what `open` would answer, want of memory apart. It takes no memory.
+    pub fn may_open(&self, moment: Moment) -> Result<(), OpenRefusal>
+        ensures ok { OnOk result (MayOpen self.now moment) }
+        ensures refusal { IfErr result (λ e. IsOpenRefusal self.now moment e) }
+        ensures no_memory { IfErr result (λ e. e ≢ OpenRefusal.Memory) }
+    {
+        self.check_open(moment)
     }
 
     /// Opens a session whose host has the shape of one. A refusal gives the outbox back, and changes nothing.

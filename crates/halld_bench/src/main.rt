@@ -1,4 +1,5 @@
-//! How fast steps are. Without a word on the command line it does nothing; `run` measures, for some minutes.
+//! How fast steps are. Without a word on the command line it does nothing; `run` measures, for some minutes, and `run 3 1000` only
+//! the third scene, with 1,000 lines.
 #![tactic(auto)]
 
 ghost use Rattle.interleave.specs.Steps.{IsWellShaped};
@@ -23,9 +24,14 @@ struct Scene {
     sendq: usize,
     // What each says to begin with, once it has a nickname.
     start: &'static [&'static str],
+    // How many channels of its own each of them makes.
+    channels: u64,
+    // What the first says, and how many tags that are passed on stand before it.
     line: &'static str,
-    // The first session that is told of the line. All later ones are, too.
+    tags: u64,
+    // The first and the last of the sessions that are told of the line.
     told: u64,
+    last: u64,
     // How often the line is said before the time is taken, and then.
     before: u64,
     lines: u64,
@@ -42,20 +48,32 @@ const WITH_MOMENTS: &[&str] = &[
     "JOIN #room\r\n",
 ];
 
+const WITH_TAGS: &[&str] = &[
+    "CAP REQ message-tags\r\n",
+    "USER u 0 * :Some One\r\n",
+    "CAP END\r\n",
+    "JOIN #room\r\n",
+];
+
+const ALONE: &[&str] = &["USER u 0 * :Some One\r\n"];
+
 const WITH_LABELS: &[&str] = &[
     "CAP REQ :batch labeled-response\r\n",
     "USER u 0 * :Some One\r\n",
     "CAP END\r\n",
 ];
 
-const SCENES: [Scene; 6] = [
+const SCENES: [Scene; 9] = [
     Scene {
         name: "100 sessions",
         members: 100,
         sendq: 200,
         start: PLAIN,
+        channels: 0,
         line: TEXT,
+        tags: 0,
         told: 2,
+        last: 100,
         before: 0,
         lines: 4_927,
     },
@@ -64,8 +82,11 @@ const SCENES: [Scene; 6] = [
         members: 100,
         sendq: 200,
         start: WITH_MOMENTS,
+        channels: 0,
         line: TEXT,
+        tags: 0,
         told: 2,
+        last: 100,
         before: 0,
         lines: 4_927,
     },
@@ -74,8 +95,11 @@ const SCENES: [Scene; 6] = [
         members: 1,
         sendq: 200,
         start: WITH_LABELS,
+        channels: 0,
         line: "@label=7 PING x\r\n",
+        tags: 0,
         told: 1,
+        last: 1,
         before: 0,
         lines: 100_000,
     },
@@ -84,8 +108,11 @@ const SCENES: [Scene; 6] = [
         members: 2,
         sendq: 200,
         start: PLAIN,
+        channels: 0,
         line: TEXT,
+        tags: 0,
         told: 2,
+        last: 2,
         before: 10_000,
         lines: 14_286,
     },
@@ -94,8 +121,11 @@ const SCENES: [Scene; 6] = [
         members: 1_000,
         sendq: 1_200,
         start: PLAIN,
+        channels: 0,
         line: TEXT,
+        tags: 0,
         told: 2,
+        last: 1_000,
         before: 0,
         lines: 500,
     },
@@ -104,10 +134,52 @@ const SCENES: [Scene; 6] = [
         members: 2,
         sendq: 200,
         start: PLAIN,
+        channels: 0,
         line: TEXT,
+        tags: 0,
         told: 2,
+        last: 2,
         before: 1_000_000,
         lines: 14_286,
+    },
+    Scene {
+        name: "NAMES of 1,000",
+        members: 1_000,
+        sendq: 1_200,
+        start: PLAIN,
+        channels: 0,
+        line: "NAMES #room\r\n",
+        tags: 0,
+        told: 1,
+        last: 1,
+        before: 0,
+        lines: 100,
+    },
+    Scene {
+        name: "LIST of 1,000 channels",
+        members: 50,
+        sendq: 200,
+        start: ALONE,
+        channels: 20,
+        line: "LIST\r\n",
+        tags: 0,
+        told: 1,
+        last: 1,
+        before: 0,
+        lines: 100,
+    },
+    Scene {
+        name: "TAGMSG of 100 tags",
+        members: 2,
+        sendq: 200,
+        start: WITH_TAGS,
+        channels: 0,
+        line: "TAGMSG #room\r\n",
+        tags: 100,
+        told: 2,
+        last: 2,
+        before: 0,
+        lines: 1_000,
     },
 ];
 
@@ -182,7 +254,7 @@ fn say_all(alloc: Global, play: &mut Play, session: SessionId, lines: &[&str]) -
 /// Takes an item of each session from the first that is told. It answers how many those were.
 fn take_items(play: &mut Play, scene: &Scene) -> u64 {
     let mut items = 0u64;
-    for place in scene.told..scene.members.saturating_add(1) {
+    for place in scene.told..scene.last.saturating_add(1) {
         if takes_item(play, SessionId::new(place)) {
             items = items.wrapping_add(1);
         }
@@ -221,15 +293,29 @@ fn enter(alloc: Global, play: &mut Play, session: u64) -> Option<()> {
     Some(())
 }
 
+/// A session makes channels of its own.
+fn make_channels(alloc: Global, play: &mut Play, session: u64, channels: u64) -> Option<()> {
+    for channel in 0..channels {
+        let join = format!(in alloc; "JOIN #c{session}-{channel}\r\n").ok()?;
+        say(alloc, play, SessionId::new(session), join.as_str())?;
+    }
+    Some(())
+}
+
 /// The sessions of a scene come, and take what waits for them.
 fn fill(alloc: Global, play: &mut Play, scene: &Scene) -> Option<()> {
     let past = scene.members.saturating_add(1);
     for session in 1..past {
         enter(alloc, play, session)?;
         say_all(alloc, play, SessionId::new(session), scene.start)?;
+        make_channels(alloc, play, session, scene.channels)?;
     }
     for session in 1..past {
-        empty(play, SessionId::new(session), scene.members);
+        empty(
+            play,
+            SessionId::new(session),
+            scene.members.saturating_add(scene.channels),
+        );
     }
     Some(())
 }
@@ -242,11 +328,27 @@ fn play_of(alloc: Global, scene: &Scene) -> Option<Play> {
     Some(play)
 }
 
+/// What the first session says: tags, where there are some, and the line.
+fn line_of(alloc: Global, scene: &Scene) -> Option<String> {
+    let mut line = String::new(alloc);
+    for tag in 0..scene.tags {
+        let mark = if tag == 0 { "@" } else { ";" };
+        let more = format!(in alloc; "{mark}+example.com/key-{tag}=value").ok()?;
+        line.push_str(more.as_str()).ok()?;
+    }
+    if scene.tags > 0 {
+        line.push_str(" ").ok()?;
+    }
+    line.push_str(scene.line).ok()?;
+    Some(line)
+}
+
 /// Has the first session say its line so often, and whoever is told take it. It answers how many steps that took.
 fn talk(alloc: Global, play: &mut Play, scene: &Scene, lines: u64) -> Option<u64> {
     let mut steps = 0u64;
+    let line = line_of(alloc, scene)?;
     for _ in 0..lines {
-        let puts = say(alloc, play, SessionId::new(1), scene.line)?;
+        let puts = say(alloc, play, SessionId::new(1), line.as_str())?;
         if puts == 0 || take_items(play, scene) != puts {
             return None;
         }
@@ -257,19 +359,19 @@ fn talk(alloc: Global, play: &mut Play, scene: &Scene, lines: u64) -> Option<u64
 }
 
 /// Microseconds that a scene's lines took, and how many steps they were.
-fn timed(rt: &HostRuntime, play: &mut Play, scene: &Scene) -> Option<(u64, u64)> {
+fn timed(rt: &HostRuntime, play: &mut Play, scene: &Scene, lines: u64) -> Option<(u64, u64)> {
     talk(rt.alloc(), play, scene, scene.before)?;
     let start = Instant::now(rt).ok()?;
-    let steps = talk(rt.alloc(), play, scene, scene.lines)?;
+    let steps = talk(rt.alloc(), play, scene, lines)?;
     let took = start.elapsed(rt).ok()?;
     let seconds = took.as_secs().saturating_mul(1_000_000);
     Some((seconds.saturating_add(took.subsec_micros() as u64), steps))
 }
 
 /// Tells how fast so many lines were, of so many steps.
-fn tell(rt: &impl Print, scene: &Scene, micros: u64, steps: u64) -> Option<()> {
+fn tell(rt: &impl Print, scene: &Scene, micros: u64, steps: u64, lines: u64) -> Option<()> {
     let name = scene.name;
-    let records = scene.lines.saturating_mul(1_000_000) / micros.max(1);
+    let records = lines.saturating_mul(1_000_000) / micros.max(1);
     let rate = steps.saturating_mul(1_000_000) / micros.max(1);
     let nanos = micros.saturating_mul(1000) / steps.max(1);
     println!(rt;
@@ -288,27 +390,50 @@ fn tell_memory(rt: &(impl Print + Files + Alloc)) -> Option<()> {
     Some(())
 }
 
-/// Times a scene.
-fn measure(rt: &HostRuntime, scene: &Scene) -> Option<()> {
+/// Times a scene with so many lines.
+fn measure(rt: &HostRuntime, scene: &Scene, lines: u64) -> Option<()> {
     let mut play = play_of(rt.alloc(), scene)?;
-    let (micros, steps) = timed(rt, &mut play, scene)?;
-    tell(rt, scene, micros, steps)
+    let (micros, steps) = timed(rt, &mut play, scene, lines)?;
+    tell(rt, scene, micros, steps, lines)
 }
 
 fn measure_all(rt: &HostRuntime) -> Option<()> {
     for scene in &SCENES {
-        measure(rt, scene)?;
+        measure(rt, scene, scene.lines)?;
         tell_memory(rt)?;
     }
     Some(())
+}
+
+/// Times one scene, by its number from 1, with so many lines.
+fn measure_one(rt: &HostRuntime, number: &str, lines: &str) -> Option<()> {
+    let number = number.parse::<usize>().ok()?;
+    let lines = lines.parse::<u64>().ok()?;
+    let scene = SCENES.get(number.checked_sub(1)?)?;
+    measure(rt, scene, lines)
+}
+
+/// Times what the words on the command line, after the program's name, ask for: nothing, all scenes, or one.
+fn measure_asked(rt: &HostRuntime, words: &[String]) -> Option<()> {
+    match words {
+        [] | [_] => Some(()),
+        [_, _, number, lines, ..] => measure_one(rt, number.as_str(), lines.as_str()),
+        _ => measure_all(rt),
+    }
 }
 
 fn main(rt: HostRuntime) -> ExitCode {
     let Ok(args) = env::args(&rt) else {
         return ExitCode::FAILURE;
     };
-    if args.count() >= 2 && measure_all(&rt).is_none() {
-        return ExitCode::FAILURE;
+    let mut words = Vec::new(rt.alloc());
+    for word in args {
+        if words.push(word).is_err() {
+            return ExitCode::FAILURE;
+        }
     }
-    ExitCode::SUCCESS
+    match measure_asked(&rt, &words) {
+        Some(()) => ExitCode::SUCCESS,
+        None => ExitCode::FAILURE,
+    }
 }

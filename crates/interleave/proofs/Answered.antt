@@ -1,5 +1,5 @@
--- A labelled line is answered once, and whole.
-use Rattle.std.proofs.Common.{◌≡◌, inl, inr, ℕ, ℤ, ◌+◌, ◌≤◌, Bool, true, false, ◌||◌, ◌&&◌, ◌==◌, nat_le, cond, List, [], ◌∷◌, ◌++◌, map, length, take, Some, None, arith, refl, sym, subst, ap, ◌∙◌, append-nil, append_assoc, eq-eqb}
+-- A labelled line is answered once, and whole; a line is shown to each of its hearers once.
+use Rattle.std.proofs.Common.{◌≡◌, ℕ, ℤ, ◌+◌, ◌≤◌, Bool, true, false, ◌||◌, ◌&&◌, ◌==◌, nat_le, cond, List, [], ◌∷◌, ◌++◌, map, length, take, Some, None, arith, refl, sym, subst, ap, ◌∙◌, append-nil, append_assoc, eq-eqb}
 use Rattle.std.proofs.lemmas.Bool.Decides.{nat_tests}
 use Rattle.line_grammar.specs.declared.splitter.Piece.{Piece}
 use Rattle.line_grammar.specs.Spelling.{untagged}
@@ -11,20 +11,21 @@ use Rattle.registration.specs.declared.caps.Caps.{Caps}
 use Rattle.registration.specs.declared.settings.Settings.{Settings}
 use Rattle.labels_batches.specs.declared.answers.Tagged.{Tagged}
 use Rattle.labels_batches.specs.Labels.{label_of}
-use Rattle.labels_batches.specs.declared.answers.AnswerTag.TheVariants.{Label, Batch}
-use Rattle.labels_batches.specs.Answers.{answered, batch_ends, batch_opens, tagged_as}
+use Rattle.labels_batches.specs.declared.answers.AnswerTag.TheVariants.{Label}
+use Rattle.labels_batches.specs.Answers.{tagged_as}
 use Rattle.labels_batches.specs.Rendered.{ended, rendered, spelled_line, tag_block}
-use Rattle.labels_batches.specs.Whole.{AnsweredOnce, IsWhole}
+use Rattle.labels_batches.specs.Whole.{LabelFirst, LoneOpensNone, SeveralAreClosed}
+use Rattle.record_laws.specs.Laws.{HearersStandOnce, NoLineOpensABatch, RecordsOpenNoOthers}
 use Rattle.roster.specs.LookBack.{caps}
 use Rattle.commands.specs.Asked.{asked_of}
-use Rattle.drafts.specs.Effects.{copies, due, reply}
-use Rattle.deeds.specs.Rows.{of_asked}
+use Rattle.drafts.specs.Effects.{due}
 use Rattle.deeds.specs.Deeds.{facts, spelled, text}
 use Rattle.outbox.specs.declared.item.Item.{Item}
 use Rattle.outbox.specs.declared.item.Item.TheVariants.{Lines, Last}
 use Rattle.book.specs.Owed.{delivery, item, owed, reason, told}
 use Rattle.book.specs.Legal.{IsLegal}
-use Rattle.interleave.specs.Laws.{IsAnsweredOnce, LabelledOnce}
+use Rattle.interleave.specs.Laws.{BatchClosed, HeardOnce, IsRequest, LabelledFirst, LabelledOnce, LoneUnbatched, Request, answer_to, copies_of, effects_of, record_of, reply_to}
+use Rattle.interleave.proofs.Opened.{opened-once}
 
 -- ---- where there is a line there is a text
 
@@ -43,12 +44,6 @@ item-some n b xs bs e = ap (item n) e ∙ ap (λ ys. Lines n ys ∷ []) (sym e)
 
 item-lines : (n : ℕ) (cs : Caps) (moment : ℤ) (ls : List Tagged) (l : Tagged) (more : List Tagged) → ls ≡ l ∷ more → item n (rendered cs moment ls) ≡ Lines n (rendered cs moment ls) ∷ []
 item-lines n cs moment ls l more e = let is = line-some cs moment l (rendered cs moment more) in item-some n is.0 (rendered cs moment ls) is.1 (ap (rendered cs moment) e ∙ is.2)
-
--- an answer to a label has a line
-answer-some : (server label : List ℕ) (n : ℕ) (copies : List Out) (ls : List Tagged) → IsWhole server label n copies ls → (l : Tagged) × (more : List Tagged) × (ls ≡ l ∷ more)
-answer-some server label n copies ls (inl one) = (tagged_as (Some (Label label)) one.0, map (tagged_as None) copies, one.1)
-answer-some server label n copies ls (inr several) =
-    (tagged_as (Some (Label label)) (batch_opens server n), (map (tagged_as (Some (Batch n))) several.0 ++ tagged_as None (batch_ends server n) ∷ []) ++ map (tagged_as None) copies, several.2)
 
 -- ---- what is owed grows
 
@@ -69,21 +64,42 @@ earlier : (g : Settings) (later h : List Rec) → IsLegal g (later ++ h) → IsL
 earlier g [] h legal = legal
 earlier g (r ∷ later) h legal = earlier g later h legal.4
 
-pub labelled-once : AnsweredOnce → LabelledOnce
-labelled-once answered-once g history whole-legal later h number moment missed s i piece label split el eq em =
-    let r : Rec = record { number = number; moment = moment; kind = Said s i piece; missed = missed } in
-    let legal : IsLegal g (r ∷ h) = earlier g later (r ∷ h) (subst (IsLegal g) split whole-legal) in
-    let fs = facts g h in let n = length h + 1 in let es = of_asked g fs s (asked_of piece) in let cs = caps fs s in
-    let ls = answered g.server (Some label) n (reply s es) (copies es) in let once = answered-once g.server label n (reply s es) (copies es) in let first = answer-some g.server label n (copies es) ls once.1 in
+-- the history before a labelled line is legal, and so is the one that ends with its record
+request-legal : (g : Settings) (history : List Rec) (q : Request) → IsLegal g history → IsRequest g history q → IsLegal g (record_of q ∷ q.before)
+request-legal g history q legal is = earlier g q.later (record_of q ∷ q.before) (subst (IsLegal g) is.split legal)
+
+pub before-legal : (g : Settings) (history : List Rec) (q : Request) → IsLegal g history → IsRequest g history q → IsLegal g q.before
+before-legal g history q legal is = (request-legal g history q legal is).4
+
+pub labelled-once : LabelFirst → LabelledOnce
+labelled-once label-first g history whole-legal q is =
+    let h = q.before in let s = q.session in let moment = q.moment in let k = Said s q.index q.piece in
+    let legal : IsLegal g (record_of q ∷ h) = request-legal g history q whole-legal is in
+    let fs = facts g h in let n = length h + 1 in let es = effects_of g q in let cs = caps fs s in
+    let ls = answer_to g q in let first = label-first g.server q.label n (reply_to g q) (copies_of g q) in
     let kind = legal.2 in let open_ : shut h s ≡ false = kind.3 in let known : s ≤ sessions h = kind.1 in
     let before : nat_le s (sessions h) ≡ true = grind (arith, nat_tests) in
-    let not_last : ((s == s) && is_quit piece) ≡ false = ap (λ b. b && is_quit piece) (eq-eqb s s refl) ∙ eq in
-    let words : text g fs (Said s i piece) moment n s ≡ rendered cs moment ls =
-    ap (λ (o : _). spelled g fs s o es moment n s) el ∙ ap (λ b. rendered cs moment (cond b ls (map (tagged_as None) (due es s)))) (eq-eqb s s refl) in
-    let given : delivery g h (Said s i piece) moment s ≡ Lines n (rendered cs moment ls) ∷ [] =
-    ap (λ b. cond b (Last n (reason (Said s i piece)) ∷ []) (item n (told g h (Said s i piece) moment s))) not_last
-    ∙ ap (λ b. item n (cond b (text g fs (Said s i piece) moment n s) [])) before ∙ ap (item n) words ∙ item-lines n cs moment ls first.0 first.1 first.2 in
-    let now : owed g (r ∷ h) s ≡ owed g h s ++ Lines n (rendered cs moment ls) ∷ [] =
-    ap (λ b. owed g h s ++ cond b [] (delivery g h (Said s i piece) moment s)) (either (misses r s) (shut h s) em open_) ∙ ap (λ xs. owed g h s ++ xs) given in
-    let more = grows g later (r ∷ h) s in
-    (ls, more.0, ap (λ hs. owed g hs s) split ∙ more.1 ∙ ap (λ xs. xs ++ more.0) now ∙ append_assoc (owed g h s) (Lines n (rendered cs moment ls) ∷ []) more.0, once)
+    let not_last : ((s == s) && is_quit q.piece) ≡ false = ap (λ b. b && is_quit q.piece) (eq-eqb s s refl) ∙ is.no_quit in
+    let words : text g fs k moment n s ≡ rendered cs moment ls =
+    ap (λ (o : _). spelled g fs s o es moment n s) is.counts ∙ ap (λ b. rendered cs moment (cond b ls (map (tagged_as None) (due es s)))) (eq-eqb s s refl) in
+    let given : delivery g h k moment s ≡ Lines n (rendered cs moment ls) ∷ [] =
+    ap (λ b. cond b (Last n (reason k) ∷ []) (item n (told g h k moment s))) not_last
+    ∙ ap (λ b. item n (cond b (text g fs k moment n s) [])) before ∙ ap (item n) words ∙ item-lines n cs moment ls (tagged_as (Some (Label q.label)) first.first) first.later first.lines in
+    let now : owed g (record_of q ∷ h) s ≡ owed g h s ++ Lines n (rendered cs moment ls) ∷ [] =
+    ap (λ b. owed g h s ++ cond b [] (delivery g h k moment s)) (either (misses (record_of q) s) (shut h s) is.met open_) ∙ ap (λ xs. owed g h s ++ xs) given in
+    let more = grows g q.later (record_of q ∷ h) s in
+    (more.0, ap (λ hs. owed g hs s) is.split ∙ more.1 ∙ ap (λ xs. xs ++ more.0) now ∙ append_assoc (owed g h s) (Lines n (rendered cs moment ls) ∷ []) more.0)
+
+pub labelled-first : LabelFirst → LabelledFirst
+labelled-first label-first g history q is = label-first g.server q.label (length q.before + 1) (reply_to g q) (copies_of g q)
+
+pub lone-unbatched : LoneOpensNone → NoLineOpensABatch → RecordsOpenNoOthers → LoneUnbatched
+lone-unbatched lone-opens-none no-batch opens-no-others g history legal q is few =
+    lone-opens-none g.server q.label (length q.before + 1) (reply_to g q) (copies_of g q) few
+    (no-batch g (facts g q.before) q.session (asked_of q.piece) (opened-once opens-no-others g q.before (before-legal g history q legal is)))
+
+pub batch-closed : SeveralAreClosed → BatchClosed
+batch-closed several-closed g history q is two = several-closed g.server q.label (length q.before + 1) (reply_to g q) (copies_of g q) two
+
+pub heard-once : HearersStandOnce → RecordsOpenNoOthers → HeardOnce
+heard-once hearers-once opens-no-others g history k legal = hearers-once g (facts g history) k (opened-once opens-no-others g history legal)

@@ -2,6 +2,7 @@ pub mod Carried
 pub mod Accepted
 pub mod Free
 pub mod Order
+pub mod Opened
 pub mod Answered
 pub mod Sound
 pub mod Kept

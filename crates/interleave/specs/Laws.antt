@@ -1,21 +1,26 @@
 -- What follows from the definitions for a user: this project's own promise.
-use Rattle.std.specs.Prelude.{◌≡◌, ℕ, ℤ, ◌+◌, true, false, List, [], ◌∷◌, ◌++◌, length, Some}
+use Rattle.std.specs.Prelude.{◌≡◌, ℕ, ℤ, ◌+◌, ◌≤◌, true, false, List, [], ◌∷◌, ◌++◌, length, Some}
 use Rattle.line_grammar.specs.declared.splitter.Piece.{Piece}
 use Rattle.line_grammar.specs.Lines.{lines}
+use Rattle.chronicle.specs.declared.record.Kind.{Kind}
 use Rattle.chronicle.specs.declared.record.Kind.TheVariants.{Said}
 use Rattle.chronicle.specs.History.{Rec, accepted, is_quit, misses, shut}
+use Rattle.numerics.specs.declared.outgoing.Out.{Out}
 use Rattle.registration.specs.declared.settings.Settings.{Settings}
 use Rattle.outbox.specs.declared.item.Item.{Item}
 use Rattle.outbox.specs.declared.item.Item.TheVariants.{Lines, Last}
 use Rattle.labels_batches.specs.declared.answers.Tagged.{Tagged}
 use Rattle.labels_batches.specs.Labels.{label_of}
 use Rattle.labels_batches.specs.Rendered.{rendered}
-use Rattle.labels_batches.specs.Whole.{IsAnswer}
+use Rattle.labels_batches.specs.Answers.{answered}
+use Rattle.labels_batches.specs.Whole.{HasLabelFirst, IsClosed, IsLone}
 use Rattle.roster.specs.LookBack.{caps}
 use Rattle.commands.specs.Asked.{asked_of}
-use Rattle.drafts.specs.Effects.{copies}
+use Rattle.drafts.specs.declared.effect.Effect.{Effect}
+use Rattle.drafts.specs.Effects.{copies, reply}
 use Rattle.deeds.specs.Rows.{of_asked}
-use Rattle.deeds.specs.Deeds.{facts}
+use Rattle.deeds.specs.Deeds.{effects, facts}
+use Rattle.record_laws.specs.Laws.{AllShowOnce}
 use Rattle.book.specs.Owed.{owed}
 use Rattle.book.specs.Legal.{IsLegal}
 use Rattle.interleave.specs.State.{State, IsSound, ForEach, inbox_at, taken_of}
@@ -43,18 +48,78 @@ IsErrorAtMost xs = ⊥
 abbrev pub ErrorAtMostAfterTheClose : Type 0
 ErrorAtMostAfterTheClose = (g : Settings) (later : List Rec) (r : Rec) (h : List Rec) (t : ℕ) → shut (r ∷ h) t ≡ true → (end : List Item) × IsErrorAtMost end × (owed g (later ++ r ∷ h) t ≡ owed g h t ++ end)
 
--- these lines are the answer to a line with a label, which the record after h accepts, once and whole
-abbrev pub IsAnswered : Settings → List Rec → ℕ → Piece → List ℕ → List Tagged → Type 0
-IsAnswered g h s piece label ls = IsAnswer g.server label (length h + 1) (copies (of_asked g (facts g h) s (asked_of piece))) ls
+-- ---- lines with a label
 
--- of a history, each accepted line with a label that counts by what its session had before it, other than QUIT, whose record doesn't
--- miss the session, is answered once, and whole, after what was owed before it and before what is owed later
+-- an accepted line with a label, and the records before and after its own
+pub record Request : Type 0 where
+  pub before : List Rec
+  pub later : List Rec
+  pub number : ℕ
+  pub moment : ℤ
+  pub missed : List ℕ
+  pub session : ℕ
+  pub index : ℕ
+  pub piece : Piece
+  pub label : List ℕ
+
+abbrev pub record_of : Request → Rec
+record_of q = record { number = q.number; moment = q.moment; kind = Said q.session q.index q.piece; missed = q.missed }
+
+-- its label counts by what its session had before it, it isn't QUIT, and its record doesn't miss the session
+pub record IsRequest (g : Settings) (history : List Rec) (q : Request) : Type 0 where
+  pub split : history ≡ q.later ++ record_of q ∷ q.before
+  pub counts : label_of (caps (facts g q.before) q.session) q.piece ≡ Some q.label
+  pub no_quit : is_quit q.piece ≡ false
+  pub met : misses (record_of q) q.session ≡ false
+
+-- what its record does
+abbrev pub effects_of : Settings → Request → List Effect
+effects_of g q = of_asked g (facts g q.before) q.session (asked_of q.piece)
+
+-- the lines that answer it, and what its session sent to itself
+abbrev pub reply_to : Settings → Request → List Out
+reply_to g q = reply q.session (effects_of g q)
+
+abbrev pub copies_of : Settings → Request → List Out
+copies_of g q = copies (effects_of g q)
+
+-- the lines of its record to its session
+abbrev pub answer_to : Settings → Request → List Tagged
+answer_to g q = answered g.server (Some q.label) (length q.before + 1) (reply_to g q) (copies_of g q)
+
+-- it is answered once: one delivery, after what was owed before it and before what is owed later, is those lines and no others as
+-- the session takes them
 abbrev pub IsAnsweredOnce : Settings → List Rec → Type 0
 IsAnsweredOnce g history =
-    (later h : List Rec) (number : ℕ) (moment : ℤ) (missed : List ℕ) (s i : ℕ) (piece : Piece) (label : List ℕ)
-    → let r : Rec = record { number = number; moment = moment; kind = Said s i piece; missed = missed } in
-    history ≡ later ++ r ∷ h → label_of (caps (facts g h) s) piece ≡ Some label → is_quit piece ≡ false → misses r s ≡ false
-    → (ls : List Tagged) × (rest : List Item) × (owed g history s ≡ owed g h s ++ Lines (length h + 1) (rendered (caps (facts g h) s) moment ls) ∷ rest) × IsAnswered g h s piece label ls
+    (q : Request) → IsRequest g history q
+    → (rest : List Item) × (owed g history q.session ≡ owed g q.before q.session ++ Lines (length q.before + 1) (rendered (caps (facts g q.before) q.session) q.moment (answer_to g q)) ∷ rest)
+
+-- the first of those lines has the label, and no other
+abbrev pub IsLabelledFirst : Settings → List Rec → Type 0
+IsLabelledFirst g history = (q : Request) → IsRequest g history q → HasLabelFirst q.label (answer_to g q)
+
+-- an answer of one line at most is one line with the label, which opens no batch
+abbrev pub IsLoneUnbatched : Settings → List Rec → Type 0
+IsLoneUnbatched g history = (q : Request) → IsRequest g history q → length (reply_to g q) ≤ 1 → IsLone q.label (copies_of g q) (answer_to g q)
+
+-- an answer of several lines is a batch that is closed, whose reference is the record's number at both ends
+abbrev pub IsBatchClosed : Settings → List Rec → Type 0
+IsBatchClosed g history = (q : Request) → IsRequest g history q → 2 ≤ length (reply_to g q) → IsClosed g.server q.label (length q.before + 1) (reply_to g q) (copies_of g q) (answer_to g q)
 
 abbrev pub LabelledOnce : Type 0
 LabelledOnce = (g : Settings) (history : List Rec) → IsLegal g history → IsAnsweredOnce g history
+
+abbrev pub LabelledFirst : Type 0
+LabelledFirst = (g : Settings) (history : List Rec) → IsLabelledFirst g history
+
+abbrev pub LoneUnbatched : Type 0
+LoneUnbatched = (g : Settings) (history : List Rec) → IsLegal g history → IsLoneUnbatched g history
+
+abbrev pub BatchClosed : Type 0
+BatchClosed = (g : Settings) (history : List Rec) → IsBatchClosed g history
+
+-- ---- hearers
+
+-- each line of any record after a legal history is shown to each of its hearers once
+abbrev pub HeardOnce : Type 0
+HeardOnce = (g : Settings) (history : List Rec) (k : Kind) → IsLegal g history → AllShowOnce (effects g (facts g history) k)

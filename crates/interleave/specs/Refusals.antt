@@ -1,5 +1,5 @@
 -- Why a step is refused: the first cause that holds, want of memory apart. This project's own promise.
-use Rattle.std.specs.Prelude.{◌≡◌, ◌≢◌, ℕ, ℤ, ◌||◌, Bool, true, false, cond, List, [], ◌∷◌, length, Option, Some, None}
+use Rattle.std.specs.Prelude.{◌≡◌, ◌≢◌, ℕ, ℤ, ◌||◌, Bool, true, false, cond, List, [], ◌∷◌, length, Option, Some, None, IsSome}
 use Rattle.std.specs.Option.{is_some}
 use Rattle.chronicle.specs.History.{accepted}
 use Rattle.book.specs.declared.refusals.OpenRefusal.{OpenRefusal}
@@ -8,7 +8,7 @@ use Rattle.book.specs.declared.refusals.LineRefusal.{LineRefusal}
 use Rattle.book.specs.declared.refusals.LineRefusal.TheVariants as accepting
 use Rattle.book.specs.declared.refusals.SweepRefusal.{SweepRefusal}
 use Rattle.book.specs.declared.refusals.SweepRefusal.TheVariants as sweeping
-use Rattle.book.specs.Book.{Shown, Turn, MayBegin, MaySweep, IsOpenRefusal, IsLineRefusal, IsHangRefusal, IsSweepRefusal, IsReapRefusal}
+use Rattle.book.specs.Book.{Shown, Turn, MayOpen, MayBegin, MaySweep, to_sweep, IsOpenRefusal, IsLineRefusal, IsHangRefusal, IsSweepRefusal, IsReapRefusal}
 use Rattle.interleave.specs.declared.event.Event.{Event}
 use Rattle.interleave.specs.declared.event.Event.TheVariants.{Connect, Feed, Pick, Begin, Put, End, Back, Take, Hang, Sweep, Reap}
 use Rattle.interleave.specs.declared.event.BookRefusal.TheVariants as by_book
@@ -91,7 +91,7 @@ of_sweep e = Book (by_book.Sweep e)
 
 abbrev pub IsOpenRefused : Shown → ℤ → StepRefusal → Type 0
 IsOpenRefused m moment (Book (by_book.Open e)) = IsOpenRefusal m moment e × (e ≢ opening.Memory)
-IsOpenRefused m moment Memory = Unit {0}
+IsOpenRefused m moment Memory = MayOpen m moment
 IsOpenRefused m moment r = ⊥
 
 abbrev pub IsLineRefused : Shown → Turn → ℤ → StepRefusal → Type 0
@@ -109,7 +109,7 @@ IsHangRefused m s moment r = ⊥
 
 abbrev pub IsSweepRefused : Shown → ℤ → StepRefusal → Type 0
 IsSweepRefused m moment (Book (by_book.Sweep e)) = IsSweepRefusal m moment e × (e ≢ sweeping.Memory)
-IsSweepRefused m moment Memory = MaySweep m moment
+IsSweepRefused m moment Memory = MaySweep m moment × IsSome (to_sweep m.history)
 IsSweepRefused m moment r = ⊥
 
 abbrev pub IsReapRefused : Shown → ℕ → StepRefusal → Type 0

@@ -1,7 +1,10 @@
 //! What follows for a user. These functions do nothing: each states a law.
-ghost use Rattle.interleave.specs.Laws.{OnceInOrder, TakenInOrder, AcceptedIsPrefixOfSent, ErrorAtMostAfterTheClose, LabelledOnce};
+ghost use Rattle.interleave.specs.Laws.{OnceInOrder, TakenInOrder, AcceptedIsPrefixOfSent, ErrorAtMostAfterTheClose, LabelledOnce, LabelledFirst, LoneUnbatched, BatchClosed, HeardOnce};
 
-use labels_batches::answered_once;
+use labels_batches::{
+    label_stands_first, lone_line_opens_no_batch, several_lines_are_a_closed_batch,
+};
+use record_laws::{hearers_stand_once, no_line_opens_a_batch, records_open_no_others};
 
 /// A history owes a session at most one delivery of each record, and the deliveries stand in the order of the records.
 pub fn once_in_order()
@@ -25,9 +28,42 @@ pub fn error_at_most_after_the_close()
 {}
 
 /// A line with a label that counts by the capabilities that its session had before it, other than QUIT, is answered once where its
-/// record doesn't miss the session: one delivery, whose answer has the label once and is whole.
+/// record doesn't miss the session: one delivery is the answer under the label, with what the session sent to itself, and no other
+/// line.
 pub fn labelled_once()
     ensures { LabelledOnce }
 {
-    answered_once();
+    label_stands_first();
+}
+
+/// The answer to such a line has the label on its first line, and on no other.
+pub fn labelled_first()
+    ensures { LabelledFirst }
+{
+    label_stands_first();
+}
+
+/// Where the answer to such a line is one line at most it is one line with the label, which opens no batch.
+pub fn lone_line_unbatched()
+    ensures { LoneUnbatched }
+{
+    lone_line_opens_no_batch();
+    no_line_opens_a_batch();
+    records_open_no_others();
+}
+
+/// Where the answer to such a line is several lines it is a batch that is closed, with the record's number for its reference at
+/// both ends.
+pub fn batch_closed()
+    ensures { BatchClosed }
+{
+    several_lines_are_a_closed_batch();
+}
+
+/// A line of any record is shown to each of its hearers once.
+pub fn heard_once()
+    ensures { HeardOnce }
+{
+    hearers_stand_once();
+    records_open_no_others();
 }

@@ -11,7 +11,7 @@ ghost use Rattle.interleave.specs.Limits.{IsWellSet};
 use crate::event::{BookRefusal, Event, Note, PlayRefusal, StepRefusal, of_open, of_put, of_sweep};
 use crate::inbox;
 use crate::inbox::{Inbox, move_to, tell_taken};
-use crate::laws::labelled_once;
+use crate::laws::{batch_closed, labelled_first, labelled_once, lone_line_unbatched};
 use crate::worker::{Place, WorkerId};
 use book::{Book, BookFault, Plan, Ring, Settings, TakeRefusal};
 use chronicle::{Moment, SessionId, Why};
@@ -84,7 +84,7 @@ impl Play {
     ghost use Rattle.interleave.specs.Steps.{IsWellShaped, IsStep, IsDone};
     ghost use Rattle.interleave.specs.Runs.{IsRun, sent, took};
     ghost use Rattle.interleave.specs.Order.{IsPrefix, IsRising};
-    ghost use Rattle.interleave.specs.Laws.{IsAnsweredOnce};
+    ghost use Rattle.interleave.specs.Laws.{IsAnsweredOnce, IsBatchClosed, IsLabelledFirst, IsLoneUnbatched};
 
     /// A play with no sessions, for at most `limit` records, 1 to 64 workers, and outboxes for `sendq` items, 1 to 4,096.
     pub fn new(
@@ -335,6 +335,9 @@ impl Play {
         requires free { own_refusal self.old (event.Connect host.now moment) ≡ None }
         ensures { IsStep self.old (event.Connect host.now moment) result self.new }
     {
+        if let Err(refusal) = self.book.may_open(moment) {
+            return Err(of_open(refusal));
+        }
         let outbox = Ring::new(self.alloc, self.sendq)?;
         let host = host.clone()?;
         self.inboxes.reserve(1)?;
@@ -533,8 +536,14 @@ impl Play {
         ensures taken_is_owed { ForEach self.new (λ t. taken_of self.new t ++ queue_of self.new t ++ planned_for self.new t ≡ owed self.new.book.settings self.new.book.history t) }
         ensures accepted_is_sent { ForEach self.new (λ t. accepted self.new.book.history t ++ in_hand self.new t ++ unread self.new t ≡ lines (inbox_at self.new t).fed) }
         ensures answered_once { IsAnsweredOnce self.new.book.settings self.new.book.history }
+        ensures labelled_first { IsLabelledFirst self.new.book.settings self.new.book.history }
+        ensures lone_unbatched { IsLoneUnbatched self.new.book.settings self.new.book.history }
+        ensures batch_closed { IsBatchClosed self.new.book.settings self.new.book.history }
     {
         labelled_once();
+        labelled_first();
+        lone_line_unbatched();
+        batch_closed();
         let answer = match self.refuses(event) {
             Some(refusal) => Err(refusal),
             None => self.perform(event),
@@ -557,9 +566,15 @@ impl Play {
         ensures accepted_is_prefix { IfOk result (λ notes. ForEach self.new (λ t. IsPrefix (accepted self.new.book.history t) (lines ((inbox_at self.old t).fed ++ sent t events.now notes.items)))) }
         ensures in_order { IfOk result (λ notes. ForEach self.new (λ t. IsRising (taken_of self.old t ++ took t events.now notes.items))) }
         ensures answered_once { IsAnsweredOnce self.new.book.settings self.new.book.history }
+        ensures labelled_first { IsLabelledFirst self.new.book.settings self.new.book.history }
+        ensures lone_unbatched { IsLoneUnbatched self.new.book.settings self.new.book.history }
+        ensures batch_closed { IsBatchClosed self.new.book.settings self.new.book.history }
     {
         self.sound();
         labelled_once();
+        labelled_first();
+        lone_line_unbatched();
+        batch_closed();
         let mut notes = Vec::new(self.alloc);
         notes.reserve(events.len())?;
         for event in events {

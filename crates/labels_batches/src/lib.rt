@@ -10,7 +10,7 @@ mod spellings;
 
 pub use answers::{AnswerTag, Tagged, wrap};
 pub use labels::label_of;
-pub use laws::answered_once;
+pub use laws::{label_stands_first, lone_line_opens_no_batch, several_lines_are_a_closed_batch};
 pub use numerics::{TimeFault, time_text};
 pub use rendering::render;
 pub use spellings::Spellings;

@@ -40,3 +40,21 @@ returns-in_err-reserve-clause-answered_once c = c.labelled_once.ensures _ _ c.so
 
 pub returns-clause-answered_once : goal.returns-clause-answered_once
 returns-clause-answered_once c = c.labelled_once.ensures _ _ c.sound-2.ensures.book.legal
+
+pub returns-in_err-reserve-clause-labelled_first : goal.returns-in_err-reserve-clause-labelled_first
+returns-in_err-reserve-clause-labelled_first c = c.labelled_first.ensures _ _
+
+pub returns-in_err-reserve-clause-lone_unbatched : goal.returns-in_err-reserve-clause-lone_unbatched
+returns-in_err-reserve-clause-lone_unbatched c = c.lone_line_unbatched.ensures _ _ c.sound.ensures.book.legal
+
+pub returns-in_err-reserve-clause-batch_closed : goal.returns-in_err-reserve-clause-batch_closed
+returns-in_err-reserve-clause-batch_closed c = c.batch_closed.ensures _ _
+
+pub returns-clause-labelled_first : goal.returns-clause-labelled_first
+returns-clause-labelled_first c = c.labelled_first.ensures _ _
+
+pub returns-clause-lone_unbatched : goal.returns-clause-lone_unbatched
+returns-clause-lone_unbatched c = c.lone_line_unbatched.ensures _ _ c.sound-2.ensures.book.legal
+
+pub returns-clause-batch_closed : goal.returns-clause-batch_closed
+returns-clause-batch_closed c = c.batch_closed.ensures _ _

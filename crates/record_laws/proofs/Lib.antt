@@ -1,0 +1,6 @@
+pub mod Times
+pub mod Fits
+pub mod Channels
+pub mod Talks
+pub mod Sessions
+pub mod Rows
