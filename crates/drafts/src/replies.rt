@@ -1,5 +1,7 @@
 //! How a session is answered (RFC 2812, section 2.4).
 ghost use Rattle.std.specs.Prelude.{◌≡◌, ◌∷◌, [], option_copied, IfOk, OnOk};
+ghost use Rattle.numerics.specs.Numerics.{numeric as numeric_line};
+ghost use Rattle.drafts.specs.declared.effect.Effect.TheVariants.{Answer};
 ghost use Rattle.drafts.specs.Drafted.{grown};
 ghost use Rattle.drafts.specs.Lines.{title};
 ghost use Rattle.drafts.specs.Replies.{tells, tells_all};
@@ -20,13 +22,12 @@ pub fn title_of(alloc: Global, name: Option<&Octets>) -> Result<Octets, AllocErr
     }
 }
 
-/// Answers a session with a numeric that is lent.
-fn tell_lent(draft: &mut Draft, session: SessionId, numeric: &Numeric) -> Result<(), AllocError>
-    ensures { OnOk result (draft.new ≡ grown draft.old (tells draft.old.settings draft.old.facts session numeric.now ∷ [])) }
+/// Answers with a numeric to whom it names.
+fn answer_numeric(draft: &mut Draft, to: &[u8], numeric: &Numeric) -> Result<(), AllocError>
+    ensures { OnOk result (draft.new ≡ grown draft.old (Answer (numeric_line draft.old.settings.server to.now numeric.now) ∷ [])) }
 {
-    let to = title_of(draft.alloc(), draft.nick_of(session))?;
     let server = draft.before().settings().server.as_slice();
-    let line = numeric.line(draft.alloc(), server, to.as_slice())?;
+    let line = numeric.line(draft.alloc(), server, to)?;
     draft.answer(line)
 }
 
@@ -34,10 +35,11 @@ fn tell_lent(draft: &mut Draft, session: SessionId, numeric: &Numeric) -> Result
 pub fn tell(draft: &mut Draft, session: SessionId, numeric: Numeric) -> Result<(), AllocError>
     ensures { OnOk result (draft.new ≡ grown draft.old (tells draft.old.settings draft.old.facts session numeric ∷ [])) }
 {
-    tell_lent(draft, session, &numeric)
+    let to = title_of(draft.alloc(), draft.nick_of(session))?;
+    answer_numeric(draft, to.as_slice(), &numeric)
 }
 
-/// Answers a session with several numerics, in order.
+/// Answers a session with several numerics, in order. Its nickname is looked up once, since answers change no facts.
 pub fn tell_all(
     draft: &mut Draft,
     session: SessionId,
@@ -45,8 +47,9 @@ pub fn tell_all(
 ) -> Result<(), AllocError>
     ensures { OnOk result (draft.new ≡ grown draft.old (tells_all draft.old.settings draft.old.facts session numerics.now)) }
 {
+    let to = title_of(draft.alloc(), draft.nick_of(session))?;
     for numeric in numerics {
-        tell_lent(draft, session, numeric)?;
+        answer_numeric(draft, to.as_slice(), numeric)?;
     }
     Ok(())
 }
