@@ -3,6 +3,8 @@
 #![tactic(auto)]
 
 #[cfg(test)]
+mod deciding;
+#[cfg(test)]
 mod enrolling;
 #[cfg(test)]
 mod lines;

@@ -1,6 +1,7 @@
 //! Tables of cases from RFC 2812, sections 1.3, 2.2, 2.3.1 and 2.5.
-use casemapping::{is_channel, is_host, matches, same};
+use casemapping::{Folded, is_channel, is_host, matches, same};
 use std::alloc::{AllocError, Global};
+use std::cmp::Ordering;
 use std::test::Fail;
 
 /// Two names, and whether they are the same.
@@ -132,5 +133,36 @@ fn stars(alloc: Global) -> Result<Vec<u8>, AllocError> {
 fn many_stars_are_quick(rt: HostRuntime) -> Result<(), Fail> {
     let mask = stars(rt.alloc())?;
     assert!(rt; matches(&mask, &[b'a'; 500]) && !matches(&mask, &[b'a'; 199]));
+    Ok(())
+}
+
+/// Two names, and how the first stands to the second once both are folded: by octets, the letters in lower case.
+const ORDERS: [(&str, &str, Ordering); 7] = [
+    ("#A[1]", "#a{1}", Ordering::Equal),
+    ("", "", Ordering::Equal),
+    ("Bo", "al", Ordering::Greater),
+    ("al", "Bo", Ordering::Less),
+    ("al", "ALF", Ordering::Less),
+    ("_", "A", Ordering::Less),
+    ("~", "^", Ordering::Equal),
+];
+
+/// How two names stand to each other, and whether they are equal.
+fn order_of(alloc: Global, first: &str, second: &str) -> Result<(Ordering, bool), AllocError> {
+    let first = Folded::new(alloc, first.as_bytes())?;
+    let second = Folded::new(alloc, second.as_bytes())?.clone()?;
+    Ok((first.cmp(&second), first == second))
+}
+
+#[test]
+fn folded_names_have_an_order(rt: HostRuntime) -> Result<(), Fail> {
+    for (first, second, want) in &ORDERS {
+        let is_equal = *want == Ordering::Equal;
+        assert_eq!(rt;
+            order_of(rt.alloc(), first, second)?,
+            (*want, is_equal),
+            "{first} {second}"
+        );
+    }
     Ok(())
 }
