@@ -5,6 +5,8 @@
 #[cfg(test)]
 mod enrolling;
 #[cfg(test)]
+mod finding;
+#[cfg(test)]
 mod lines;
 #[cfg(test)]
 mod moments;
