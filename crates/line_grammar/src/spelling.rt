@@ -74,8 +74,8 @@ fn is_text(octets: &[u8]) -> bool
 }
 
 /// Writes a message as a line, without what ends it. It may be longer than the limits of a line.
-/// Empty tag data is written as no tags. `CannotSpell` comes before `Memory`. What isn't [`is_writable`] is written by the
-/// same rule, and may be read otherwise or as no message.
+/// Empty tag data is written as no tags. `CannotSpell` comes before `Memory`. What isn't [`is_writable`] is
+/// written by the same rule, and may be read otherwise or as no message.
 pub fn write(alloc: Global, message: &Message) -> Result<Octets, WriteFault>
     ensures spelled { IfOk result (λ line. line ≡ spelling message.now) }
     ensures is_read { IsWritable message.now → IfOk result (λ line. reading line ≡ Some message.now) }

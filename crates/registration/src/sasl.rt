@@ -49,8 +49,8 @@ fn told_in(message: &[u8]) -> Option<(&[u8], &[u8])>
     Some((user, password))
 }
 
-/// What a payload tells in base64, in the standard alphabet with padding and in its one spelling: so many octets at the
-/// front of the room. `None` where it is anything else.
+/// What a payload tells in base64, in the standard alphabet with padding and in its one spelling: so many octets at
+/// the front of the room. `None` where it is anything else.
 fn decode_into(payload: &[u8], room: &mut [u8]) -> Option<usize>
     requires { decoded_estimate (length payload.now) ≤ length room.old }
     ensures found { option_map (λ len. take len room.new) result ≡ result_ok (decode_of standard payload.now) }
