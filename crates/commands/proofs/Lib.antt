@@ -1,4 +1,5 @@
 pub mod Distinct
 pub mod Cuts
 pub mod Quitting
+pub mod UserNames
 mod Examples

@@ -19,9 +19,19 @@ abbrev pub asked_by : Option Message → Asked
 asked_by None = Nothing
 asked_by (Some m) = read_as (command_of m)
 
+-- the message of a piece, where it is one
+abbrev pub message_of : Piece → Option Message
+message_of piece.TooLong = None
+message_of (piece.Line line) = reading line
+
 unfoldable pub asked_of : Piece → Asked
 asked_of piece.TooLong = TooLong
 asked_of (piece.Line line) = asked_by (reading line)
+
+-- whether a command is asked for, and no numeric answers in its place
+abbrev pub asks_for_command : Asked → Bool
+asks_for_command (Asks command) = true
+asks_for_command asked = false
 
 -- whether the command is QUIT
 abbrev pub is_quit_command : Command → Bool

@@ -1,7 +1,7 @@
 //! What an accepted piece asks for.
-ghost use Rattle.std.specs.Prelude.{◌≡◌, IfOk, Some};
+ghost use Rattle.std.specs.Prelude.{◌≡◌, IfOk, IsErr, IsSome, Some, true};
 ghost use Rattle.chronicle.specs.History.{is_quit};
-ghost use Rattle.commands.specs.Asked.{asked_by, asked_of, asks_for_quit};
+ghost use Rattle.commands.specs.Asked.{asked_by, asked_of, asks_for_command, asks_for_quit, message_of};
 ghost use Rattle.line_grammar.specs.Reading.{reading};
 
 use crate::{Command, ReadFault, read};
@@ -30,8 +30,12 @@ impl Asked {
     }
 }
 
-fn asked_by(alloc: Global, message: &Message) -> Result<Asked, AllocError>
-    ensures { IfOk result (λ asked. asked ≡ asked_by (Some message.now)) }
+/// What a message asks for.
+pub fn read_message(alloc: Global, message: Message) -> Result<Asked, AllocError>
+    ensures asked { IfOk result (λ asked. asked ≡ asked_by (Some message)) }
+
+    // Memory is wanting only where the message asks for a command: no fault of it is kept back.
+    ensures memory { IsErr result → asks_for_command (asked_by (Some message)) ≡ true }
 {
     match read(alloc, message) {
         Ok(command) => Ok(Asked::Command(command)),
@@ -41,10 +45,11 @@ fn asked_by(alloc: Global, message: &Message) -> Result<Asked, AllocError>
 }
 
 fn asked_by_line(alloc: Global, line: &[u8]) -> Result<Asked, AllocError>
-    ensures { IfOk result (λ asked. asked ≡ asked_by (reading line.now)) }
+    ensures asked { IfOk result (λ asked. asked ≡ asked_by (reading line.now)) }
+    ensures memory { IsErr result → IsSome (reading line.now) }
 {
     match parse(alloc, line) {
-        Ok(message) => asked_by(alloc, &message),
+        Ok(message) => read_message(alloc, message),
         Err(LineFault::Memory) => Err(AllocError),
         Err(LineFault::HasNul | LineFault::NoCommand) => Ok(Asked::Nothing),
     }
@@ -55,6 +60,9 @@ fn asked_by_line(alloc: Global, line: &[u8]) -> Result<Asked, AllocError>
 pub fn read_piece(alloc: Global, piece: &Piece) -> Result<Asked, AllocError>
     ensures asked { IfOk result (λ asked. asked ≡ asked_of piece.now) }
     ensures quit { IfOk result (λ asked. asks_for_quit asked ≡ is_quit piece.now) }
+
+    // Memory is wanting only where the piece is a message.
+    ensures memory { IsErr result → IsSome (message_of piece.now) }
 {
     match piece {
         Piece::TooLong => Ok(Asked::TooLong),

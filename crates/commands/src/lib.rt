@@ -14,7 +14,7 @@ mod registering;
 mod talking;
 mod texts;
 
-pub use asked::{Asked, read_piece};
+pub use asked::{Asked, read_message, read_piece};
 pub use command::{CapSubcommand, Command, ReadFault};
 pub use join_targets::{JoinTarget, JoinTargets};
 pub use names::CommandName;

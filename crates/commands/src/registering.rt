@@ -1,7 +1,9 @@
 //! The commands of a session's own (RFC 2812, sections 3.1.1 to 3.1.3, 3.1.7, 3.7.2 and 3.7.3; IRCv3
 //! Capability Negotiation and SASL 3.1).
-ghost use Rattle.std.specs.Prelude.{◌≡◌, ◌⊎◌, IfOk, IfErr};
-ghost use Rattle.commands.specs.Registering.{cap_req, cap_subcommand, cap_command, authenticate_command, pass_command, nick_command, user_name, user_command, ping_command, quit_command, shows_values, told};
+ghost use Rattle.std.specs.Prelude.{◌≡◌, ◌⊎◌, IfOk, IfErr, IsErrOf, IsOk};
+ghost use Rattle.std.specs.List.{list_any};
+ghost use Rattle.commands.specs.Lists.{is_present};
+ghost use Rattle.commands.specs.Registering.{cap_req, cap_subcommand, cap_command, authenticate_command, pass_command, nick_command, is_user_octet, user_name, user_command, ping_command, quit_command, shows_values, told};
 
 use crate::lists::read_words;
 use crate::names::is_named;
@@ -35,6 +37,7 @@ fn shows_values(version: &[u8]) -> bool
 fn read_cap_req(alloc: Global, params: &[Octets]) -> Result<Command, ReadFault>
     ensures ok { IfOk result (λ command. cap_req params.now ≡ Ok command) }
     ensures err { IfErr result (λ fault. (fault ≡ ReadFault.Memory) ⊎ (cap_req params.now ≡ Err fault)) }
+    ensures memory { IsErrOf result ReadFault.Memory → IsOk (cap_req params.now) }
 {
     let [list, ..] = params else {
         return Err(ReadFault::NeedMoreParams {
@@ -47,11 +50,12 @@ fn read_cap_req(alloc: Global, params: &[Octets]) -> Result<Command, ReadFault>
 
 fn read_cap_subcommand(
     alloc: Global,
-    subcommand: &Octets,
+    subcommand: Octets,
     params: &[Octets],
 ) -> Result<Command, ReadFault>
-    ensures ok { IfOk result (λ command. cap_subcommand subcommand.now params.now ≡ Ok command) }
-    ensures err { IfErr result (λ fault. (fault ≡ ReadFault.Memory) ⊎ (cap_subcommand subcommand.now params.now ≡ Err fault)) }
+    ensures ok { IfOk result (λ command. cap_subcommand subcommand params.now ≡ Ok command) }
+    ensures err { IfErr result (λ fault. (fault ≡ ReadFault.Memory) ⊎ (cap_subcommand subcommand params.now ≡ Err fault)) }
+    ensures memory { IsErrOf result ReadFault.Memory → IsOk (cap_subcommand subcommand params.now) }
 {
     let name = subcommand.as_slice();
     if is_named(name, b"LS") {
@@ -67,25 +71,28 @@ fn read_cap_subcommand(
     if is_named(name, b"END") {
         return Ok(Command::Cap(CapSubcommand::End));
     }
-    let subcommand = subcommand.clone()?;
     Err(ReadFault::InvalidCapSubcommand { subcommand })
 }
 
-pub(crate) fn read_cap(alloc: Global, params: &[Octets]) -> Result<Command, ReadFault>
-    ensures ok { IfOk result (λ command. cap_command params.now ≡ Ok command) }
-    ensures err { IfErr result (λ fault. (fault ≡ ReadFault.Memory) ⊎ (cap_command params.now ≡ Err fault)) }
+/// An unknown subcommand is moved out of the parameters, so that no growth comes before its fault.
+pub(crate) fn read_cap(alloc: Global, mut params: Vec<Octets>) -> Result<Command, ReadFault>
+    ensures ok { IfOk result (λ command. cap_command params.items ≡ Ok command) }
+    ensures err { IfErr result (λ fault. (fault ≡ ReadFault.Memory) ⊎ (cap_command params.items ≡ Err fault)) }
+    ensures memory { IsErrOf result ReadFault.Memory → IsOk (cap_command params.items) }
 {
-    match params {
-        [subcommand, params @ ..] => read_cap_subcommand(alloc, subcommand, params),
-        [] => Err(ReadFault::NeedMoreParams {
+    if params.is_empty() {
+        return Err(ReadFault::NeedMoreParams {
             command: CommandName::Cap,
-        }),
+        });
     }
+    let subcommand = params.remove(0);
+    read_cap_subcommand(alloc, subcommand, &params)
 }
 
 pub(crate) fn read_authenticate(params: &[Octets]) -> Result<Command, ReadFault>
     ensures ok { IfOk result (λ command. authenticate_command params.now ≡ Ok command) }
     ensures err { IfErr result (λ fault. (fault ≡ ReadFault.Memory) ⊎ (authenticate_command params.now ≡ Err fault)) }
+    ensures memory { IsErrOf result ReadFault.Memory → IsOk (authenticate_command params.now) }
 {
     let [piece, ..] = params else {
         return Err(ReadFault::NeedMoreParams {
@@ -99,6 +106,7 @@ pub(crate) fn read_authenticate(params: &[Octets]) -> Result<Command, ReadFault>
 pub(crate) fn read_pass(params: &[Octets]) -> Result<Command, ReadFault>
     ensures ok { IfOk result (λ command. pass_command params.now ≡ Ok command) }
     ensures err { IfErr result (λ fault. (fault ≡ ReadFault.Memory) ⊎ (pass_command params.now ≡ Err fault)) }
+    ensures memory { IsErrOf result ReadFault.Memory → IsOk (pass_command params.now) }
 {
     match params {
         [_, ..] => Ok(Command::Pass),
@@ -111,12 +119,34 @@ pub(crate) fn read_pass(params: &[Octets]) -> Result<Command, ReadFault>
 pub(crate) fn read_nick(alloc: Global, params: &[Octets]) -> Result<Command, ReadFault>
     ensures ok { IfOk result (λ command. nick_command params.now ≡ Ok command) }
     ensures err { IfErr result (λ fault. (fault ≡ ReadFault.Memory) ⊎ (nick_command params.now ≡ Err fault)) }
+    ensures memory { IsErrOf result ReadFault.Memory → IsOk (nick_command params.now) }
 {
-    let nick = Octets::copied(alloc, first(params))?;
+    let nick = first(params);
     if nick.is_empty() {
         return Err(ReadFault::NoNicknameGiven);
     }
+    let nick = Octets::copied(alloc, nick)?;
     Ok(Command::Nick { nick })
+}
+
+/// Whether an octet may stand in a user name.
+fn is_user_octet(octet: u8) -> bool
+    ensures { result ≡ is_user_octet octet }
+{
+    octet != b'!' && octet != b'@' && 33 <= octet
+}
+
+fn has_user_octet(octets: &[u8]) -> bool
+    ensures { result ≡ list_any is_user_octet octets.now }
+{
+    octets.iter().any(|octet| is_user_octet(*octet))
+}
+
+/// Whether something is left of a user name.
+fn has_usable(user: &[u8]) -> bool
+    ensures { result ≡ is_present (user_name user.now) }
+{
+    has_user_octet(user)
 }
 
 /// What is left of a user name, cut.
@@ -126,7 +156,7 @@ fn usable(alloc: Global, user: &[u8]) -> Result<Octets, AllocError>
     let mut kept: Vec<u8> = user
         .iter()
         .copied()
-        .filter(|octet| *octet != b'!' && *octet != b'@' && 33 <= *octet)
+        .filter(|octet| is_user_octet(*octet))
         .collect(alloc)?;
     kept.truncate(USERLEN);
     Ok(Octets::from_vec(kept))
@@ -135,13 +165,14 @@ fn usable(alloc: Global, user: &[u8]) -> Result<Octets, AllocError>
 fn told(alloc: Global, user: &[u8], real: &[u8]) -> Result<Command, ReadFault>
     ensures ok { IfOk result (λ command. told user.now real.now ≡ Ok command) }
     ensures err { IfErr result (λ fault. (fault ≡ ReadFault.Memory) ⊎ (told user.now real.now ≡ Err fault)) }
+    ensures memory { IsErrOf result ReadFault.Memory → IsOk (told user.now real.now) }
 {
-    let user = usable(alloc, user)?;
-    if user.is_empty() {
+    if !has_usable(user) {
         return Err(ReadFault::NeedMoreParams {
             command: CommandName::User,
         });
     }
+    let user = usable(alloc, user)?;
     let mut real = Vec::from_slice(alloc, real)?;
     real.truncate(NAMELEN);
     let real = Octets::from_vec(real);
@@ -151,6 +182,7 @@ fn told(alloc: Global, user: &[u8], real: &[u8]) -> Result<Command, ReadFault>
 pub(crate) fn read_user(alloc: Global, params: &[Octets]) -> Result<Command, ReadFault>
     ensures ok { IfOk result (λ command. user_command params.now ≡ Ok command) }
     ensures err { IfErr result (λ fault. (fault ≡ ReadFault.Memory) ⊎ (user_command params.now ≡ Err fault)) }
+    ensures memory { IsErrOf result ReadFault.Memory → IsOk (user_command params.now) }
 {
     match params {
         [user, _, _, real, ..] => told(alloc, user.as_slice(), real.as_slice()),
@@ -163,17 +195,20 @@ pub(crate) fn read_user(alloc: Global, params: &[Octets]) -> Result<Command, Rea
 pub(crate) fn read_ping(alloc: Global, params: &[Octets]) -> Result<Command, ReadFault>
     ensures ok { IfOk result (λ command. ping_command params.now ≡ Ok command) }
     ensures err { IfErr result (λ fault. (fault ≡ ReadFault.Memory) ⊎ (ping_command params.now ≡ Err fault)) }
+    ensures memory { IsErrOf result ReadFault.Memory → IsOk (ping_command params.now) }
 {
-    let token = Octets::copied(alloc, first(params))?;
+    let token = first(params);
     if token.is_empty() {
         return Err(ReadFault::NoOrigin);
     }
+    let token = Octets::copied(alloc, token)?;
     Ok(Command::Ping { token })
 }
 
 pub(crate) fn read_quit(alloc: Global, params: &[Octets]) -> Result<Command, ReadFault>
     ensures ok { IfOk result (λ command. quit_command params.now ≡ Ok command) }
     ensures err { IfErr result (λ fault. (fault ≡ ReadFault.Memory) ⊎ (quit_command params.now ≡ Err fault)) }
+    ensures memory { IsErrOf result ReadFault.Memory → IsOk (quit_command params.now) }
 {
     let text = Octets::copied(alloc, first(params))?;
     Ok(Command::Quit { text })

@@ -1,5 +1,5 @@
 //! The commands that send texts (RFC 2812, sections 3.3.1, 3.3.2 and 4.1; IRCv3 message-tags).
-ghost use Rattle.std.specs.Prelude.{◌≡◌, ◌⊎◌, IfOk, IfErr};
+ghost use Rattle.std.specs.Prelude.{◌≡◌, ◌⊎◌, IfOk, IfErr, IsErrOf, IsOk};
 ghost use Rattle.commands.specs.Talking.{privmsg_command, notice_command, tagmsg_command, away_command, relayed, second_or_empty};
 
 use crate::lists::read_names;
@@ -34,6 +34,7 @@ pub(crate) fn read_privmsg(
 ) -> Result<Command, ReadFault>
     ensures ok { IfOk result (λ command. privmsg_command tag_data.now params.now ≡ Ok command) }
     ensures err { IfErr result (λ fault. (fault ≡ ReadFault.Memory) ⊎ (privmsg_command tag_data.now params.now ≡ Err fault)) }
+    ensures memory { IsErrOf result ReadFault.Memory → IsOk (privmsg_command tag_data.now params.now) }
 {
     let list = first(params);
     if list.is_empty() {
@@ -41,11 +42,12 @@ pub(crate) fn read_privmsg(
             command: CommandName::Privmsg,
         });
     }
-    let text = Octets::copied(alloc, second(params))?;
+    let text = second(params);
     if text.is_empty() {
         return Err(ReadFault::NoTextToSend);
     }
     let targets = read_names(alloc, list)?;
+    let text = Octets::copied(alloc, text)?;
     let tags = relayed(alloc, tag_data)?;
     Ok(Command::Privmsg {
         targets,
@@ -61,6 +63,7 @@ pub(crate) fn read_notice(
 ) -> Result<Command, ReadFault>
     ensures ok { IfOk result (λ command. notice_command tag_data.now params.now ≡ Ok command) }
     ensures err { IfErr result (λ fault. (fault ≡ ReadFault.Memory) ⊎ (notice_command tag_data.now params.now ≡ Err fault)) }
+    ensures memory { IsErrOf result ReadFault.Memory → IsOk (notice_command tag_data.now params.now) }
 {
     let list = first(params);
     let text = second(params);
@@ -88,6 +91,7 @@ pub(crate) fn read_tagmsg(
 ) -> Result<Command, ReadFault>
     ensures ok { IfOk result (λ command. tagmsg_command tag_data.now params.now ≡ Ok command) }
     ensures err { IfErr result (λ fault. (fault ≡ ReadFault.Memory) ⊎ (tagmsg_command tag_data.now params.now ≡ Err fault)) }
+    ensures memory { IsErrOf result ReadFault.Memory → IsOk (tagmsg_command tag_data.now params.now) }
 {
     let list = first(params);
     if list.is_empty() {
@@ -103,6 +107,7 @@ pub(crate) fn read_tagmsg(
 pub(crate) fn read_away(alloc: Global, params: &[Octets]) -> Result<Command, ReadFault>
     ensures ok { IfOk result (λ command. away_command params.now ≡ Ok command) }
     ensures err { IfErr result (λ fault. (fault ≡ ReadFault.Memory) ⊎ (away_command params.now ≡ Err fault)) }
+    ensures memory { IsErrOf result ReadFault.Memory → IsOk (away_command params.now) }
 {
     let text = Octets::copied(alloc, first(params))?;
     Ok(Command::Away { text })

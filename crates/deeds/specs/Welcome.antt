@@ -3,7 +3,7 @@ use Rattle.std.specs.Prelude.{ℕ, List, [], ◌∷◌, ◌++◌, map, Option, S
 use Rattle.numerics.specs.declared.numeric.Numeric.{Numeric}
 use Rattle.numerics.specs.declared.numeric.Numeric.TheVariants.{Welcome, YourHost, Created, MyInfo, ISupport, Motd, MotdStart, EndOfMotd, NoMotd, NoSuchServer}
 use Rattle.numerics.specs.CivilTime.{time_text}
-use Rattle.numerics.specs.Cut.{cut}
+use Rattle.numerics.specs.Cut.{cut, most_tokens}
 use Rattle.numerics.specs.Support.{tokens}
 use Rattle.registration.specs.declared.settings.Settings.{Settings}
 use Rattle.casemapping.specs.Fold.{is_same}
@@ -18,9 +18,9 @@ abbrev pub motd_asked : Settings → Option (List ℕ) → List Numeric
 motd_asked g None = motd_numerics g.motd
 motd_asked g (Some server) = if is_same server g.server then motd_numerics g.motd else NoSuchServer server ∷ []
 
--- what the server supports, in lines whose tokens have 370 octets at most: so they fit with every server's name and nickname
+-- what the server supports, in lines whose tokens have 370 octets at most
 abbrev pub support_numerics : List Numeric
-support_numerics = map ISupport (cut 370 13 tokens)
+support_numerics = map ISupport (cut 370 most_tokens tokens)
 
 -- who registered is welcomed
 abbrev pub welcome_numerics : Settings → List ℕ → List Numeric

@@ -3,6 +3,7 @@
 
 mod departure;
 mod enrolling;
+mod laws;
 mod negotiation;
 mod rows;
 mod verdict;
@@ -10,5 +11,6 @@ mod welcome;
 
 pub use departure::decide_gone;
 pub use drafts::Effect;
+pub use laws::support_is_whole;
 pub use rows::decide;
 pub use verdict::{Shown, Verdict};

@@ -1,11 +1,12 @@
 //! Which label a line has (IRCv3 labeled-response).
-ghost use Rattle.std.specs.Prelude.{◌≡◌, codes, Some, IfOk};
+ghost use Rattle.std.specs.Prelude.{◌≡◌, codes, IfOk, IsErr, IsSome};
 ghost use Rattle.line_grammar.specs.Reading.{reading};
-ghost use Rattle.message_tags.specs.Tags.{last_value};
+ghost use Rattle.message_tags.specs.Tags.{tag};
+ghost use Rattle.message_tags.specs.Value.{value};
 ghost use Rattle.labels_batches.specs.Labels.{as_label, is_label, label_of, message_label, takes_labels};
 
-use line_grammar::{LineFault, Message, Octets, Piece, parse};
-use message_tags::{Tags, tags_of};
+use line_grammar::{Octets, Piece, tag_data};
+use message_tags::{last_raw_value, unescape, unescaped_len};
 use registration::Caps;
 use std::alloc::{AllocError, Global};
 
@@ -19,46 +20,43 @@ fn takes_labels(caps: Caps) -> bool
     caps.labeled_response && caps.batch
 }
 
-/// Whether a value is a label.
-fn is_label(value: &[u8]) -> bool
-    ensures { result ≡ is_label value.now }
+/// Whether what a value means, as it stands in a line, is a label.
+fn is_label(raw_value: &[u8]) -> bool
+    ensures { result ≡ is_label (value raw_value.now) }
 {
-    !value.is_empty() && value.len() <= LABELLEN
+    let len = unescaped_len(raw_value);
+    1 <= len && len <= LABELLEN
 }
 
-/// The label among tags.
-fn label_among(alloc: Global, tags: &Tags) -> Result<Option<Octets>, AllocError>
-    ensures { IfOk result (λ o. o ≡ as_label (last_value tags.now (codes "label"))) }
+/// The label in tag data. Nothing is copied before it is one.
+fn label_in(alloc: Global, tag_data: &[u8]) -> Result<Option<Octets>, AllocError>
+    ensures label { IfOk result (λ o. o ≡ as_label (tag tag_data.now (codes "label"))) }
+    ensures memory { IsErr result → IsSome (as_label (tag tag_data.now (codes "label"))) }
 {
-    match tags.get(b"label") {
-        Some(value) if is_label(value) => Ok(Some(Octets::copied(alloc, value)?)),
+    match last_raw_value(tag_data, b"label") {
+        Some(raw_value) if is_label(raw_value) => Ok(Some(unescape(alloc, raw_value)?)),
         _ => Ok(None),
     }
 }
 
-/// The label of a message.
-fn message_label(alloc: Global, message: &Message) -> Result<Option<Octets>, AllocError>
-    ensures { IfOk result (λ o. o ≡ message_label (Some message.now)) }
-{
-    let tags = tags_of(alloc, message.tags.as_slice())?;
-    label_among(alloc, &tags)
-}
-
 /// The label of a line that isn't too long.
 fn line_label(alloc: Global, line: &[u8]) -> Result<Option<Octets>, AllocError>
-    ensures { IfOk result (λ o. o ≡ message_label (reading line.now)) }
+    ensures label { IfOk result (λ o. o ≡ message_label (reading line.now)) }
+    ensures memory { IsErr result → IsSome (message_label (reading line.now)) }
 {
-    match parse(alloc, line) {
-        Ok(message) => message_label(alloc, &message),
-        Err(LineFault::Memory) => Err(AllocError),
-        Err(LineFault::HasNul | LineFault::NoCommand) => Ok(None),
+    match tag_data(line) {
+        Some(tag_data) => label_in(alloc, tag_data),
+        None => Ok(None),
     }
 }
 
 /// The label of an accepted piece, as it counts for a session that had these capabilities before it: the value of the last tag
 /// `label`, of 1 to 64 octets, where labeled-response and batch are both on (IRCv3 labeled-response).
 pub fn label_of(alloc: Global, caps: Caps, piece: &Piece) -> Result<Option<Octets>, AllocError>
-    ensures { IfOk result (λ o. o ≡ label_of caps piece.now) }
+    ensures label { IfOk result (λ o. o ≡ label_of caps piece.now) }
+
+    // Memory is wanting only where there is a label.
+    ensures memory { IsErr result → IsSome (label_of caps piece.now) }
 {
     match piece {
         Piece::Line(line) if takes_labels(caps) => line_label(alloc, line.as_slice()),

@@ -66,6 +66,20 @@ pub fn parse(alloc: Global, line: &[u8]) -> Result<Message, LineFault>
     })
 }
 
+/// The tag data of a line that is a message, as [`parse`] gives it. Nothing is copied.
+#[tactic(auto, unfolding(crate::specs::Reading::reading, crate::specs::Reading::with_command))]
+pub fn tag_data(line: &[u8]) -> Option<&[u8]>
+    ensures { option_map (λ t. t.now) result ≡ option_map (λ m. m.tags) (reading line.now) }
+{
+    let (tags, rest) = split_tags(line);
+    let (_, rest) = split_source(rest);
+    let (command, _) = split_word(rest);
+    if line.contains(&0) || !is_command(command) {
+        return None;
+    }
+    Some(tags)
+}
+
 /// The tag data, without its `@`, and what comes after it.
 fn split_tags(line: &[u8]) -> (&[u8], &[u8])
     ensures tags { result.0.now ≡ tags_of line.now }

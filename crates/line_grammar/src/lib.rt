@@ -9,7 +9,7 @@ mod spelling;
 mod splitter;
 mod words;
 
-pub use grammar::{LineFault, parse};
+pub use grammar::{LineFault, parse, tag_data};
 pub use laws::{any_cutting, one_message_a_line, reads_what_is_spelled};
 pub use message::{Message, Parameters};
 pub use octets::Octets;

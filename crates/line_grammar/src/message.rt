@@ -41,6 +41,13 @@ impl Parameters {
         self.parameters.is_empty()
     }
 
+    /// The parameters as a vector.
+    pub fn into_vec(self) -> Vec<Octets>
+        ensures { result.items ≡ self }
+    {
+        self.parameters
+    }
+
     /// The parameters as a slice.
     pub fn as_slice(&self) -> &[Octets]
         ensures { result.now ≡ self.now }

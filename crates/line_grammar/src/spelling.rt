@@ -27,7 +27,7 @@ impl From<AllocError> for WriteFault {
     }
 }
 
-/// Whether a message may be handed to [`write`].
+/// Whether a message is read again as it was from what [`write`] makes of it.
 pub fn is_writable(message: &Message) -> bool
     ensures { IsTrue result ↔ IsWritable message.now }
 {
@@ -74,13 +74,13 @@ fn is_text(octets: &[u8]) -> bool
 }
 
 /// Writes a message as a line, without what ends it. It may be longer than the limits of a line.
-/// Empty tag data is written as no tags. `CannotSpell` comes before `Memory`.
+/// Empty tag data is written as no tags. `CannotSpell` comes before `Memory`. What isn't [`is_writable`] is
+/// written by the same rule, and may be read otherwise or as no message.
 pub fn write(alloc: Global, message: &Message) -> Result<Octets, WriteFault>
-    requires { IsWritable message.now }
     ensures spelled { IfOk result (λ line. line ≡ spelling message.now) }
-    ensures is_read { IfOk result (λ line. reading line ≡ Some message.now) }
-    ensures spells { IfOk result (λ line. Reads line message.now) }
-    ensures text { IfOk result (λ line. list_all is_text_octet line ≡ true) }
+    ensures is_read { IsWritable message.now → IfOk result (λ line. reading line ≡ Some message.now) }
+    ensures spells { IsWritable message.now → IfOk result (λ line. Reads line message.now) }
+    ensures text { IsWritable message.now → IfOk result (λ line. list_all is_text_octet line ≡ true) }
     ensures cannot { IsErrOf result WriteFault.CannotSpell ↔ (list_any needs_colon (plain_parameters message.now.params message.now.colon) ≡ true) }
 {
     let params = message.params.as_slice();

@@ -1,16 +1,26 @@
 -- What a value means, an octet at a time.
-use Rattle.std.proofs.Common.{◌≡◌, ℕ, ◌==◌, if◌then◌else◌, ◌++◌, List, [], ◌∷◌, append_assoc, inl, inr, refl, sym, ap, subst, ◌∙◌}
+use Rattle.std.proofs.Common.{◌≡◌, ℕ, Bool, true, false, not, ◌&&◌, ◌+◌, length, arith, ◌==◌, if◌then◌else◌, ◌++◌, List, [], ◌∷◌, append_assoc, inl, inr, refl, sym, ap, subst, ◌∙◌}
 use Rattle.std.proofs.lemmas.Bool.Decides.{eqb_tells}
 use Rattle.std.proofs.lemmas.Bool.{cond-false, ne_eqb}
-use Rattle.message_tags.specs.Value.{value, escape_of, escaped}
+use Rattle.message_tags.specs.Value.{value, left_of, escape_of, escaped}
 
-pub value-plain : (octet : ℕ) (rest : List ℕ) → (octet ≡ 92 → ⊥) → value (octet ∷ rest) ≡ octet ∷ value rest
+value-plain : (octet : ℕ) (rest : List ℕ) → (octet ≡ 92 → ⊥) → value (octet ∷ rest) ≡ octet ∷ value rest
 value-plain octet [] plain = cond-false _ _ _ (ne_eqb octet 92 plain)
 value-plain octet (next ∷ rest) plain = cond-false _ _ _ (ne_eqb octet 92 plain)
 
 -- what an octet adds where it stands for itself
 pub value_at_plain : (done : List ℕ) (octet : ℕ) (rest : List ℕ) → (octet ≡ 92 → ⊥) → done ++ value (octet ∷ rest) ≡ (done ++ octet ∷ []) ++ value rest
 value_at_plain done octet rest plain = ap (λ xs. done ++ xs) (value-plain octet rest plain) ∙ sym (append_assoc done (octet ∷ []) (value rest))
+
+-- how much an octet adds
+pub length_left_of : (after : Bool) (octet : ℕ) (rest : List ℕ) → length (value (left_of after (octet ∷ rest))) ≡ (if not after && octet == 92 then 0 else 1) + length (value (left_of (not after && octet == 92) rest))
+length_left_of true octet rest = omega arith
+length_left_of false octet rest =
+    let P : Bool → Type 0 = λ b. length (value (octet ∷ rest)) ≡ (if b then 0 else 1) + length (value (left_of b rest)) in
+    elim (eqb_tells octet 92) [
+      | inl same ↦ subst P (sym same.0) (let e = ap (λ o. length (value (o ∷ rest))) same.1 in omega (arith, e))
+      | inr other ↦ subst P (sym other.0) (let e = ap length (value-plain octet rest other.1) in omega (arith, e))
+    ]
 
 -- what an escape stands for, whatever follows it
 abbrev Means : List ℕ → ℕ → List ℕ → Type 0

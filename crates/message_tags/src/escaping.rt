@@ -1,5 +1,5 @@
 //! Values as they stand in a line (IRCv3 message-tags, "Escaping values").
-ghost use Rattle.std.specs.Prelude.{◌≡◌, ◌∷◌, ◌++◌, List, ℕ, IfOk, OnOk};
+ghost use Rattle.std.specs.Prelude.{◌≡◌, ◌+◌, ◌∷◌, ◌++◌, List, ℕ, length, if◌then◌else◌, IfOk, OnOk};
 ghost use Rattle.message_tags.specs.Value.{value, left_of, escaped, meaning_of, escape_of};
 
 use line_grammar::Octets;
@@ -46,6 +46,27 @@ pub fn unescape(alloc: Global, escaped: &[u8]) -> Result<Octets, AllocError>
         after_backslash = push_meant(&mut octets, after_backslash, *octet)?;
     }
     Ok(Octets::from_vec(octets))
+}
+
+/// Whether the octet after this one stands behind a backslash.
+#[tactic(auto, using(crate::proofs::ValueLemmas::length_left_of))]
+fn is_escape(after_backslash: bool, octet: u8) -> bool
+    ensures { (rest : List ℕ) → length (value (left_of after_backslash (octet ∷ rest))) ≡ (if result then 0 else 1) + length (value (left_of result rest)) }
+{
+    !after_backslash && octet == b'\\'
+}
+
+/// How many octets a value means as it stands in a line.
+pub fn unescaped_len(escaped: &[u8]) -> usize
+    ensures { result ≡ length (value escaped.now) }
+{
+    let mut len = 0;
+    let mut after_backslash = false;
+    for octet in escaped {
+        after_backslash = is_escape(after_backslash, *octet);
+        len += usize::from(!after_backslash);
+    }
+    len
 }
 
 fn push_octet(line: &mut Vec<u8>, octet: u8) -> Result<(), AllocError>

@@ -40,7 +40,7 @@ changes letters = letters ∷ []
 
 -- six letters, of which one is unknown and one has no effect
 six_letters : says 1 meets (codes "#A") (codes "+vxi-n+tk" ∷ codes "BO" ∷ codes "secret" ∷ [])
-    ≡ Establish (Changed (codes "#a") (RankSet 2 Voice true)) ∷ told (codes "al") (UnknownMode 120) ∷ Establish (Changed (codes "#a") (FlagSet InviteOnly true)) ∷ Establish (Changed (codes "#a") (FlagSet NoOutside false))
+    ≡ Establish (Changed (codes "#a") (RankSet 2 Voice true)) ∷ told (codes "al") (UnknownMode 120 (codes "#a")) ∷ Establish (Changed (codes "#a") (FlagSet InviteOnly true)) ∷ Establish (Changed (codes "#a") (FlagSet NoOutside false))
     ∷ Establish (Changed (codes "#a") (KeySet (Some (codes "secret")))) ∷ Show (1 ∷ 2 ∷ []) (line (codes "al!a@h1") (codes "MODE") (codes "#a" ∷ codes "+vi-n+k" ∷ codes "bo" ∷ codes "secret" ∷ []) false) ∷ []
 unfolding fold_of is_same prefix completed is_key flag_of step
 six_letters = refl

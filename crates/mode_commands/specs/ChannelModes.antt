@@ -37,7 +37,7 @@ abbrev pub refusal_numeric : List ℕ → Refusal → Numeric
 refusal_numeric c LacksParameter = NeedMoreParams (codes "MODE")
 refusal_numeric c (Nobody n) = NoSuchNick n
 refusal_numeric c (NotMember n) = UserNotInChannel n c
-refusal_numeric c (Unknown letter) = UnknownMode letter
+refusal_numeric c (Unknown letter) = UnknownMode letter c
 
 -- a letter of a channel named c is refused, has no effect, or changes it
 abbrev pub does : Settings → ℕ → List ℕ → List Deed → Step → List Effect

@@ -92,7 +92,10 @@ fn refuse(
         }
         Refusal::Nobody { nick } => deny(draft, session, Denial::NoSuchNick, &nick),
         Refusal::NotMember { nick } => deny_absent(draft, session, &nick, channel),
-        Refusal::Unknown { letter } => tell(draft, session, Numeric::UnknownMode(letter)),
+        Refusal::Unknown { letter } => {
+            let channel = channel.clone()?;
+            tell(draft, session, Numeric::UnknownMode { letter, channel })
+        }
     }
 }
 

@@ -88,7 +88,7 @@ const SIGNS: &str = "\
 1 MODE #a imns
 1> :al!a@h1 MODE #a +ims
 1 MODE #a +i-x+m+n-t
-1> :~ 472 al x :is unknown mode char to me for channel
+1> :~ 472 al x :is unknown mode char to me for #a
 1> :al!a@h1 MODE #a -t
 1 MODE #a -i-m
 1> :al!a@h1 MODE #a -im
@@ -107,33 +107,45 @@ const SIGNS: &str = "\
 /// An unknown letter is told each time, and as a star where it can't stand by itself.
 const UNKNOWN: &str = "\
 1 MODE #a +aixix
-1> :~ 472 al a :is unknown mode char to me for channel
-1> :~ 472 al x :is unknown mode char to me for channel
-1> :~ 472 al x :is unknown mode char to me for channel
+1> :~ 472 al a :is unknown mode char to me for #a
+1> :~ 472 al x :is unknown mode char to me for #a
+1> :~ 472 al x :is unknown mode char to me for #a
 1> :al!a@h1 MODE #a +i
 1 MODE #a -qrpeIO9
-1> :~ 472 al q :is unknown mode char to me for channel
-1> :~ 472 al r :is unknown mode char to me for channel
-1> :~ 472 al p :is unknown mode char to me for channel
-1> :~ 472 al e :is unknown mode char to me for channel
-1> :~ 472 al I :is unknown mode char to me for channel
-1> :~ 472 al O :is unknown mode char to me for channel
-1> :~ 472 al 9 :is unknown mode char to me for channel
+1> :~ 472 al q :is unknown mode char to me for #a
+1> :~ 472 al r :is unknown mode char to me for #a
+1> :~ 472 al p :is unknown mode char to me for #a
+1> :~ 472 al e :is unknown mode char to me for #a
+1> :~ 472 al I :is unknown mode char to me for #a
+1> :~ 472 al O :is unknown mode char to me for #a
+1> :~ 472 al 9 :is unknown mode char to me for #a
 1 MODE #a \\xc3\\xa9
-1> :~ 472 al \\xc3 :is unknown mode char to me for channel
-1> :~ 472 al \\xa9 :is unknown mode char to me for channel
+1> :~ 472 al \\xc3 :is unknown mode char to me for #a
+1> :~ 472 al \\xa9 :is unknown mode char to me for #a
 1 MODE #a :-i :m
-1> :~ 472 al * :is unknown mode char to me for channel
-1> :~ 472 al * :is unknown mode char to me for channel
+1> :~ 472 al * :is unknown mode char to me for #a
+1> :~ 472 al * :is unknown mode char to me for #a
 1> :al!a@h1 MODE #a -i
 1 MODE #a +x bo
-1> :~ 472 al x :is unknown mode char to me for channel
+1> :~ 472 al x :is unknown mode char to me for #a
+";
+
+/// The channel is named as it was first spelled, however the line spells it.
+const UNKNOWN_IN_MIXED: &str = "\
+1 JOIN #Mixed
+1> :al!a@h1 JOIN #Mixed
+1> :~ 353 al = #Mixed :@al
+1> :~ 366 al #Mixed :End of NAMES list
+1 MODE #mIXED +xi
+1> :~ 472 al x :is unknown mode char to me for #Mixed
+1> :al!a@h1 MODE #Mixed +i
 ";
 
 #[test]
 fn letters_change_modes(rt: HostRuntime) -> Result<(), Fail> {
     tell_talk(rt.alloc(), &[AL, AL_IN, SIGNS])?;
     tell_talk(rt.alloc(), &[AL, AL_IN, UNKNOWN])?;
+    tell_talk(rt.alloc(), &[AL, UNKNOWN_IN_MIXED])?;
     Ok(())
 }
 
@@ -367,7 +379,7 @@ const FOUR: &str = "\
 1 MODE #a -bbb+l-k a b 4 5 c
 1> :al!a@h1 MODE #a -bbb+l a!*@* b!*@* 4!*@* 5
 1 MODE #a +bbbbxo-kl 1 2 3 4
-1> :~ 472 al x :is unknown mode char to me for channel
+1> :~ 472 al x :is unknown mode char to me for #a
 1> :~ 461 al MODE :Not enough parameters
 1> :al!a@h1 MODE #a +bbbb-kl 1!*@* 2!*@* 3!*@* 4!*@* *
 ";

@@ -60,7 +60,7 @@ errors : shows (numeric.NoSuchNick (codes "bo")) (codes ":s 401 al bo :No such n
     × shows (numeric.InvalidCapCmd (codes "a b")) (codes ":s 410 al * :Invalid CAP command")
     × shows (numeric.NoRecipient (codes "PRIVMSG")) (codes ":s 411 al :No recipient given (PRIVMSG)")
     × shows (numeric.UnknownCommand (codes "FOO")) (codes ":s 421 al FOO :Unknown command")
-    × shows (numeric.UnknownMode 58) (codes ":s 472 al * :is unknown mode char to me for channel")
+    × shows (numeric.UnknownMode 58 (codes "#Mixed")) (codes ":s 472 al * :is unknown mode char to me for #Mixed")
     × shows (numeric.LoggedIn (codes "*!*@h1") (codes "al")) (codes ":s 900 al *!*@h1 al :You are now logged in as al")
 unfolding octets untagged numeric_line row_line
 errors = (refl, refl, refl, refl, refl, refl, refl)

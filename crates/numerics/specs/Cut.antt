@@ -16,6 +16,10 @@ unfoldable pub cut : ℕ → ℕ → List (List ℕ) → List (List (List ℕ))
 cut room most [] = []
 cut room most (word ∷ words) = filled room most (word ∷ []) words
 
+-- the most tokens of RPL_ISUPPORT in a line: with whom it tells and the text they are the 15 parameters that a line may have (RFC 2812, section 2.3.1)
+abbrev pub most_tokens : ℕ
+most_tokens = 13
+
 -- a line that has a word, and room for all of its words
 pub record IsWithin (room most : ℕ) (line : List (List ℕ)) : Type 0 where
   pub has_word : 0 < length line

@@ -95,7 +95,7 @@ row server NotRegistered = says (codes "451") [] (codes "You have not registered
 row server (NeedMoreParams command) = says (codes "461") (command ∷ []) (codes "Not enough parameters")
 row server AlreadyRegistered = says (codes "462") [] (codes "Unauthorized command (already registered)")
 row server (ChannelIsFull channel) = says (codes "471") (channel ∷ []) (codes "Cannot join channel (+l)")
-row server (UnknownMode letter) = says (codes "472") ((letter ∷ []) ∷ []) (codes "is unknown mode char to me for channel")
+row server (UnknownMode letter channel) = says (codes "472") ((letter ∷ []) ∷ []) (codes "is unknown mode char to me for " ++ channel)
 row server (InviteOnlyChan channel) = says (codes "473") (channel ∷ []) (codes "Cannot join channel (+i)")
 row server (BannedFromChan channel) = says (codes "474") (channel ∷ []) (codes "Cannot join channel (+b)")
 row server (BadChannelKey channel) = says (codes "475") (channel ∷ []) (codes "Cannot join channel (+k)")
@@ -169,7 +169,7 @@ is_of_channel (NamReply secret channel names) = true
 is_of_channel (BanList channel mask) = true
 is_of_channel (UserNotInChannel nick channel) = true
 is_of_channel (UserOnChannel nick channel) = true
-is_of_channel (UnknownMode letter) = true
+is_of_channel (UnknownMode letter channel) = true
 is_of_channel other = false
 
 -- a word that can't stand as a middle parameter is shown as `*`

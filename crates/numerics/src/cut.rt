@@ -2,7 +2,7 @@
 ghost use Rattle.std.specs.Prelude.{◌≡◌, ℕ, ◌+◌, ◌<◌, ◌≤◌, ◌^◌, [], ◌∷◌, ◌++◌, length, IfOk, OnOk};
 ghost use Rattle.std.specs.List.{All, flat_map};
 ghost use Rattle.numerics.specs.Numerics.{spaced};
-ghost use Rattle.numerics.specs.Cut.{AreFull, IsWithin, cut, filled, takes};
+ghost use Rattle.numerics.specs.Cut.{AreFull, IsWithin, cut, filled, most_tokens, takes};
 
 use crate::Words;
 use line_grammar::Octets;
@@ -12,7 +12,7 @@ use std::mem;
 
 /// The most tokens of a line that tells what the server supports: with whom it tells and the text these are
 /// the 15 parameters that a line may have (RFC 2812, section 2.3.1).
-pub const MAX_TOKENS: usize = 13;
+const MAX_TOKENS: usize = 13;
 
 /// Cuts names into as few lines as their order allows, where names that stand in one line have `room` octets,
 /// with a space between each two. Each line is filled before the next is begun. No names make no line. A name
@@ -26,13 +26,13 @@ pub fn split_names(alloc: Global, names: &[Octets], room: usize) -> Result<Vec<W
     cut(alloc, names, room, names.len())
 }
 
-/// Cuts tokens into lines as [`split_names`] does names, with at most [`MAX_TOKENS`] in a line.
+/// Cuts tokens into lines as [`split_names`] does names, with at most 13 in a line.
 pub fn split_tokens(alloc: Global, tokens: &[Octets], room: usize) -> Result<Vec<Words>, AllocError>
     requires { All (λ token. length token ≤ room) tokens.now }
-    ensures lines { IfOk result (λ lines. lines.items ≡ cut room MAX_TOKENS tokens.now) }
+    ensures lines { IfOk result (λ lines. lines.items ≡ cut room most_tokens tokens.now) }
     ensures joined { IfOk result (λ lines. flat_map (λ line. line) lines.items ≡ tokens.now) }
-    ensures fit { IfOk result (λ lines. All (IsWithin room MAX_TOKENS) lines.items) }
-    ensures full { IfOk result (λ lines. AreFull room MAX_TOKENS lines.items) }
+    ensures fit { IfOk result (λ lines. All (IsWithin room most_tokens) lines.items) }
+    ensures full { IfOk result (λ lines. AreFull room most_tokens lines.items) }
 {
     cut(alloc, tokens, room, MAX_TOKENS)
 }

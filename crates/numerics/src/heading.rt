@@ -195,14 +195,14 @@ impl Heading<'_, '_> {
     }
 
     /// The line that tells of a letter that is no mode.
-    pub(crate) fn unknown_mode(&self, letter: u8) -> Result<Out, AllocError>
-        ensures { IfOk result (λ o. o ≡ row_line self.now.server.now self.now.to.now (says (codes "472") ((letter ∷ []) ∷ []) (codes "is unknown mode char to me for channel"))) }
+    pub(crate) fn unknown_mode(&self, letter: u8, channel: &Octets) -> Result<Out, AllocError>
+        ensures { IfOk result (λ o. o ≡ row_line self.now.server.now self.now.to.now (row self.now.server.now (Numeric.UnknownMode letter channel.now))) }
     {
         let letter = [letter];
-        self.telling(
+        self.joining(
             b"472",
             &[letter.as_slice()],
-            b"is unknown mode char to me for channel",
+            &[b"is unknown mode char to me for ", channel.as_slice()],
         )
     }
 

@@ -15,7 +15,7 @@ mod texts;
 mod words;
 
 pub use civil_time::{TimeFault, time_text};
-pub use cut::{MAX_TOKENS, split_names, split_tokens};
+pub use cut::{split_names, split_tokens};
 pub use laws::{room_for_channels, room_for_names};
 pub use numeric::{Numeric, Who};
 pub use outgoing::{Out, copied_all};

@@ -165,8 +165,11 @@ pub enum Numeric {
     AlreadyRegistered,
     /// 471. A channel at its limit of members.
     ChannelIsFull(Octets),
-    /// 472. A letter that is no mode of a channel.
-    UnknownMode(u8),
+    /// 472. A letter that is no mode, and the channel whose modes were to change.
+    UnknownMode {
+        letter: u8,
+        channel: Octets,
+    },
     /// 473. A channel that the receiver isn't invited to.
     InviteOnlyChan(Octets),
     /// 474. A channel that the receiver is banned from.

@@ -150,7 +150,7 @@ fn of_channel(from: &Heading, numeric: &Numeric) -> Result<Out, AllocError>
         Numeric::UserOnChannel { nick, channel } => {
             from.about_two(b"443", nick, channel, b"is already on channel")
         }
-        Numeric::UnknownMode(letter) => from.unknown_mode(*letter),
+        Numeric::UnknownMode { letter, channel } => from.unknown_mode(*letter, channel),
         _ => unreachable!(),
     }
 }

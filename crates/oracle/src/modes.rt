@@ -243,12 +243,21 @@ fn serve(world: &mut World, changes: &mut Changes, letter: u8, message: &Message
     }
 }
 
+/// Tells that a letter is no mode of the channel, which is named as it was first spelled.
+fn tell_unknown(world: &mut World, changes: &Changes, letter: u8) {
+    let mut line = world.answer(changes.by, UNKNOWN_MODE.0);
+    world.add_middle(&mut line, &[letter]);
+    world.add(&mut line, UNKNOWN_MODE.1.as_bytes());
+    world.add(&mut line, &world.channel(changes.place).name);
+    world.tell(changes.by, line);
+}
+
 fn letter(world: &mut World, changes: &mut Changes, letter: u8, message: &Message) {
     match place_of_letter(letter) {
         Some(switch) => turn(world, changes, letter, switch),
         None if takes_param(letter, changes.is_on) => serve(world, changes, letter, message),
         None if letter == b'l' => limit(world, changes, letter, b""),
-        None => world.naming(changes.by, UNKNOWN_MODE, &[letter]),
+        None => tell_unknown(world, changes, letter),
     }
 }
 

@@ -79,7 +79,7 @@ pub(crate) const ALREADY_REGISTERED: Numeric = Numeric(
 
 pub(crate) const FULL: Numeric = Numeric("471", " :Cannot join channel (+l)");
 
-pub(crate) const UNKNOWN_MODE: Numeric = Numeric("472", " :is unknown mode char to me for channel");
+pub(crate) const UNKNOWN_MODE: Numeric = Numeric("472", " :is unknown mode char to me for ");
 
 pub(crate) const INVITE_ONLY: Numeric = Numeric("473", " :Cannot join channel (+i)");
 

@@ -2,3 +2,4 @@ pub mod Cuts
 pub mod Same
 mod Examples
 pub mod Spelled
+pub mod AccountLines

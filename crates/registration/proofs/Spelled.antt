@@ -1,12 +1,13 @@
 -- What is read from a message of PLAIN is what the message tells, and the payload is its one spelling.
-use Rattle.std.proofs.Common.{◌≡◌, ℕ, Bool, true, false, ◌&&◌, List, [], ◌∷◌, Option, Some, None, Result, Ok, Err, ap, sym, ◌∙◌, subst, inl, inr}
+use Rattle.std.proofs.Common.{◌≡◌, ℕ, Bool, true, false, ◌&&◌, List, [], ◌∷◌, Option, Some, None, Result, Ok, Err, take, refl, ap, sym, ◌∙◌, subst, inl, inr}
 use Rattle.std.specs.List.{join_with_byte}
-use Rattle.std.specs.Option.{IfSome}
-use Rattle.std.specs.Result.{IfOk}
+use Rattle.std.specs.Option.{IfSome, option_map}
+use Rattle.std.specs.Result.{IfOk, result_ok}
 use Rattle.std.proofs.lemmas.Bool.{cases_Bool}
 use Rattle.std.proofs.lemmas.List.Splits.{join_with_byte-slice_split}
 use Rattle.base64.specs.Engines.{standard}
-use Rattle.base64.specs.GeneralPurpose.{encode_of}
+use Rattle.base64.specs.GeneralPurpose.{IsBytes, decode_of, encode_of}
+use Rattle.base64.proofs.EngineFacts.{decode_of_strict}
 use Rattle.registration.specs.declared.sasl.Credentials.{Credentials}
 use Rattle.registration.specs.Parts.{is_present, parts, three_of}
 use Rattle.registration.specs.Plain.{Spells, Tells, credentials_from, is_own}
@@ -39,9 +40,15 @@ spells_if_told payload message (Ok (Some c)) e told = record { message = message
 spells_if_told payload message (Ok None) e told = tt
 spells_if_told payload message (Err x) e told = tt
 
--- what was found in a payload, and read from that
-pub spells : {E : Type 0} (payload : List ℕ) (found : Option (List ℕ)) (message read : List ℕ) (r : Result (Option Credentials) E) → found ≡ Some message → read ≡ message → IfSome found (λ m. payload ≡ encode_of standard m) → IfOk r (λ c. c ≡ credentials_from (three_of (parts 0 read))) → IfOk r (λ c. IfSome c (λ told. Spells payload told))
-spells payload found message read r is same exact from =
-    let P : Option (List ℕ) → Type 0 = λ o. IfSome o (λ m. payload ≡ encode_of standard m) in
-    let whole : payload ≡ encode_of standard message = subst P is exact in
-    spells_if_told payload read r (whole ∙ ap (encode_of standard) (sym same)) (tells read r from)
+is_ok_of : {X E : Type 0} (r : Result X E) (x : X) → Some x ≡ result_ok r → r ≡ Ok x
+is_ok_of (Ok y) x e = cc
+is_ok_of (Err y) x e = cc
+
+-- a payload that is decoded is the one spelling of what it tells
+pub decoded_exactly : (payload room : List ℕ) (len : Option ℕ) → IsBytes payload → option_map (λ n. take n room) len ≡ result_ok (decode_of standard payload) → IfSome len (λ n. payload ≡ encode_of standard (take n room))
+decoded_exactly payload room None bytes e = tt
+decoded_exactly payload room (Some n) bytes e = decode_of_strict standard payload (take n room) (refl, refl) bytes (is_ok_of (decode_of standard payload) (take n room) e)
+
+-- what is read from what a payload spells
+pub spells : {E : Type 0} (payload message : List ℕ) (r : Result (Option Credentials) E) → payload ≡ encode_of standard message → IfOk r (λ c. c ≡ credentials_from (three_of (parts 0 message))) → IfOk r (λ c. IfSome c (λ told. Spells payload told))
+spells payload message r exact from = spells_if_told payload message r exact (tells message r from)

@@ -1,5 +1,5 @@
 -- The accounts of a server, as its file has them (this project's own format), and what a password is checked against (FIPS 180-4, SHA-256).
-use Rattle.std.specs.Prelude.{ℕ, Bool, ◌+◌, ◌&&◌, cond, List, [], ◌∷◌, ◌++◌, Option, Some, None, option_and_then, Result, Ok, Err}
+use Rattle.std.specs.Prelude.{ℕ, ◌<◌, ◌≤◌, length, take, IsOk, Bool, ◌+◌, ◌&&◌, cond, List, [], ◌∷◌, ◌++◌, Option, Some, None, option_and_then, Result, Ok, Err}
 use Rattle.std.specs.List.{find, list_any}
 use Rattle.std.specs.Str.{bytes_eq}
 use Rattle.casemapping.specs.Names.{nick_shape}
@@ -52,6 +52,10 @@ accounts_from (line ∷ lines) number accounts = unless_fault number (accounts_f
 -- the accounts of a file. Its lines are counted from 1, and each ends at a line feed
 unfoldable pub accounts_in : List ℕ → Result (List Account) (ℕ × AccountFault)
 accounts_in file = accounts_from (parts 10 file) 1 []
+
+-- a file has a line of this number, and up to it no line has a fault
+abbrev pub IsReadTo : List ℕ → ℕ → Type 0
+IsReadTo file n = (0 < n) × (n ≤ length (parts 10 file)) × IsOk (accounts_from (take n (parts 10 file)) 1 [])
 
 -- the account's name, as its line spells it, where the password is right
 abbrev pub name_by : List ℕ → Account → Option (List ℕ)

@@ -1,5 +1,5 @@
 -- What is known of a session while it registers, and what its commands are answered by that alone: RFC 2812, section 3.1; IRCv3 Capability Negotiation and SASL 3.1.
-use Rattle.std.specs.Prelude.{ℕ, ◌+◌, ◌==◌, nat_lt, Bool, false, not, ◌&&◌, ◌||◌, if◌then◌else◌, List, [], ◌∷◌, ◌++◌, length, codes, Option, Some, None, option_copied}
+use Rattle.std.specs.Prelude.{ℕ, ◌+◌, ◌==◌, nat_lt, Bool, true, false, not, ◌&&◌, ◌||◌, if◌then◌else◌, List, [], ◌∷◌, ◌++◌, length, codes, Option, Some, None, option_copied}
 use Rattle.std.specs.Option.{is_some}
 use Rattle.std.specs.Str.{bytes_eq}
 use Rattle.casemapping.specs.Names.{nick_shape}
@@ -92,6 +92,12 @@ gone_on accounts so_far octets =
 abbrev pub sasl_step : List Account → Option (List ℕ) → List ℕ → SaslAnswer
 sasl_step accounts None piece = begun piece
 sasl_step accounts (Some so_far) piece = if bytes_eq piece (42 ∷ []) then Aborted else gone_on accounts so_far (added piece)
+
+-- whether a text is kept from then on: what was sent, or by which account the session is logged in
+abbrev pub keeps_text : SaslAnswer → Bool
+keeps_text (Waits exchange) = true
+keeps_text (LoggedIn account) = true
+keeps_text answer = false
 
 -- SASL 3.1, "Numerics used by this extension"
 unfoldable pub sasl_answer : List Account → Enrolment → List ℕ → SaslAnswer

@@ -10,10 +10,14 @@ use Rattle.registration.specs.Parts.{is_empty, is_present, is_same, parts, three
 abbrev pub is_own : List ℕ → List ℕ → Bool
 is_own identity user = is_empty identity || is_same identity user
 
+-- a user and a password
+abbrev pub credentials : List ℕ → List ℕ → Credentials
+credentials user password = record { user = user; password = password }
+
 abbrev pub credentials_from : Option (List ℕ × List ℕ × List ℕ) → Option Credentials
 credentials_from None = None
 credentials_from (Some (identity, user, password)) =
-    cond (is_present user && is_present password && is_own identity user) (Some (record { user = user; password = password })) None
+    cond (is_present user && is_present password && is_own identity user) (Some (credentials user password)) None
 
 -- message = [authzid] NUL authcid NUL passwd
 abbrev pub credentials_in : Result (List ℕ) DecodeError → Option Credentials

@@ -1,5 +1,5 @@
 //! The accounts of users, which log in by SASL (IRCv3 SASL 3.1).
-ghost use Rattle.std.specs.Prelude.{◌≡◌, ◌⊎◌, ◌↔◌, ◌++◌, ◌∷◌, ◌==◌, [], count_by, length, not, IfOk, IfErr, IsTrue, IsErrOf, IsOk, OnOk, OnErr};
+ghost use Rattle.std.specs.Prelude.{◌≡◌, ◌⊎◌, ◌↔◌, ◌++◌, ◌∷◌, ◌==◌, [], count_by, length, not, IfOk, IfErr, IsTrue, IsErr, IsErrOf, IsOk, IsSome, OnOk, OnErr};
 ghost use Rattle.std.specs.List.{find, zip};
 ghost use Rattle.std.specs.Option.{option_copied, option_map};
 ghost use Rattle.std.specs.Result.{result_ok};
@@ -136,7 +136,7 @@ fn are_equal(a: &[u8; 32], b: &[u8; 32]) -> bool
 }
 
 impl Accounts {
-    ghost use Rattle.registration.specs.Accounts.{accounts_in, logged_in, with_line};
+    ghost use Rattle.registration.specs.Accounts.{IsReadTo, accounts_in, logged_in, with_line};
 
     /// No account.
     pub fn new(alloc: Global) -> Accounts
@@ -154,6 +154,9 @@ impl Accounts {
     pub fn read(alloc: Global, file: &[u8]) -> Result<Accounts, (u64, AccountFault)>
         ensures ok { IfOk result (λ accounts. accounts_in file.now ≡ Ok accounts) }
         ensures err { IfErr result (λ fault. (fault.1 ≡ AccountFault.Memory) ⊎ (accounts_in file.now ≡ Err fault)) }
+
+        // Memory is wanting only where neither its line nor one before it has a fault.
+        ensures memory { IfErr result (λ fault. fault.1 ≡ AccountFault.Memory → IsReadTo file.now fault.0) }
     {
         let mut accounts = Accounts::new(alloc);
         let mut rest = Some(file);
@@ -199,7 +202,10 @@ impl Accounts {
     /// of how long it takes.
     #[tactic(auto, unfolding(crate::specs::Accounts::logged_in))]
     pub fn check(&self, user: &[u8], password: &[u8]) -> Result<Option<Octets>, AllocError>
-        ensures { IfOk result (λ name. name ≡ logged_in self.now user.now password.now) }
+        ensures name { IfOk result (λ name. name ≡ logged_in self.now user.now password.now) }
+
+        // Memory is wanting only where the password is right.
+        ensures memory { IsErr result → IsSome (logged_in self.now user.now password.now) }
     {
         let Some(account) = self.named(user) else {
             return Ok(None);

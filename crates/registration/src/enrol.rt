@@ -1,19 +1,17 @@
 //! What is known of a session while it registers, and what its commands are answered by that alone.
-ghost use Rattle.std.specs.Prelude.{◌≡◌, ◌++◌, option_copied, IfOk};
-ghost use Rattle.registration.specs.Enrol.{account_by, added, begun, cap_answer, ended_by, enrolment, gone_on, holds, is_own, is_ready, is_too_long, nick_answer, sasl_answer, user_answer};
+ghost use Rattle.std.specs.Prelude.{◌≡◌, ◌+◌, ◌≤◌, ◌++◌, length, take, true, option_copied, IfOk, IsErr};
+ghost use Rattle.registration.specs.Enrol.{account_by, added, begun, cap_answer, ended_by, enrolment, gone_on, holds, is_own, is_ready, is_too_long, keeps_text, nick_answer, sasl_answer, user_answer};
 ghost use Rattle.registration.specs.Plain.{credentials_of};
 
 use crate::parts::is_same;
-use crate::{Accounts, Caps, plain, requested};
+use crate::sasl::{EXCHANGELEN, account_by};
+use crate::{Accounts, Caps, requested};
 use casemapping::is_nick;
 use line_grammar::Octets;
 use std::alloc::{AllocError, Global};
 
 /// Octets of a piece of an exchange of SASL, at most. One of just so many is followed by another.
 const PIECELEN: usize = 400;
-
-/// Octets of all pieces of an exchange, at most.
-const EXCHANGELEN: usize = 1200;
 
 /// What a session has told of itself while it registers.
 #[derive(Clone, Copy)]
@@ -147,7 +145,10 @@ impl Enrol<'_> {
         accounts: &Accounts,
         piece: &[u8],
     ) -> Result<SaslAnswer, AllocError>
-        ensures { IfOk result (λ answer. answer ≡ sasl_answer accounts.now (enrolment self.now) piece.now) }
+        ensures answer { IfOk result (λ answer. answer ≡ sasl_answer accounts.now (enrolment self.now) piece.now) }
+
+        // Memory is wanting only where the exchange goes on or the session is logged in.
+        ensures memory { IsErr result → keeps_text (sasl_answer accounts.now (enrolment self.now) piece.now) ≡ true }
     {
         if self.account.is_some() {
             return Ok(SaslAnswer::AlreadyLoggedIn);
@@ -202,44 +203,47 @@ fn joined(alloc: Global, so_far: &[u8], octets: &[u8]) -> Result<Octets, AllocEr
     Ok(whole)
 }
 
-/// The account by which a payload logs in.
-fn account_by(
-    alloc: Global,
-    accounts: &Accounts,
-    payload: &[u8],
-) -> Result<Option<Octets>, AllocError>
-    ensures { IfOk result (λ account. account ≡ account_by accounts.now (credentials_of payload.now)) }
+/// Writes what was sent, and what comes after it, to the front of the room, and answers how long it is.
+fn join_into(room: &mut [u8], so_far: &[u8], octets: &[u8]) -> usize
+    requires { length so_far.now + length octets.now ≤ length room.old }
+    ensures len { result ≡ length so_far.now + length octets.now }
+    ensures joined { take result room.new ≡ so_far.now ++ octets.now }
 {
-    match plain(alloc, payload)? {
-        Some(told) => accounts.check(told.user.as_slice(), told.password.as_slice()),
-        None => Ok(None),
-    }
+    let len = so_far.len() + octets.len();
+    room[..so_far.len()].copy_from_slice(so_far);
+    room[so_far.len()..len].copy_from_slice(octets);
+    len
 }
 
-fn end(alloc: Global, accounts: &Accounts, payload: &[u8]) -> Result<SaslAnswer, AllocError>
-    ensures { IfOk result (λ answer. answer ≡ ended_by (account_by accounts.now (credentials_of payload.now))) }
+fn end(accounts: &Accounts, payload: &[u8]) -> Result<SaslAnswer, AllocError>
+    requires { length payload.now ≤ 1200 }
+    ensures answer { IfOk result (λ answer. answer ≡ ended_by (account_by accounts.now (credentials_of payload.now))) }
+    ensures memory { IsErr result → keeps_text (ended_by (account_by accounts.now (credentials_of payload.now))) ≡ true }
 {
-    match account_by(alloc, accounts, payload)? {
+    match account_by(accounts, payload)? {
         Some(account) => Ok(SaslAnswer::LoggedIn { account }),
         None => Ok(SaslAnswer::Failed),
     }
 }
 
-/// An exchange that is open takes one piece more.
+/// An exchange that is open takes one piece more. Its last piece is read in room that takes no memory.
 fn go_on(
     alloc: Global,
     accounts: &Accounts,
     so_far: &[u8],
     octets: &[u8],
 ) -> Result<SaslAnswer, AllocError>
-    ensures { IfOk result (λ answer. answer ≡ gone_on accounts.now so_far.now octets.now) }
+    ensures answer { IfOk result (λ answer. answer ≡ gone_on accounts.now so_far.now octets.now) }
+    ensures memory { IsErr result → keeps_text (gone_on accounts.now so_far.now octets.now) ≡ true }
 {
     if is_too_long(so_far, octets) {
         return Ok(SaslAnswer::TooLong);
     }
-    let exchange = joined(alloc, so_far, octets)?;
     if octets.len() == PIECELEN {
+        let exchange = joined(alloc, so_far, octets)?;
         return Ok(SaslAnswer::Waits { exchange });
     }
-    end(alloc, accounts, exchange.as_slice())
+    let mut payload = [0; EXCHANGELEN];
+    let len = join_into(&mut payload, so_far, octets);
+    end(accounts, &payload[..len])
 }

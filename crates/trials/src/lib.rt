@@ -7,6 +7,8 @@ mod deciding;
 #[cfg(test)]
 mod enrolling;
 #[cfg(test)]
+mod finding;
+#[cfg(test)]
 mod lines;
 #[cfg(test)]
 mod moments;
