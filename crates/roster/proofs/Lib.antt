@@ -10,4 +10,7 @@ pub mod Steps
 pub mod SameTables
 pub mod Marks
 pub mod Kept
+pub mod SeatLists
 pub mod NameLaws
+pub mod FieldLaws
+pub mod OnceLaws

@@ -39,3 +39,8 @@ IsNext fs (Gone t) = IsOpened fs t
 abbrev pub AreNext : List Deed → List Deed → Type 0
 AreNext fs [] = Unit {0}
 AreNext fs (d ∷ ds) = IsNext fs d × AreNext (d ∷ fs) ds
+
+-- facts, the newest first, each of which might come when it did
+abbrev pub AreLegal : List Deed → Type 0
+AreLegal [] = Unit {0}
+AreLegal (d ∷ fs) = IsNext fs d × AreLegal fs

@@ -1,6 +1,9 @@
 pub mod LookBack
 pub mod Known
+pub mod Row
+pub mod Lists
 pub mod Tables
 pub mod Legal
 pub mod Stands
+pub mod Told
 pub mod Laws

@@ -278,6 +278,28 @@ channels (d ∷ fs) = channels fs
 abbrev pub channel_count : List Deed → ℕ → ℕ
 channel_count fs s = length (filter (on fs s) (channels fs))
 
+-- a name is taken out, however it is spelled, or put at the end
+abbrev pub without_name : List ℕ → List (List ℕ) → List (List ℕ)
+without_name c cs = filter (λ k. not (is_same k c)) cs
+
+abbrev pub with_last_name : List ℕ → List (List ℕ) → List (List ℕ)
+with_last_name c cs = without_name c cs ++ c ∷ []
+
+abbrev pub is_join : ℕ → Change → Bool
+is_join s (change.Joined t) = t == s
+is_join s x = false
+
+-- the channels that a session joined, by the last join of each. Who makes one joins it
+abbrev pub joins : List Deed → ℕ → List (List ℕ)
+joins [] s = []
+joins (ChannelMade t k ∷ fs) s = cond (t == s) (with_last_name k (joins fs s)) (joins fs s)
+joins (Changed k x ∷ fs) s = cond (is_join s x) (with_last_name k (joins fs s)) (joins fs s)
+joins (d ∷ fs) s = joins fs s
+
+-- a session's channels: those of them that it is on
+abbrev pub channels_on : List Deed → ℕ → List (List ℕ)
+channels_on fs s = filter (on fs s) (joins fs s)
+
 -- ---- who shares a channel
 
 -- whether two sessions share a channel

@@ -5,6 +5,7 @@ mod channels;
 mod deed;
 mod given;
 mod laws;
+mod lists;
 mod names;
 mod people;
 mod room;
@@ -14,7 +15,12 @@ mod sharing;
 mod tables;
 
 pub use deed::Deed;
-pub use laws::{channels_have_one_name, spelled_names_are_names};
+pub use laws::{
+    bans_are_the_last, channels_have_one_name, flags_are_the_last, invitations_are_the_last,
+    keys_are_the_last, limits_are_the_last, members_are_on_it, members_are_there_once,
+    operators_are_the_last, own_channels_are_there_once, sharers_are_there_once,
+    spelled_names_are_names, topics_are_the_last, voices_are_the_last,
+};
 pub use names::is_same;
 pub use roster::Roster;
 pub use sessions::Sessions;

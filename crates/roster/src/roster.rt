@@ -6,6 +6,9 @@ ghost use Rattle.roster.specs.declared.deed.Deed.TheVariants.{Ended};
 use crate::channels::{change, count_channels, find_channel, leave_all, make, nth_channel};
 use crate::deed::Deed;
 use crate::given::Given;
+use crate::lists::{
+    Names, copy_names, find_list, join_made, reseat, reserve_lists, seat_of, vacate,
+};
 use crate::people::{
     blank_enrol, end, enrol_of, enroll, equip, find_holder, find_person, forget, go_away, hide,
     hold, introduce, log_in, open_exchange, rename, stranger,
@@ -20,7 +23,7 @@ use ghosts::{Change, Snapshot, append_all, apply, blank};
 use line_grammar::Octets;
 use registration::{Enrol, Settings};
 use std::alloc::{AllocError, Global};
-use std::collections::LinkedList;
+use std::collections::{LinkedList, VecDeque};
 use std::marker::Model;
 
 /// What is known of sessions and channels, by all facts that were ever established. A clause sees it as the list of these,
@@ -33,19 +36,24 @@ pub struct Roster {
     channels: Vec<Channel>,
     /// What channels that will be made are kept in.
     spare: Vec<ChannelState>,
+    /// The channels of each session, by its number.
+    lists: Vec<Names>,
+    /// The names of channels that will be made, for the lists of those who make them.
+    copies: VecDeque<Octets>,
     facts: Snapshot<LinkedList<Deed>>,
     ready: Snapshot<LinkedList<Deed>>,
 }
 
 impl Model for Roster {
     ghost use Rattle.roster.specs.Known.{Known};
+    ghost use Rattle.roster.specs.Lists.{AreListed};
     ghost use Rattle.roster.specs.Stands.{IsKept};
 
     ghost Value = { Known };
 
     ghost view = { λ a. record { settings = a.given; facts = a.facts.value; ready = a.ready.value } };
 
-    ghost invariant = { λ a. IsKept a.people a.channels a.spare a.facts.value a.ready.value };
+    ghost invariant = { λ a. IsKept a.people a.channels a.spare a.facts.value a.ready.value × AreListed a.lists.items a.copies.items a.facts.value a.ready.value };
 }
 
 // A fact is added, as the newest.
@@ -66,7 +74,7 @@ impl Roster {
     ghost use Rattle.registration.specs.Settings.{IsWellSet};
     ghost use Rattle.roster.specs.Legal.{IsOpened, AreNext};
     ghost use Rattle.registration.specs.Enrol.{enrolment};
-    ghost use Rattle.roster.specs.LookBack.{opened, host, nick, user, real, enrol, registered, away, invisible, why, parting, holder, found, on, state, members, name_of, channels, channel_count, sharers};
+    ghost use Rattle.roster.specs.LookBack.{opened, host, nick, user, real, enrol, registered, away, invisible, why, parting, holder, found, on, state, members, name_of, channels, channel_count, channels_on, sharers};
     ghost use Rattle.channel_state.specs.State.{nothing};
 
     /// The roster of no facts, on a server whose settings are within their limits.
@@ -80,6 +88,8 @@ impl Roster {
             people: Vec::new(alloc),
             channels: Vec::new(alloc),
             spare: Vec::new(alloc),
+            lists: Vec::new(alloc),
+            copies: VecDeque::new(alloc),
             facts: blank(alloc),
             ready: blank(alloc),
         }
@@ -104,6 +114,8 @@ impl Roster {
             &mut self.spare,
             deeds,
         )?;
+        reserve_lists(self.alloc, &mut self.lists, deeds)?;
+        copy_names(&mut self.copies, deeds)?;
         append_all(&mut self.ready, deeds);
         Ok(())
     }
@@ -138,15 +150,21 @@ impl Roster {
             Deed::InvisibleSet { session, on } => hide(&mut self.people, session, on),
             Deed::ChannelMade { session, channel } => {
                 make(&mut self.channels, &mut self.spare, channel, session);
+                join_made(&mut self.lists, &mut self.copies, session);
             }
             Deed::Changed {
                 channel,
                 change: made,
-            } => change(&mut self.channels, channel.as_slice(), made),
+            } => {
+                let seat = seat_of(&made);
+                change(&mut self.channels, channel.as_slice(), made);
+                reseat(&mut self.lists, seat, channel);
+            }
             Deed::Ended { session, why, text } => end(&mut self.people, session, why, text),
             Deed::Gone { session } => {
                 forget(&mut self.people, session);
                 leave_all(&mut self.channels, session);
+                vacate(&mut self.lists, session);
             }
         }
     }
@@ -344,6 +362,13 @@ impl Roster {
             Some(channel) => Some(&channel.name),
             None => None,
         }
+    }
+
+    /// The channels of a session, by its last join of each.
+    pub fn channels_of(&self, session: SessionId) -> &[Octets]
+        ensures { result.now ≡ channels_on self.now.facts session }
+    {
+        find_list(&self.lists, session)
     }
 
     /// On how many channels a session is.

@@ -8,5 +8,5 @@ use Rattle.roster.proofs.roster.Roster.channel_count.Goals as goal
 pub returns : goal.returns
 returns c =
     let r = c.self.inside in
-    let count : length (channels c.args.self.now.facts) ≡ length r.channels.items = ap (λ (k : Known). length (channels k.facts)) (sym c.self.view_is) ∙ ap length c.self.invariant.stands.channels ∙ names_of-length r.channels.items in
+    let count : length (channels c.args.self.now.facts) ≡ length r.channels.items = ap (λ (k : Known). length (channels k.facts)) (sym c.self.view_is) ∙ ap length c.self.invariant.0.stands.channels ∙ names_of-length r.channels.items in
     let is = c.len.ensures in grind (arith, common_steps)

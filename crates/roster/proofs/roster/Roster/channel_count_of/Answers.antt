@@ -11,4 +11,4 @@ pub returns : goal.returns
 returns c =
     let r = c.self.inside in let s = c.args.session in
     c.count_channels.ensures ∙ ap (λ (ks : List Channel). count_in ks s) c.deref.ensures.value
-    ∙ count_is r.people.items r.channels.items r.facts.value c.self.invariant.stands s ∙ ap (λ (k : Known). channel_count k.facts s) c.self.view_is
+    ∙ count_is r.people.items r.channels.items r.facts.value c.self.invariant.0.stands s ∙ ap (λ (k : Known). channel_count k.facts s) c.self.view_is

@@ -13,11 +13,11 @@ returns-in-Some c =
     let e : holder_place r.people.items n ≡ Some i = grind (arith, common_steps) in
     let number : c.new.result ≡ 1 + i = let n = c.new.ensures in omega arith in
     ap (λ (n : ℕ). Some n) number ∙ sym (ap (option_map (λ i. 1 + i)) e)
-    ∙ holder_is r.people.items r.channels.items r.facts.value c.self.invariant.stands n ∙ ap (λ (k : Known). holder k.facts n) c.self.view_is
+    ∙ holder_is r.people.items r.channels.items r.facts.value c.self.invariant.0.stands n ∙ ap (λ (k : Known). holder k.facts n) c.self.view_is
 
 pub returns-in-None : goal.returns-in-None
 returns-in-None c =
     let r = c.self.inside in let n = c.args.nick.now in
     let e : holder_place r.people.items n ≡ None = grind (arith, common_steps) in
     sym (ap (option_map (λ i. 1 + i)) e)
-    ∙ holder_is r.people.items r.channels.items r.facts.value c.self.invariant.stands n ∙ ap (λ (k : Known). holder k.facts n) c.self.view_is
+    ∙ holder_is r.people.items r.channels.items r.facts.value c.self.invariant.0.stands n ∙ ap (λ (k : Known). holder k.facts n) c.self.view_is

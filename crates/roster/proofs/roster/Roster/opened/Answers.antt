@@ -8,6 +8,6 @@ use Rattle.roster.proofs.roster.Roster.opened.Goals as goal
 pub returns-clause-count : goal.returns-clause-count
 returns-clause-count c =
     let r = c.self.inside in
-    let count = opened_count r.people.items r.channels.items r.facts.value c.self.invariant.stands in
+    let count = opened_count r.people.items r.channels.items r.facts.value c.self.invariant.0.stands in
     let same = ap (λ (k : Known). length (opened k.facts)) c.self.view_is in
     let is = c.len.ensures in grind (arith, common_steps)

@@ -14,5 +14,5 @@ returns c =
     let all : c.len.result ≡ length r.people.items = let is = c.len.ensures in grind (arith, common_steps) in
     let told =
     ap (λ (ks : List Channel). sharing ks s 1 c.len.result) c.deref.ensures.value ∙ ap (λ (n : ℕ). sharing r.channels.items s 1 n) all
-    ∙ sharers_are r.people.items r.channels.items r.facts.value c.self.invariant.stands s ∙ ap (λ (k : Known). sharers k.facts s) c.self.view_is in
+    ∙ sharers_are r.people.items r.channels.items r.facts.value c.self.invariant.0.stands s ∙ ap (λ (k : Known). sharers k.facts s) c.self.view_is in
     subst (λ (xs : List ℕ). IfOk c.find_sharers.result (λ v. v ≡ xs)) told c.find_sharers.ensures

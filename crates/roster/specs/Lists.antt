@@ -1,0 +1,75 @@
+-- The lists of the channels of sessions: words of the private contracts.
+use Rattle.std.specs.Prelude.{◌≡◌, ℕ, ◌+◌, ◌≤◌, Bool, false, ◌==◌, cond, List, [], ◌∷◌, count_by, slice_index_or}
+use Rattle.std.specs.List.{flat_map}
+use Rattle.channel_state.specs.declared.change.Change.{Change}
+use Rattle.channel_state.specs.declared.change.Change.TheVariants as change
+use Rattle.roster.specs.declared.deed.Deed.{Deed}
+use Rattle.roster.specs.declared.deed.Deed.TheVariants.{ChannelMade, Changed, Gone}
+use Rattle.roster.specs.declared.lists.Seat.{Seat}
+use Rattle.roster.specs.declared.lists.Seat.TheVariants.{Taken, Left, Same}
+use Rattle.roster.specs.Row.{Row}
+use Rattle.roster.specs.LookBack.{with_last_name, without_name, channels_on}
+
+-- the row of a session, by its number
+abbrev pub row_of : List Row → ℕ → Row
+row_of rs s = slice_index_or rs s (record { list = []; room = 0 })
+
+-- what a change says of seats
+abbrev pub seat_of : Change → Seat
+seat_of (change.Joined t) = Taken t
+seat_of (change.Left t) = Left t
+seat_of x = Same
+
+abbrev pub is_taken : ℕ → Seat → Bool
+is_taken s (Taken t) = t == s
+is_taken s x = false
+
+-- the channels of s after a seat is taken or left
+abbrev pub reseated : ℕ → List ℕ → Seat → List (List ℕ) → List (List ℕ)
+reseated s c (Taken t) cs = cond (t == s) (with_last_name c cs) cs
+reseated s c (Left t) cs = cond (t == s) (without_name c cs) cs
+reseated s c Same cs = cs
+
+-- the channels of s after a deed
+abbrev pub relisted : ℕ → Deed → List (List ℕ) → List (List ℕ)
+relisted s (ChannelMade t k) cs = cond (t == s) (with_last_name k cs) cs
+relisted s (Changed k x) cs = reseated s k (seat_of x) cs
+relisted s (Gone t) cs = cond (t == s) [] cs
+relisted s d cs = cs
+
+-- whether s joins a channel by a deed
+abbrev pub is_joining : ℕ → Deed → Bool
+is_joining s (ChannelMade t k) = t == s
+is_joining s (Changed k x) = is_taken s (seat_of x)
+is_joining s d = false
+
+-- by how many deeds s joins a channel
+abbrev pub joinings : ℕ → List Deed → ℕ
+joinings s ds = count_by (is_joining s) ds
+
+-- the name of the channel that a deed makes
+abbrev pub made_name : Deed → List (List ℕ)
+made_name (ChannelMade t k) = k ∷ []
+made_name d = []
+
+-- each list becomes another; those of whom that is told have room for one less at most
+pub record Relists (old new : List Row) (list : ℕ → List (List ℕ) → List (List ℕ)) (joins : ℕ → Bool) : Type 0 where
+  pub lists : (s : ℕ) → (row_of new s).list ≡ list s (row_of old s).list
+  pub rooms : (s : ℕ) → (row_of old s).room ≤ (row_of new s).room + cond (joins s) 1 0
+
+-- the lists stay, and have room for as many at least
+pub record Widens (old new : List Row) : Type 0 where
+  pub lists : (s : ℕ) → (row_of new s).list ≡ (row_of old s).list
+  pub rooms : (s : ℕ) → (row_of old s).room ≤ (row_of new s).room
+
+-- names begin with these
+abbrev pub BeginWith : List (List ℕ) → List (List ℕ) → Type 0
+BeginWith [] ks = Unit {0}
+BeginWith (c ∷ cs) [] = ⊥
+BeginWith (c ∷ cs) (k ∷ ks) = (k ≡ c) × BeginWith cs ks
+
+-- each session's list stands for facts, with room and copies of names for deeds
+pub record AreListed (rs : List Row) (ns : List (List ℕ)) (fs ds : List Deed) : Type 0 where
+  pub lists : (s : ℕ) → (row_of rs s).list ≡ channels_on fs s
+  pub room : (s : ℕ) → joinings s ds ≤ (row_of rs s).room
+  pub copies : BeginWith (flat_map made_name ds) ns

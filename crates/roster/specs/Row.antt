@@ -1,0 +1,6 @@
+-- What clauses see of a session's list of channels: with room for more, which then takes no memory.
+use Rattle.std.specs.Prelude.{ℕ, List}
+
+pub record Row : Type 0 where
+  pub list : List (List ℕ)
+  pub room : ℕ
