@@ -89,6 +89,8 @@ fn enter(world: &mut World, by: SessionId, place: usize) {
     };
     let is_done = members.push(member).is_ok();
     world.note(is_done);
+    let is_noted = world.client_mut(by).joined.push(place).is_ok();
+    world.note(is_noted);
     set_invited(world, place, by, Invited::No);
     let line = world.said(by, b" JOIN ", &world.channel(place).name, b"");
     world.tell_members(place, line);

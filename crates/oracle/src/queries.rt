@@ -117,15 +117,25 @@ pub(crate) fn who(world: &mut World, by: SessionId, name: &[u8]) {
     world.naming_channel(by, END_OF_WHO, place);
 }
 
-/// The channels of a user that a session sees, each with the mark of the user's rank.
+/// Whether a session joined no channel at a place after so many others.
+fn is_last(joined: &[usize], number: usize, place: usize) -> bool {
+    !joined
+        .iter()
+        .skip(number.saturating_add(1))
+        .any(|later| *later == place)
+}
+
+/// The channels of a user that a session sees, by the user's last join of each, with the mark of its rank.
 fn marked_channels(world: &World, by: SessionId, user: SessionId) -> Vec<Vec<u8>> {
     let mut names = Vec::new(world.alloc);
-    for (place, channel) in world.channels.iter().enumerate() {
-        if let Some(member) = world.member(place, user)
-            && world.sees(place, by)
+    let joined = world.client(user).joined.as_slice();
+    for (number, place) in joined.iter().enumerate() {
+        if let Some(member) = world.member(*place, user)
+            && world.sees(*place, by)
+            && is_last(joined, number, *place)
         {
             let mut name = world.copy(mark(&member));
-            world.add(&mut name, &channel.name);
+            world.add(&mut name, &world.channel(*place).name);
             world.note(names.push(name).is_ok());
         }
     }

@@ -45,6 +45,8 @@ pub(crate) struct Client {
     pub(crate) is_logged_in: bool,
     pub(crate) is_in_exchange: bool,
     pub(crate) exchanged: Vec<u8>,
+    /// The places of channels that it joined, in the order of joining, however often.
+    pub(crate) joined: Vec<usize>,
 }
 
 /// Who is on a channel.
@@ -112,6 +114,7 @@ pub(crate) fn new_client(alloc: Global) -> Client {
         is_logged_in: false,
         is_in_exchange: false,
         exchanged: Vec::new(alloc),
+        joined: Vec::new(alloc),
     }
 }
 

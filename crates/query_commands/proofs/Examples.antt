@@ -46,5 +46,5 @@ who_they_are :
     (g : Settings) → (let told = whois_found (record g { server = codes "s"; info = codes "i" }) secret 2 in
     (told (codes "AL") (found secret (codes "AL")) ≡ WhoisUser (codes "al") (codes "al") (codes "h") (codes "Re Al") ∷ WhoisServer (codes "al") (codes "i") ∷ EndOfWhois (codes "al") ∷ [])
     × (told (codes "cy") (found secret (codes "cy")) ≡ NoSuchNick (codes "cy") ∷ EndOfWhois (codes "cy") ∷ []))
-unfolding is_same fold_of cut room numeric row_line untagged
+unfolding channel_for is_same fold_of cut room numeric row_line untagged
 who_they_are g = (refl, refl)

@@ -1,11 +1,8 @@
 -- What is left of a list as it is taken one by one.
 use Rattle.std.proofs.Common.{◌≡◌, ℕ, zero, suc, ◌+◌, ◌<◌, ◌≤◌, true, false, cond, List, [], ◌∷◌, ◌++◌, filter, map, flat_map, length, get_or, drop, slice_get, arith, Option, Some, None, option_to_list, if◌then◌else◌, refl, sym, ap, ◌∙◌}
 use Rattle.std.proofs.lemmas.Option.{get_or_from_slice_get}
-use Rattle.roster.specs.declared.deed.Deed.{Deed}
-use Rattle.roster.specs.LookBack.{state}
 use Rattle.drafts.proofs.Turns.{dropped, none_left}
 use Rattle.query_commands.specs.Visible.{of_one}
-use Rattle.query_commands.specs.Whois.{channel_title, is_shared, title_for}
 
 within : {A : Type 0} (xs : List A) (i : ℕ) (x : A) → slice_get xs i ≡ Some x → i < length xs
 within {A} [] i x e = absurd (let f : ◌≡◌ {A = Option A} None (Some x) = e in cc)
@@ -32,11 +29,3 @@ place_more f xs i l = placed f xs i (slice_get xs i) refl l
 
 pub all_places : {A B : Type 0} (f : A → List B) (xs : List A) (i : ℕ) → length xs ≤ i → flat_map f (drop i xs) ≡ []
 all_places f xs i l = ap (flat_map f) (none_left xs i l)
-
--- the channels of a user that a session sees, each with its mark
-pub titles_are : (fs : List Deed) (s t : ℕ) (cs : List (List ℕ)) → flat_map (λ c. option_to_list (title_for fs s t c)) cs ≡ map (channel_title fs t) (filter (λ c. is_shared s t (state fs c)) cs)
-titles_are fs s t [] = refl
-titles_are fs s t (c ∷ cs) = elim (is_shared s t (state fs c)) as (λ b. option_to_list (if b then Some (channel_title fs t c) else None) ++ flat_map (λ c. option_to_list (title_for fs s t c)) cs ≡ map (channel_title fs t) (cond b (c ∷ filter (λ c. is_shared s t (state fs c)) cs) (filter (λ c. is_shared s t (state fs c)) cs))) [
-  | true ↦ ap (λ ts. channel_title fs t c ∷ ts) (titles_are fs s t cs)
-  | false ↦ titles_are fs s t cs
-]

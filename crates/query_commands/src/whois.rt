@@ -1,15 +1,16 @@
 //! WHOIS (RFC 2812, section 3.6.2).
-ghost use Rattle.std.specs.Prelude.{◌≡◌, ◌∷◌, ◌++◌, [], map, slice_get, option_copied, option_to_list, IfOk, OnOk};
+ghost use Rattle.std.specs.Prelude.{◌≡◌, ◌∷◌, ◌++◌, [], map, option_copied, IfOk, OnOk};
+ghost use Rattle.std.specs.List.{flat_map};
 ghost use Rattle.numerics.specs.declared.numeric.Numeric.TheVariants.{EndOfWhois, NoSuchNick, WhoisChannels, WhoisServer};
-ghost use Rattle.roster.specs.LookBack.{channels, found, nick};
+ghost use Rattle.roster.specs.LookBack.{found, nick};
 ghost use Rattle.drafts.specs.Drafted.{grown};
 ghost use Rattle.drafts.specs.Lines.{title};
-ghost use Rattle.query_commands.specs.Visible.{of_one};
-ghost use Rattle.query_commands.specs.Whois.{asks_whois, away_told, channel_lines, channel_title, channels_of, channels_room, channels_told, title_for, user_line, user_told, whois_found};
+ghost use Rattle.query_commands.specs.Visible.{channel_for};
+ghost use Rattle.query_commands.specs.Whois.{asks_whois, away_told, channel_titles, channels_room, channels_told, title_seen, user_line, user_told, whois_found};
 
 use crate::asking::real_of;
 use crate::naming::{rank_of, room_of};
-use crate::visible::sees;
+use crate::visible::channel_for;
 use chronicle::SessionId;
 use drafts::{Draft, tell_all, title_of};
 use line_grammar::Octets;
@@ -17,59 +18,53 @@ use numerics::{Numeric, Words, prefixed, split_names};
 use roster::Roster;
 use std::alloc::{AllocError, Global};
 
-/// A channel's name with the mark of a user's rank there, where the user is on it and the session sees it.
-fn title_for(
-    alloc: Global,
-    roster: &Roster,
-    session: SessionId,
-    user: SessionId,
-    channel: &Octets,
-) -> Result<Option<Octets>, AllocError>
-    ensures { IfOk result (λ o. o ≡ title_for roster.now.facts session user channel.now) }
-{
-    let Some(state) = roster.state_of(channel.as_slice()) else {
-        return Ok(None);
-    };
-    if !(state.has(user) && sees(session, state)) {
-        return Ok(None);
-    }
-    Ok(Some(prefixed(alloc, rank_of(state, user), channel.as_slice())?))
-}
-
-/// Adds the channel at a place, from 0, in the order of making, where the user is on it and the session sees it.
-fn push_at(
+/// Adds a channel's name, as it was first spelled, with the mark of a user's rank there, where the session sees the channel.
+fn push_title(
     alloc: Global,
     roster: &Roster,
     titles: &mut Vec<Octets>,
     session: SessionId,
     user: SessionId,
-    place: usize,
+    channel: &Octets,
 ) -> Result<(), AllocError>
-    ensures { OnOk result (titles.new.items ≡ titles.old.items ++ of_one (λ c. option_to_list (title_for roster.now.facts session user c)) (slice_get (channels roster.now.facts) place)) }
+    ensures { OnOk result (titles.new.items ≡ titles.old.items ++ title_seen user (channel_for roster.now.facts session channel.now)) }
 {
-    let Some(channel) = roster.channel_at(place) else {
-        return Ok(());
-    };
-    if let Some(title) = title_for(alloc, roster, session, user, channel)? {
-        titles.push(title)?;
+    if let Some(listed) = channel_for(roster, session, channel.as_slice()) {
+        let mark = rank_of(listed.state, user);
+        titles.push(prefixed(alloc, mark, listed.name.as_slice())?)?;
     }
     Ok(())
 }
 
-/// The channels of a user that a session sees, in the order of making.
-#[tactic(auto, using(crate::proofs::Lists::titles_are))]
+/// Adds the channels of a list, in its order.
+fn push_titles(
+    alloc: Global,
+    roster: &Roster,
+    titles: &mut Vec<Octets>,
+    session: SessionId,
+    user: SessionId,
+    channels: &[Octets],
+) -> Result<(), AllocError>
+    ensures { OnOk result (titles.new.items ≡ titles.old.items ++ flat_map (λ c. title_seen user (channel_for roster.now.facts session c)) channels.now) }
+{
+    for channel in channels {
+        push_title(alloc, roster, titles, session, user, channel)?;
+    }
+    Ok(())
+}
+
+/// The channels of a user that a session sees, by the user's last join of each.
 fn titles_of(
     alloc: Global,
     roster: &Roster,
     session: SessionId,
     user: SessionId,
 ) -> Result<Vec<Octets>, AllocError>
-    ensures { IfOk result (λ v. v.items ≡ map (channel_title roster.now.facts user) (channels_of roster.now.facts session user)) }
+    ensures { IfOk result (λ v. v.items ≡ channel_titles roster.now.facts session user) }
 {
     let mut titles = Vec::new(alloc);
-    for place in 0..roster.channel_count() {
-        push_at(alloc, roster, &mut titles, session, user, place)?;
-    }
+    let channels = roster.channels_of(user);
+    push_titles(alloc, roster, &mut titles, session, user, channels)?;
     Ok(titles)
 }
 

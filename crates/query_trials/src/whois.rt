@@ -133,10 +133,103 @@ const LONG: &str = "\
 1> :~ 318 al al :End of WHOIS list
 ";
 
+/// Channels that were made in one order, first joined in another, and last joined in a third.
+const ORDERS: &str = "\
+2 JOIN #b,#c
+2> :bo!b@h2 JOIN #b
+2> :~ 353 bo = #b :@bo
+2> :~ 366 bo #b :End of NAMES list
+2> :bo!b@h2 JOIN #c
+2> :~ 353 bo = #c :@bo
+2> :~ 366 bo #c :End of NAMES list
+1 JOIN #a,#C,#b
+1> :al!a@h1 JOIN #a
+1> :~ 353 al = #a :@al
+1> :~ 366 al #a :End of NAMES list
+1> :al!a@h1 JOIN #c
+1> :~ 353 al = #c :@bo al
+1> :~ 366 al #c :End of NAMES list
+1> :al!a@h1 JOIN #b
+1> :~ 353 al = #b :@bo al
+1> :~ 366 al #b :End of NAMES list
+2> :al!a@h1 JOIN #c
+2> :al!a@h1 JOIN #b
+2 JOIN #a
+1> :bo!b@h2 JOIN #a
+2> :bo!b@h2 JOIN #a
+2> :~ 353 bo = #a :@al bo
+2> :~ 366 bo #a :End of NAMES list
+1 WHOIS al
+1> :~ 311 al al a h1 * :Al
+1> :~ 319 al al :@#a #c #b
+1> :~ 312 al al ~ :halld
+1> :~ 318 al al :End of WHOIS list
+1 PART #a
+1> :al!a@h1 PART #a
+2> :al!a@h1 PART #a
+2 WHOIS al
+2> :~ 311 bo al a h1 * :Al
+2> :~ 319 bo al :#c #b
+2> :~ 312 bo al ~ :halld
+2> :~ 318 bo al :End of WHOIS list
+1 JOIN #A
+1> :al!a@h1 JOIN #a
+1> :~ 353 al = #a :bo al
+1> :~ 366 al #a :End of NAMES list
+2> :al!a@h1 JOIN #a
+2 WHOIS al
+2> :~ 311 bo al a h1 * :Al
+2> :~ 319 bo al :#c #b #a
+2> :~ 312 bo al ~ :halld
+2> :~ 318 bo al :End of WHOIS list
+1 WHOIS bo
+1> :~ 311 al bo b h2 * :Bo
+1> :~ 319 al bo :@#b @#c #a
+1> :~ 312 al bo ~ :halld
+1> :~ 318 al bo :End of WHOIS list
+2 KICK #c al
+1> :bo!b@h2 KICK #c al :bo
+2> :bo!b@h2 KICK #c al :bo
+1 JOIN #c
+1> :al!a@h1 JOIN #c
+1> :~ 353 al = #c :@bo al
+1> :~ 366 al #c :End of NAMES list
+2> :al!a@h1 JOIN #c
+2 WHOIS al
+2> :~ 311 bo al a h1 * :Al
+2> :~ 319 bo al :#b #a #c
+2> :~ 312 bo al ~ :halld
+2> :~ 318 bo al :End of WHOIS list
+";
+
+/// A channel that ended and was made again is the last one made and joined.
+const AGAIN: &str = "\
+1 JOIN #a,#b
+1> :al!a@h1 JOIN #a
+1> :~ 353 al = #a :@al
+1> :~ 366 al #a :End of NAMES list
+1> :al!a@h1 JOIN #b
+1> :~ 353 al = #b :@al
+1> :~ 366 al #b :End of NAMES list
+1 PART #a
+1> :al!a@h1 PART #a
+1 JOIN #A
+1> :al!a@h1 JOIN #A
+1> :~ 353 al = #A :@al
+1> :~ 366 al #A :End of NAMES list
+1 WHOIS al
+1> :~ 311 al al a h1 * :Al
+1> :~ 319 al al :@#b @#A
+1> :~ 312 al al ~ :halld
+1> :~ 318 al al :End of WHOIS list
+";
+
 #[test]
 fn who_has_a_nickname(rt: HostRuntime) -> Result<(), Fail> {
     tell_talk(rt.alloc(), &[AL, BO, AL_IN, NICKS])?;
     tell_talk(rt.alloc(), &[AL, BO, AL_IN, BO_IN, SECRET])?;
     tell_talk(rt.alloc(), &[AL, LONG])?;
+    tell_talk(rt.alloc(), &[AL, BO, ORDERS])?;
+    tell_talk(rt.alloc(), &[AL, AGAIN])?;
     Ok(())
 }
