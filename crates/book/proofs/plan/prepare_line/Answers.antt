@@ -25,7 +25,7 @@ returns-clause-plan c =
     let is = verdict_at c.in_ok-verdict.verdict c.new-session.result s g fs k session c.in_ok-verdict.ensures.verdict in
     let v = c.in_ok-verdict.verdict in let seats = c.args.seats.now in let n = c.args.number in let m = c.args.moment in let q = c.in_ok-verdict.quits in
     let label : c.in_ok-label.label ≡ label_of (caps fs s) c.args.piece.now =
-    c.in_ok-label.ensures ∙ ap (λ (cs : Caps). label_of cs c.args.piece.now) (ap (λ (e : Enrolment). e.caps) c.enrol_of.ensures) ∙ ap (λ (j : ℕ). label_of (caps fs j) c.args.piece.now) session in
+    c.in_ok-label.ensures.label ∙ ap (λ (cs : Caps). label_of cs c.args.piece.now) (ap (λ (e : Enrolment). e.caps) c.enrol_of.ensures) ∙ ap (λ (j : ℕ). label_of (caps fs j) c.args.piece.now) session in
     c.in_ok-prepared.ensures.plan
     ∙ ap (λ (l : Option (List ℕ)). planned_with seats s n (rendered (caps fs s) m (answered g.server l n v.reply.items v.copies.items)) (heard_text fs m v.others.items) q) label
     ∙ planned_same seats g fs s n (label_of (caps fs s) c.args.piece.now) v (of_asked g fs s k) m q is
