@@ -1,12 +1,13 @@
 //! LIST (RFC 2812, section 3.2.6).
-ghost use Rattle.std.specs.Prelude.{◌≡◌, ◌++◌, [], slice_get, unwrap_or, option_copied, IfOk, OnOk};
+ghost use Rattle.std.specs.Prelude.{◌≡◌, ◌++◌, [], slice_get, unwrap_or, option_copied, Some, IfOk, OnOk};
 ghost use Rattle.std.specs.List.{flat_map};
 ghost use Rattle.roster.specs.LookBack.{channels as all_channels};
 ghost use Rattle.drafts.specs.Drafted.{grown};
-ghost use Rattle.query_commands.specs.Visible.{of_one};
-ghost use Rattle.query_commands.specs.Listing.{channels_asked, listed, lists, lists_told};
+ghost use Rattle.query_commands.specs.Visible.{of_one, seen_by};
+ghost use Rattle.query_commands.specs.Listing.{channels_asked, listed, listed_seen, lists, lists_told};
 
-use crate::visible::channel_for;
+use crate::visible::sees;
+use channel_state::ChannelState;
 use chronicle::SessionId;
 use commands::Texts;
 use drafts::{Draft, tell_all};
@@ -26,6 +27,31 @@ fn topic_of(alloc: Global, topic: Option<&Octets>) -> Result<Octets, AllocError>
 }
 
 /// Adds a channel, where the session sees it.
+fn push_seen(
+    alloc: Global,
+    numerics: &mut Vec<Numeric>,
+    session: SessionId,
+    name: &Octets,
+    state: &ChannelState,
+) -> Result<(), AllocError>
+    ensures { OnOk result (numerics.new.items ≡ numerics.old.items ++ listed_seen (seen_by session (Some (record { name = name.now; state = state.now.state })))) }
+{
+    if !sees(session, state) {
+        return Ok(());
+    }
+    let topic = topic_of(alloc, state.topic())?;
+    let channel = name.clone()?;
+    let members = state.members().len();
+    numerics.push(Numeric::ListReply {
+        channel,
+        members,
+        topic,
+    })?;
+    Ok(())
+}
+
+/// Adds the channel of a name, where the session sees it.
+#[tactic(auto, unfolding(crate::specs::Visible::channel_for))]
 fn push_channel(
     alloc: Global,
     roster: &Roster,
@@ -35,18 +61,11 @@ fn push_channel(
 ) -> Result<(), AllocError>
     ensures { OnOk result (numerics.new.items ≡ numerics.old.items ++ listed roster.now.facts session channel.now) }
 {
-    let Some(listed) = channel_for(roster, session, channel.as_slice()) else {
-        return Ok(());
-    };
-    let topic = topic_of(alloc, listed.state.topic())?;
-    let channel = listed.name.clone()?;
-    let members = listed.state.members().len();
-    numerics.push(Numeric::ListReply {
-        channel,
-        members,
-        topic,
-    })?;
-    Ok(())
+    let channel = channel.as_slice();
+    match (roster.name_of(channel), roster.state_of(channel)) {
+        (Some(name), Some(state)) => push_seen(alloc, numerics, session, name, state),
+        _ => Ok(()),
+    }
 }
 
 /// Adds the channels of a list, in its order.
@@ -75,10 +94,11 @@ fn push_at(
 ) -> Result<(), AllocError>
     ensures { OnOk result (numerics.new.items ≡ numerics.old.items ++ of_one (listed roster.now.facts session) (slice_get (all_channels roster.now.facts) place)) }
 {
-    match roster.channel_at(place) {
-        Some(channel) => push_channel(alloc, roster, numerics, session, channel),
-        None => Ok(()),
-    }
+    let Some((name, state)) = roster.nth_channel(place) else {
+        return Ok(());
+    };
+    push_seen(alloc, numerics, session, name, state)?;
+    Ok(())
 }
 
 /// Adds all channels, in the order of making.

@@ -1,5 +1,5 @@
 -- The names of the channels in the table.
-use Rattle.std.proofs.Common.{◌≡◌, inl, inr, ℕ, zero, suc, Bool, true, false, cond, List, [], ◌∷◌, ◌++◌, filter, length, slice_get, Some, refl, sym, ap, ◌∙◌}
+use Rattle.std.proofs.Common.{◌≡◌, inl, inr, ℕ, zero, suc, Bool, true, false, cond, List, [], ◌∷◌, ◌++◌, filter, length, slice_get, Option, Some, None, refl, sym, ap, ◌∙◌, subst}
 use Rattle.std.specs.List.{list_any}
 use Rattle.std.specs.Option.{option_map, option_map_or}
 use Rattle.roster.specs.declared.tables.Channel.{Channel}
@@ -25,6 +25,12 @@ lift k full (l ∷ ks) e o =
 pub owned : (ks : List Channel) → AreApart ks → Owned ks ks
 owned [] a = tt
 owned (k ∷ ks) a = (ap (λ b. cond b (Some k) (channel_of ks k.name)) (is_same-refl k.name), lift k ks ks a.0 (owned ks a.1))
+
+-- what stands at a place is what a look-up of its name finds
+pub owned_at : (full ks : List Channel) (i : ℕ) (k : Channel) → Owned full ks → slice_get ks i ≡ Some k → channel_of full k.name ≡ Some k
+owned_at full [] i k o e = absurd (let f : ◌≡◌ {A = Option Channel} None (Some k) = e in cc)
+owned_at full (x ∷ ks) zero k o e = let f : Some x ≡ Some k = e in let g : x ≡ k = cc in subst (λ (y : Channel). channel_of full y.name ≡ Some y) g o.0
+owned_at full (x ∷ ks) (suc i) k o e = owned_at full ks i k o.1 e
 
 -- the members of a channel are found by its name
 pub own_members : (full : List Channel) (k : Channel) → channel_of full k.name ≡ Some k → state_in full k.name ≡ k.held.state

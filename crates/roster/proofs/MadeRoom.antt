@@ -1,5 +1,5 @@
 -- Room for deeds.
-use Rattle.std.proofs.Common.{◌≡◌, ℕ, zero, suc, ◌+◌, ◌<◌, ◌≤◌, Bool, true, false, cond, List, [], ◌∷◌, ◌++◌, length, count_by, slice_set, get_or, arith, refl, ◌∙◌, subst}
+use Rattle.std.proofs.Common.{◌≡◌, ℕ, zero, suc, ◌+◌, ◌<◌, ◌≤◌, Bool, true, false, cond, List, [], ◌∷◌, ◌++◌, length, take, ◌||◌, inl, inr, Option, Some, None, count_by, slice_set, get_or, arith, refl, sym, ap, ◌∙◌, subst}
 use Rattle.std.proofs.lemmas.List.Sums.{sum_by-cons, count_by-le-length}
 use Rattle.std.specs.declared.vec.Vec.{Vec}
 use Rattle.std.specs.declared.alloc.Global.{Global}
@@ -8,7 +8,17 @@ use Rattle.roster.specs.declared.deed.Deed.{Deed}
 use Rattle.roster.specs.declared.tables.Channel.{Channel}
 use Rattle.channel_state.specs.State.{nothing}
 use Rattle.channel_state.specs.Held.{Held}
-use Rattle.roster.specs.Stands.{HaveSeats, AreSpare, Alike, AreReserved, is_change, changes, is_making, HasRoom}
+use Rattle.std.specs.List.{list_any}
+use Rattle.std.specs.Option.{option_map_or}
+use Rattle.std.proofs.lemmas.List.{take_more, take_all}
+use Rattle.std.proofs.lemmas.List.Folds.{list_any-append}
+use Rattle.casemapping.specs.Fold.{is_same}
+use Rattle.casemapping.proofs.SameNames.{is_same-left, is_same-sym}
+use Rattle.roster.specs.declared.deed.Deed.TheVariants.{Opened, NickSet, UserSet, HoldSet, CapsSet, ExchangeSet, LoggedIn, Enrolled, AwaySet, InvisibleSet, ChannelMade, Changed, Ended, Gone}
+use Rattle.roster.specs.Tables.{with_held}
+use Rattle.roster.specs.Stands.{HaveSeats, AreSpare, Alike, AreApart, Reserves, ReservesBy, changed_name, is_change, changes, is_making, HasRoom}
+use Rattle.roster.proofs.Bools.{either, or-none, or-false}
+use Rattle.roster.proofs.ChannelTable.{apart-with}
 
 -- ---- lists that are spare
 
@@ -58,37 +68,6 @@ pub alike_refl : (ks : List Channel) → Alike ks ks
 alike_refl [] = tt
 alike_refl (k ∷ ks) = (refl, refl, alike_refl ks)
 
-pub reserved_none : (ds : List Deed) (ks : List Channel) → AreReserved ds 0 ks ks
-reserved_none ds [] = tt
-reserved_none ds (k ∷ ks) = (refl, refl, reserved_none ds ks)
-
-pub reserved_alike : (ds : List Deed) (i : ℕ) (ks ls : List Channel) → AreReserved ds i ks ls → Alike ks ls
-reserved_alike ds i [] [] r = tt
-reserved_alike ds i [] (l ∷ ls) r = absurd r
-reserved_alike ds i (k ∷ ks) [] r = absurd r
-reserved_alike ds zero (k ∷ ks) (l ∷ ls) r = (r.0, r.1, reserved_alike ds zero ks ls r.2)
-reserved_alike ds (suc i) (k ∷ ks) (l ∷ ls) r = (r.0, r.1, reserved_alike ds i ks ls r.3)
-
-pub reserved_all : (ds : List Deed) (i : ℕ) (ks ls : List Channel) → length ks ≤ i → AreReserved ds i ks ls → HaveSeats ds ls
-reserved_all ds i [] [] l r = tt
-reserved_all ds i [] (x ∷ ls) l r = absurd r
-reserved_all ds i (k ∷ ks) [] l r = absurd r
-reserved_all ds zero (k ∷ ks) (x ∷ ls) l r = absurd (omega arith)
-reserved_all ds (suc i) (k ∷ ks) (x ∷ ls) l r = (r.2, reserved_all ds i ks ls (omega arith) r.3)
-
-reserved_suc : (ds : List Deed) (i : ℕ) (ks ls : List Channel) (d : Channel) (m : Held) → i < length ks → AreReserved ds i ks ls → m.state ≡ (get_or ls i d).held.state → changes (get_or ls i d).name ds ≤ m.room
-    → AreReserved ds (suc i) ks (slice_set ls i (record { name = (get_or ls i d).name; held = m }))
-reserved_suc ds i [] ls d m l r e j = absurd (omega arith)
-reserved_suc ds i (k ∷ ks) [] d m l r e j = absurd r
-reserved_suc ds zero (k ∷ ks) (x ∷ ls) d m l r e j = (r.0, e ∙ r.1, j, r.2)
-reserved_suc ds (suc i) (k ∷ ks) (x ∷ ls) d m l r e j = (r.0, r.1, r.2, reserved_suc ds i ks ls d m (omega arith) r.3 e j)
-
-pub reserved_more : (ds : List Deed) (i : ℕ) (ks ls : List Channel) (d : Channel) (m : Held) → i < length ks → AreReserved ds i ks ls → m.state ≡ (get_or ls i d).held.state → changes (get_or ls i d).name ds ≤ m.room
-    → AreReserved ds (i + 1) ks (slice_set ls i (record { name = (get_or ls i d).name; held = m }))
-reserved_more ds i ks ls d m l r e j =
-    let f : suc i ≡ i + 1 = omega arith in
-    subst (λ (n : ℕ). AreReserved ds n ks (slice_set ls i (record { name = (get_or ls i d).name; held = m }))) f (reserved_suc ds i ks ls d m l r e j)
-
 pub alike_set : (ks ls : List Channel) (i : ℕ) (d : Channel) (m : Held) → Alike ks ls → m.state ≡ (get_or ls i d).held.state → Alike ks (slice_set ls i (record { name = (get_or ls i d).name; held = m }))
 alike_set [] [] i d m a e = tt
 alike_set [] (l ∷ ls) i d m a e = absurd a
@@ -105,3 +84,98 @@ room_none ps ks spare ds r = record {
   enough = omega arith;
   empty = spare_less (length ds) 0 spare.items (omega arith) r.empty;
 }
+
+-- ---- room in the channels that deeds change
+
+-- each channel that one of these deeds changes has room for n changes
+abbrev pub HaveSeatsFor : ℕ → List Deed → List Channel → Type 0
+HaveSeatsFor n ds [] = Unit {0}
+HaveSeatsFor n ds (k ∷ ks) = (list_any (is_change k.name) ds ≡ true → n ≤ k.held.room) × HaveSeatsFor n ds ks
+
+pub seats_for_none : (n : ℕ) (ks : List Channel) → HaveSeatsFor n [] ks
+seats_for_none n [] = tt
+seats_for_none n (k ∷ ks) = (λ e. absurd (let f : false ≡ true = e in cc), seats_for_none n ks)
+
+-- a deed more that doesn't change this channel
+unchanged : (c : List ℕ) (ds : List Deed) (d : Deed) → is_change c d ≡ false → list_any (is_change c) (ds ++ d ∷ []) ≡ list_any (is_change c) ds
+unchanged c ds d e = list_any-append (is_change c) ds (d ∷ []) ∙ ap (λ b. list_any (is_change c) ds || (b || false)) e ∙ or-false (list_any (is_change c) ds)
+
+seats_for_other : (n : ℕ) (ds : List Deed) (d : Deed) (ks : List Channel) → ((c : List ℕ) → is_change c d ≡ false) → HaveSeatsFor n ds ks → HaveSeatsFor n (ds ++ d ∷ []) ks
+seats_for_other n ds d [] no_change h = tt
+seats_for_other n ds d (k ∷ ks) no_change h = (λ e. h.0 (sym (unchanged k.name ds d (no_change k.name)) ∙ e), seats_for_other n ds d ks no_change h.1)
+
+-- channels of other names
+seats_for_apart : (n : ℕ) (ds : List Deed) (c : List ℕ) (d : Deed) → ((a : List ℕ) → is_change a d ≡ is_same c a) → (ks : List Channel) → list_any (λ (l : Channel). is_same c l.name) ks ≡ false → HaveSeatsFor n ds ks → HaveSeatsFor n (ds ++ d ∷ []) ks
+seats_for_apart n ds c d w [] e h = tt
+seats_for_apart n ds c d w (k ∷ ks) e h =
+    let parts = or-none (is_same c k.name) (list_any (λ (l : Channel). is_same c l.name) ks) e in
+    (λ f. h.0 (sym (unchanged k.name ds d (w k.name ∙ parts.0)) ∙ f), seats_for_apart n ds c d w ks parts.1 h.1)
+
+others_apart : (a c : List ℕ) (ks : List Channel) → is_same a c ≡ true → list_any (λ (l : Channel). is_same a l.name) ks ≡ false → list_any (λ (l : Channel). is_same c l.name) ks ≡ false
+others_apart a c [] s e = refl
+others_apart a c (k ∷ ks) s e =
+    let parts = or-none (is_same a k.name) (list_any (λ (l : Channel). is_same a l.name) ks) e in
+    ap (λ b. b || list_any (λ (l : Channel). is_same c l.name) ks) (sym (is_same-left a c k.name s) ∙ parts.0) ∙ others_apart a c ks s parts.1
+
+seats_for_with : (n : ℕ) (ds : List Deed) (c : List ℕ) (d : Deed) → ((a : List ℕ) → is_change a d ≡ is_same c a) → (m : Held) (ks : List Channel) → AreApart ks → n ≤ m.room → HaveSeatsFor n ds ks → HaveSeatsFor n (ds ++ d ∷ []) (with_held ks c m)
+seats_for_with n ds c d w m [] a l h = tt
+seats_for_with n ds c d w m (k ∷ ks) a l h = elim (either (is_same k.name c)) [
+  | inl same ↦ rw same (λ e. l, seats_for_apart n ds c d w ks (others_apart k.name c ks same a.0) h.1)
+  | inr miss ↦ rw miss (λ e. h.0 (sym (unchanged k.name ds d (w k.name ∙ is_same-sym c k.name ∙ miss)) ∙ e), seats_for_with n ds c d w m ks a.1 l h.1)
+]
+
+is_change_of : (c : List ℕ) (d : Deed) → is_change c d ≡ option_map_or (λ k. is_same k c) (changed_name d) false
+is_change_of c (Opened t x) = refl
+is_change_of c (NickSet t x) = refl
+is_change_of c (UserSet t x y) = refl
+is_change_of c (HoldSet t x) = refl
+is_change_of c (CapsSet t x) = refl
+is_change_of c (ExchangeSet t x) = refl
+is_change_of c (LoggedIn t x) = refl
+is_change_of c (Enrolled t) = refl
+is_change_of c (AwaySet t x) = refl
+is_change_of c (InvisibleSet t x) = refl
+is_change_of c (ChannelMade t k) = refl
+is_change_of c (Changed k x) = refl
+is_change_of c (Ended t w x) = refl
+is_change_of c (Gone t) = refl
+
+-- a deed more
+seats_for_next : (n : ℕ) (ds : List Deed) (d : Deed) (o : Option (List ℕ)) (ks ls : List Channel) → changed_name d ≡ o → AreApart ks → ReservesBy o ks ls n → HaveSeatsFor n ds ks → HaveSeatsFor n (ds ++ d ∷ []) ls × AreApart ls
+seats_for_next n ds d None ks ls e a r h =
+    let none : (c : List ℕ) → is_change c d ≡ false = λ c. is_change_of c d ∙ ap (λ o. option_map_or (λ k. is_same k c) o false) e in
+    subst (λ (ms : List Channel). HaveSeatsFor n (ds ++ d ∷ []) ms × AreApart ms) (sym r) (seats_for_other n ds d ks none h, a)
+seats_for_next n ds d (Some m) ks ls e a r h =
+    let by : (c : List ℕ) → is_change c d ≡ is_same m c = λ c. is_change_of c d ∙ ap (λ o. option_map_or (λ k. is_same k c) o false) e in
+    subst (λ (ms : List Channel). HaveSeatsFor n (ds ++ d ∷ []) ms × AreApart ms) (sym r.reserved) (seats_for_with n ds m d by r.held ks a r.room h, apart-with ks m r.held a)
+
+pub seats_for_more : (n i : ℕ) (ds : List Deed) (d : Deed) (ks ls : List Channel) → i < length ds → d ≡ get_or ds i d → AreApart ks → ReservesBy (changed_name d) ks ls n → HaveSeatsFor n (take i ds) ks → HaveSeatsFor n (take (i + 1) ds) ls × AreApart ls
+seats_for_more n i ds d ks ls l is a r h =
+    subst (λ (es : List Deed). HaveSeatsFor n es ls × AreApart ls) (ap (λ (x : Deed). take i ds ++ x ∷ []) is ∙ sym (take_more ds i d l)) (seats_for_next n (take i ds) d (changed_name d) ks ls refl a r h)
+
+none_changing : (c : List ℕ) (ds : List Deed) → list_any (is_change c) ds ≡ false → changes c ds ≡ 0
+none_changing c [] e = refl
+none_changing c (d ∷ ds) e =
+    let parts = or-none (is_change c d) (list_any (is_change c) ds) e in
+    let first = changes-cons c d ds ∙ ap (λ b. cond b 1 0 + changes c ds) parts.0 in let rest = none_changing c ds parts.1 in omega arith
+
+seats_for_these : (ds : List Deed) (ks : List Channel) → HaveSeatsFor (length ds) ds ks → HaveSeats ds ks
+seats_for_these ds [] h = tt
+seats_for_these ds (k ∷ ks) h = (
+  elim (either (list_any (is_change k.name) ds)) [
+    | inl some ↦ let a = h.0 some in let few = changes_few k.name ds in omega arith
+    | inr none ↦ let e = none_changing k.name ds none in omega arith
+  ],
+  seats_for_these ds ks h.1,
+)
+
+pub seats_for_all : (ds : List Deed) (i : ℕ) (ks : List Channel) → length ds ≤ i → HaveSeatsFor (length ds) (take i ds) ks → HaveSeats ds ks
+seats_for_all ds i ks l h = seats_for_these ds ks (subst (λ (es : List Deed). HaveSeatsFor (length ds) es ks) (take_all i ds l) h)
+
+pub alike_more : (ks ls ms : List Channel) → Alike ks ls → Alike ls ms → Alike ks ms
+alike_more [] [] [] a b = tt
+alike_more [] [] (m ∷ ms) a b = absurd b
+alike_more [] (l ∷ ls) ms a b = absurd a
+alike_more (k ∷ ks) [] ms a b = absurd a
+alike_more (k ∷ ks) (l ∷ ls) [] a b = absurd b
+alike_more (k ∷ ks) (l ∷ ls) (m ∷ ms) a b = (b.0 ∙ a.0, b.1 ∙ a.1, alike_more ks ls ms a.2 b.2)

@@ -1,5 +1,5 @@
 -- How tables stand for a list of facts, and are ready for deeds.
-use Rattle.std.specs.Prelude.{◌≡◌, ℕ, zero, suc, ◌+◌, ◌≤◌, Bool, true, false, vec_len, vec_capacity, List, [], ◌∷◌, length, count_by}
+use Rattle.std.specs.Prelude.{◌≡◌, ℕ, zero, suc, ◌+◌, ◌≤◌, Bool, true, false, vec_len, vec_capacity, List, [], ◌∷◌, length, count_by, Option, Some, None}
 use Rattle.std.specs.declared.vec.Vec.{Vec}
 use Rattle.std.specs.declared.alloc.Global.{Global}
 use Rattle.std.specs.List.{list_any}
@@ -12,7 +12,7 @@ use Rattle.channel_state.specs.State.{nothing}
 use Rattle.channel_state.specs.Held.{Held}
 use Rattle.roster.specs.LookBack.{numbers, opened, host, nick, user, real, held, caps, exchange, account, registered, away, invisible, why, parting, state, name_of, channels}
 use Rattle.roster.specs.Legal.{AreNext}
-use Rattle.roster.specs.Tables.{person_at, state_in, name_in, names_of, is_populated}
+use Rattle.roster.specs.Tables.{person_at, state_in, name_in, names_of, with_held, is_populated}
 
 -- what facts say of a session
 abbrev pub person : List Deed → ℕ → Person
@@ -66,13 +66,21 @@ Alike (k ∷ ks) (l ∷ ls) = (l.name ≡ k.name) × (l.held.state ≡ k.held.st
 Alike [] (l ∷ ls) = ⊥
 Alike (k ∷ ks) [] = ⊥
 
--- the same, and the first i have room for their changes
-abbrev pub AreReserved : List Deed → ℕ → List Channel → List Channel → Type 0
-AreReserved ds i [] [] = Unit {0}
-AreReserved ds zero (k ∷ ks) (l ∷ ls) = (l.name ≡ k.name) × (l.held.state ≡ k.held.state) × AreReserved ds zero ks ls
-AreReserved ds (suc i) (k ∷ ks) (l ∷ ls) = (l.name ≡ k.name) × (l.held.state ≡ k.held.state) × (changes l.name ds ≤ l.held.room) × AreReserved ds i ks ls
-AreReserved ds i [] (l ∷ ls) = ⊥
-AreReserved ds i (k ∷ ks) [] = ⊥
+-- the channel of a name has room for n changes
+pub record Reserves (old new : List Channel) (c : List ℕ) (n : ℕ) : Type 0 where
+  pub held : Held
+  pub reserved : new ≡ with_held old c held
+  pub room : n ≤ held.room
+
+-- the name of the channel that a deed changes
+abbrev pub changed_name : Deed → Option (List ℕ)
+changed_name (Changed k x) = Some k
+changed_name d = None
+
+-- the channel of the name does, if one is given
+abbrev pub ReservesBy : Option (List ℕ) → List Channel → List Channel → ℕ → Type 0
+ReservesBy None old new n = new ≡ old
+ReservesBy (Some c) old new n = Reserves old new c n
 
 abbrev pub is_making : Deed → Bool
 is_making (ChannelMade t k) = true

@@ -38,7 +38,7 @@ pub(crate) fn count_channels(channels: &[Channel], session: SessionId) -> usize
 }
 
 /// The place of a channel.
-fn find_place(channels: &[Channel], name: &[u8]) -> Option<usize>
+pub(crate) fn find_place(channels: &[Channel], name: &[u8]) -> Option<usize>
     ensures { result ≡ position (λ k. is_same k.name name.now) channels.now }
 {
     channels

@@ -1,38 +1,58 @@
 //! Room for deeds, made before they are applied.
-ghost use Rattle.std.specs.Prelude.{◌≡◌, ◌≤◌, [], length, count_by, vec_len, vec_capacity, OnOk};
-ghost use Rattle.roster.specs.Stands.{is_change, changes, is_making, Alike, HaveSeats, AreSpare, HasRoom};
+ghost use Rattle.std.specs.Prelude.{◌≡◌, ◌≤◌, [], length, count_by, vec_len, vec_capacity, option_copied, OnOk};
+ghost use Rattle.roster.specs.Stands.{is_making, Alike, AreApart, HaveSeats, Reserves, ReservesBy, changed_name, AreSpare, HasRoom};
 
+use crate::channels::find_place;
 use crate::deed::Deed;
-use crate::names::is_same;
 use crate::tables::{Channel, Person};
 use channel_state::ChannelState;
+use line_grammar::Octets;
 use std::alloc::{AllocError, Global};
 
-/// Whether a deed changes a channel.
-fn is_change(deed: &Deed, name: &[u8]) -> bool
-    ensures { result ≡ is_change name.now deed.now }
+/// Makes room for so many changes in the channel of a name, where it is there.
+fn reserve_named(channels: &mut [Channel], name: &[u8], changes: usize) -> Result<(), AllocError>
+    ensures alike { Alike channels.old channels.new }
+    ensures reserved { OnOk result (Reserves channels.old channels.new name.now changes) }
 {
-    match deed {
-        Deed::Changed { channel, .. } => is_same(channel.as_slice(), name),
-        _ => false,
+    match find_place(channels, name) {
+        Some(place) => {
+            let channel = &mut channels[place];
+            channel.held.reserve(changes)?;
+            Ok(())
+        }
+        None => Ok(()),
     }
 }
 
-/// How many deeds do.
-fn count_changes(deeds: &[Deed], name: &[u8]) -> usize
-    ensures { result ≡ changes name.now deeds.now }
+/// The name of the channel that a deed changes.
+fn changed_name(deed: &Deed) -> Option<&Octets>
+    ensures { option_copied result ≡ changed_name deed.now }
 {
-    deeds.iter().filter(|deed| is_change(deed, name)).count()
+    match deed {
+        Deed::Changed { channel, .. } => Some(channel),
+        _ => None,
+    }
 }
 
-/// Makes room in each channel for its changes.
+/// Makes room for so many changes in the channel that a deed changes.
+fn reserve_for(channels: &mut [Channel], deed: &Deed, changes: usize) -> Result<(), AllocError>
+    ensures alike { Alike channels.old channels.new }
+    ensures reserved { OnOk result (ReservesBy (changed_name deed.now) channels.old channels.new changes) }
+{
+    match changed_name(deed) {
+        Some(channel) => reserve_named(channels, channel.as_slice(), changes),
+        None => Ok(()),
+    }
+}
+
+/// Makes room for their changes in the channels that deeds change.
 fn reserve_seats(channels: &mut [Channel], deeds: &[Deed]) -> Result<(), AllocError>
+    requires { AreApart channels.old }
     ensures alike { Alike channels.old channels.new }
     ensures seats { OnOk result (HaveSeats deeds.now channels.new) }
 {
-    for channel in channels.iter_mut() {
-        let seats = count_changes(deeds, channel.name.as_slice());
-        channel.held.reserve(seats)?;
+    for deed in deeds {
+        reserve_for(channels, deed, deeds.len())?;
     }
     Ok(())
 }
@@ -70,7 +90,8 @@ pub(crate) fn make_room(
     spare: &mut Vec<ChannelState>,
     deeds: &[Deed],
 ) -> Result<(), AllocError>
-    requires { HasRoom people.old channels.old spare.old [] }
+    requires room { HasRoom people.old channels.old spare.old [] }
+    requires apart { AreApart channels.old.items }
     ensures people { people.new.items ≡ people.old.items }
     ensures channels { Alike channels.old.items channels.new.items }
     ensures none { HasRoom people.new channels.new spare.new [] }

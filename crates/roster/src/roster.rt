@@ -1,6 +1,6 @@
 //! The roster: a list of facts, kept in tables.
-ghost use Rattle.std.specs.Option.{option_map_or};
-ghost use Rattle.std.specs.Prelude.{◌≡◌, ◌<◌, ◌^◌, ◌∷◌, [], Some, None, drop, length, slice_get, option_copied, unwrap_or, IfOk, OnOk, OnErr};
+ghost use Rattle.std.specs.Option.{option_map, option_map_or};
+ghost use Rattle.std.specs.Prelude.{◌≡◌, ◌<◌, ◌^◌, ◌∷◌, [], Some, None, drop, length, slice_get, option_copied, unwrap_or, IfOk, IfSome, OnOk, OnErr};
 ghost use Rattle.roster.specs.declared.deed.Deed.TheVariants.{Ended};
 
 use crate::channels::{change, count_channels, find_channel, leave_all, make, nth_channel};
@@ -391,6 +391,18 @@ impl Roster {
     {
         match nth_channel(&self.channels, place) {
             Some(channel) => Some(&channel.name),
+            None => None,
+        }
+    }
+
+    /// The channel at a place, from 0, in the order of making: its name as it was first spelled, and the channel.
+    pub fn nth_channel(&self, place: usize) -> Option<(&Octets, &ChannelState)>
+        ensures name { option_map (λ k. k.0.now) result ≡ slice_get (channels self.now.facts) place }
+        ensures spelled { IfSome result (λ k. name_of self.now.facts k.0.now ≡ Some k.0.now) }
+        ensures state { IfSome result (λ k. k.1.now.state ≡ state self.now.facts k.0.now) }
+    {
+        match nth_channel(&self.channels, place) {
+            Some(channel) => Some((&channel.name, &channel.held)),
             None => None,
         }
     }

@@ -1,30 +1,23 @@
-use Rattle.std.proofs.Common.{arith, ◌≡◌, ◌<◌, ◌≤◌, get_or, length, ap, ◌∙◌}
-use Rattle.roster.specs.Stands.{changes}
-use Rattle.roster.proofs.MadeRoom.{reserved_none, reserved_alike, reserved_all, reserved_more, alike_set}
+use Rattle.std.proofs.Common.{arith, ◌≤◌, length}
+use Rattle.roster.proofs.MadeRoom.{alike_refl, alike_more, seats_for_none, seats_for_more, seats_for_all}
 use Rattle.roster.proofs.room.reserve_seats.Goals as goal
 
-pub loop-channel-init : goal.loop-channel-init
-loop-channel-init c = reserved_none c.args.deeds.now c.args.channels.now
+pub loop-deed-init : goal.loop-deed-init
+loop-deed-init c = let ks = c.args.channels.now in record { alike = alike_refl ks; apart = c.requires; seats = seats_for_none (length c.args.deeds.now) ks }
 
-pub loop-channel-preserved : goal.loop-channel-preserved
-loop-channel-preserved c =
-    let i = c.loop-channel.channel-index in let ls = c.loop-channel.channels in let d = c.channel-item.result in let ks = c.args.channels.now in let ds = c.args.deeds.now in let m = c.reserve.new.self in
-    let l : i < length ks = omega arith in
-    let is : d ≡ get_or ls i d = c.channel-item.is in
-    let count : c.count_changes-seats.result ≡ changes (get_or ls i d).name ds = c.count_changes-seats.ensures ∙ ap (λ n. changes n ds) c.as_slice.ensures in
-    let room : changes (get_or ls i d).name ds ≤ m.room = let r = c.in_ok-reserve.ensures.room in omega arith in
-    reserved_more ds i ks ls d m l c.loop-channel.invariant c.in_ok-reserve.ensures.state room
+pub loop-deed-preserved : goal.loop-deed-preserved
+loop-deed-preserved c =
+    let ks = c.loop-deed.channels in let ls = c.reserve_for.new.channels in let ds = c.args.deeds.now in let i = c.loop-deed.invariant in
+    let next = seats_for_more (length ds) c.loop-deed.deed-index ds c.deed-item.result ks ls c.loop-deed-test.true c.deed-item.is i.apart c.in_ok-reserve_for.ensures.reserved i.seats in
+    record { alike = alike_more c.args.channels.now ks ls i.alike c.reserve_for.ensures.alike; apart = next.1; seats = next.0 }
 
-pub returns-in_err-reserve-clause-alike : goal.returns-in_err-reserve-clause-alike
-returns-in_err-reserve-clause-alike c =
-    let i = c.loop-channel.channel-index in let ls = c.loop-channel.channels in let d = c.channel-item.result in
-    alike_set c.args.channels.now ls i d c.reserve.new.self (reserved_alike c.args.deeds.now i c.args.channels.now ls c.loop-channel.invariant) c.in_err-reserve.ensures.state
+pub returns-in_err-reserve_for-clause-alike : goal.returns-in_err-reserve_for-clause-alike
+returns-in_err-reserve_for-clause-alike c = alike_more c.args.channels.now c.loop-deed.channels c.reserve_for.new.channels c.loop-deed.invariant.alike c.reserve_for.ensures.alike
 
 pub returns-clause-alike : goal.returns-clause-alike
-returns-clause-alike c = reserved_alike c.args.deeds.now c.loop-channel.channel-index c.args.channels.now c.loop-channel.channels c.loop-channel.invariant
+returns-clause-alike c = c.loop-deed.invariant.alike
 
 pub returns-clause-seats : goal.returns-clause-seats
 returns-clause-seats c =
-    let i = c.loop-channel.channel-index in let ks = c.args.channels.now in
-    let l : length ks ≤ i = omega arith in
-    reserved_all c.args.deeds.now i ks c.loop-channel.channels l c.loop-channel.invariant
+    let ds = c.args.deeds.now in let i = c.loop-deed.deed-index in let l : length ds ≤ i = omega arith in
+    seats_for_all ds i c.loop-deed.channels l c.loop-deed.invariant.seats

@@ -1,5 +1,7 @@
-use Rattle.roster.specs.Stands.{AreReserved}
+use Rattle.std.proofs.Common.{length, take}
+use Rattle.roster.specs.Stands.{Alike, AreApart}
+use Rattle.roster.proofs.MadeRoom.{HaveSeatsFor}
 use Rattle.roster.proofs.room.reserve_seats.Given as goal
 
-abbrev pub invariant-loop-channel : goal.invariant-loop-channel
-invariant-loop-channel l = AreReserved l.deeds l.channel-index l.fn.channels l.channels
+abbrev pub invariant-loop-deed : goal.invariant-loop-deed
+invariant-loop-deed l = record { alike : Alike l.fn.channels l.channels; apart : AreApart l.channels; seats : HaveSeatsFor (length l.deeds) (take l.deed-index l.deeds) l.channels }

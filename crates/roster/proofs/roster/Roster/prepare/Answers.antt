@@ -10,8 +10,11 @@ use Rattle.roster.proofs.SameTables.{stands_alike}
 use Rattle.roster.proofs.SeatLists.{listed_idle, listed_wide, listed_ready}
 use Rattle.roster.proofs.roster.Roster.prepare.Goals as goal
 
-pub make_room-requires : goal.make_room-requires
-make_room-requires c = let r = c.self.inside in room_none r.people r.channels r.spare r.ready.value c.self.invariant.0.room
+pub make_room-requires-clause-apart : goal.make_room-requires-clause-apart
+make_room-requires-clause-apart c = c.self.invariant.0.stands.apart
+
+pub make_room-requires-clause-room : goal.make_room-requires-clause-room
+make_room-requires-clause-room c = let r = c.self.inside in room_none r.people r.channels r.spare r.ready.value c.self.invariant.0.room
 
 pub invariant_of-self : goal.invariant_of-self
 invariant_of-self c =
