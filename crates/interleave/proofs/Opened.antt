@@ -40,7 +40,7 @@ others no-others g h k closed before =
 
 -- one record more
 by-kind : RecordsOpenNoOthers → (g : Settings) (h : List Rec) (k : Kind) → IsKind h k → opened (facts g h) ≡ numbers 1 (sessions h)
-→ opened (after (facts g h) (deeds g (facts g h) k)) ≡ numbers 1 (opened_by k + sessions h)
+    → opened (after (facts g h) (deeds g (facts g h) k)) ≡ numbers 1 (opened_by k + sessions h)
 by-kind no-others g h (Opened s host) is before = with-one (opened (facts g h)) (sessions h) s before is
 by-kind no-others g h (Said s i piece) is before = others no-others g h (Said s i piece) refl before
 by-kind no-others g h (Hung s why) is before = others no-others g h (Hung s why) refl before
