@@ -111,9 +111,11 @@ impl Reader {
             Stage::Steps(player) => player.perform(step, output),
             Stage::Head(limits) => {
                 let mut player = new_player(self.alloc, limits)?;
-                player.perform(step, output)?;
-                self.stage = Stage::Steps(player);
-                Ok(())
+                let answer = player.perform(step, output);
+                if answer.is_ok() {
+                    self.stage = Stage::Steps(player);
+                }
+                answer
             }
         }
     }
