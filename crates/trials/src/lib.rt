@@ -3,7 +3,6 @@
 #![tactic(auto)]
 
 #[cfg(test)]
-mod deciding;
 #[cfg(test)]
 mod enrolling;
 #[cfg(test)]
