@@ -1,5 +1,5 @@
 //! What is read of a session and not accepted yet.
-ghost use Rattle.std.specs.Prelude.{◌≡◌, ◌≢◌, ◌+◌, ◌<◌, ◌≤◌, [], length, Some, None, IfOk, IfErr, IfSome, IsSome, OnErr, OnOk};
+ghost use Rattle.std.specs.Prelude.{◌≡◌, ◌≢◌, ◌+◌, ◌<◌, ◌≤◌, ◌++◌, [], length, Some, None, IfOk, IfErr, IfSome, IsSome, OnErr, OnOk};
 ghost use Rattle.std.specs.Option.{is_some};
 ghost use Rattle.chronicle.specs.History.{shut};
 ghost use Rattle.book.specs.Book.{IsOut, MayReap, IsReapRefusal, finished, newest_missed, outbox_at, reaped};
@@ -14,15 +14,19 @@ use chronicle::{Moment, SessionId};
 use ghosts::{Change, Snapshot, append, append_all, apply, blank, copied};
 use line_grammar::{Piece, Splitter};
 use std::alloc::{AllocError, Global};
-use std::collections::LinkedList;
+use std::collections::{LinkedList, VecDeque};
 use std::marker::Model;
+use std::mem;
 
-/// A session's lines that no worker has begun, and its baton. The first of them is in a worker's hand where the baton is. A
+/// A session's lines that no worker has begun, and its baton. The first of them is in a worker's hand where the baton is. They
+/// stand in two halves, so that no line is moved where one is taken: what comes next, and what arrived since. A
 /// clause sees all octets that were ever fed, all items that were ever taken, and those that were left, which aren't kept.
 #[derive(Drop)]
 pub(crate) struct Inbox {
+    alloc: Global,
     splitter: Splitter,
-    pending: Vec<Piece>,
+    next: VecDeque<Piece>,
+    arrived: Vec<Piece>,
     place: Place,
     baton: Option<Baton>,
     fed: Snapshot<LinkedList<u8>>,
@@ -31,15 +35,25 @@ pub(crate) struct Inbox {
 }
 
 impl Model for Inbox {
-    ghost use Rattle.std.specs.Prelude.{◌≡◌};
+    ghost use Rattle.std.specs.Prelude.{◌≡◌, ◌++◌};
     ghost use Rattle.line_grammar.specs.Lines.{left_by};
     ghost use Rattle.interleave.specs.Inbox.{Held};
 
     ghost Value = { Held };
 
-    ghost view = { λ a. record { seen = record { fed = a.fed.value; pending = a.pending.items; place = a.place; taken = a.taken.value; left = a.left.value }; turn = a.baton } };
+    ghost view = { λ a. record { seen = record { fed = a.fed.value; pending = a.next.items ++ a.arrived.items; place = a.place; taken = a.taken.value; left = a.left.value }; turn = a.baton } };
 
     ghost invariant = { λ a. a.splitter ≡ left_by a.fed.value };
+}
+
+// Where nothing comes next, what arrived does.
+fn move_up(alloc: Global, next: &mut VecDeque<Piece>, arrived: &mut Vec<Piece>)
+    ensures order { next.new.items ++ arrived.new.items ≡ next.old.items ++ arrived.old.items }
+    ensures next { next.old.items ++ arrived.old.items ≢ [] → next.new.items ≢ [] }
+{
+    if next.is_empty() {
+        *next = VecDeque::from(mem::replace(arrived, Vec::new(alloc)));
+    }
 }
 
 // What waits in the outbox of a session.
@@ -60,8 +74,10 @@ impl Inbox {
         ensures { result ≡ record { seen = nothing_fed; turn = Some baton } }
     {
         Inbox {
+            alloc,
             splitter: Splitter::new(alloc),
-            pending: Vec::new(alloc),
+            next: VecDeque::new(alloc),
+            arrived: Vec::new(alloc),
             place: Place::Home,
             baton: Some(baton),
             fed: blank(alloc),
@@ -75,10 +91,10 @@ impl Inbox {
         ensures ok { IfOk result (λ n. IsRead self.old octets.now n self.new) }
         ensures err { OnErr result (self.new ≡ self.old) }
     {
-        let before = self.pending.len();
-        self.splitter.feed(octets, &mut self.pending)?;
+        let before = self.arrived.len();
+        self.splitter.feed(octets, &mut self.arrived)?;
         append_all(&mut self.fed, octets);
-        Ok(self.pending.len() - before)
+        Ok(self.arrived.len() - before)
     }
 
     /// Where the baton is.
@@ -99,7 +115,7 @@ impl Inbox {
     pub(crate) fn is_empty(&self) -> bool
         ensures { result ≡ is_empty self.now.seen.pending }
     {
-        self.pending.is_empty()
+        self.next.is_empty() && self.arrived.is_empty()
     }
 
     /// Brings the baton elsewhere.
@@ -133,12 +149,13 @@ impl Inbox {
         let Some(baton) = &self.baton else {
             unreachable!();
         };
-        let Some(piece) = self.pending.first() else {
+        move_up(self.alloc, &mut self.next, &mut self.arrived);
+        let Some(piece) = self.next.front() else {
             unreachable!();
         };
         match book.begin(baton, piece, moment) {
             Ok(plan) => {
-                let _ = self.pending.remove(0);
+                let _ = self.next.pop_front();
                 self.place = Place::Begun(worker);
                 Ok(plan)
             }

@@ -3,6 +3,7 @@
 #![tactic(auto)]
 
 #[cfg(test)]
+mod deciding;
 #[cfg(test)]
 mod enrolling;
 #[cfg(test)]
