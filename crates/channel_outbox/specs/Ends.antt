@@ -1,0 +1,31 @@
+-- What clauses see of the two ends of an outbox: this project's own queue between two threads.
+use Rattle.std.specs.Prelude.{ℕ, List, [], ◌∷◌, ◌++◌, None, false}
+use Rattle.crossbeam_channel.specs.Claims.{Pass, view}
+use Rattle.crossbeam_channel.specs.Ring.{doing}
+use Rattle.crossbeam_channel.specs.declared.flavors.array.Stage.TheVariants.{Idle}
+use Rattle.deliveries.specs.declared.item.Item.{Item}
+use Rattle.channel_outbox.specs.declared.rule.Log.{Log}
+use Rattle.channel_outbox.specs.Rule.{log}
+
+-- what a pass knows
+abbrev pub known : Pass Item Log → Log
+known p = view p
+
+-- which channel a pass is of: all that a pass says but its number and what it knows
+abbrev pub channel_of : Pass Item Log → Pass Item Log
+channel_of p = record p { id = 0; me = (doing Idle 0 None (log false false [] []) p.me.0.of, []) }
+
+-- of the end that puts: all items that were ever put, how many may wait, and which channel it is
+pub record Puttings : Type 0 where
+  pub sent : List Item
+  pub cap : ℕ
+  pub channel : Pass Item Log
+
+-- of the end that takes: all items that were ever taken, and which channel it is
+pub record Takings : Type 0 where
+  pub taken : List Item
+  pub channel : Pass Item Log
+
+-- an item was taken
+abbrev pub with_item : Takings → Item → Takings
+with_item w x = record { taken = w.taken ++ x ∷ []; channel = w.channel }

@@ -1,0 +1,13 @@
+//! Outboxes: a ring for one thread, and a channel under a rule for two.
+#![tactic(auto)]
+
+mod bell;
+mod ends;
+mod queue;
+mod ring;
+mod rule;
+
+pub use bell::Bell;
+pub use ends::{Closed, Empty, Sender, Writer, pair};
+pub use queue::{Outbox, PutFault};
+pub use ring::Ring;

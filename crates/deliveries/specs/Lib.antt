@@ -1,0 +1,3 @@
+pub mod Owed
+pub mod Growth
+pub mod Items
