@@ -1,5 +1,6 @@
 -- The rows of a register stand for a history, record by record.
 use Rattle.std.proofs.Common.{◌≡◌, ◌≢◌, ⊎_elim, ℕ, ◌+◌, ◌<◌, ◌≤◌, Bool, true, false, ◌==◌, cond, List, [], ◌∷◌, ◌++◌, Option, Some, None, refl, sym, ap, ◌∙◌, subst, append-nil, append_assoc, eq-eqb, ne_eqb, arith}
+use Rattle.std.specs.Prelude.{IfSome}
 use Rattle.std.proofs.lemmas.Bool.Decides.{eqb_tells}
 use Rattle.std.proofs.lemmas.Option.{same_Some}
 use Rattle.line_grammar.specs.declared.splitter.Piece.{Piece}
@@ -83,3 +84,9 @@ module _ {N : Type 0} where
   -- what a baton has done is what the history accepts, but for the line that was begun
   pub known : (rows : List (Row N)) (b : Begun) (h : List Rec) (s : ℕ) (ps : List Piece) → StandsFor rows b h → 0 < s → s ≤ sessions h → pieces_at rows s ≡ Some ps → accepted h s ≡ ps ++ begun_by b s
   known rows b h s ps st from to is = let old = st.pieces s from to in old.2 ∙ ap (λ qs. qs ++ begun_by b s) (same_Some old.0 ps (sym old.1 ∙ is))
+
+  -- so the roll may be told that it is done
+  pub may_finish : (rows : List (Row N)) (h : List Rec) (s : ℕ) (p : Piece) → StandsFor rows (Some (s, p)) h → 0 < s → s ≤ sessions h → IfSome (pieces_at rows s) (λ ps. accepted h s ≡ ps ++ p ∷ [])
+  may_finish rows h s p st from to =
+      let old = st.pieces s from to in
+      subst (λ (o : Option (List Piece)). IfSome o (λ ps. accepted h s ≡ ps ++ p ∷ [])) (sym old.1) (old.2 ∙ ap (λ qs. old.0 ++ qs) (cond_is (s == s) true (p ∷ []) [] (eq-eqb s s refl)))
