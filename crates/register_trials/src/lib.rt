@@ -7,8 +7,12 @@ mod desk;
 mod ends;
 #[cfg(test)]
 mod lives;
+mod rolls;
 #[cfg(test)]
 mod threads;
+#[cfg(test)]
+mod turns;
 
 pub use calls::{close_up, do_all, reap, serve};
 pub use desk::{Desk, work_apart};
+pub use rolls::{enter, leave, say};
