@@ -46,40 +46,42 @@ module _ {N : Type 0} where
   -- a record that opens no session and says nothing
   pub passes : (rows : List (Row N)) (b : Begun) (h : List Rec) (r : Rec) → StandsFor rows b h → opened_by r.kind ≡ 0 → ((t : ℕ) → said_by r.kind t ≡ []) → StandsFor rows b (r ∷ h)
   passes rows b h r st none silent = record {
-      pieces = λ t from to. let old = st.pieces t from (omega (arith, none, to)) in (old.0, old.1, ap (λ ps. accepted h t ++ ps) (silent t) ∙ append-nil (accepted h t) ∙ old.2);
-      none = λ t late. st.none t (omega (arith, none, late));
-    }
+    pieces = λ t from to. let old = st.pieces t from (omega (arith, none, to)) in (old.0, old.1, ap (λ ps. accepted h t ++ ps) (silent t) ∙ append-nil (accepted h t) ∙ old.2);
+    none = λ t late. st.none t (omega (arith, none, late));
+  }
 
   -- a line is begun
   pub begins : (rows : List (Row N)) (h : List Rec) (r : Rec) (s i : ℕ) (p : Piece) → StandsFor rows None h → r.kind ≡ Said s i p → StandsFor rows (Some (s, p)) (r ∷ h)
   begins rows h r s i p st is = record {
-      pieces = λ t from to.
+    pieces = λ t from to.
         let old = st.pieces t from (omega (arith, ap opened_by is, to)) in
         (old.0, old.1, ap (λ ps. accepted h t ++ ps) (ap (λ k. said_by k t) is) ∙ ap (λ ps. ps ++ begun_by (Some (s, p)) t) (old.2 ∙ append-nil old.0));
-      none = λ t late. st.none t (omega (arith, ap opened_by is, late));
-    }
+    none = λ t late. st.none t (omega (arith, ap opened_by is, late));
+  }
 
   -- and is done
   pub finishes : (rows : List (Row N)) (h : List Rec) (s : ℕ) (p : Piece) → StandsFor rows (Some (s, p)) h → StandsFor (with_piece rows s p) None h
   finishes rows h s p st = record {
-      pieces = λ t from to.
+    pieces = λ t from to.
         let old = st.pieces t from to in
         ⊎_elim
-          (λ (x : ((t == s) ≡ true) × (t ≡ s)).
-          (old.0 ++ p ∷ [], ap (pieces_at (with_piece rows s p)) x.1 ∙ piece_here rows s p old.0 (ap (pieces_at rows) (sym x.1) ∙ old.1),
-            old.2 ∙ ap (λ ps. old.0 ++ ps) (cond_is (s == t) true (p ∷ []) [] (eq-eqb s t (sym x.1))) ∙ sym (append-nil (old.0 ++ p ∷ []))))
-          (λ (x : ((t == s) ≡ false) × (t ≢ s)).
-          (old.0, piece_else rows s p t x.1 ∙ old.1, old.2 ∙ ap (λ ps. old.0 ++ ps) (cond_is (s == t) false (p ∷ []) [] (ne_eqb s t (λ e. x.1 (sym e))))))
-          (eqb_tells t s);
-      none = λ t late. piece_outbox rows s p t ∙ st.none t late;
-    }
+        (λ (x : ((t == s) ≡ true) × (t ≡ s)). (
+          old.0 ++ p ∷ [],
+          ap (pieces_at (with_piece rows s p)) x.1 ∙ piece_here rows s p old.0 (ap (pieces_at rows) (sym x.1) ∙ old.1),
+          old.2 ∙ ap (λ ps. old.0 ++ ps) (cond_is (s == t) true (p ∷ []) [] (eq-eqb s t (sym x.1))) ∙ sym (append-nil (old.0 ++ p ∷ [])),
+        ))
+        (λ (x : ((t == s) ≡ false) × (t ≢ s)).
+        (old.0, piece_else rows s p t x.1 ∙ old.1, old.2 ∙ ap (λ ps. old.0 ++ ps) (cond_is (s == t) false (p ∷ []) [] (ne_eqb s t (λ e. x.1 (sym e))))))
+        (eqb_tells t s);
+    none = λ t late. piece_outbox rows s p t ∙ st.none t late;
+  }
 
   -- a session missed the newest record
   pub misses : (rows : List (Row N)) (b : Begun) (h : List Rec) (u : ℕ) → StandsFor rows b h → StandsFor rows b (miss h u)
   misses rows b h u st = record {
-      pieces = λ t from to. let old = st.pieces t from (omega (arith, missed_sessions h u, to)) in (old.0, old.1, missed_accepted h u t ∙ old.2);
-      none = λ t late. st.none t (omega (arith, missed_sessions h u, late));
-    }
+    pieces = λ t from to. let old = st.pieces t from (omega (arith, missed_sessions h u, to)) in (old.0, old.1, missed_accepted h u t ∙ old.2);
+    none = λ t late. st.none t (omega (arith, missed_sessions h u, late));
+  }
 
   -- what a baton has done is what the history accepts, but for the line that was begun
   pub known : (rows : List (Row N)) (b : Begun) (h : List Rec) (s : ℕ) (ps : List Piece) → StandsFor rows b h → 0 < s → s ≤ sessions h → pieces_at rows s ≡ Some ps → accepted h s ≡ ps ++ begun_by b s

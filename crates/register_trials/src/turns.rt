@@ -12,11 +12,7 @@ use std::process::Abort;
 use std::test::Fail;
 
 /// A session is opened, says two lines and ends.
-fn two_turns<L: Naming>(
-    rt: &impl Abort,
-    alloc: Global,
-    register: Register<()>,
-) -> Result<(), Fail>
+fn two_turns<L: Naming>(rt: &impl Abort, alloc: Global, register: Register<()>) -> Result<(), Fail>
     requires named { register.table ≡ L.table }
     requires new { register.rows ≡ [] }
 {
@@ -32,7 +28,10 @@ fn two_turns<L: Naming>(
     say(&mut roll, &mut journal, &mut baton);
     assert_eq!(rt; baton.session(), SessionId::new(1));
     assert_eq!(rt; baton.next(), 2);
-    assert!(rt; leave(&mut roll, &journal, baton, stub).is_ok(), "it is its own stub");
+    assert!(rt;
+        leave(&mut roll, &journal, baton, stub).is_ok(),
+        "it is its own stub"
+    );
     Ok(())
 }
 
