@@ -3,6 +3,7 @@ pub mod About
 pub mod Opened
 pub mod Sound
 pub mod Begun
+pub mod Heards
 pub mod Plans
 pub mod Puts
 pub mod KeptSteps

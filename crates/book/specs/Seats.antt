@@ -1,5 +1,5 @@
 -- What a book keeps for its sessions, and how that stands for the history.
-use Rattle.std.specs.Prelude.{◌≡◌, ℕ, ℤ, ◌-◌, Bool, false, cond, if◌then◌else◌, List, [], ◌∷◌, ◌++◌, filter, map, ◌==◌, length, slice_index_or, None}
+use Rattle.std.specs.Prelude.{◌≡◌, ℕ, ℤ, ◌-◌, Bool, false, not, ◌&&◌, nat_lt, nat_le, cond, if◌then◌else◌, List, [], ◌∷◌, ◌++◌, map, length, slice_index_or, None}
 use Rattle.chronicle.specs.History.{Rec, accepted, shut, gone}
 use Rattle.outbox.specs.declared.item.Item.{Item}
 use Rattle.outbox.specs.declared.item.Item.TheVariants.{Last}
@@ -7,7 +7,6 @@ use Rattle.chronicle.specs.declared.why.Why.TheVariants.{Quit}
 use Rattle.book.specs.declared.seat.Seat.{Seat}
 use Rattle.book.specs.declared.plan.Planned.{Planned}
 use Rattle.book.specs.Book.{puts, others}
-use Rattle.std.specs.List.{flat_map}
 use Rattle.roster.specs.declared.deed.Deed.{Deed}
 use Rattle.roster.specs.LookBack.{caps}
 use Rattle.labels_batches.specs.Answers.{tagged_as}
@@ -21,6 +20,10 @@ no_seat = record { shut = false; gone = false; accepted = 0 }
 
 abbrev pub seat_at : List Seat → ℕ → Seat
 seat_at seats t = slice_index_or seats (t - 1) no_seat
+
+-- whether session t has a seat and isn't shut
+abbrev pub hears : List Seat → ℕ → Bool
+hears seats t = nat_lt 0 t && nat_le t (length seats) && not (seat_at seats t).shut
 
 abbrev pub kept_by : Seat → ℕ
 kept_by seat = if seat.gone then 0 else (if seat.shut then 1 else 2)
@@ -45,14 +48,6 @@ heard_of fs moment x t = rendered (caps fs t) moment (map (tagged_as None) (hear
 abbrev pub heard_text : List Deed → ℤ → List Shown → ℕ → List ℕ
 heard_text fs moment [] t = []
 heard_text fs moment (x ∷ xs) t = heard_of fs moment x t ++ heard_text fs moment xs t
-
--- octets, as often as t is among the hearers
-abbrev pub repeated : List ℕ → List ℕ → ℕ → List ℕ
-repeated hearers line t = flat_map (λ h. line) (filter (λ h. h == t) hearers)
-
--- what texts, one a seat, tell t
-abbrev pub planned_for : List Seat → ℕ → List (List ℕ) → ℕ → List Item
-planned_for seats number texts t = told (seat_at seats t).shut number (slice_index_or texts (t - 1) [])
 
 -- the deliveries of a record of s, which perhaps quits by it: its own text, and that of each other session
 abbrev pub planned_with : List Seat → ℕ → ℕ → List ℕ → (ℕ → List ℕ) → Bool → List Planned

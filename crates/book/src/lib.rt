@@ -3,6 +3,7 @@
 
 mod baton;
 mod book;
+mod heard;
 mod out;
 mod plan;
 mod refusals;

@@ -1,6 +1,8 @@
 //! What a book keeps for a session beside its outbox.
 ghost use Rattle.std.specs.Prelude.{◌≡◌, ◌<◌, ◌^◌, ◌&&◌, not, sum_by};
-ghost use Rattle.book.specs.Seats.{kept_by};
+ghost use Rattle.book.specs.Seats.{hears, kept_by};
+
+use chronicle::SessionId;
 
 /// A session's place in the book.
 #[derive(Clone, Copy, Debug)]
@@ -18,6 +20,18 @@ pub(crate) fn is_to_sweep(seat: &Seat) -> bool
     ensures { result ≡ (seat.now.shut && not seat.now.gone) }
 {
     seat.shut && !seat.gone
+}
+
+/// Whether a session has a seat and isn't shut.
+pub(crate) fn is_listening(seats: &[Seat], session: SessionId) -> bool
+    ensures { result ≡ hears seats.now session }
+{
+    let number = session.number();
+    if number == 0 || seats.len() < number as usize {
+        return false;
+    }
+    let seat = seats[number as usize - 1];
+    !seat.shut
 }
 
 /// How many records are kept free for a session: two until it is shut, one until it is gone.
