@@ -20,8 +20,8 @@ use Rattle.book.specs.declared.plan.Planned.{Planned}
 use Rattle.book.specs.declared.seat.Seat.{Seat}
 use Rattle.book.specs.Book.{puts, others}
 use Rattle.book.proofs.Begins.{others_same}
-use Rattle.book.specs.Seats.{seat_at, hears, told, told_to, heard_text}
-use Rattle.book.specs.Heard.{heard_by, all_heard, text_for, rises, joined_to, joined, told_here, delivery_of, deliveries_of}
+use Rattle.book.specs.Seats.{seat_at, hears, told, told_here, told_to, heard_text}
+use Rattle.book.specs.Heard.{heard_by, all_heard, text_for, rises, joined_to, joined, delivery_of, deliveries_of}
 
 -- ---- the texts of one session
 
@@ -172,11 +172,6 @@ others_joined seats s number k (suc n) f (x ∷ xs) c is deaf =
 
 -- ---- the deliveries to others than the actor
 
-same_told : (seats : List Seat) (number t : ℕ) (bytes : List ℕ) → 0 < t → t ≤ length seats → told_here seats number t bytes ≡ told (seat_at seats t).shut number bytes
-same_told seats number t bytes from to =
-    let above : nat_lt 0 t ≡ true = grind (arith, nat_tests) in let below : nat_le t (length seats) ≡ true = grind (arith, nat_tests) in
-    rw (above, below) (elim (seat_at seats t).shut as (λ b. told (not (not b)) number bytes ≡ told b number bytes) [ true ↦ refl | false ↦ refl ])
-
 pub deliveries_others : (seats : List Seat) (s number : ℕ) (text : ℕ → List ℕ) (xs : List Heard) → rises 0 xs → ((t : ℕ) → text_for xs t ≡ text t)
     → deliveries_of seats s number (joined xs) ≡ others (told_to seats number text) s 1 (length seats)
 deliveries_others seats s number text xs up is =
@@ -184,6 +179,5 @@ deliveries_others seats s number text xs up is =
     let deaf : (t : ℕ) → 0 + suc n ≤ t → hears seats t ≡ false = λ t l. let past : nat_le t n ≡ false = grind (arith, nat_tests) in rw past (elim (nat_lt 0 t) as (λ b. (b && false && not (seat_at seats t).shut) ≡ false) [ true ↦ refl | false ↦ refl ]) in
     let all = others_joined seats s number 0 (suc n) f (joined xs) (all_joined_climbs xs up) (λ t l. refl) deaf in
     let none = none_put 0 s (f 0) refl in
-    let each : (u : ℕ) → 0 < u → u ≤ n → s ≢ u → f u ≡ told_to seats number text u = λ u from to ne.
-    same_told seats number u (text_for (joined xs) u) from to ∙ ap (told (seat_at seats u).shut number) (all_joined_text xs u ∙ is u) in
+    let each : (u : ℕ) → 0 < u → u ≤ n → s ≢ u → f u ≡ told_to seats number text u = λ u from to ne. ap (told_here seats number u) (all_joined_text xs u ∙ is u) in
     sym all ∙ ap (λ ps. ps ++ others f s 1 n) none ∙ others_same f (told_to seats number text) s 1 n n (lit< tt) (omega arith) each

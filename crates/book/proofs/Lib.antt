@@ -1,7 +1,7 @@
-pub mod Index
 pub mod About
 pub mod Opened
 pub mod Sound
+pub mod Counted
 pub mod Begun
 pub mod Heards
 pub mod Plans
@@ -11,5 +11,4 @@ pub mod Begins
 pub mod Outs
 pub mod Sweeps
 pub mod Appends
-pub mod Count
 pub mod Examples

@@ -1,5 +1,5 @@
 -- What each session hears of a record, and the plan that is made of it.
-use Rattle.std.proofs.Common.{◌≡◌, ◌≢◌, ℕ, ℤ, Bool, List, [], ◌∷◌, ◌++◌, cond, map, length, Option, None, arith, refl, sym, ap, ◌∙◌, subst, append_assoc, eq-eqb, ne_eqb, lit<}
+use Rattle.std.proofs.Common.{◌≡◌, ◌≢◌, ℕ, ℤ, Bool, not, List, [], ◌∷◌, ◌++◌, cond, map, length, Option, None, arith, refl, sym, ap, ◌∙◌, append_assoc, eq-eqb, ne_eqb, lit<}
 use Rattle.numerics.specs.declared.outgoing.Out.{Out}
 use Rattle.registration.specs.declared.caps.Caps.{Caps}
 use Rattle.labels_batches.specs.Answers.{answered, tagged_as}
@@ -11,15 +11,13 @@ use Rattle.deeds.specs.declared.verdict.Shown.{Shown}
 use Rattle.deeds.specs.declared.verdict.Verdict.{Verdict}
 use Rattle.drafts.specs.Effects.{heard, reply, copies, due}
 use Rattle.deeds.specs.Deeds.{spelled}
-use Rattle.deeds.specs.Rows.{of_asked}
-use Rattle.commands.specs.declared.asked.Asked.{Asked}
 use Rattle.roster.specs.declared.deed.Deed.{Deed}
 use Rattle.roster.specs.LookBack.{caps}
 use Rattle.deeds.specs.Verdicts.{shown, IsVerdict}
 use Rattle.registration.specs.declared.settings.Settings.{Settings}
 use Rattle.book.specs.declared.seat.Seat.{Seat}
 use Rattle.book.specs.Book.{puts}
-use Rattle.book.specs.Seats.{seat_at, told, told_to, told_own, heard_text, planned_with, planned_from}
+use Rattle.book.specs.Seats.{hears, told_here, told_to, told_own, heard_text, planned_with, planned_from}
 use Rattle.book.proofs.Begins.{others_same}
 
 -- ---- texts
@@ -51,9 +49,5 @@ planned_same seats g fs s number label v es moment quits i =
     let each : (u : ℕ) → s ≢ u → heard_text fs moment v.others.items u ≡ f u = λ u ne.
     ap (λ (xs : List Shown). heard_text fs moment xs u) i.others ∙ heard_shown fs moment es u ∙ ap (λ b. rendered (caps fs u) moment (cond b (answered g.server label number (reply s es) (copies es)) (map (tagged_as None) (due es u)))) (sym (ne_eqb s u ne)) in
     ap (λ bs. planned_with seats s number bs (heard_text fs moment v.others.items) quits) own
-    ∙ ap (λ ps. puts s (told_own (seat_at seats s).shut number (f s) quits) ++ ps)
-    (others_same (told_to seats number (heard_text fs moment v.others.items)) (told_to seats number f) s 1 (length seats) (length seats) (lit< tt) (omega arith) (λ u from to ne. ap (told (seat_at seats u).shut number) (each u ne)))
-
--- the verdict on a line of a session, by whatever names
-pub verdict_at : (v : Verdict) (s t : ℕ) (g : Settings) (fs : List Deed) (k : Asked) → s ≡ t → IsVerdict v s (of_asked g fs s k) → IsVerdict v t (of_asked g fs t k)
-verdict_at v s t g fs k es i = subst (λ (j : ℕ). IsVerdict v j (of_asked g fs j k)) es i
+    ∙ ap (λ ps. puts s (told_own (not (hears seats s)) number (f s) quits) ++ ps)
+    (others_same (told_to seats number (heard_text fs moment v.others.items)) (told_to seats number f) s 1 (length seats) (length seats) (lit< tt) (omega arith) (λ u from to ne. ap (told_here seats number u) (each u ne)))

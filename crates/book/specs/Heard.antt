@@ -1,17 +1,16 @@
 -- What hearers hear of a record, and the deliveries that are made of it.
-use Rattle.std.specs.Prelude.{ℕ, ℤ, ◌≤◌, not, ◌==◌, cond, List, [], ◌∷◌, ◌++◌, filter, map}
+use Rattle.std.specs.Prelude.{ℕ, ℤ, ◌≤◌, ◌==◌, cond, List, [], ◌∷◌, ◌++◌, filter, map}
 use Rattle.std.specs.List.{flat_map}
 use Rattle.numerics.specs.declared.outgoing.Out.{Out}
 use Rattle.roster.specs.declared.deed.Deed.{Deed}
 use Rattle.roster.specs.LookBack.{caps}
 use Rattle.labels_batches.specs.Spellings.{spelled_for}
-use Rattle.outbox.specs.declared.item.Item.{Item}
 use Rattle.deeds.specs.declared.verdict.Shown.{Shown}
 use Rattle.book.specs.declared.heard.Heard.{Heard}
 use Rattle.book.specs.declared.plan.Planned.{Planned}
 use Rattle.book.specs.declared.seat.Seat.{Seat}
 use Rattle.book.specs.Book.{puts}
-use Rattle.book.specs.Seats.{hears, told}
+use Rattle.book.specs.Seats.{told_here}
 
 -- a line as t takes it, by the capabilities that it has
 abbrev pub heard_by : List Deed → ℤ → Out → ℕ → Heard
@@ -38,10 +37,6 @@ joined_to x (y ∷ ys) = cond (y.session == x.session) (joined_to (record { sess
 abbrev pub joined : List Heard → List Heard
 joined [] = []
 joined (x ∷ xs) = joined_to x xs
-
--- what a text tells t, where it has a seat and isn't shut
-abbrev pub told_here : List Seat → ℕ → ℕ → List ℕ → List Item
-told_here seats number t bytes = told (not (hears seats t)) number bytes
 
 -- the delivery of a text to a session that isn't s
 abbrev pub delivery_of : List Seat → ℕ → ℕ → Heard → List Planned

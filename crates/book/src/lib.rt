@@ -8,6 +8,7 @@ mod out;
 mod plan;
 mod refusals;
 mod seat;
+mod seats;
 mod settings;
 
 pub use baton::Baton;

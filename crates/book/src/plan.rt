@@ -1,5 +1,5 @@
 //! The deliveries of a record, before they are put.
-ghost use Rattle.std.specs.Prelude.{◌≡◌, ◌<◌, ◌≤◌, ◌≤ℤ◌, ◌+◌, ◌++◌, [], false, length, pos, vec_capacity, None, OnOk, IfOk};
+ghost use Rattle.std.specs.Prelude.{◌≡◌, ◌≤◌, ◌≤ℤ◌, ◌++◌, [], false, not, length, pos, vec_capacity, None, OnOk, IfOk};
 ghost use Rattle.chronicle.specs.History.{is_quit};
 ghost use Rattle.roster.specs.LookBack.{after, caps, opened};
 ghost use Rattle.roster.specs.Legal.{IsOpened, AreNext};
@@ -13,11 +13,11 @@ ghost use Rattle.deeds.specs.Rows.{of_asked};
 ghost use Rattle.deeds.specs.Deeds.{spelled};
 ghost use Rattle.deeds.specs.Verdicts.{IsVerdict};
 ghost use Rattle.book.specs.Book.{puts};
-ghost use Rattle.book.specs.Seats.{told_own, heard_text, planned_from, planned_with};
+ghost use Rattle.book.specs.Seats.{hears, told_own, heard_text, planned_from, planned_with};
 ghost use Rattle.book.specs.Heard.{delivery_of, deliveries_of, joined};
 
 use crate::heard::{Heard, heard_in_order};
-use crate::seat::{Seat, is_listening};
+use crate::seats::Seats;
 use chronicle::{Moment, RecordNumber, SessionId, Why};
 use commands::read_piece;
 use deeds::{Shown, Verdict, decide, decide_gone};
@@ -68,15 +68,15 @@ fn own_text(
 /// Plans, after all others, the delivery of a text to a session that isn't the actor.
 fn plan_one(
     plan: &mut VecDeque<Planned>,
-    seats: &[Seat],
+    seats: &Seats,
     actor: SessionId,
     number: RecordNumber,
     heard: Heard,
 ) -> Result<(), AllocError>
-    ensures { OnOk result (plan.new.items ≡ plan.old.items ++ delivery_of seats.now actor number heard) }
+    ensures { OnOk result (plan.new.items ≡ plan.old.items ++ delivery_of seats.now.seats actor number heard) }
 {
     let Heard { session, text } = heard;
-    if session == actor || !is_listening(seats, session) || text.is_empty() {
+    if session == actor || !seats.is_listening(session) || text.is_empty() {
         return Ok(());
     }
     plan.push_back(Planned {
@@ -89,12 +89,12 @@ fn plan_one(
 /// The deliveries of texts, which stand by the numbers of their sessions: one a session, but for the actor's.
 fn plan_others(
     alloc: Global,
-    seats: &[Seat],
+    seats: &Seats,
     heard: Vec<Heard>,
     actor: SessionId,
     number: RecordNumber,
 ) -> Result<VecDeque<Planned>, AllocError>
-    ensures { IfOk result (λ plan. plan.items ≡ deliveries_of seats.now actor number (joined heard.items)) }
+    ensures { IfOk result (λ plan. plan.items ≡ deliveries_of seats.now.seats actor number (joined heard.items)) }
 {
     let mut plan = VecDeque::new(alloc);
     let mut rest = heard.into_iter();
@@ -116,15 +116,15 @@ fn plan_others(
 /// Plans, before all others, what the actor is told: where it quits by the record, its last item.
 fn plan_own(
     plan: &mut VecDeque<Planned>,
-    seat: &Seat,
+    seats: &Seats,
     session: SessionId,
     number: RecordNumber,
     text: Octets,
     quits: bool,
 ) -> Result<(), AllocError>
-    ensures { OnOk result (plan.new.items ≡ puts session (told_own seat.now.shut number text quits) ++ plan.old.items) }
+    ensures { OnOk result (plan.new.items ≡ puts session (told_own (not (hears seats.now.seats session)) number text quits) ++ plan.old.items) }
 {
-    if seat.shut || (!quits && text.is_empty()) {
+    if !seats.is_listening(session) || (!quits && text.is_empty()) {
         return Ok(());
     }
     let item = if quits {
@@ -143,23 +143,21 @@ fn plan_own(
 fn plan_for(
     alloc: Global,
     roster: &Roster,
-    seats: &[Seat],
-    place: usize,
+    seats: &Seats,
+    actor: SessionId,
     number: RecordNumber,
     moment: Moment,
     own: Octets,
     shown: &[Shown],
     quits: bool,
 ) -> Result<VecDeque<Planned>, AllocError>
-    requires seated { place < length seats.now }
     requires from_1970 { pos 0 ≤ℤ moment }
     requires to_9998 { moment ≤ℤ pos 253370764799999 }
-    ensures { IfOk result (λ plan. plan.items ≡ planned_with seats.now (place + 1) number own (heard_text roster.now.facts moment shown.now) quits) }
+    ensures { IfOk result (λ plan. plan.items ≡ planned_with seats.now.seats actor number own (heard_text roster.now.facts moment shown.now) quits) }
 {
-    let actor = SessionId::new(place as u64 + 1);
     let heard = heard_in_order(alloc, roster, shown, moment)?;
     let mut plan = plan_others(alloc, seats, heard, actor, number)?;
-    plan_own(&mut plan, &seats[place], actor, number, own, quits)?;
+    plan_own(&mut plan, seats, actor, number, own, quits)?;
     Ok(plan)
 }
 
@@ -167,19 +165,18 @@ fn plan_for(
 fn with_room(
     alloc: Global,
     roster: &Roster,
-    seats: &[Seat],
-    place: usize,
+    seats: &Seats,
+    actor: SessionId,
     number: RecordNumber,
     moment: Moment,
     label: &Option<Octets>,
     verdict: Verdict,
     quits: bool,
 ) -> Result<Prepared, AllocError>
-    requires seated { place < length seats.now }
     requires from_1970 { pos 0 ≤ℤ moment }
     requires to_9998 { moment ≤ℤ pos 253370764799999 }
     ensures deeds { IfOk result (λ p. p.deeds.items ≡ verdict.deeds.items) }
-    ensures plan { IfOk result (λ p. p.plan.items ≡ planned_with seats.now (place + 1) number (rendered (caps roster.now.facts (place + 1)) moment (answered roster.now.settings.server label.now number verdict.reply.items verdict.copies.items)) (heard_text roster.now.facts moment verdict.others.items) quits) }
+    ensures plan { IfOk result (λ p. p.plan.items ≡ planned_with seats.now.seats actor number (rendered (caps roster.now.facts actor) moment (answered roster.now.settings.server label.now number verdict.reply.items verdict.copies.items)) (heard_text roster.now.facts moment verdict.others.items) quits) }
     ensures missed { IfOk result (λ p. (p.missed.items ≡ []) × (length p.plan.items ≤ vec_capacity p.missed)) }
 {
     let Verdict {
@@ -188,10 +185,9 @@ fn with_room(
         copies,
         others,
     } = verdict;
-    let actor = SessionId::new(place as u64 + 1);
     let own = own_text(alloc, roster, actor, label, number, moment, reply, copies)?;
     let plan = plan_for(
-        alloc, roster, seats, place, number, moment, own, &others, quits,
+        alloc, roster, seats, actor, number, moment, own, &others, quits,
     )?;
     let missed = Vec::with_capacity(alloc, plan.len())?;
     Ok(Prepared {
@@ -222,59 +218,55 @@ fn decide_piece(
     Ok((verdict, asked.is_quit()))
 }
 
-/// Decides what a line of the session at a place does, and plans its deliveries.
+/// Decides what a line of a session does, and plans its deliveries.
 pub(crate) fn prepare_line(
     alloc: Global,
     roster: &Roster,
-    seats: &[Seat],
-    place: usize,
+    seats: &Seats,
+    session: SessionId,
     number: RecordNumber,
     piece: &Piece,
     moment: Moment,
 ) -> Result<(Prepared, bool), AllocError>
-    requires seated { place < length seats.now }
-    requires known { IsOpened roster.now.facts (place + 1) }
+    requires known { IsOpened roster.now.facts session }
     requires from_1970 { pos 0 ≤ℤ moment }
     requires to_9998 { moment ≤ℤ pos 253370764799999 }
-    ensures deeds { IfOk result (λ p. p.0.deeds.items ≡ deeds_of (of_asked roster.now.settings roster.now.facts (place + 1) (asked_of piece.now))) }
+    ensures deeds { IfOk result (λ p. p.0.deeds.items ≡ deeds_of (of_asked roster.now.settings roster.now.facts session (asked_of piece.now))) }
     ensures next { IfOk result (λ p. AreNext roster.now.facts p.0.deeds.items) }
     ensures opened { IfOk result (λ p. opened (after roster.now.facts p.0.deeds.items) ≡ opened roster.now.facts) }
     ensures quits { IfOk result (λ p. p.1 ≡ is_quit piece.now) }
-    ensures plan { IfOk result (λ p. p.0.plan.items ≡ planned_from seats.now (place + 1) number (spelled roster.now.settings roster.now.facts (place + 1) (label_of (caps roster.now.facts (place + 1)) piece.now) (of_asked roster.now.settings roster.now.facts (place + 1) (asked_of piece.now)) moment number) p.1) }
+    ensures plan { IfOk result (λ p. p.0.plan.items ≡ planned_from seats.now.seats session number (spelled roster.now.settings roster.now.facts session (label_of (caps roster.now.facts session) piece.now) (of_asked roster.now.settings roster.now.facts session (asked_of piece.now)) moment number) p.1) }
     ensures missed { IfOk result (λ p. (p.0.missed.items ≡ []) × (length p.0.plan.items ≤ vec_capacity p.0.missed)) }
 {
-    let session = SessionId::new(place as u64 + 1);
     let (verdict, quits) = decide_piece(alloc, roster, session, piece, moment)?;
     let label = label_of(alloc, roster.enrol_of(session).caps, piece)?;
     let prepared = with_room(
-        alloc, roster, seats, place, number, moment, &label, verdict, quits,
+        alloc, roster, seats, session, number, moment, &label, verdict, quits,
     )?;
     Ok((prepared, quits))
 }
 
-/// Decides what it does that the session at a place is gone, and plans who is told.
+/// Decides what it does that a session is gone, and plans who is told.
 pub(crate) fn prepare_gone(
     alloc: Global,
     roster: &Roster,
-    seats: &[Seat],
-    place: usize,
+    seats: &Seats,
+    session: SessionId,
     number: RecordNumber,
     moment: Moment,
 ) -> Result<Prepared, AllocError>
-    requires seated { place < length seats.now }
-    requires known { IsOpened roster.now.facts (place + 1) }
+    requires known { IsOpened roster.now.facts session }
     requires from_1970 { pos 0 ≤ℤ moment }
     requires to_9998 { moment ≤ℤ pos 253370764799999 }
-    ensures deeds { IfOk result (λ p. p.deeds.items ≡ deeds_of (departs roster.now.facts (place + 1))) }
+    ensures deeds { IfOk result (λ p. p.deeds.items ≡ deeds_of (departs roster.now.facts session)) }
     ensures next { IfOk result (λ p. AreNext roster.now.facts p.deeds.items) }
     ensures opened { IfOk result (λ p. opened (after roster.now.facts p.deeds.items) ≡ opened roster.now.facts) }
-    ensures plan { IfOk result (λ p. p.plan.items ≡ planned_from seats.now (place + 1) number (spelled roster.now.settings roster.now.facts (place + 1) None (departs roster.now.facts (place + 1)) moment number) false) }
+    ensures plan { IfOk result (λ p. p.plan.items ≡ planned_from seats.now.seats session number (spelled roster.now.settings roster.now.facts session None (departs roster.now.facts session) moment number) false) }
     ensures missed { IfOk result (λ p. (p.missed.items ≡ []) × (length p.plan.items ≤ vec_capacity p.missed)) }
 {
-    let session = SessionId::new(place as u64 + 1);
     let verdict = decide_gone(alloc, roster, session)?;
     with_room(
-        alloc, roster, seats, place, number, moment, &None, verdict, false,
+        alloc, roster, seats, session, number, moment, &None, verdict, false,
     )
 }
 
