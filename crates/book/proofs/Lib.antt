@@ -1,6 +1,7 @@
 pub mod About
 pub mod Opened
 pub mod Sound
+pub mod Listed
 pub mod Counted
 pub mod Begun
 pub mod Heards

@@ -1,19 +1,12 @@
 -- Who is to be swept.
-use Rattle.std.proofs.Common.{◌≡◌, ℕ, zero, suc, ◌+◌, ◌-◌, ◌<◌, ◌≤◌, Bool, true, false, not, ◌&&◌, cond, List, length, Option, Some, None, arith, refl, sym, ap, ◌∙◌}
+use Rattle.std.proofs.Common.{◌≡◌, ℕ, zero, suc, ◌+◌, ◌<◌, ◌≤◌, Bool, true, false, not, ◌&&◌, cond, List, length, Option, Some, arith, refl, ap, ◌∙◌}
 use Rattle.chronicle.specs.History.{Rec, sessions, shut, gone}
 use Rattle.roster.specs.LookBack.{numbers}
+use Rattle.book.proofs.Listed.{first_is}
 use Rattle.book.specs.declared.seat.Seat.{Seat}
 use Rattle.outbox.specs.Ring.{Waiting}
 use Rattle.book.specs.Seats.{IsSeat, seat_at, sweeps}
 use Rattle.book.specs.Book.{is_here, first, is_to_sweep, to_sweep}
-
-first_here : (f : ℕ → Bool) (k t n : ℕ) (b : Bool) → f k ≡ b → cond b (Some k) (first f (numbers (k + 1) n)) ≡ Some t → (first f (numbers (k + 1) n) ≡ Some t → (f t ≡ true) × (k + 1 ≤ t) × (t < k + 1 + n)) → (f t ≡ true) × (k ≤ t) × (t < k + suc n)
-first_here f k t n true eb e rest = let same : k ≡ t = (let g : Some k ≡ Some t = e in cc) in (ap f (sym same) ∙ eb, omega arith, omega arith)
-first_here f k t n false eb e rest = let r = rest e in (r.0, (let a = r.1 in omega arith), (let a = r.2 in omega arith))
-
-first_is : (f : ℕ → Bool) (k n t : ℕ) → first f (numbers k n) ≡ Some t → (f t ≡ true) × (k ≤ t) × (t < k + n)
-first_is f k zero t e = absurd (let g : None ≡ Some t = e in cc)
-first_is f k (suc n) t e = first_here f k t n (f k) refl e (first_is f (k + 1) n t)
 
 both : (a b : Bool) → (a && not b) ≡ true → (a ≡ true) × (b ≡ false)
 both true true e = absurd (let f : false ≡ true = e in cc)
@@ -37,14 +30,3 @@ pub seats_sweep : (h : List Rec) (seats : List Seat) (boxes : List (Option Waiti
 seats_sweep h seats boxes f e =
     first_agree (sweeps seats) (is_to_sweep h) 1 (length seats) (λ t a b. let to : t ≤ length seats = omega arith in let is = f t a to in ap (λ c. c && not (seat_at seats t).gone) is.shut ∙ ap (λ c. shut h t && not c) is.gone)
     ∙ ap (λ (n : ℕ). first (is_to_sweep h) (numbers 1 n)) e
-
--- ---- the look over all seats
-
-first_step : (f : ℕ → Bool) (k m : ℕ) → k < m → first f (numbers (k + 1) (m - k)) ≡ cond (f (k + 1)) (Some (k + 1)) (first f (numbers (k + 1 + 1) (m - (k + 1))))
-first_step f k m l = let e : m - k ≡ suc (m - (k + 1)) = omega arith in ap (λ (n : ℕ). first f (numbers (k + 1) n)) e
-
-pub found : (f : ℕ → Bool) (k m : ℕ) (o : Option ℕ) → k < m → f (k + 1) ≡ true → o ≡ first f (numbers (k + 1) (m - k)) → o ≡ Some (k + 1)
-found f k m o l e so = so ∙ first_step f k m l ∙ ap (λ b. cond b (Some (k + 1)) (first f (numbers (k + 1 + 1) (m - (k + 1))))) e
-
-pub passed : (f : ℕ → Bool) (k m : ℕ) (o : Option ℕ) → k < m → f (k + 1) ≡ false → o ≡ first f (numbers (k + 1) (m - k)) → o ≡ first f (numbers (k + 1 + 1) (m - (k + 1)))
-passed f k m o l e so = so ∙ first_step f k m l ∙ ap (λ b. cond b (Some (k + 1)) (first f (numbers (k + 1 + 1) (m - (k + 1))))) e

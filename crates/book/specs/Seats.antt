@@ -1,5 +1,5 @@
 -- What a book keeps for its sessions, and how that stands for the history.
-use Rattle.std.specs.Prelude.{◌≡◌, ℕ, ℤ, ◌-◌, ◌<◌, ◌≤◌, Bool, true, false, not, ◌&&◌, nat_lt, nat_le, cond, if◌then◌else◌, List, [], ◌∷◌, ◌++◌, map, length, sum_by, slice_index_or, Option, None}
+use Rattle.std.specs.Prelude.{◌≡◌, ℕ, ℤ, ◌+◌, ◌-◌, ◌<◌, ◌≤◌, Bool, true, false, not, ◌&&◌, nat_lt, nat_le, cond, if◌then◌else◌, List, [], ◌∷◌, ◌++◌, filter, map, length, sum_by, slice_index_or, Option, None}
 use Rattle.chronicle.specs.History.{Rec, accepted, shut, gone}
 use Rattle.outbox.specs.declared.item.Item.{Item}
 use Rattle.outbox.specs.declared.item.Item.TheVariants.{Last}
@@ -9,7 +9,7 @@ use Rattle.book.specs.declared.plan.Planned.{Planned}
 use Rattle.outbox.specs.Ring.{Waiting}
 use Rattle.book.specs.Book.{is_here, count_here, puts, others}
 use Rattle.roster.specs.declared.deed.Deed.{Deed}
-use Rattle.roster.specs.LookBack.{caps}
+use Rattle.roster.specs.LookBack.{caps, numbers}
 use Rattle.labels_batches.specs.Answers.{tagged_as}
 use Rattle.labels_batches.specs.Rendered.{rendered}
 use Rattle.deeds.specs.declared.verdict.Shown.{Shown}
@@ -48,11 +48,23 @@ sweeps seats t = (seat_at seats t).shut && not (seat_at seats t).gone
 abbrev pub kept_by : Seat → ℕ
 kept_by seat = if seat.gone then 0 else (if seat.shut then 1 else 2)
 
--- what stands ready is what the seats say
-pub record IsCounted (seats : List Seat) (boxes : List (Option Waiting)) (kept count : ℕ) : Type 0 where
+-- two for a session that isn't shut
+abbrev pub open_by : Seat → ℕ
+open_by seat = if seat.gone then 0 else (if seat.shut then 0 else 2)
+
+-- numbers in their order, with s at its place among them
+abbrev pub placed : ℕ → List ℕ → List ℕ
+placed s [] = s ∷ []
+placed s (x ∷ xs) = cond (nat_lt x s) (x ∷ placed s xs) (s ∷ x ∷ xs)
+
+-- what stands ready is what the seats say, and there is room to list each session that may be shut
+pub record IsCounted (seats : List Seat) (boxes : List (Option Waiting)) (kept count : ℕ) (to_sweep : List ℕ) (most : ℕ) : Type 0 where
   pub places : length seats ≡ length boxes
   pub held : kept ≡ sum_by kept_by seats
   pub here : count ≡ count_here boxes
+  pub listed : to_sweep ≡ filter (sweeps seats) (numbers 1 (length seats))
+  pub open_ : kept ≡ length to_sweep + sum_by open_by seats
+  pub room : kept ≤ most
 
 -- what a text tells a session, unless it is shut
 abbrev pub told : Bool → ℕ → List ℕ → List Item

@@ -11,7 +11,7 @@ use Rattle.book.specs.Seats.{Rows}
 use Rattle.chronicle.specs.History.{sessions}
 use Rattle.book.specs.Kept.{IsKept}
 use Rattle.book.specs.Book.{MaySweep, to_sweep, plan_of, begun, held, newest_actor, newest_next, newest_missed}
-use Rattle.book.proofs.Sweeps.{swept_is}
+use Rattle.book.proofs.Sweeps.{swept_is, seats_sweep}
 use Rattle.book.proofs.KeptSteps.{shown}
 use Rattle.book.proofs.Begins.{begun_is}
 use Rattle.book.proofs.Appends.{sweep_room, gone_plan, gone_kept}
@@ -38,16 +38,10 @@ append-requires c =
     let few = sweep_room a.journal a.roster.settings a.roster.facts a.seats.seats a.seats.boxes a.plan.items a.busy c.self.invariant c.args.session c.args.moment next in let some = few.0 in let seated = few.1 in let known = few.2 in let room = few.3 in
     let kept : c.held-room.result ≡ held a.journal.history = c.held-room.ensures.kept ∙ ap (λ m. held m.history) (sym c.self.view_is) in let ok = c.reserve.ensures.ok in grind (arith, common_steps)
 
-pub leave-requires-clause-from_1 : goal.leave-requires-clause-from_1
-leave-requires-clause-from_1 c =
-    let next = subst (λ m. to_sweep m.history ≡ Some c.args.session) (sym c.self.view_is) c.requires.next in (swept_is c.self.inside.journal.history c.args.session next).0
-
-pub leave-requires-clause-opened : goal.leave-requires-clause-opened
-leave-requires-clause-opened c =
-    let a = c.self.inside in let next = subst (λ m. to_sweep m.history ≡ Some c.args.session) (sym c.self.view_is) c.requires.next in
-    let limit : a.journal.limit < 18446744073709551616 = subst (λ m. m.limit < 18446744073709551616) (sym c.self.view_is) c.held-room.ensures.fits in
-    let few = sweep_room a.journal a.roster.settings a.roster.facts a.seats.seats a.seats.boxes a.plan.items a.busy c.self.invariant c.args.session c.args.moment next in let some = few.0 in let seated = few.1 in let known = few.2 in let room = few.3 in
-    seated
+pub leave-requires : goal.leave-requires
+leave-requires c =
+    let a = c.self.inside in let i = c.self.invariant in let next = subst (λ m. to_sweep m.history ≡ Some c.args.session) (sym c.self.view_is) c.requires.next in
+    record { next = seats_sweep a.journal.history a.seats.seats a.seats.boxes i.each_seat (i.places ∙ sym i.sound.sessions) ∙ next }
 
 -- the record that was appended, and the plan of its deliveries
 history : (c : goal.After-self-1) → c.append.new.self.history ≡ fresh_record c.self.inside.journal.history c.args.moment (Gone c.args.session) ∷ c.self.inside.journal.history

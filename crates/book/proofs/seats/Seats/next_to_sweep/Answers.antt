@@ -1,14 +1,18 @@
-use Rattle.std.proofs.Common.{arith, ◌≡◌, ◌+◌, ◌-◌, ◌<◌, ◌&&◌, not, ℕ, List, length, slice_index_or, sym, ap, ◌∙◌}
-use Rattle.book.specs.declared.seat.Seat.{Seat}
-use Rattle.book.specs.Seats.{Rows, no_seat, sweeps}
-use Rattle.book.proofs.Sweeps.{passed}
+use Rattle.std.proofs.Common.{ℕ, List, length, Some, slice_get, ap, sym, ◌∙◌}
+use Rattle.roster.specs.LookBack.{numbers}
+use Rattle.book.specs.Book.{first}
+use Rattle.book.specs.Seats.{Rows, sweeps}
+use Rattle.book.proofs.Listed.{first_picked, head_some, head_none}
 use Rattle.book.proofs.seats.Seats.next_to_sweep.Goals as goal
 
-pub loop-place-preserved : goal.loop-place-preserved
-loop-place-preserved c =
-    let i = c.loop-place.place in let items = c.deref-seat-items.result.now in let rows = c.args.self.now.seats in
-    let d : items ≡ rows = c.deref-seat-items.ensures.value ∙ ap (λ (r : Rows). r.seats) c.self.view_is in
-    let len : length items ≡ length rows = ap length d in let test : i < length items = c.loop-place-test.true in let few : i < length rows = omega arith in let at : i ≡ i + 1 - 1 = omega arith in
-    let tells : c.is_to_sweep.result ≡ sweeps rows (i + 1) =
-    c.is_to_sweep.ensures ∙ ap (λ (xs : List Seat). (slice_index_or xs i no_seat).shut && not (slice_index_or xs i no_seat).gone) d ∙ ap (λ (j : ℕ). (slice_index_or rows j no_seat).shut && not (slice_index_or rows j no_seat).gone) at in
-    passed (sweeps rows) i (length rows) _ few (sym tells ∙ c.if-is_to_sweep.false) c.loop-place.invariant
+pub returns-in-Some : goal.returns-in-Some
+returns-in-Some c =
+    let a = c.self.inside in let item = c.in-Some.ensures.item in
+    ap (λ (k : ℕ). Some k) c.new.ensures ∙ sym (head_some a.to_sweep.items c.in-Some.number.now item.3.0 item.1) ∙ ap (λ (xs : List ℕ). slice_get xs 0) c.self.invariant.listed
+    ∙ sym (first_picked (sweeps a.seats.items) (numbers 1 (length a.seats.items))) ∙ ap (λ (r : Rows). first (sweeps r.seats) (numbers 1 (length r.seats))) c.self.view_is
+
+pub returns-in-None : goal.returns-in-None
+returns-in-None c =
+    let a = c.self.inside in let item = c.in-None.ensures.item in
+    sym (head_none a.to_sweep.items item.3) ∙ ap (λ (xs : List ℕ). slice_get xs 0) c.self.invariant.listed
+    ∙ sym (first_picked (sweeps a.seats.items) (numbers 1 (length a.seats.items))) ∙ ap (λ (r : Rows). first (sweeps r.seats) (numbers 1 (length r.seats))) c.self.view_is
