@@ -1,5 +1,5 @@
 -- All that a book keeps stands for its history where a record is appended.
-use Rattle.std.proofs.Common.{◌≡◌, ℕ, ℤ, ◌+◌, ◌-◌, ◌<◌, ◌≤◌, Bool, true, false, ◌&&◌, ◌||◌, ◌==◌, List, [], ◌∷◌, ◌++◌, length, slice_set, slice_index_or, Option, Some, None, arith, refl, sym, ap, ◌∙◌, subst, length-append, append-nil, eq-eqb}
+use Rattle.std.proofs.Common.{◌≡◌, ℕ, ℤ, ◌+◌, ◌-◌, ◌<◌, ◌≤◌, Bool, true, false, ◌&&◌, ◌||◌, ◌==◌, List, [], ◌∷◌, ◌++◌, length, slice_set, Option, Some, None, arith, refl, sym, ap, ◌∙◌, subst, length-append, append-nil, eq-eqb}
 use Rattle.std.proofs.lemmas.List.{get_or-set_same, set-get_or}
 use Rattle.roster.specs.declared.deed.Deed.TheVariants.{Ended}
 use Rattle.line_grammar.specs.declared.splitter.Piece.{Piece}
@@ -9,6 +9,7 @@ use Rattle.chronicle.specs.History.{sessions, said_by, accepted, ends, shut, gon
 use Rattle.chronicle.specs.Journal.{fresh_record, Misses}
 use Rattle.chronicle.specs.Journal as journal
 use Rattle.outbox.specs.Ring.{Waiting, has_room, with_put}
+use Rattle.outbox.specs.declared.item.Item.{Item}
 use Rattle.outbox.specs.declared.item.Item.TheVariants.{Last}
 use Rattle.roster.specs.declared.deed.Deed.{Deed}
 use Rattle.commands.specs.Asked.{asked_of}
@@ -23,9 +24,8 @@ use Rattle.registration.specs.declared.settings.Settings.{Settings}
 use Rattle.book.specs.declared.plan.Planned.{Planned}
 use Rattle.book.specs.declared.seat.Seat.{Seat}
 use Rattle.book.specs.Kept.{IsKept}
-use Rattle.book.specs.Seats.{no_seat, seat_at, planned_from}
+use Rattle.book.specs.Seats.{Rows, no_seat, seat_at, planned_from}
 use Rattle.book.specs.Book.{Turn, MayBegin, MayHang, MaySweep, outbox_at, held, plan_of, to_sweep}
-use Rattle.book.proofs.Index.{same_within}
 use Rattle.book.proofs.About.{not_gone_yet}
 use Rattle.book.proofs.KeptSteps.{shown, quiet, begun_kept, delivered_kept, dropped_kept, finished_kept}
 use Rattle.book.proofs.Sweeps.{swept_is}
@@ -36,9 +36,20 @@ or-false : (b c : Bool) → c ≡ false → b ≡ (b || c)
 or-false true c e = refl
 or-false false c e = sym e
 
--- the seat at a place
-pub seat_there : (seats : List Seat) (place s : ℕ) (x : Seat) → place + 1 ≡ s → place < length seats → x ≡ slice_index_or seats place x → x ≡ seat_at seats s
-seat_there seats place s x e l is = let p : place ≡ s - 1 = omega arith in is ∙ same_within seats place x no_seat l ∙ ap (λ (y : ℕ). slice_index_or seats y no_seat) p
+-- ---- the seats after a line, after a session was shut, and after it was gone
+
+abbrev pub said_rows : Rows → ℕ → Bool → Rows
+said_rows r s quits = record { seats = slice_set r.seats (s - 1) (record { shut = quits; gone = (seat_at r.seats s).gone; accepted = (seat_at r.seats s).accepted + 1 }); boxes = r.boxes }
+
+abbrev pub shut_rows : Rows → ℕ → Rows
+shut_rows r s = record { seats = slice_set r.seats (s - 1) (record { shut = true; gone = (seat_at r.seats s).gone; accepted = (seat_at r.seats s).accepted }); boxes = r.boxes }
+
+abbrev pub left_rows : Rows → ℕ → Rows
+left_rows r s = record { seats = slice_set r.seats (s - 1) (record { shut = (seat_at r.seats s).shut; gone = true; accepted = (seat_at r.seats s).accepted }); boxes = r.boxes }
+
+-- and after an item was put
+abbrev pub put_rows : Rows → ℕ → Item → Rows
+put_rows r s x = record { seats = r.seats; boxes = slice_set r.boxes (s - 1) (Some (with_put (outbox_at r.boxes s) x)) }
 
 -- ---- a line
 
@@ -51,41 +62,39 @@ module _ (j : journal.Shown) (g : Settings) (known : List Deed) (seats : List Se
   pub known_opened : (s : ℕ) → 0 < s → s ≤ sessions j.history → IsOpened known s
   known_opened s from to = (from, (let a = i.sound.sessions in let b = i.opened in omega arith))
 
-  pub said_plan : (b : Turn) (piece : Piece) (moment : ℤ) (place number : ℕ) (quits : Bool) (plan : List Planned)
-      → MayBegin (shown j g boxes none busy) b moment → place + 1 ≡ b.session → number ≡ length j.history + 1 → quits ≡ is_quit piece
-      → plan ≡ planned_from seats (place + 1) number (spelled g known (place + 1) (label_of (caps known (place + 1)) piece) (of_asked g known (place + 1) (asked_of piece)) moment number) quits
+  pub said_plan : (b : Turn) (piece : Piece) (moment : ℤ) (number : ℕ) (quits : Bool) (plan : List Planned)
+      → MayBegin (shown j g boxes none busy) b moment → number ≡ length j.history + 1 → quits ≡ is_quit piece
+      → plan ≡ planned_from seats b.session number (spelled g known b.session (label_of (caps known b.session) piece) (of_asked g known b.session (asked_of piece)) moment number) quits
       → plan ≡ plan_of g j.history (Said b.session b.next piece) moment (length boxes)
-  said_plan b piece moment place number quits plan may ep en eq eplan =
+  said_plan b piece moment number quits plan may en eq eplan =
       let h = j.history in let s = b.session in let k = Said s b.next piece in
       let from : 0 < s = may.turn.from_1 in let to : s ≤ length seats = seated s may.turn.opened in
       let own : ends k s ≡ quits = ap (λ c. c && is_quit piece) (eq-eqb s s refl) ∙ sym eq in
-      eplan ∙ ap (λ (y : ℕ). planned_from seats y number (spelled g known y (label_of (caps known y) piece) (of_asked g known y (asked_of piece)) moment number) quits) ep
-      ∙ ap (λ (fs : List Deed). planned_from seats s number (spelled g fs s (label_of (caps fs s) piece) (of_asked g fs s (asked_of piece)) moment number) quits) i.facts
-      ∙ plan_right g h seats k moment quits number (length boxes) i.each_seat en i.places (i.places ∙ sym i.sound.sessions) from to own refl (λ t ne. (quiet k t refl ne).0)
+      eplan ∙ ap (λ (fs : List Deed). planned_from seats s number (spelled g fs s (label_of (caps fs s) piece) (of_asked g fs s (asked_of piece)) moment number) quits) i.facts
+      ∙ plan_right g h seats boxes k moment quits number (length boxes) i.each_seat en i.places (i.places ∙ sym i.sound.sessions) from to own refl (λ t ne. (quiet k t refl ne).0)
 
-  pub said_kept : (k : journal.Shown) (more_known : List Deed) (plan : List Planned) (b : Turn) (piece : Piece) (moment : ℤ) (place : ℕ) (quits : Bool) (x : Seat)
-      → MayBegin (shown j g boxes none busy) b moment → place + 1 ≡ b.session → quits ≡ is_quit piece
+  pub said_kept : (k : journal.Shown) (more_known : List Deed) (plan : List Planned) (b : Turn) (piece : Piece) (moment : ℤ) (quits : Bool)
+      → MayBegin (shown j g boxes none busy) b moment → quits ≡ is_quit piece
       → plan ≡ plan_of g j.history (Said b.session b.next piece) moment (length boxes)
       → k.history ≡ fresh_record j.history moment (Said b.session b.next piece) ∷ j.history → k.limit ≡ j.limit → length plan ≤ k.left → held j.history ≤ k.room
-      → more_known ≡ after known (deeds_of (of_asked g known (place + 1) (asked_of piece))) → opened more_known ≡ opened known → x ≡ slice_index_or seats place x
-      → IsKept k g more_known (slice_set seats place (record { shut = quits; gone = x.gone; accepted = x.accepted + 1 })) boxes plan true
-  said_kept k more_known plan b piece moment place quits x may ep eq eplan eh el room free ek same_opened ex =
+      → more_known ≡ after known (deeds_of (of_asked g known b.session (asked_of piece))) → opened more_known ≡ opened known
+      → IsKept k g more_known (slice_set seats (b.session - 1) (record { shut = quits; gone = (seat_at seats b.session).gone; accepted = (seat_at seats b.session).accepted + 1 })) boxes plan true
+  said_kept k more_known plan b piece moment quits may eq eplan eh el room free ek same_opened =
       let h = j.history in let s = b.session in let kind = Said s b.next piece in let r = fresh_record h moment kind in
       let from : 0 < s = may.turn.from_1 in let to : s ≤ length seats = seated s may.turn.opened in
-      let l : place < length seats = omega arith in let p : place ≡ s - 1 = omega arith in
-      let seat : x ≡ seat_at seats s = seat_there seats place s x ep l ex in let was = i.each_seat s from to in
+      let x = seat_at seats s in let was = i.each_seat s from to in
       let own : quits ≡ ends kind s = eq ∙ sym (ap (λ c. c && is_quit piece) (eq-eqb s s refl)) in
       let new : Seat = record { shut = quits; gone = x.gone; accepted = x.accepted + 1 } in
       let same : said_by kind s ≡ piece ∷ [] = rw (eq-eqb s s refl) refl in
       let less = held_after h kind moment refl in
-      begun_kept j k g known more_known seats (slice_set seats place new) boxes none plan kind moment new
+      begun_kept j k g known more_known seats (slice_set seats (s - 1) new) boxes none plan kind moment new
       (subst (λ (c : Bool). IsKept j g known seats boxes none c) may.idle i) refl from to (from, may.turn.opened, may.turn.next, may.not_shut) may.in_time
       (let a = may.room in let goal : length h + 1 + held (r ∷ h) ≤ j.limit = omega arith in goal)
-      eh el room (omega arith) (ek ∙ ap (λ (y : ℕ). after known (deeds_of (of_asked g known y (asked_of piece)))) ep) same_opened (ap (λ (y : ℕ). slice_set seats y new) p)
+      eh el room (omega arith) ek same_opened refl
       (record {
         shut = own ∙ or-false (ends kind s) (shut h s) may.not_shut;
-        gone = ap (λ (y : Seat). y.gone) seat ∙ was.gone;
-        accepted = ap (λ (y : Seat). y.accepted + 1) seat ∙ ap (λ (n : ℕ). n + 1) was.accepted ∙ sym (ap (λ xs. length (accepted h s ++ xs)) same ∙ length-append (accepted h s) (piece ∷ []));
+        gone = was.gone;
+        accepted = λ here. ap (λ (n : ℕ). n + 1) (was.accepted here) ∙ sym (ap (λ xs. length (accepted h s ++ xs)) same ∙ length-append (accepted h s) (piece ∷ []));
       })
       eplan
 
@@ -102,91 +111,90 @@ module _ (j : journal.Shown) (g : Settings) (known : List Deed) (seats : List Se
 
   -- ---- a session is gone
 
-  pub gone_plan : (place number : ℕ) (moment : ℤ) (plan : List Planned) → to_sweep j.history ≡ Some (place + 1) → number ≡ length j.history + 1
-      → plan ≡ planned_from seats (place + 1) number (spelled g known (place + 1) None (departs known (place + 1)) moment number) false
-      → plan ≡ plan_of g j.history (Gone (place + 1)) moment (length boxes)
-  gone_plan place number moment plan next en eplan =
-      let h = j.history in let s = place + 1 in let k = Gone s in let is = swept_is h s next in
-      eplan ∙ ap (λ (fs : List Deed). planned_from seats s number (spelled g fs s None (departs fs s) moment number) false) i.facts ∙ plan_right g h seats k moment false number (length boxes) i.each_seat en i.places (i.places ∙ sym i.sound.sessions) is.0 (seated s is.1) refl refl (λ t ne. refl)
+  pub gone_plan : (s number : ℕ) (moment : ℤ) (plan : List Planned) → to_sweep j.history ≡ Some s → number ≡ length j.history + 1
+      → plan ≡ planned_from seats s number (spelled g known s None (departs known s) moment number) false
+      → plan ≡ plan_of g j.history (Gone s) moment (length boxes)
+  gone_plan s number moment plan next en eplan =
+      let h = j.history in let k = Gone s in let is = swept_is h s next in
+      eplan ∙ ap (λ (fs : List Deed). planned_from seats s number (spelled g fs s None (departs fs s) moment number) false) i.facts
+      ∙ plan_right g h seats boxes k moment false number (length boxes) i.each_seat en i.places (i.places ∙ sym i.sound.sessions) is.0 (seated s is.1) refl refl (λ t ne. refl)
 
-  pub gone_kept : (k : journal.Shown) (more_known : List Deed) (plan : List Planned) (moment : ℤ) (place : ℕ) (x : Seat)
-      → MaySweep (shown j g boxes none busy) moment → to_sweep j.history ≡ Some (place + 1)
-      → plan ≡ plan_of g j.history (Gone (place + 1)) moment (length boxes)
-      → k.history ≡ fresh_record j.history moment (Gone (place + 1)) ∷ j.history → k.limit ≡ j.limit → length plan ≤ k.left → held j.history ≤ k.room + 1
-      → more_known ≡ after known (deeds_of (departs known (place + 1))) → opened more_known ≡ opened known → x ≡ slice_index_or seats place x
-      → IsKept k g more_known (slice_set seats place (record { shut = x.shut; gone = true; accepted = x.accepted })) boxes plan true
-  gone_kept k more_known plan moment place x may next eplan eh el room free ek same_opened ex =
-      let h = j.history in let s = place + 1 in let kind = Gone s in let r = fresh_record h moment kind in let is = swept_is h s next in
-      let to : s ≤ length seats = seated s is.1 in let l : place < length seats = omega arith in let p : place ≡ s - 1 = omega arith in
-      let seat : x ≡ seat_at seats s = seat_there seats place s x refl l ex in let was = i.each_seat s is.0 to in
+  pub gone_kept : (k : journal.Shown) (more_known : List Deed) (plan : List Planned) (moment : ℤ) (s : ℕ)
+      → MaySweep (shown j g boxes none busy) moment → to_sweep j.history ≡ Some s
+      → plan ≡ plan_of g j.history (Gone s) moment (length boxes)
+      → k.history ≡ fresh_record j.history moment (Gone s) ∷ j.history → k.limit ≡ j.limit → length plan ≤ k.left → held j.history ≤ k.room + 1
+      → more_known ≡ after known (deeds_of (departs known s)) → opened more_known ≡ opened known
+      → IsKept k g more_known (slice_set seats (s - 1) (record { shut = (seat_at seats s).shut; gone = true; accepted = (seat_at seats s).accepted })) boxes plan true
+  gone_kept k more_known plan moment s may next eplan eh el room free ek same_opened =
+      let h = j.history in let kind = Gone s in let r = fresh_record h moment kind in let is = swept_is h s next in
+      let to : s ≤ length seats = seated s is.1 in let x = seat_at seats s in let was = i.each_seat s is.0 to in
       let new : Seat = record { shut = x.shut; gone = true; accepted = x.accepted } in
       let less = held_less h kind moment s refl is.0 is.1 (gone_less h s moment is.2 is.3) in
       let yes : (s == s) ≡ true = eq-eqb s s refl in
-      begun_kept j k g known more_known seats (slice_set seats place new) boxes none plan kind moment new
+      begun_kept j k g known more_known seats (slice_set seats (s - 1) new) boxes none plan kind moment new
       (subst (λ (c : Bool). IsKept j g known seats boxes none c) may.idle i) refl is.0 to is may.in_time
       (let a = i.sound.room in let goal : length h + 1 + held (r ∷ h) ≤ j.limit = omega arith in goal)
-      eh el room (omega arith) ek same_opened (ap (λ (y : ℕ). slice_set seats y new) p)
+      eh el room (omega arith) ek same_opened refl
       (record {
-        shut = ap (λ (y : Seat). y.shut) seat ∙ was.shut;
+        shut = was.shut;
         gone = sym (ap (λ c. c || gone h s) yes);
-        accepted = ap (λ (y : Seat). y.accepted) seat ∙ was.accepted ∙ sym (ap length (append-nil (accepted h s)));
+        accepted = λ here. was.accepted here ∙ sym (ap length (append-nil (accepted h s)));
       })
       eplan
 
   -- ---- a session is hung
 
-  hung_begun : (k : journal.Shown) (more_known : List Deed) (s : ℕ) (w : Why) (moment : ℤ) (place : ℕ) (x : Seat)
-      → MayHang (shown j g boxes none busy) s moment → place + 1 ≡ s
+  hung_begun : (k : journal.Shown) (more_known : List Deed) (s : ℕ) (w : Why) (moment : ℤ)
+      → MayHang (shown j g boxes none busy) s moment
       → k.history ≡ fresh_record j.history moment (Hung s w) ∷ j.history → k.limit ≡ j.limit → 1 ≤ k.left → k.room + 1 ≡ j.room
-      → more_known ≡ Ended s w [] ∷ known → x ≡ slice_index_or seats place x
-      → IsKept k g more_known (slice_set seats place (record { shut = true; gone = x.gone; accepted = x.accepted })) boxes (record { session = s; item = Last (length j.history + 1) w } ∷ []) true
-  hung_begun k more_known s w moment place x may ep eh el room free ek ex =
+      → more_known ≡ Ended s w [] ∷ known
+      → IsKept k g more_known (slice_set seats (s - 1) (record { shut = true; gone = (seat_at seats s).gone; accepted = (seat_at seats s).accepted })) boxes (record { session = s; item = Last (length j.history + 1) w } ∷ []) true
+  hung_begun k more_known s w moment may eh el room free ek =
       let h = j.history in let kind = Hung s w in let r = fresh_record h moment kind in
       let from : 0 < s = may.known.from_1 in let few = may.known.opened in let to : s ≤ length seats = seated s few in
-      let l : place < length seats = omega arith in let p : place ≡ s - 1 = omega arith in
-      let seat : x ≡ seat_at seats s = seat_there seats place s x ep l ex in let was = i.each_seat s from to in
+      let x = seat_at seats s in let was = i.each_seat s from to in
       let new : Seat = record { shut = true; gone = x.gone; accepted = x.accepted } in
       let less = held_less h kind moment s refl from few (hung_less h s w moment may.not_shut (not_gone_yet g h s i.sound.legal may.not_shut)) in
       let kept = i.room in let yes : (s == s) ≡ true = eq-eqb s s refl in
-      begun_kept j k g known more_known seats (slice_set seats place new) boxes none _ kind moment new
+      begun_kept j k g known more_known seats (slice_set seats (s - 1) new) boxes none _ kind moment new
       (subst (λ (c : Bool). IsKept j g known seats boxes none c) may.idle i) refl from to (from, few, may.not_shut) may.in_time
       (let a = i.sound.room in let goal : length h + 1 + held (r ∷ h) ≤ j.limit = omega arith in goal)
-      eh el room (omega arith) ek (ap opened ek) (ap (λ (y : ℕ). slice_set seats y new) p)
+      eh el room (omega arith) ek (ap opened ek) refl
       (record {
         shut = sym (ap (λ c. c || shut h s) yes);
-        gone = ap (λ (y : Seat). y.gone) seat ∙ was.gone;
-        accepted = ap (λ (y : Seat). y.accepted) seat ∙ was.accepted ∙ sym (ap length (append-nil (accepted h s)));
+        gone = was.gone;
+        accepted = λ here. was.accepted here ∙ sym (ap length (append-nil (accepted h s)));
       })
       (sym (plan_hung g h s w moment (length boxes) may.not_shut))
 
   idle : (s : ℕ) (moment : ℤ) → MayHang (shown j g boxes none busy) s moment → none ≡ []
   idle s moment may = i.sound.idle may.idle
 
-  pub hung_put : (k : journal.Shown) (more_known : List Deed) (more : List (Option Waiting)) (s : ℕ) (w : Why) (moment : ℤ) (place : ℕ) (x : Seat)
-      → MayHang (shown j g boxes none busy) s moment → place + 1 ≡ s
+  pub hung_put : (k : journal.Shown) (more_known : List Deed) (more : List (Option Waiting)) (s : ℕ) (w : Why) (moment : ℤ)
+      → MayHang (shown j g boxes none busy) s moment
       → k.history ≡ fresh_record j.history moment (Hung s w) ∷ j.history → k.limit ≡ j.limit → 1 ≤ k.left → k.room + 1 ≡ j.room
-      → more_known ≡ Ended s w [] ∷ known → x ≡ slice_index_or seats place x
+      → more_known ≡ Ended s w [] ∷ known
       → has_room (outbox_at boxes s) ≡ true → more ≡ slice_set boxes (s - 1) (Some (with_put (outbox_at boxes s) (Last (length j.history + 1) w)))
-      → IsKept k g more_known (slice_set seats place (record { shut = true; gone = x.gone; accepted = x.accepted })) more none busy
-  hung_put k more_known more s w moment place x may ep eh el room free ek ex has em =
-      let p : Planned = record { session = s; item = Last (length j.history + 1) w } in let new : Seat = record { shut = true; gone = x.gone; accepted = x.accepted } in
-      let begun_ = hung_begun k more_known s w moment place x may ep eh el room free ek ex in
-      let put = delivered_kept k g more_known (slice_set seats place new) boxes more (p ∷ []) [] true p begun_ refl has em in
-      subst (λ (c : Bool). IsKept k g more_known (slice_set seats place new) more none c) (sym may.idle)
-      (subst (λ (xs : List Planned). IsKept k g more_known (slice_set seats place new) more xs false) (sym (idle s moment may)) (finished_kept k g more_known (slice_set seats place new) more [] true put refl))
+      → IsKept k g more_known (slice_set seats (s - 1) (record { shut = true; gone = (seat_at seats s).gone; accepted = (seat_at seats s).accepted })) more none busy
+  hung_put k more_known more s w moment may eh el room free ek has em =
+      let p : Planned = record { session = s; item = Last (length j.history + 1) w } in let x = seat_at seats s in let new : Seat = record { shut = true; gone = x.gone; accepted = x.accepted } in
+      let begun_ = hung_begun k more_known s w moment may eh el room free ek in
+      let put = delivered_kept k g more_known (slice_set seats (s - 1) new) boxes more (p ∷ []) [] true p begun_ refl has em in
+      subst (λ (c : Bool). IsKept k g more_known (slice_set seats (s - 1) new) more none c) (sym may.idle)
+      (subst (λ (xs : List Planned). IsKept k g more_known (slice_set seats (s - 1) new) more xs false) (sym (idle s moment may)) (finished_kept k g more_known (slice_set seats (s - 1) new) more [] true put refl))
 
-  pub hung_missed : (k n : journal.Shown) (more_known : List Deed) (s : ℕ) (w : Why) (moment : ℤ) (place : ℕ) (x : Seat)
-      → MayHang (shown j g boxes none busy) s moment → place + 1 ≡ s
+  pub hung_missed : (k n : journal.Shown) (more_known : List Deed) (s : ℕ) (w : Why) (moment : ℤ)
+      → MayHang (shown j g boxes none busy) s moment
       → k.history ≡ fresh_record j.history moment (Hung s w) ∷ j.history → k.limit ≡ j.limit → 1 ≤ k.left → k.room + 1 ≡ j.room
-      → more_known ≡ Ended s w [] ∷ known → x ≡ slice_index_or seats place x
+      → more_known ≡ Ended s w [] ∷ known
       → Misses k n s
-      → IsKept n g more_known (slice_set seats place (record { shut = true; gone = x.gone; accepted = x.accepted })) boxes none busy
-  hung_missed k n more_known s w moment place x may ep eh el room free ek ex missed =
-      let p : Planned = record { session = s; item = Last (length j.history + 1) w } in let new : Seat = record { shut = true; gone = x.gone; accepted = x.accepted } in
-      let places = slice_set seats place new in
-      let begun_ = hung_begun k more_known s w moment place x may ep eh el room free ek ex in
-      let few = may.known.opened in let to : s ≤ length seats = seated s few in let l : place < length seats = omega arith in let at : place ≡ s - 1 = omega arith in
-      let mine : seat_at places s ≡ new = ap (λ (y : ℕ). slice_index_or places y no_seat) (sym at) ∙ get_or-set_same seats place new no_seat l in
+      → IsKept n g more_known (slice_set seats (s - 1) (record { shut = true; gone = (seat_at seats s).gone; accepted = (seat_at seats s).accepted })) boxes none busy
+  hung_missed k n more_known s w moment may eh el room free ek missed =
+      let p : Planned = record { session = s; item = Last (length j.history + 1) w } in let x = seat_at seats s in let new : Seat = record { shut = true; gone = x.gone; accepted = x.accepted } in
+      let places = slice_set seats (s - 1) new in
+      let begun_ = hung_begun k more_known s w moment may eh el room free ek in
+      let few = may.known.opened in let to : s ≤ length seats = seated s few in let from : 0 < s = may.known.from_1 in let l : s - 1 < length seats = omega arith in
+      let mine : seat_at places s ≡ new = get_or-set_same seats (s - 1) new no_seat l in
       let again : record { shut = true; gone = (seat_at places s).gone; accepted = (seat_at places s).accepted } ≡ seat_at places s =
       ap (λ (y : Seat). record { shut = true; gone = y.gone; accepted = y.accepted }) mine ∙ sym mine in
       let set : places ≡ slice_set places (s - 1) (record { shut = true; gone = (seat_at places s).gone; accepted = (seat_at places s).accepted }) =

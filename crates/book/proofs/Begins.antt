@@ -1,5 +1,5 @@
 -- What the code has in hand when a record is appended is the next state.
-use Rattle.std.proofs.Common.{◌≡◌, ◌≢◌, inl, inr, ℕ, ℤ, zero, suc, ◌+◌, ◌-◌, ◌<◌, ◌≤◌, Bool, true, false, nat_le, cond, List, [], ◌∷◌, ◌++◌, length, slice_set, Option, Some, arith, refl, sym, ap, ◌∙◌, lit<}
+use Rattle.std.proofs.Common.{◌≡◌, ◌≢◌, inl, inr, ℕ, ℤ, zero, suc, ◌+◌, ◌-◌, ◌<◌, ◌≤◌, Bool, true, false, not, nat_lt, nat_le, cond, List, [], ◌∷◌, ◌++◌, length, slice_set, Option, Some, arith, refl, sym, ap, ◌∙◌, lit<}
 use Rattle.std.proofs.lemmas.Bool.Decides.{eqb_tells, nat_tests}
 use Rattle.chronicle.specs.declared.record.Kind.{Kind}
 use Rattle.chronicle.specs.declared.record.Kind.TheVariants.{Hung}
@@ -16,8 +16,8 @@ use Rattle.registration.specs.declared.settings.Settings.{Settings}
 use Rattle.book.specs.declared.plan.Planned.{Planned}
 use Rattle.book.specs.declared.seat.Seat.{Seat}
 use Rattle.book.specs.Owed.{item, told, reason}
-use Rattle.book.specs.Seats.{IsSeat, seat_at, told as tells, told_to, told_own, planned_from}
-use Rattle.book.specs.Book.{Shown, due, puts, others, plan_by, plan_of, begun, outbox_at, delivered, dropped, put_next, put_all, finished, done}
+use Rattle.book.specs.Seats.{IsSeat, seat_at, hears, told as tells, told_to, told_own, planned_from}
+use Rattle.book.specs.Book.{Shown, due, puts, others, plan_by, plan_of, begun, is_here, outbox_at, delivered, dropped, put_next, put_all, finished, done}
 use Rattle.book.proofs.Begun.{plan_hung}
 use Rattle.book.proofs.KeptSteps.{shown, shown_with}
 
@@ -44,15 +44,21 @@ others_same f g s t (suc n) m from to h =
       | inr other ↦ rw (h t from (omega arith) (λ e. other.1 (sym e))) refl
     ])
 
-pub plan_right : (g : Settings) (h : List Rec) (seats : List Seat) (k : Kind) (moment : ℤ) (quits : Bool) (number n : ℕ) → ((t : ℕ) → 0 < t → t ≤ length seats → IsSeat (seat_at seats t) h t) → number ≡ length h + 1 → length seats ≡ n → length seats ≡ sessions h
+-- a session that was opened hears unless it is shut
+hears_not : (seats : List Seat) (t : ℕ) → 0 < t → t ≤ length seats → not (hears seats t) ≡ (seat_at seats t).shut
+hears_not seats t from to =
+    let above : nat_lt 0 t ≡ true = grind (arith, nat_tests) in let below : nat_le t (length seats) ≡ true = grind (arith, nat_tests) in
+    rw (above, below) (elim (seat_at seats t).shut as (λ b. not (not b) ≡ b) [ true ↦ refl | false ↦ refl ])
+
+pub plan_right : (g : Settings) (h : List Rec) (seats : List Seat) (boxes : List (Option Waiting)) (k : Kind) (moment : ℤ) (quits : Bool) (number n : ℕ) → ((t : ℕ) → 0 < t → t ≤ length seats → IsSeat (seat_at seats t) (is_here boxes t) h t) → number ≡ length h + 1 → length seats ≡ n → length seats ≡ sessions h
     → 0 < actor k → actor k ≤ length seats → ends k (actor k) ≡ quits → reason k ≡ Quit → ((t : ℕ) → actor k ≢ t → ends k t ≡ false)
     → planned_from seats (actor k) number (text g (facts g h) k moment number) quits ≡ plan_of g h k moment n
-plan_right g h seats k moment quits number n seat en el all from to own why others_ =
+plan_right g h seats boxes k moment quits number n seat en el all from to own why others_ =
     let s = actor k in let f : ℕ → ℕ → List ℕ = text g (facts g h) k moment in
-    let mine : told_own (seat_at seats s).shut number (f number s) quits ≡ due g h k moment s =
-    ap (λ b. told_own b number (f number s) quits) (seat s from to).shut ∙ ap (λ (m : ℕ). told_own (shut h s) m (f m s) quits) en ∙ sym (due_own g h k moment quits s (omega arith) own why) in
+    let mine : told_own (not (hears seats s)) number (f number s) quits ≡ due g h k moment s =
+    ap (λ b. told_own b number (f number s) quits) (hears_not seats s from to ∙ (seat s from to).shut) ∙ ap (λ (m : ℕ). told_own (shut h s) m (f m s) quits) en ∙ sym (due_own g h k moment quits s (omega arith) own why) in
     let each : (u : ℕ) → 0 < u → u ≤ length seats → s ≢ u → told_to seats number (f number) u ≡ due g h k moment u = λ u above below ne.
-    ap (λ b. tells b number (f number u)) (seat u above below).shut ∙ ap (λ (m : ℕ). tells (shut h u) m (f m u)) en ∙ sym (due_told g h k moment u (omega arith) (others_ u ne)) in
+    ap (λ b. tells b number (f number u)) (hears_not seats u above below ∙ (seat u above below).shut) ∙ ap (λ (m : ℕ). tells (shut h u) m (f m u)) en ∙ sym (due_told g h k moment u (omega arith) (others_ u ne)) in
     ap (λ xs. puts s xs ++ others (told_to seats number (f number)) s 1 (length seats)) mine
     ∙ ap (λ ps. puts s (due g h k moment s) ++ ps) (others_same (told_to seats number (f number)) (due g h k moment) s 1 (length seats) (length seats) (lit< tt) (omega arith) each)
     ∙ ap (λ (m : ℕ). plan_by (due g h k moment) s m) el

@@ -1,7 +1,7 @@
 -- What a book keeps stands for its history over each step.
 use Rattle.std.proofs.lemmas.List.{get_or_push, get_or_append_left, get_or-set_same, get_or-set_other, length-set}
 use Rattle.std.proofs.lemmas.Bool.Decides.{eqb_tells}
-use Rattle.std.proofs.Common.{◌≡◌, ◌≢◌, inl, inr, ℕ, ℤ, ◌+◌, ◌-◌, ◌<◌, ◌≤◌, Bool, true, false, ◌||◌, Option, Some, None, List, [], ◌∷◌, ◌++◌, length, slice_set, arith, refl, sym, ap, ◌∙◌, subst, append-nil, length-append, ne_eqb}
+use Rattle.std.proofs.Common.{◌≡◌, ◌≢◌, inl, inr, ℕ, ℤ, ◌+◌, ◌-◌, ◌<◌, ◌≤◌, Bool, true, false, ◌||◌, Option, Some, None, List, [], ◌∷◌, ◌++◌, length, slice_set, slice_index_or, arith, refl, sym, ap, ◌∙◌, subst, append-nil, length-append, ne_eqb}
 use Rattle.chronicle.specs.declared.record.Kind.{Kind}
 use Rattle.chronicle.specs.declared.record.Kind.TheVariants.{Opened, Said, Hung, Gone}
 use Rattle.chronicle.specs.History.{Rec, actor, opened_by, sessions, said_by, accepted, ends, leaves, shut, gone, last_moment, IsMomentAfter}
@@ -18,11 +18,12 @@ use Rattle.roster.specs.LookBack as told_of
 use Rattle.roster.specs.declared.deed.Deed.TheVariants as deed
 use Rattle.book.specs.Legal.{IsKind}
 use Rattle.book.specs.Kept.{IsKept}
-use Rattle.book.specs.Seats.{IsSeat, no_seat, seat_at}
+use Rattle.std.specs.Option.{is_some}
+use Rattle.book.specs.Seats.{IsSeat, no_seat, away, seat_at}
 use Rattle.book.specs.Book.{Shown, MayOpen, outbox_at, is_here, held, plan_of, IsPlan, IsSound}
-use Rattle.book.proofs.About.{not_shut, not_gone, not_accepted}
+use Rattle.book.proofs.About.{not_shut, not_gone, not_accepted, gone_shut}
 use Rattle.book.proofs.Opened.{opened_sound, opened_held}
-use Rattle.book.proofs.Sound.{misses_same, misses_other, held_missed, delivered_sound, dropped_sound, finished_sound, taken_sound, reaped_sound}
+use Rattle.book.proofs.Sound.{misses_same, misses_other, held_missed, box_same, box_other, room_here, was_here, delivered_sound, dropped_sound, finished_sound, taken_sound, reaped_sound}
 use Rattle.book.proofs.Begun.{begun_sound}
 
 abbrev pub shown : journal.Shown → Settings → List (Option Waiting) → List Planned → Bool → Shown
@@ -48,24 +49,25 @@ opened_history j k g known more_known seats boxes plan busy host moment box i ma
     let more : length (seats ++ no_seat ∷ []) ≡ length seats + 1 = length-append seats (no_seat ∷ []) in
     let new : IsSound (shown k g all plan busy) =
     subst IsSound (sym (shown_with j k (r ∷ h) g all plan busy eh el)) (opened_sound (shown j g boxes plan busy) host moment box i.sound may fresh) in
-    let seat : (t : ℕ) → 0 < t → t ≤ length (seats ++ no_seat ∷ []) → IsSeat (seat_at (seats ++ no_seat ∷ []) t) (r ∷ h) t = λ t from to.
+    let seat : (t : ℕ) → 0 < t → t ≤ length (seats ++ no_seat ∷ []) → IsSeat (seat_at (seats ++ no_seat ∷ []) t) (is_here all t) (r ∷ h) t = λ t from to.
     elim (eqb_tells t n) [
       | inl last ↦
           let p : length seats ≡ t - 1 = let e = last.1 in let a = i.sound.sessions in let b = i.places in omega arith in
           let past : sessions h < t = let e = last.1 in omega arith in
-          subst (λ (s : Seat). IsSeat s (r ∷ h) t) (sym (get_or_push seats no_seat no_seat (t - 1) p))
-          (record { shut = sym (not_shut g h t i.sound.legal past); gone = sym (not_gone g h t i.sound.legal past); accepted = sym (ap length (append-nil (accepted h t) ∙ not_accepted g h t i.sound.legal past)) })
+          subst (λ (s : Seat). IsSeat s (is_here all t) (r ∷ h) t) (sym (get_or_push seats no_seat no_seat (t - 1) p))
+          (record { shut = sym (not_shut g h t i.sound.legal past); gone = sym (not_gone g h t i.sound.legal past); accepted = λ here. sym (ap length (append-nil (accepted h t) ∙ not_accepted g h t i.sound.legal past)) })
       | inr other ↦
           let l : t - 1 < length seats = let ne = other.1 in let a = i.sound.sessions in let b = i.places in omega arith in
           let below : t ≤ length seats = let ne = other.1 in let a = i.sound.sessions in let b = i.places in omega arith in
-          let was = i.each_seat t from below in
-          subst (λ (s : Seat). IsSeat s (r ∷ h) t) (sym (get_or_append_left seats (no_seat ∷ []) no_seat (t - 1) l))
-          (record { shut = was.shut; gone = was.gone; accepted = was.accepted ∙ sym (ap length (append-nil (accepted h t))) })
+          let was = i.each_seat t from below in let few : t - 1 < length boxes = let p = i.places in omega arith in
+          let kept = get_or_append_left boxes (Some box ∷ []) None (t - 1) few in
+          subst (λ (s : Seat). IsSeat s (is_here all t) (r ∷ h) t) (sym (get_or_append_left seats (no_seat ∷ []) no_seat (t - 1) l))
+          (record { shut = was.shut; gone = was.gone; accepted = λ here. was.accepted (ap (λ o. is_some o) (sym kept) ∙ here) ∙ sym (ap length (append-nil (accepted h t))) })
     ] in
     record {
       sound = new;
       facts = ek ∙ ap (λ (fs : List Deed). deed.Opened n host ∷ fs) i.facts ∙ sym (ap (facts g) eh);
-      each_seat = λ t from to. subst (λ (x : List Rec). IsSeat (seat_at (seats ++ no_seat ∷ []) t) x t) (sym eh) (seat t from to);
+      each_seat = λ t from to. subst (λ (x : List Rec). IsSeat (seat_at (seats ++ no_seat ∷ []) t) (is_here all t) x t) (sym eh) (seat t from to);
       opened = ap (λ (fs : List Deed). length (told_of.opened fs)) ek ∙ one_more ∙ ap (λ (m : ℕ). m + 1) i.opened ∙ sym (length-append boxes (Some box ∷ []));
       places = more ∙ ap (λ (m : ℕ). m + 1) i.places ∙ sym (length-append boxes (Some box ∷ []));
       left = let e = i.sound.idle may.idle in let z : length plan ≡ 0 = ap length e in let goal : length plan ≤ k.left = omega arith in goal;
@@ -96,7 +98,10 @@ delivered_kept j g known seats boxes more plan qs busy p i e room_ em =
     (record {
       sound = delivered_sound (shown j g boxes plan busy) p qs e room_ i.sound;
       facts = i.facts;
-      each_seat = i.each_seat;
+      each_seat = λ t above below.
+          let was = i.each_seat t above below in let there = room_here (slice_index_or boxes (p.session - 1) None) room_ in
+          let from : 0 < p.session = (subst (IsPlan g j.history (length boxes)) e i.sound.plan).0 in
+          record { shut = was.shut; gone = was.gone; accepted = λ here. was.accepted (was_here boxes p.session t (with_put (outbox_at boxes p.session) p.item) there from above here) };
       opened = i.opened ∙ sym len;
       places = i.places ∙ sym len;
       left = omega arith;
@@ -137,24 +142,24 @@ dropped_kept j k g known seats places boxes plan qs busy p i e ep miss_ =
     let from : 0 < s = planned_.0 in let to : s ≤ length seats = let a = planned_.1 in let b = i.places in omega arith in
     let sound : IsSound (shown k g boxes qs busy) = subst IsSound (sym (shown_with j k (miss h s) g boxes qs busy miss_.history miss_.limit)) (dropped_sound (shown j g boxes plan busy) p qs e i.sound) in
     let len : length (slice_set seats (s - 1) v) ≡ length seats = simp length-set in
-    let seat : (t : ℕ) → 0 < t → t ≤ length seats → IsSeat (seat_at (slice_set seats (s - 1) v) t) (miss h s) t = λ t above below.
+    let seat : (t : ℕ) → 0 < t → t ≤ length seats → IsSeat (seat_at (slice_set seats (s - 1) v) t) (is_here boxes t) (miss h s) t = λ t above below.
     elim (eqb_tells s t) [
       | inl same ↦
           let l : s - 1 < length seats = omega arith in let was = i.each_seat s from to in
-          let here : IsSeat (seat_at (slice_set seats (s - 1) v) s) (miss h s) s =
-          subst (λ (x : Seat). IsSeat x (miss h s) s) (sym (get_or-set_same seats (s - 1) v no_seat l))
-          (record { shut = sym (shut-miss_same g h s (length boxes) p qs planned_ refl); gone = was.gone ∙ sym (gone-miss h s s); accepted = was.accepted ∙ ap length (sym (accepted-miss h s s)) }) in
-          subst (λ (u : ℕ). IsSeat (seat_at (slice_set seats (s - 1) v) u) (miss h s) u) same.1 here
+          let here : IsSeat (seat_at (slice_set seats (s - 1) v) s) (is_here boxes s) (miss h s) s =
+          subst (λ (x : Seat). IsSeat x (is_here boxes s) (miss h s) s) (sym (get_or-set_same seats (s - 1) v no_seat l))
+          (record { shut = sym (shut-miss_same g h s (length boxes) p qs planned_ refl); gone = was.gone ∙ sym (gone-miss h s s); accepted = λ there. was.accepted there ∙ ap length (sym (accepted-miss h s s)) }) in
+          subst (λ (u : ℕ). IsSeat (seat_at (slice_set seats (s - 1) v) u) (is_here boxes u) (miss h s) u) same.1 here
       | inr other ↦
           let apart : t - 1 ≢ s - 1 = λ x. other.1 (omega arith) in let was = i.each_seat t above below in
-          subst (λ (x : Seat). IsSeat x (miss h s) t) (sym (get_or-set_other seats (s - 1) (t - 1) v no_seat apart))
-          (record { shut = was.shut ∙ sym (shut-miss_other h s t other.1); gone = was.gone ∙ sym (gone-miss h s t); accepted = was.accepted ∙ ap length (sym (accepted-miss h s t)) })
+          subst (λ (x : Seat). IsSeat x (is_here boxes t) (miss h s) t) (sym (get_or-set_other seats (s - 1) (t - 1) v no_seat apart))
+          (record { shut = was.shut ∙ sym (shut-miss_other h s t other.1); gone = was.gone ∙ sym (gone-miss h s t); accepted = λ there. was.accepted there ∙ ap length (sym (accepted-miss h s t)) })
     ] in
     subst (λ (x : List Seat). IsKept k g known x boxes qs busy) (sym ep)
     (record {
       sound = sound;
       facts = i.facts ∙ sym (ap (facts g) miss_.history ∙ facts-miss g h s);
-      each_seat = λ t above below. subst (λ (x : List Rec). IsSeat (seat_at (slice_set seats (s - 1) v) t) x t) (sym miss_.history) (seat t above (let q = len in omega arith));
+      each_seat = λ t above below. subst (λ (x : List Rec). IsSeat (seat_at (slice_set seats (s - 1) v) t) (is_here boxes t) x t) (sym miss_.history) (seat t above (let q = len in omega arith));
       opened = i.opened;
       places = len ∙ i.places;
       left = omega arith;
@@ -178,7 +183,9 @@ taken_kept j g known seats boxes more plan busy s i from to here em =
     (record {
       sound = taken_sound (shown j g boxes plan busy) s from to here i.sound;
       facts = i.facts;
-      each_seat = i.each_seat;
+      each_seat = λ t above below.
+          let was = i.each_seat t above below in
+          record { shut = was.shut; gone = was.gone; accepted = λ there. was.accepted (was_here boxes s t (with_taken (outbox_at boxes s)) here from above there) };
       opened = i.opened ∙ sym len;
       places = i.places ∙ sym len;
       left = i.left;
@@ -187,20 +194,35 @@ taken_kept j g known seats boxes more plan busy s i from to here em =
 
 -- ---- a session is given up
 
-pub reaped_kept : (j : journal.Shown) (g : Settings) (known : List Deed) (seats : List Seat) (boxes more : List (Option Waiting)) (plan : List Planned) (busy : Bool) (s : ℕ)
-    → IsKept j g known seats boxes plan busy → 0 < s → s ≤ length boxes → gone j.history s ≡ true → more ≡ slice_set boxes (s - 1) None → IsKept j g known seats more plan busy
-reaped_kept j g known seats boxes more plan busy s i from to left_ em =
-    let new = slice_set boxes (s - 1) None in let len : length new ≡ length boxes = simp length-set in
-    subst (λ (x : List (Option Waiting)). IsKept j g known seats x plan busy) (sym em)
+pub reaped_kept : (j : journal.Shown) (g : Settings) (known : List Deed) (seats places : List Seat) (boxes more : List (Option Waiting)) (plan : List Planned) (busy : Bool) (s : ℕ)
+    → IsKept j g known seats boxes plan busy → 0 < s → s ≤ length boxes → gone j.history s ≡ true → places ≡ slice_set seats (s - 1) away → more ≡ slice_set boxes (s - 1) None → IsKept j g known places more plan busy
+reaped_kept j g known seats places boxes more plan busy s i from to left_ ep em =
+    let h = j.history in let new = slice_set boxes (s - 1) None in let len : length new ≡ length boxes = simp length-set in
+    let rows = slice_set seats (s - 1) away in let many : length rows ≡ length seats = simp length-set in
+    let seat : (t : ℕ) → 0 < t → t ≤ length seats → IsSeat (seat_at rows t) (is_here new t) h t = λ t above below.
+    elim (eqb_tells s t) [
+      | inl same ↦
+          let l : s - 1 < length seats = let p = i.places in omega arith in
+          let here : IsSeat (seat_at rows s) (is_here new s) h s =
+          subst (λ (x : Seat). IsSeat x (is_here new s) h s) (sym (get_or-set_same seats (s - 1) away no_seat l))
+          (record { shut = sym (gone_shut g h s i.sound.legal left_); gone = sym left_; accepted = λ there. absurd (let f : false ≡ true = ap (λ o. is_some o) (sym (box_same boxes s None from to)) ∙ there in cc) }) in
+          subst (λ (u : ℕ). IsSeat (seat_at rows u) (is_here new u) h u) same.1 here
+      | inr other ↦
+          let apart : t - 1 ≢ s - 1 = λ x. other.1 (omega arith) in let was = i.each_seat t above below in
+          subst (λ (x : Seat). IsSeat x (is_here new t) h t) (sym (get_or-set_other seats (s - 1) (t - 1) away no_seat apart))
+          (record { shut = was.shut; gone = was.gone; accepted = λ there. was.accepted (ap (λ o. is_some o) (sym (box_other boxes s t None from above other.1)) ∙ there) })
+    ] in
+    subst (λ (x : List Seat). IsKept j g known x more plan busy) (sym ep)
+    (subst (λ (x : List (Option Waiting)). IsKept j g known rows x plan busy) (sym em)
     (record {
       sound = reaped_sound (shown j g boxes plan busy) s from to left_ i.sound;
       facts = i.facts;
-      each_seat = i.each_seat;
+      each_seat = λ t above below. seat t above (let q = many in omega arith);
       opened = i.opened ∙ sym len;
-      places = i.places ∙ sym len;
+      places = many ∙ i.places ∙ sym len;
       left = i.left;
       room = i.room;
-    })
+    }))
 
 -- ---- a record is appended, and its deliveries are planned
 
@@ -219,7 +241,7 @@ pub begun_kept : (j k : journal.Shown) (g : Settings) (known more_known : List D
     → length j.history + 1 + held (fresh_record j.history moment kind ∷ j.history) ≤ j.limit
     → k.history ≡ fresh_record j.history moment kind ∷ j.history → k.limit ≡ j.limit → length plan ≤ k.left → held (fresh_record j.history moment kind ∷ j.history) ≤ k.room
     → more_known ≡ after known (deeds g known kind) → told_of.opened more_known ≡ told_of.opened known
-    → places ≡ slice_set seats (actor kind - 1) v → IsSeat v (fresh_record j.history moment kind ∷ j.history) (actor kind)
+    → places ≡ slice_set seats (actor kind - 1) v → IsSeat v (is_here boxes (actor kind)) (fresh_record j.history moment kind ∷ j.history) (actor kind)
     → plan ≡ plan_of g j.history kind moment (length boxes)
     → IsKept k g more_known places boxes plan true
 begun_kept j k g known more_known seats places boxes none plan kind moment v i opens from to is in_time limit_ eh el room_ free ek same ep iv eplan =
@@ -229,26 +251,26 @@ begun_kept j k g known more_known seats places boxes none plan kind moment v i o
     subst IsSound (sym (shown_with j k (r ∷ h) g boxes plan true eh el))
     (subst (λ (x : List Planned). IsSound (record { history = r ∷ h; limit = j.limit; settings = g; outboxes = boxes; plan = x; busy = true })) (sym eplan) (begun_sound (shown j g boxes none false) kind moment i.sound refl opens from to' is in_time limit_)) in
     let len : length (slice_set seats (s - 1) v) ≡ length seats = simp length-set in
-    let seat : (t : ℕ) → 0 < t → t ≤ length seats → IsSeat (seat_at (slice_set seats (s - 1) v) t) (r ∷ h) t = λ t above below.
+    let seat : (t : ℕ) → 0 < t → t ≤ length seats → IsSeat (seat_at (slice_set seats (s - 1) v) t) (is_here boxes t) (r ∷ h) t = λ t above below.
     elim (eqb_tells s t) [
       | inl equal ↦
           let l : s - 1 < length seats = omega arith in
-          let here : IsSeat (seat_at (slice_set seats (s - 1) v) s) (r ∷ h) s = subst (λ (x : Seat). IsSeat x (r ∷ h) s) (sym (get_or-set_same seats (s - 1) v no_seat l)) iv in
-          subst (λ (u : ℕ). IsSeat (seat_at (slice_set seats (s - 1) v) u) (r ∷ h) u) equal.1 here
+          let here : IsSeat (seat_at (slice_set seats (s - 1) v) s) (is_here boxes s) (r ∷ h) s = subst (λ (x : Seat). IsSeat x (is_here boxes s) (r ∷ h) s) (sym (get_or-set_same seats (s - 1) v no_seat l)) iv in
+          subst (λ (u : ℕ). IsSeat (seat_at (slice_set seats (s - 1) v) u) (is_here boxes u) (r ∷ h) u) equal.1 here
       | inr other ↦
           let apart : t - 1 ≢ s - 1 = λ x. other.1 (omega arith) in let was = i.each_seat t above below in let q = quiet kind t opens other.1 in
-          subst (λ (x : Seat). IsSeat x (r ∷ h) t) (sym (get_or-set_other seats (s - 1) (t - 1) v no_seat apart))
+          subst (λ (x : Seat). IsSeat x (is_here boxes t) (r ∷ h) t) (sym (get_or-set_other seats (s - 1) (t - 1) v no_seat apart))
           (record {
             shut = was.shut ∙ ap (λ b. b || shut h t) (sym q.0);
             gone = was.gone ∙ ap (λ b. b || gone h t) (sym q.1);
-            accepted = was.accepted ∙ sym (ap (λ xs. length (accepted h t ++ xs)) q.2 ∙ ap length (append-nil (accepted h t)));
+            accepted = λ there. was.accepted there ∙ sym (ap (λ xs. length (accepted h t ++ xs)) q.2 ∙ ap length (append-nil (accepted h t)));
           })
     ] in
     subst (λ (x : List Seat). IsKept k g more_known x boxes plan true) (sym ep)
     (record {
       sound = sound;
       facts = ek ∙ ap (λ (fs : List Deed). after fs (deeds g fs kind)) i.facts ∙ sym (ap (facts g) eh);
-      each_seat = λ t above below. subst (λ (x : List Rec). IsSeat (seat_at (slice_set seats (s - 1) v) t) x t) (sym eh) (seat t above (let q = len in omega arith));
+      each_seat = λ t above below. subst (λ (x : List Rec). IsSeat (seat_at (slice_set seats (s - 1) v) t) (is_here boxes t) x t) (sym eh) (seat t above (let q = len in omega arith));
       opened = ap length same ∙ i.opened;
       places = len ∙ i.places;
       left = room_;

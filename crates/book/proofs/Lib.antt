@@ -1,8 +1,10 @@
-pub mod Index
 pub mod About
 pub mod Opened
 pub mod Sound
+pub mod Listed
+pub mod Counted
 pub mod Begun
+pub mod Heards
 pub mod Plans
 pub mod Puts
 pub mod KeptSteps
@@ -10,5 +12,4 @@ pub mod Begins
 pub mod Outs
 pub mod Sweeps
 pub mod Appends
-pub mod Count
 pub mod Examples

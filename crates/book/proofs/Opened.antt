@@ -2,7 +2,7 @@
 use Rattle.std.proofs.lemmas.List.{get_or_push, get_or_append_left}
 use Rattle.std.proofs.lemmas.List.Sums.{sum_by-cons, sum_by_push}
 use Rattle.std.proofs.lemmas.Bool.Decides.{eqb_tells}
-use Rattle.std.proofs.Common.{◌≡◌, inl, inr, ℕ, ℤ, zero, suc, ◌+◌, ◌-◌, ◌<◌, ◌≤◌, Bool, true, false, ◌||◌, ◌==◌, nat_le, cond, List, [], ◌∷◌, ◌++◌, length, sum_by, slice_index_or, Some, None, arith, refl, sym, ap, ◌∙◌, append-nil, length-append, lit≤}
+use Rattle.std.proofs.Common.{◌≡◌, inl, inr, ℕ, ℤ, zero, suc, ◌+◌, ◌-◌, ◌<◌, ◌≤◌, Bool, true, false, ◌||◌, ◌==◌, nat_le, cond, List, [], ◌∷◌, ◌++◌, length, sum_by, slice_index_or, Option, Some, None, arith, refl, sym, ap, ◌∙◌, append-nil, length-append, lit≤}
 use Rattle.std.specs.Option.{is_some}
 use Rattle.chronicle.specs.declared.record.Kind.TheVariants.{Opened, Said, Hung, Gone}
 use Rattle.chronicle.specs.declared.record.Kind.{Kind}
@@ -18,7 +18,7 @@ use Rattle.deeds.specs.Deeds.{facts}
 use Rattle.book.specs.Owed.{item, owed}
 use Rattle.book.specs.Seats.{no_seat, kept_by, IsSeat, seat_at}
 use Rattle.roster.specs.LookBack.{caps, numbers}
-use Rattle.book.specs.Book.{Shown, MayOpen, box_of, kept_for, held, planned, opened, IsSound}
+use Rattle.book.specs.Book.{Shown, MayOpen, is_here, box_of, kept_for, held, planned, opened, IsSound}
 use Rattle.book.proofs.About.{not_owed}
 
 pub numbers_push : (k n : ℕ) → numbers k (suc n) ≡ numbers k n ++ (k + n) ∷ []
@@ -93,8 +93,8 @@ kept_sum h (x ∷ xs) k f =
     let here : kept_by x ≡ kept_for h k = let e : k + 0 ≡ k = omega arith in f 0 (omega arith) ∙ ap (kept_for h) e in
     sum_by-cons kept_by x xs ∙ ap (λ (j : ℕ). kept_by x + j) rest ∙ ap (λ (j : ℕ). j + sum_by (kept_for h) (numbers (k + 1) (length xs))) here ∙ sym (sum_by-cons (kept_for h) k (numbers (k + 1) (length xs)))
 
-pub seats_held : (h : List Rec) (seats : List Seat) → ((t : ℕ) → 0 < t → t ≤ length seats → IsSeat (seat_at seats t) h t) → sessions h ≡ length seats → sum_by kept_by seats ≡ held h
-seats_held h seats f e =
+pub seats_held : (h : List Rec) (seats : List Seat) (boxes : List (Option Waiting)) → ((t : ℕ) → 0 < t → t ≤ length seats → IsSeat (seat_at seats t) (is_here boxes t) h t) → sessions h ≡ length seats → sum_by kept_by seats ≡ held h
+seats_held h seats boxes f e =
     kept_sum h seats 1 (λ i l. let from : 0 < 1 + i = omega arith in let to : 1 + i ≤ length seats = omega arith in let j : i ≡ 1 + i - 1 = omega arith in
     ap (λ (k : ℕ). kept_by (slice_index_or seats k no_seat)) j ∙ kept_same h (seat_at seats (1 + i)) (1 + i) (f (1 + i) from to).shut (f (1 + i) from to).gone)
     ∙ ap (λ (n : ℕ). sum_by (kept_for h) (numbers 1 n)) (sym e)

@@ -1,17 +1,10 @@
 -- What the code has in hand after a delivery is the next state.
-use Rattle.std.proofs.Common.{◌≡◌, ℕ, ◌-◌, ◌<◌, true, false, cond, List, ◌∷◌, length, slice_set, slice_index_or, Option, Some, sym, ap, ◌∙◌}
+use Rattle.std.proofs.Common.{◌≡◌, ℕ, ◌-◌, true, false, cond, List, ◌∷◌, slice_set, Option, Some, sym, ap, ◌∙◌}
 use Rattle.chronicle.specs.History.{Rec}
 use Rattle.chronicle.specs.Journal.{miss}
 use Rattle.book.specs.declared.plan.Planned.{Planned}
-use Rattle.book.specs.declared.seat.Seat.{Seat}
 use Rattle.outbox.specs.Ring.{Waiting, has_room, with_put}
-use Rattle.book.specs.Seats.{no_seat, seat_at}
 use Rattle.book.specs.Book.{Shown, outbox_at, delivered, dropped, put_next}
-use Rattle.book.proofs.Index.{same_within}
-
--- the seat at a place
-pub seat_is : (seats : List Seat) (n s : ℕ) (x : Seat) → n ≡ s → n - 1 < length seats → x ≡ slice_index_or seats (n - 1) x → x ≡ seat_at seats s
-seat_is seats n s x e l is = is ∙ same_within seats (n - 1) x no_seat l ∙ ap (λ (j : ℕ). slice_index_or seats (j - 1) no_seat) e
 
 -- the delivery was put
 pub put_is : (m : Shown) (p : Planned) (qs : List Planned) (more : List (Option Waiting)) → m.plan ≡ p ∷ qs → has_room (outbox_at m.outboxes p.session) ≡ true
@@ -22,11 +15,6 @@ put_is m p qs more e room em =
     ∙ sym (ap (put_next m) e ∙ ap (λ c. cond c (delivered m p qs) (dropped m p qs)) room)
 
 -- the delivery was missed
-pub seats_shut : (seats : List Seat) (n s : ℕ) (x : Seat) → n ≡ s → x ≡ seat_at seats s
-    → slice_set seats (n - 1) (record { shut = true; gone = x.gone; accepted = x.accepted }) ≡ slice_set seats (s - 1) (record { shut = true; gone = (seat_at seats s).gone; accepted = (seat_at seats s).accepted })
-seats_shut seats n s x en ex =
-    ap (λ (j : ℕ). slice_set seats (j - 1) (record { shut = true; gone = x.gone; accepted = x.accepted })) en ∙ ap (λ (y : Seat). slice_set seats (s - 1) (record { shut = true; gone = y.gone; accepted = y.accepted })) ex
-
 pub miss_is : (m : Shown) (p : Planned) (qs : List Planned) (h : List Rec) (l : ℕ) (more : List (Option Waiting)) → m.plan ≡ p ∷ qs → has_room (outbox_at m.outboxes p.session) ≡ false → h ≡ miss m.history p.session → l ≡ m.limit → more ≡ m.outboxes
     → record { history = h; limit = l; settings = m.settings; outboxes = more; plan = qs; busy = m.busy } ≡ put_next m m.plan
 miss_is m p qs h l more e full eh el em =

@@ -132,9 +132,17 @@ pub box_other : (boxes : List (Option Waiting)) (s t : ℕ) (v : Option Waiting)
 box_other boxes s t v a b ne = get_or-set_other boxes (s - 1) (t - 1) v None (λ e. ne (omega arith))
 
 -- an outbox with room is that of a session that isn't reaped
-room_here : (o : Option Waiting) → has_room (box_of o) ≡ true → is_some o ≡ true
+pub room_here : (o : Option Waiting) → has_room (box_of o) ≡ true → is_some o ≡ true
 room_here None e = absurd (let f : false ≡ true = e in cc)
 room_here (Some b) e = refl
+
+-- who has an outbox after another is put in a place had one before
+pub was_here : (boxes : List (Option Waiting)) (s t : ℕ) (v : Waiting) → is_here boxes s ≡ true → 0 < s → 0 < t → is_here (slice_set boxes (s - 1) (Some v)) t ≡ true → is_here boxes t ≡ true
+was_here boxes s t v there a b here =
+    elim (eqb_tells s t) [
+      | inl same ↦ ap (is_here boxes) (sym same.1) ∙ there
+      | inr other ↦ ap (λ o. is_some o) (sym (box_other boxes s t (Some v) a b other.1)) ∙ here
+    ]
 
 -- ---- a delivery is put
 

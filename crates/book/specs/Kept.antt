@@ -9,14 +9,14 @@ use Rattle.book.specs.declared.plan.Planned.{Planned}
 use Rattle.outbox.specs.Ring.{Waiting}
 use Rattle.deeds.specs.Deeds.{facts}
 use Rattle.book.specs.Seats.{IsSeat, seat_at}
-use Rattle.book.specs.Book.{held, IsSound}
+use Rattle.book.specs.Book.{is_here, held, IsSound}
 
 -- all that a book keeps stands for its history, the facts that its roster knows are those of the history, and there is room
 -- for the records that are kept free
 pub record IsKept (j : journal.Shown) (g : Settings) (known : List Deed) (seats : List Seat) (boxes : List (Option Waiting)) (plan : List Planned) (busy : Bool) : Type 0 where
   pub sound : IsSound (record { history = j.history; limit = j.limit; settings = g; outboxes = boxes; plan = plan; busy = busy })
   pub facts : known ≡ facts g j.history
-  pub each_seat : (t : ℕ) → 0 < t → t ≤ length seats → IsSeat (seat_at seats t) j.history t
+  pub each_seat : (t : ℕ) → 0 < t → t ≤ length seats → IsSeat (seat_at seats t) (is_here boxes t) j.history t
   pub opened : length (opened known) ≡ length boxes
   pub places : length seats ≡ length boxes
   pub left : length plan ≤ j.left

@@ -2,6 +2,7 @@ pub mod Owed
 pub mod Legal
 pub mod Book
 pub mod Seats
+pub mod Heard
 pub mod Settings
 pub mod Kept
 pub mod Told

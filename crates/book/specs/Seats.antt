@@ -1,15 +1,15 @@
 -- What a book keeps for its sessions, and how that stands for the history.
-use Rattle.std.specs.Prelude.{◌≡◌, ℕ, ℤ, ◌-◌, Bool, false, cond, if◌then◌else◌, List, [], ◌∷◌, ◌++◌, filter, map, ◌==◌, length, slice_index_or, None}
+use Rattle.std.specs.Prelude.{◌≡◌, ℕ, ℤ, ◌+◌, ◌-◌, ◌<◌, ◌≤◌, Bool, true, false, not, ◌&&◌, nat_lt, nat_le, cond, if◌then◌else◌, List, [], ◌∷◌, ◌++◌, filter, map, length, sum_by, slice_index_or, Option, None}
 use Rattle.chronicle.specs.History.{Rec, accepted, shut, gone}
 use Rattle.outbox.specs.declared.item.Item.{Item}
 use Rattle.outbox.specs.declared.item.Item.TheVariants.{Last}
 use Rattle.chronicle.specs.declared.why.Why.TheVariants.{Quit}
 use Rattle.book.specs.declared.seat.Seat.{Seat}
 use Rattle.book.specs.declared.plan.Planned.{Planned}
-use Rattle.book.specs.Book.{puts, others}
-use Rattle.std.specs.List.{flat_map}
+use Rattle.outbox.specs.Ring.{Waiting}
+use Rattle.book.specs.Book.{is_here, count_here, puts, others}
 use Rattle.roster.specs.declared.deed.Deed.{Deed}
-use Rattle.roster.specs.LookBack.{caps}
+use Rattle.roster.specs.LookBack.{caps, numbers}
 use Rattle.labels_batches.specs.Answers.{tagged_as}
 use Rattle.labels_batches.specs.Rendered.{rendered}
 use Rattle.deeds.specs.declared.verdict.Shown.{Shown}
@@ -22,16 +22,61 @@ no_seat = record { shut = false; gone = false; accepted = 0 }
 abbrev pub seat_at : List Seat → ℕ → Seat
 seat_at seats t = slice_index_or seats (t - 1) no_seat
 
+-- how a session stands that was reaped
+abbrev pub away : Seat
+away = record { shut = true; gone = true; accepted = 0 }
+
+-- the seats of all sessions by their numbers, and the outboxes of those that aren't reaped
+pub record Rows : Type 0 where
+  pub seats : List Seat
+  pub boxes : List (Option Waiting)
+
+-- session t was opened and isn't reaped
+pub record IsSeated (rows : Rows) (t : ℕ) : Type 0 where
+  pub from_1 : 0 < t
+  pub opened : t ≤ length rows.seats
+  pub here : is_here rows.boxes t ≡ true
+
+-- whether session t was opened and isn't shut
+abbrev pub hears : List Seat → ℕ → Bool
+hears seats t = nat_lt 0 t && nat_le t (length seats) && not (seat_at seats t).shut
+
+-- whether session t is shut and isn't gone
+abbrev pub sweeps : List Seat → ℕ → Bool
+sweeps seats t = (seat_at seats t).shut && not (seat_at seats t).gone
+
 abbrev pub kept_by : Seat → ℕ
 kept_by seat = if seat.gone then 0 else (if seat.shut then 1 else 2)
+
+-- two for a session that isn't shut
+abbrev pub open_by : Seat → ℕ
+open_by seat = if seat.gone then 0 else (if seat.shut then 0 else 2)
+
+-- numbers in their order, with s at its place among them
+abbrev pub placed : ℕ → List ℕ → List ℕ
+placed s [] = s ∷ []
+placed s (x ∷ xs) = cond (nat_lt x s) (x ∷ placed s xs) (s ∷ x ∷ xs)
+
+-- what stands ready is what the seats say, and there is room to list each session that may be shut
+pub record IsCounted (seats : List Seat) (boxes : List (Option Waiting)) (kept count : ℕ) (to_sweep : List ℕ) (most : ℕ) : Type 0 where
+  pub places : length seats ≡ length boxes
+  pub held : kept ≡ sum_by kept_by seats
+  pub here : count ≡ count_here boxes
+  pub listed : to_sweep ≡ filter (sweeps seats) (numbers 1 (length seats))
+  pub open_ : kept ≡ length to_sweep + sum_by open_by seats
+  pub room : kept ≤ most
 
 -- what a text tells a session, unless it is shut
 abbrev pub told : Bool → ℕ → List ℕ → List Item
 told is_shut number bytes = cond is_shut [] (item number bytes)
 
+-- what a text tells t, where it was opened and isn't shut
+abbrev pub told_here : List Seat → ℕ → ℕ → List ℕ → List Item
+told_here seats number t bytes = told (not (hears seats t)) number bytes
+
 -- what a text for each session tells t
 abbrev pub told_to : List Seat → ℕ → (ℕ → List ℕ) → ℕ → List Item
-told_to seats number text t = told (seat_at seats t).shut number (text t)
+told_to seats number text t = told_here seats number t (text t)
 
 -- what a record tells its own session: where that quits by it, its last item
 abbrev pub told_own : Bool → ℕ → List ℕ → Bool → List Item
@@ -46,23 +91,15 @@ abbrev pub heard_text : List Deed → ℤ → List Shown → ℕ → List ℕ
 heard_text fs moment [] t = []
 heard_text fs moment (x ∷ xs) t = heard_of fs moment x t ++ heard_text fs moment xs t
 
--- octets, as often as t is among the hearers
-abbrev pub repeated : List ℕ → List ℕ → ℕ → List ℕ
-repeated hearers line t = flat_map (λ h. line) (filter (λ h. h == t) hearers)
-
--- what texts, one a seat, tell t
-abbrev pub planned_for : List Seat → ℕ → List (List ℕ) → ℕ → List Item
-planned_for seats number texts t = told (seat_at seats t).shut number (slice_index_or texts (t - 1) [])
-
 -- the deliveries of a record of s, which perhaps quits by it: its own text, and that of each other session
 abbrev pub planned_with : List Seat → ℕ → ℕ → List ℕ → (ℕ → List ℕ) → Bool → List Planned
-planned_with seats s number own text quits = puts s (told_own (seat_at seats s).shut number own quits) ++ others (told_to seats number text) s 1 (length seats)
+planned_with seats s number own text quits = puts s (told_own (not (hears seats s)) number own quits) ++ others (told_to seats number text) s 1 (length seats)
 
 abbrev pub planned_from : List Seat → ℕ → ℕ → (ℕ → List ℕ) → Bool → List Planned
 planned_from seats s number text quits = planned_with seats s number (text s) text quits
 
--- a seat stands for what the history says of its session
-pub record IsSeat (seat : Seat) (h : List Rec) (t : ℕ) : Type 0 where
+-- a seat stands for what the history says of its session, of which lines count no more when it is reaped
+pub record IsSeat (seat : Seat) (here : Bool) (h : List Rec) (t : ℕ) : Type 0 where
   pub shut : seat.shut ≡ shut h t
   pub gone : seat.gone ≡ gone h t
-  pub accepted : seat.accepted ≡ length (accepted h t)
+  pub accepted : here ≡ true → seat.accepted ≡ length (accepted h t)

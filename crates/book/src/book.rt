@@ -7,9 +7,9 @@ ghost use Rattle.chronicle.specs.History.{sessions, last_moment, shut, gone, mis
 ghost use Rattle.chronicle.specs.Journal.{IsRoomier, numbered, record_at};
 ghost use Rattle.roster.specs.LookBack.{nick, on};
 ghost use Rattle.deeds.specs.Deeds.{facts};
-ghost use Rattle.outbox.specs.Ring.{has_room, with_put, with_taken};
 ghost use Rattle.book.specs.Settings.{IsWellSet};
-ghost use Rattle.book.specs.Book.{outbox_at, is_here, here_by};
+ghost use Rattle.book.specs.Book.{outbox_at};
+ghost use Rattle.book.specs.Seats.{IsSeat};
 
 use crate::baton::Baton;
 use crate::out::{Done, Hung, Left, Plan, Step};
@@ -17,11 +17,12 @@ use crate::plan::{Planned, Prepared, commit, prepare_gone, prepare_line};
 use crate::refusals::{
     BookFault, HangRefusal, LineRefusal, OpenRefusal, ReapRefusal, SweepRefusal, TakeRefusal,
 };
-use crate::seat::{Seat, held, is_to_sweep};
+use crate::seat::Seat;
+use crate::seats::Seats;
 use crate::settings::is_well_set;
 use chronicle::{Journal, Kind, Moment, Record, RecordNumber, SessionId, Why};
 use line_grammar::{Octets, Piece};
-use outbox::{Item, Outbox, Ring};
+use outbox::{Item, Ring};
 use registration::Settings;
 use roster::{Deed, Roster, Sessions};
 use std::alloc::{AllocError, Global};
@@ -35,8 +36,7 @@ pub struct Book {
     alloc: Global,
     journal: Journal,
     roster: Roster,
-    seats: Vec<Seat>,
-    outboxes: Vec<Option<Ring>>,
+    seats: Seats,
     plan: VecDeque<Planned>,
     busy: bool,
 }
@@ -47,51 +47,9 @@ impl Model for Book {
 
     ghost Value = { Shown };
 
-    ghost view = { λ a. record { history = a.journal.history; limit = a.journal.limit; settings = a.roster.settings; outboxes = a.outboxes.items; plan = a.plan.items; busy = a.busy } };
+    ghost view = { λ a. record { history = a.journal.history; limit = a.journal.limit; settings = a.roster.settings; outboxes = a.seats.boxes; plan = a.plan.items; busy = a.busy } };
 
-    ghost invariant = { λ a. IsKept a.journal a.roster.settings a.roster.facts a.seats.items a.outboxes.items a.plan.items a.busy };
-}
-
-/// One where there is an outbox.
-fn here_by(outbox: &Option<Ring>) -> usize
-    ensures { result ≡ here_by outbox.now }
-{
-    if outbox.is_some() { 1 } else { 0 }
-}
-
-/// How many sessions aren't reaped.
-fn count_here(outboxes: &[Option<Ring>]) -> usize
-    requires { sum_by here_by outboxes.now < 2 ^ 64 }
-    ensures { result ≡ sum_by here_by outboxes.now }
-{
-    outboxes.iter().map(here_by).sum()
-}
-
-/// Puts a delivery into its session's outbox, and answers whether that had room. It takes no memory.
-fn offer(outboxes: &mut Vec<Option<Ring>>, put: Planned) -> bool
-    requires from_1 { 0 < put.session }
-    requires opened { put.session ≤ length outboxes.old.items }
-    ensures room { result ≡ has_room (outbox_at outboxes.old.items put.session) }
-    ensures put { result ≡ true → outboxes.new.items ≡ slice_set outboxes.old.items (put.session - 1) (Some (with_put (outbox_at outboxes.old.items put.session) put.item)) }
-    ensures full { result ≡ false → outboxes.new.items ≡ outboxes.old.items }
-{
-    match &mut outboxes[put.session.number() as usize - 1] {
-        Some(outbox) => outbox.put(put.item).is_ok(),
-        None => false,
-    }
-}
-
-/// Takes the item that waits longest in the outbox at a place.
-fn take_at(outboxes: &mut Vec<Option<Ring>>, place: usize) -> Option<Item>
-    requires { place < length outboxes.old.items }
-    ensures value { result ≡ slice_get (outbox_at outboxes.old.items (place + 1)).queue 0 }
-    ensures none { result ≡ None → outboxes.new.items ≡ outboxes.old.items }
-    ensures taken { is_here outboxes.old.items (place + 1) ≡ true → outboxes.new.items ≡ slice_set outboxes.old.items place (Some (with_taken (outbox_at outboxes.old.items (place + 1)))) }
-{
-    match &mut outboxes[place] {
-        Some(outbox) => outbox.take_now(),
-        None => None,
-    }
+    ghost invariant = { λ a. IsKept a.journal a.roster.settings a.roster.facts a.seats.seats a.seats.boxes a.plan.items a.busy };
 }
 
 /// Makes room for so many more records, which are within the journal's limit, and for so many sessions that miss the next.
@@ -101,18 +59,6 @@ fn reserve(journal: &mut Journal, records: usize, missed: usize) -> Result<(), A
     ensures ok { OnOk result ((records ≤ journal.new.room) × (missed ≤ journal.new.prepared)) }
 {
     journal.reserve(records, missed).map_err(|_| AllocError)
-}
-
-/// Gives up the outbox at a place, and answers how many items were left in it.
-fn give_up(outboxes: &mut Vec<Option<Ring>>, place: usize) -> usize
-    requires { place < length outboxes.old.items }
-    ensures count { result ≡ length (outbox_at outboxes.old.items (place + 1)).queue }
-    ensures given { outboxes.new.items ≡ slice_set outboxes.old.items place None }
-{
-    match outboxes[place].take() {
-        Some(outbox) => outbox.len(),
-        None => 0,
-    }
 }
 
 impl Book {
@@ -133,8 +79,7 @@ impl Book {
             alloc,
             journal,
             roster: Roster::new(alloc, settings),
-            seats: Vec::new(alloc),
-            outboxes: Vec::new(alloc),
+            seats: Seats::new(alloc),
             plan: VecDeque::new(alloc),
             busy: false,
         })
@@ -145,7 +90,7 @@ impl Book {
         ensures room { result + length self.now.history + held self.now.history ≡ self.now.limit }
         ensures fits { self.now.limit < 2 ^ 64 }
     {
-        self.journal.limit() - self.journal.len() - held(&self.seats)
+        self.journal.limit() - self.journal.len() - self.seats.held()
     }
 
     /// How many records are kept free.
@@ -156,20 +101,13 @@ impl Book {
         self.journal.limit() - self.journal.len() - self.free()
     }
 
-    /// The place of a session that was opened and isn't reaped.
-    fn place(&self, session: SessionId) -> Option<usize>
-        ensures known { IfSome result (λ place. (place + 1 ≡ session) × IsKnown self.now session) }
+    /// The seat of a session that was opened and isn't reaped.
+    fn seat(&self, session: SessionId) -> Option<Seat>
+        ensures known { IfSome result (λ seat. IsKnown self.now session × IsSeat seat true self.now.history session) }
         ensures unknown { result ≡ None → IsKnown self.now session → ⊥ }
     {
-        let number = session.number();
-        if number == 0 || self.outboxes.len() < number as usize {
-            return None;
-        }
-        let place = number as usize - 1;
-        match &self.outboxes[place] {
-            Some(_) => Some(place),
-            None => None,
-        }
+        let seat = self.seats.seat(session)?;
+        Some(seat)
     }
 
     /// Whether a session may be opened now, memory apart.
@@ -183,7 +121,7 @@ impl Book {
         if self.busy {
             return Err(OpenRefusal::Busy);
         }
-        if self.roster.settings().sessions <= count_here(&self.outboxes) {
+        if self.roster.settings().sessions <= self.seats.here() {
             return Err(OpenRefusal::TooManySessions);
         }
         if free < 3 {
@@ -227,14 +165,16 @@ impl Book {
             return Err((OpenRefusal::Memory, outbox));
         };
         let room = self.held() + 3;
-        let session = SessionId::new(self.seats.len() as u64 + 1);
+        let session = SessionId::new(self.seats.opened() as u64 + 1);
         let deed = Deed::Opened { session, host };
         if self.roster.prepare(slice::from_ref(&deed)).is_err()
-            || self.seats.reserve(1).is_err()
-            || self.outboxes.reserve(1).is_err()
             || reserve(&mut self.journal, room, 0).is_err()
         {
             return Err((OpenRefusal::Memory, outbox));
+        }
+        match self.seats.open(outbox) {
+            Ok(()) => {}
+            Err(outbox) => return Err((OpenRefusal::Memory, outbox)),
         }
         self.journal.append(
             moment,
@@ -244,18 +184,11 @@ impl Book {
             },
         );
         self.roster.apply(deed);
-        self.seats.push_reserved(Seat {
-            shut: false,
-            gone: false,
-            accepted: 0,
-        });
-        self.outboxes.push_reserved(Some(outbox));
         Ok((session, Baton { session, next: 0 }))
     }
 
-    /// The place of the session whose baton it is, where a line of it may be accepted now, memory apart.
-    fn check_line(&self, baton: &Baton, moment: Moment) -> Result<usize, LineRefusal>
-        ensures place { IfOk result (λ place. place + 1 ≡ baton.now.session) }
+    /// Whether a line of the session whose baton it is may be accepted now, memory apart.
+    fn check_line(&self, baton: &Baton, moment: Moment) -> Result<(), LineRefusal>
         ensures ok { OnOk result (MayBegin self.now baton.now moment) }
         ensures fits { OnOk result (self.now.limit < 2 ^ 64) }
         ensures err { IfErr result (λ e. IsLineRefusal self.now baton.now moment e) }
@@ -263,10 +196,9 @@ impl Book {
         if self.busy {
             return Err(LineRefusal::Busy);
         }
-        let Some(place) = self.place(baton.session) else {
+        let Some(seat) = self.seat(baton.session) else {
             return Err(LineRefusal::WrongTurn);
         };
-        let seat = self.seats[place];
         if seat.accepted != baton.next {
             return Err(LineRefusal::WrongTurn);
         }
@@ -279,7 +211,7 @@ impl Book {
         if !moment.may_follow(self.journal.last_moment()) {
             return Err(LineRefusal::BadMoment);
         }
-        Ok(place)
+        Ok(())
     }
 
     /// Begins the next line of a session: its record is appended, and a plan of its deliveries is handed out. All memory is
@@ -297,14 +229,14 @@ impl Book {
         ensures refusal { IfErr result (λ e. IsLineRefusal self.old baton.now moment e) }
         ensures err { OnErr result (self.new ≡ self.old) }
     {
-        let place = self.check_line(baton, moment)?;
+        self.check_line(baton, moment)?;
         let number = RecordNumber::new(self.journal.len() as u64 + 1);
         let told = piece.copy()?;
         let (prepared, quits) = prepare_line(
             self.alloc,
             &self.roster,
             &self.seats,
-            place,
+            baton.session,
             number,
             piece,
             moment,
@@ -326,9 +258,7 @@ impl Book {
             },
         );
         commit(&mut self.roster, deeds);
-        let seat = &mut self.seats[place];
-        seat.accepted += 1;
-        seat.shut = quits;
+        self.seats.say(baton.session, quits);
         self.plan = plan;
         self.busy = true;
         Ok(Plan {
@@ -352,15 +282,14 @@ impl Book {
         ensures next { plan.new.next ≡ plan.old.next }
     {
         let put = self.plan.pop_front()?;
-        let session = put.session;
-        if offer(&mut self.outboxes, put) {
-            return Some(Step::Put(session));
+        let hearer = put.session;
+        if self.seats.offer(put) {
+            return Some(Step::Put(hearer));
         }
-        let seat = &mut self.seats[session.number() as usize - 1];
-        seat.shut = true;
-        self.journal.miss(session);
-        plan.note(session);
-        Some(Step::Missed(session))
+        self.seats.shut(hearer);
+        self.journal.miss(hearer);
+        plan.note(hearer);
+        Some(Step::Missed(hearer))
     }
 
     /// Puts or misses all that is left of a plan.
@@ -452,24 +381,23 @@ impl Book {
     }
 
     /// Whether a session may be hung now.
-    fn check_hang(&self, session: SessionId, moment: Moment) -> Result<usize, HangRefusal>
-        ensures place { IfOk result (λ place. place + 1 ≡ session) }
+    fn check_hang(&self, session: SessionId, moment: Moment) -> Result<(), HangRefusal>
         ensures ok { OnOk result (MayHang self.now session moment) }
         ensures err { IfErr result (λ e. IsHangRefusal self.now session moment e) }
     {
         if self.busy {
             return Err(HangRefusal::Busy);
         }
-        let Some(place) = self.place(session) else {
+        let Some(found) = self.seat(session) else {
             return Err(HangRefusal::NoSession);
         };
-        if self.seats[place].shut {
+        if found.shut {
             return Err(HangRefusal::Shut);
         }
         if !moment.may_follow(self.journal.last_moment()) {
             return Err(HangRefusal::BadMoment);
         }
-        Ok(place)
+        Ok(())
     }
 
     /// Ends a session: one record is appended, and its last item is put, or missed where its outbox is full. It takes no
@@ -487,13 +415,12 @@ impl Book {
         ensures refusal { IfErr result (λ e. IsHangRefusal self.old session moment e) }
         ensures err { OnErr result (self.new ≡ self.old) }
     {
-        let place = self.check_hang(session, moment)?;
+        self.check_hang(session, moment)?;
         let number = self.journal.append(moment, Kind::Hung { session, why });
         self.roster.end(session, why);
-        let seat = &mut self.seats[place];
-        seat.shut = true;
+        self.seats.shut(session);
         let item = Item::Last { number, why };
-        if offer(&mut self.outboxes, Planned { session, item }) {
+        if self.seats.offer(Planned { session, item }) {
             return Ok(Hung {
                 number,
                 missed: false,
@@ -506,17 +433,11 @@ impl Book {
         })
     }
 
-    /// The place of the shut session of the lowest number that isn't gone.
-    fn next_to_sweep(&self) -> Option<usize>
-        ensures some { IfSome result (λ place. to_sweep self.now.history ≡ Some (place + 1)) }
-        ensures none { result ≡ None → to_sweep self.now.history ≡ None }
+    /// The shut session of the lowest number that isn't gone.
+    fn next_to_sweep(&self) -> Option<SessionId>
+        ensures { result ≡ to_sweep self.now.history }
     {
-        for (place, seat) in self.seats.iter().enumerate() {
-            if is_to_sweep(seat) {
-                return Some(place);
-            }
-        }
-        None
+        self.seats.next_to_sweep()
     }
 
     /// Begins to sweep the shut session of the lowest number that isn't gone: its record is appended, and a plan is handed out
@@ -536,24 +457,23 @@ impl Book {
             return Err(SweepRefusal::BadMoment);
         }
         match self.next_to_sweep() {
-            Some(place) => Ok(Some(self.sweep_at(place, moment)?)),
+            Some(session) => Ok(Some(self.sweep_one(session, moment)?)),
             None => Ok(None),
         }
     }
 
-    /// Begins to sweep the session at a place, which is the one to sweep.
-    fn sweep_at(&mut self, place: usize, moment: Moment) -> Result<Plan, AllocError>
+    /// Begins to sweep a session, which is the one to sweep.
+    fn sweep_one(&mut self, session: SessionId, moment: Moment) -> Result<Plan, AllocError>
         requires may { MaySweep self.old moment }
-        requires next { to_sweep self.old.history ≡ Some (place + 1) }
-        ensures ok { OnOk result (self.new ≡ begun self.old (kind.Gone (place + 1)) moment) }
+        requires next { to_sweep self.old.history ≡ Some session }
+        ensures ok { OnOk result (self.new ≡ begun self.old (kind.Gone session) moment) }
         ensures out { IfOk result (λ p. IsOut self.new p) }
-        ensures line { IfOk result (λ p. (p.session ≡ place + 1) × (p.next ≡ None)) }
+        ensures line { IfOk result (λ p. (p.session ≡ session) × (p.next ≡ None)) }
         ensures err { OnErr result (self.new ≡ self.old) }
     {
         let room = self.held();
-        let session = SessionId::new(place as u64 + 1);
         let number = RecordNumber::new(self.journal.len() as u64 + 1);
-        let prepared = prepare_gone(self.alloc, &self.roster, &self.seats, place, number, moment)?;
+        let prepared = prepare_gone(self.alloc, &self.roster, &self.seats, session, number, moment)?;
         let Prepared {
             deeds,
             plan,
@@ -563,8 +483,7 @@ impl Book {
         reserve(&mut self.journal, room, plan.len())?;
         self.journal.append(moment, Kind::Gone { session });
         commit(&mut self.roster, deeds);
-        let seat = &mut self.seats[place];
-        seat.gone = true;
+        self.seats.leave(session);
         self.plan = plan;
         self.busy = true;
         Ok(Plan {
@@ -591,21 +510,20 @@ impl Book {
     }
 
     /// Whether a session may be reaped now.
-    fn check_reap(&self, session: SessionId) -> Result<usize, ReapRefusal>
-        ensures place { IfOk result (λ place. place + 1 ≡ session) }
+    fn check_reap(&self, session: SessionId) -> Result<(), ReapRefusal>
         ensures ok { OnOk result (MayReap self.now session) }
         ensures err { IfErr result (λ e. IsReapRefusal self.now session e) }
     {
         if self.busy {
             return Err(ReapRefusal::Busy);
         }
-        let Some(place) = self.place(session) else {
+        let Some(seat) = self.seat(session) else {
             return Err(ReapRefusal::Stranger);
         };
-        if !self.seats[place].gone {
+        if !seat.gone {
             return Err(ReapRefusal::NotGone);
         }
-        Ok(place)
+        Ok(())
     }
 
     /// Gives up a session that is gone, with what is left in its outbox. It takes no memory; a refusal gives the baton back,
@@ -618,8 +536,8 @@ impl Book {
         ensures err { IfErr result (λ e. (self.new ≡ self.old) × (e.1 ≡ baton)) }
     {
         match self.check_reap(baton.session) {
-            Ok(place) => {
-                let count = give_up(&mut self.outboxes, place);
+            Ok(()) => {
+                let count = self.seats.give_up(baton.session);
                 Ok(Left {
                     session: baton.session,
                     count,
@@ -637,10 +555,10 @@ impl Book {
         ensures refusal { IfErr result (λ e. IsTakeRefusal self.old session e) }
         ensures err { OnErr result (self.new ≡ self.old) }
     {
-        let Some(place) = self.place(session) else {
+        if self.seat(session).is_none() {
             return Err(TakeRefusal::NoSession);
-        };
-        match take_at(&mut self.outboxes, place) {
+        }
+        match self.seats.take(session) {
             Some(item) => Ok(item),
             None => Err(TakeRefusal::Empty),
         }
@@ -671,12 +589,7 @@ impl Book {
     pub fn is_open(&self, session: SessionId) -> bool
         ensures { IsTrue result ↔ ((0 < session) × (session ≤ sessions self.now.history) × (shut self.now.history session ≡ false)) }
     {
-        let number = session.number();
-        if number == 0 || self.seats.len() < number as usize {
-            return false;
-        }
-        let seat = self.seats[number as usize - 1];
-        !seat.shut
+        self.seats.is_listening(session)
     }
 
     /// How many deliveries of the plan that is out aren't put yet, 0 where none is out.
@@ -706,7 +619,7 @@ impl Book {
         requires { (0 < session) × (session ≤ sessions self.now.history) }
         ensures { result ≡ shut self.now.history session }
     {
-        self.seats[session.number() as usize - 1].shut
+        !self.seats.is_listening(session)
     }
 
     /// What holds of every book: its history is legal, and what was put into each session's outbox, with what is still in

@@ -3,10 +3,12 @@
 
 mod baton;
 mod book;
+mod heard;
 mod out;
 mod plan;
 mod refusals;
 mod seat;
+mod seats;
 mod settings;
 
 pub use baton::Baton;

@@ -1,5 +1,5 @@
 //! The deliveries of a record, before they are put.
-ghost use Rattle.std.specs.Prelude.{◌≡◌, ℕ, ◌<◌, ◌≤◌, ◌≤ℤ◌, ◌+◌, ◌-◌, ◌++◌, ◌==◌, [], false, cond, length, pos, replicate, slice_index_or, vec_capacity, None, OnOk, IfOk};
+ghost use Rattle.std.specs.Prelude.{◌≡◌, ◌≤◌, ◌≤ℤ◌, ◌++◌, [], false, not, length, pos, vec_capacity, None, OnOk, IfOk};
 ghost use Rattle.chronicle.specs.History.{is_quit};
 ghost use Rattle.roster.specs.LookBack.{after, caps, opened};
 ghost use Rattle.roster.specs.Legal.{IsOpened, AreNext};
@@ -7,26 +7,28 @@ ghost use Rattle.commands.specs.Asked.{asked_of};
 ghost use Rattle.labels_batches.specs.Labels.{label_of};
 ghost use Rattle.labels_batches.specs.Answers.{answered};
 ghost use Rattle.labels_batches.specs.Rendered.{rendered};
-ghost use Rattle.labels_batches.specs.Spellings.{spelled_for};
 ghost use Rattle.drafts.specs.Effects.{deeds_of};
 ghost use Rattle.deeds.specs.Departure.{departs};
 ghost use Rattle.deeds.specs.Rows.{of_asked};
 ghost use Rattle.deeds.specs.Deeds.{spelled};
 ghost use Rattle.deeds.specs.Verdicts.{IsVerdict};
-ghost use Rattle.book.specs.Book.{puts, others};
-ghost use Rattle.book.specs.Seats.{told, told_own, heard_of, heard_text, repeated, planned_for, planned_from, planned_with};
+ghost use Rattle.book.specs.Book.{puts};
+ghost use Rattle.book.specs.Seats.{hears, told_own, heard_text, planned_from, planned_with};
+ghost use Rattle.book.specs.Heard.{delivery_of, deliveries_of, joined};
 
-use crate::seat::Seat;
+use crate::heard::{Heard, heard_in_order};
+use crate::seats::Seats;
 use chronicle::{Moment, RecordNumber, SessionId, Why};
 use commands::read_piece;
 use deeds::{Shown, Verdict, decide, decide_gone};
-use labels_batches::{Spellings, label_of, render, wrap};
+use labels_batches::{label_of, render, wrap};
 use line_grammar::{Octets, Piece};
 use numerics::Out;
 use outbox::Item;
 use roster::{Deed, Roster};
 use std::alloc::{AllocError, Global};
 use std::collections::VecDeque;
+use std::mem::replace;
 
 /// A delivery that is still to be put.
 #[derive(Drop)]
@@ -41,106 +43,6 @@ pub(crate) struct Prepared {
     pub(crate) deeds: Vec<Deed>,
     pub(crate) plan: VecDeque<Planned>,
     pub(crate) missed: Vec<SessionId>,
-}
-
-// ---- what each session hears
-
-/// So many texts, each of them empty.
-fn blank_texts(alloc: Global, count: usize) -> Result<Vec<Octets>, AllocError>
-    ensures { IfOk result (λ v. v.items ≡ replicate count []) }
-{
-    let mut texts = Vec::with_capacity(alloc, count)?;
-    for index in 0..count {
-        texts.push(Octets::from_vec(Vec::new(alloc)))?;
-    }
-    Ok(texts)
-}
-
-/// Adds a line to what a session hears, where it has a text.
-fn tell_one(
-    roster: &Roster,
-    texts: &mut [Octets],
-    session: SessionId,
-    line: &mut Spellings,
-) -> Result<(), AllocError>
-    ensures same { line.new ≡ line.old }
-    ensures texts { OnOk result ((i : ℕ) → i < length texts.old → slice_index_or texts.new i [] ≡ slice_index_or texts.old i [] ++ cond (session == i + 1) (spelled_for (caps roster.now.facts (i + 1)) line.old.moment line.old.line) []) }
-{
-    let number = session.number() as usize;
-    if number == 0 || texts.len() < number {
-        return Ok(());
-    }
-    let caps = roster.enrol_of(session).caps;
-    line.push_to(&mut texts[number - 1], caps)?;
-    Ok(())
-}
-
-/// Adds a line to what each of some sessions hears.
-fn tell_each(
-    roster: &Roster,
-    texts: &mut [Octets],
-    hearers: &[SessionId],
-    line: &mut Spellings,
-) -> Result<(), AllocError>
-    ensures { OnOk result ((i : ℕ) → i < length texts.old → slice_index_or texts.new i [] ≡ slice_index_or texts.old i [] ++ repeated hearers.now (spelled_for (caps roster.now.facts (i + 1)) line.old.moment line.old.line) (i + 1)) }
-{
-    for hearer in hearers {
-        tell_one(roster, texts, *hearer, line)?;
-    }
-    Ok(())
-}
-
-/// Adds a line to what its hearers hear, as each takes it.
-fn tell_line(
-    alloc: Global,
-    roster: &Roster,
-    texts: &mut [Octets],
-    shown: &Shown,
-    moment: Moment,
-) -> Result<(), AllocError>
-    requires from_1970 { pos 0 ≤ℤ moment }
-    requires to_9998 { moment ≤ℤ pos 253370764799999 }
-    ensures { OnOk result ((i : ℕ) → i < length texts.old → slice_index_or texts.new i [] ≡ slice_index_or texts.old i [] ++ heard_of roster.now.facts moment shown.now (i + 1)) }
-{
-    let mut line = Spellings::new(alloc, &shown.line, moment)?;
-    tell_each(roster, texts, shown.hearers.as_slice(), &mut line)?;
-    Ok(())
-}
-
-/// Adds lines to what their hearers hear, each of which is spelled once.
-fn tell(
-    alloc: Global,
-    roster: &Roster,
-    texts: &mut [Octets],
-    shown: &[Shown],
-    moment: Moment,
-) -> Result<(), AllocError>
-    requires from_1970 { pos 0 ≤ℤ moment }
-    requires to_9998 { moment ≤ℤ pos 253370764799999 }
-    ensures { OnOk result ((i : ℕ) → i < length texts.old → slice_index_or texts.new i [] ≡ slice_index_or texts.old i [] ++ heard_text roster.now.facts moment shown.now (i + 1)) }
-{
-    for one in shown {
-        tell_line(alloc, roster, texts, one, moment)?;
-    }
-    Ok(())
-}
-
-/// What each of so many sessions hears of lines that are shown.
-fn heard_texts(
-    alloc: Global,
-    roster: &Roster,
-    count: usize,
-    shown: &[Shown],
-    moment: Moment,
-) -> Result<Vec<Octets>, AllocError>
-    requires from_1970 { pos 0 ≤ℤ moment }
-    requires to_9998 { moment ≤ℤ pos 253370764799999 }
-    ensures count { IfOk result (λ v. length v.items ≡ count) }
-    ensures texts { IfOk result (λ v. (i : ℕ) → i < count → slice_index_or v.items i [] ≡ heard_text roster.now.facts moment shown.now (i + 1)) }
-{
-    let mut texts = blank_texts(alloc, count)?;
-    tell(alloc, roster, &mut texts, shown, moment)?;
-    Ok(texts)
 }
 
 /// What the actor of a record is told: the answer, under the label of its line, and what it sent to itself.
@@ -163,41 +65,66 @@ fn own_text(
     render(alloc, &lines, roster.enrol_of(actor).caps, moment)
 }
 
-// ---- the plan, from its end to its front
-
-/// Plans, before all others, the delivery of a text to a session that isn't the actor.
+/// Plans, after all others, the delivery of a text to a session that isn't the actor.
 fn plan_one(
     plan: &mut VecDeque<Planned>,
-    seat: &Seat,
-    session: SessionId,
+    seats: &Seats,
     actor: SessionId,
     number: RecordNumber,
-    text: Octets,
+    heard: Heard,
 ) -> Result<(), AllocError>
-    ensures { OnOk result (plan.new.items ≡ cond (session == actor) [] (puts session (told seat.now.shut number text)) ++ plan.old.items) }
+    ensures { OnOk result (plan.new.items ≡ plan.old.items ++ delivery_of seats.now.seats actor number heard) }
 {
-    if session == actor || seat.shut || text.is_empty() {
+    let Heard { session, text } = heard;
+    if session == actor || !seats.is_listening(session) || text.is_empty() {
         return Ok(());
     }
-    plan.push_front(Planned {
+    plan.push_back(Planned {
         session,
         item: Item::Lines { number, text },
     })?;
     Ok(())
 }
 
+/// The deliveries of texts, which stand by the numbers of their sessions: one a session, but for the actor's.
+fn plan_others(
+    alloc: Global,
+    seats: &Seats,
+    heard: Vec<Heard>,
+    actor: SessionId,
+    number: RecordNumber,
+) -> Result<VecDeque<Planned>, AllocError>
+    ensures { IfOk result (λ plan. plan.items ≡ deliveries_of seats.now.seats actor number (joined heard.items)) }
+{
+    let mut plan = VecDeque::new(alloc);
+    let mut rest = heard.into_iter();
+    let Some(mut current) = rest.next() else {
+        return Ok(plan);
+    };
+    for next in rest {
+        if next.session == current.session {
+            current.text.extend_from_slice(next.text.as_slice())?;
+        } else {
+            let whole = replace(&mut current, next);
+            plan_one(&mut plan, seats, actor, number, whole)?;
+        }
+    }
+    plan_one(&mut plan, seats, actor, number, current)?;
+    Ok(plan)
+}
+
 /// Plans, before all others, what the actor is told: where it quits by the record, its last item.
 fn plan_own(
     plan: &mut VecDeque<Planned>,
-    seat: &Seat,
+    seats: &Seats,
     session: SessionId,
     number: RecordNumber,
     text: Octets,
     quits: bool,
 ) -> Result<(), AllocError>
-    ensures { OnOk result (plan.new.items ≡ puts session (told_own seat.now.shut number text quits) ++ plan.old.items) }
+    ensures { OnOk result (plan.new.items ≡ puts session (told_own (not (hears seats.now.seats session)) number text quits) ++ plan.old.items) }
 {
-    if seat.shut || (!quits && text.is_empty()) {
+    if !seats.is_listening(session) || (!quits && text.is_empty()) {
         return Ok(());
     }
     let item = if quits {
@@ -212,47 +139,25 @@ fn plan_own(
     Ok(())
 }
 
-/// The deliveries of texts, one a seat, by session number, but for the actor's.
-fn plan_others(
-    alloc: Global,
-    seats: &[Seat],
-    mut texts: Vec<Octets>,
-    actor: SessionId,
-    number: RecordNumber,
-) -> Result<VecDeque<Planned>, AllocError>
-    requires { length texts.items ≡ length seats.now }
-    ensures { IfOk result (λ plan. plan.items ≡ others (planned_for seats.now number texts.items) actor 1 (length seats.now)) }
-{
-    let mut plan = VecDeque::new(alloc);
-    'back: while let Some(text) = texts.pop() {
-        let place = texts.len();
-        let session = SessionId::new(place as u64 + 1);
-        plan_one(&mut plan, &seats[place], session, actor, number, text)?;
-    }
-    Ok(plan)
-}
-
 /// The deliveries of a record: the actor's text first, then what others hear, by session number.
 fn plan_for(
     alloc: Global,
     roster: &Roster,
-    seats: &[Seat],
-    place: usize,
+    seats: &Seats,
+    actor: SessionId,
     number: RecordNumber,
     moment: Moment,
     own: Octets,
     shown: &[Shown],
     quits: bool,
 ) -> Result<VecDeque<Planned>, AllocError>
-    requires seated { place < length seats.now }
     requires from_1970 { pos 0 ≤ℤ moment }
     requires to_9998 { moment ≤ℤ pos 253370764799999 }
-    ensures { IfOk result (λ plan. plan.items ≡ planned_with seats.now (place + 1) number own (heard_text roster.now.facts moment shown.now) quits) }
+    ensures { IfOk result (λ plan. plan.items ≡ planned_with seats.now.seats actor number own (heard_text roster.now.facts moment shown.now) quits) }
 {
-    let actor = SessionId::new(place as u64 + 1);
-    let texts = heard_texts(alloc, roster, seats.len(), shown, moment)?;
-    let mut plan = plan_others(alloc, seats, texts, actor, number)?;
-    plan_own(&mut plan, &seats[place], actor, number, own, quits)?;
+    let heard = heard_in_order(alloc, roster, shown, moment)?;
+    let mut plan = plan_others(alloc, seats, heard, actor, number)?;
+    plan_own(&mut plan, seats, actor, number, own, quits)?;
     Ok(plan)
 }
 
@@ -260,19 +165,18 @@ fn plan_for(
 fn with_room(
     alloc: Global,
     roster: &Roster,
-    seats: &[Seat],
-    place: usize,
+    seats: &Seats,
+    actor: SessionId,
     number: RecordNumber,
     moment: Moment,
     label: &Option<Octets>,
     verdict: Verdict,
     quits: bool,
 ) -> Result<Prepared, AllocError>
-    requires seated { place < length seats.now }
     requires from_1970 { pos 0 ≤ℤ moment }
     requires to_9998 { moment ≤ℤ pos 253370764799999 }
     ensures deeds { IfOk result (λ p. p.deeds.items ≡ verdict.deeds.items) }
-    ensures plan { IfOk result (λ p. p.plan.items ≡ planned_with seats.now (place + 1) number (rendered (caps roster.now.facts (place + 1)) moment (answered roster.now.settings.server label.now number verdict.reply.items verdict.copies.items)) (heard_text roster.now.facts moment verdict.others.items) quits) }
+    ensures plan { IfOk result (λ p. p.plan.items ≡ planned_with seats.now.seats actor number (rendered (caps roster.now.facts actor) moment (answered roster.now.settings.server label.now number verdict.reply.items verdict.copies.items)) (heard_text roster.now.facts moment verdict.others.items) quits) }
     ensures missed { IfOk result (λ p. (p.missed.items ≡ []) × (length p.plan.items ≤ vec_capacity p.missed)) }
 {
     let Verdict {
@@ -281,10 +185,9 @@ fn with_room(
         copies,
         others,
     } = verdict;
-    let actor = SessionId::new(place as u64 + 1);
     let own = own_text(alloc, roster, actor, label, number, moment, reply, copies)?;
     let plan = plan_for(
-        alloc, roster, seats, place, number, moment, own, &others, quits,
+        alloc, roster, seats, actor, number, moment, own, &others, quits,
     )?;
     let missed = Vec::with_capacity(alloc, plan.len())?;
     Ok(Prepared {
@@ -315,59 +218,55 @@ fn decide_piece(
     Ok((verdict, asked.is_quit()))
 }
 
-/// Decides what a line of the session at a place does, and plans its deliveries.
+/// Decides what a line of a session does, and plans its deliveries.
 pub(crate) fn prepare_line(
     alloc: Global,
     roster: &Roster,
-    seats: &[Seat],
-    place: usize,
+    seats: &Seats,
+    session: SessionId,
     number: RecordNumber,
     piece: &Piece,
     moment: Moment,
 ) -> Result<(Prepared, bool), AllocError>
-    requires seated { place < length seats.now }
-    requires known { IsOpened roster.now.facts (place + 1) }
+    requires known { IsOpened roster.now.facts session }
     requires from_1970 { pos 0 ≤ℤ moment }
     requires to_9998 { moment ≤ℤ pos 253370764799999 }
-    ensures deeds { IfOk result (λ p. p.0.deeds.items ≡ deeds_of (of_asked roster.now.settings roster.now.facts (place + 1) (asked_of piece.now))) }
+    ensures deeds { IfOk result (λ p. p.0.deeds.items ≡ deeds_of (of_asked roster.now.settings roster.now.facts session (asked_of piece.now))) }
     ensures next { IfOk result (λ p. AreNext roster.now.facts p.0.deeds.items) }
     ensures opened { IfOk result (λ p. opened (after roster.now.facts p.0.deeds.items) ≡ opened roster.now.facts) }
     ensures quits { IfOk result (λ p. p.1 ≡ is_quit piece.now) }
-    ensures plan { IfOk result (λ p. p.0.plan.items ≡ planned_from seats.now (place + 1) number (spelled roster.now.settings roster.now.facts (place + 1) (label_of (caps roster.now.facts (place + 1)) piece.now) (of_asked roster.now.settings roster.now.facts (place + 1) (asked_of piece.now)) moment number) p.1) }
+    ensures plan { IfOk result (λ p. p.0.plan.items ≡ planned_from seats.now.seats session number (spelled roster.now.settings roster.now.facts session (label_of (caps roster.now.facts session) piece.now) (of_asked roster.now.settings roster.now.facts session (asked_of piece.now)) moment number) p.1) }
     ensures missed { IfOk result (λ p. (p.0.missed.items ≡ []) × (length p.0.plan.items ≤ vec_capacity p.0.missed)) }
 {
-    let session = SessionId::new(place as u64 + 1);
     let (verdict, quits) = decide_piece(alloc, roster, session, piece, moment)?;
     let label = label_of(alloc, roster.enrol_of(session).caps, piece)?;
     let prepared = with_room(
-        alloc, roster, seats, place, number, moment, &label, verdict, quits,
+        alloc, roster, seats, session, number, moment, &label, verdict, quits,
     )?;
     Ok((prepared, quits))
 }
 
-/// Decides what it does that the session at a place is gone, and plans who is told.
+/// Decides what it does that a session is gone, and plans who is told.
 pub(crate) fn prepare_gone(
     alloc: Global,
     roster: &Roster,
-    seats: &[Seat],
-    place: usize,
+    seats: &Seats,
+    session: SessionId,
     number: RecordNumber,
     moment: Moment,
 ) -> Result<Prepared, AllocError>
-    requires seated { place < length seats.now }
-    requires known { IsOpened roster.now.facts (place + 1) }
+    requires known { IsOpened roster.now.facts session }
     requires from_1970 { pos 0 ≤ℤ moment }
     requires to_9998 { moment ≤ℤ pos 253370764799999 }
-    ensures deeds { IfOk result (λ p. p.deeds.items ≡ deeds_of (departs roster.now.facts (place + 1))) }
+    ensures deeds { IfOk result (λ p. p.deeds.items ≡ deeds_of (departs roster.now.facts session)) }
     ensures next { IfOk result (λ p. AreNext roster.now.facts p.deeds.items) }
     ensures opened { IfOk result (λ p. opened (after roster.now.facts p.deeds.items) ≡ opened roster.now.facts) }
-    ensures plan { IfOk result (λ p. p.plan.items ≡ planned_from seats.now (place + 1) number (spelled roster.now.settings roster.now.facts (place + 1) None (departs roster.now.facts (place + 1)) moment number) false) }
+    ensures plan { IfOk result (λ p. p.plan.items ≡ planned_from seats.now.seats session number (spelled roster.now.settings roster.now.facts session None (departs roster.now.facts session) moment number) false) }
     ensures missed { IfOk result (λ p. (p.missed.items ≡ []) × (length p.plan.items ≤ vec_capacity p.missed)) }
 {
-    let session = SessionId::new(place as u64 + 1);
     let verdict = decide_gone(alloc, roster, session)?;
     with_room(
-        alloc, roster, seats, place, number, moment, &None, verdict, false,
+        alloc, roster, seats, session, number, moment, &None, verdict, false,
     )
 }
 

@@ -1,9 +1,12 @@
-use Rattle.std.proofs.Common.{arith, ◌≡◌, ◌+◌}
-use Rattle.book.proofs.Plans.{planned_whole}
+use Rattle.std.proofs.Common.{◌++◌, not, List, ap, ◌∙◌}
+use Rattle.book.specs.declared.plan.Planned.{Planned}
+use Rattle.book.specs.Book.{puts}
+use Rattle.book.specs.Seats.{hears, told_own, heard_text}
+use Rattle.book.proofs.Heards.{deliveries_others}
 use Rattle.book.proofs.plan.plan_for.Goals as goal
 
 pub returns : goal.returns
 returns c =
-    let seats = c.args.seats.now in let texts = c.in_ok-texts.texts.items in let fs = c.args.roster.now.facts in let m = c.args.moment in let xs = c.args.shown.now in
-    let actor : c.new-actor.result ≡ c.args.place + 1 = let e = c.new-actor.ensures in omega arith in
-    planned_whole seats fs m c.args.place c.new-actor.result c.args.number xs c.args.quits texts c.args.own c.in_ok-plan.plan.items c.plan_own.new.plan.items actor c.in_ok-texts.ensures.texts c.in_ok-plan.ensures c.in_ok-plan_own.ensures
+    let seats = c.args.seats.now.seats in let s = c.args.actor in let n = c.args.number in let text = heard_text c.args.roster.now.facts c.args.moment c.args.shown.now in
+    let rest = c.in_ok-plan.ensures ∙ deliveries_others seats s n text c.in_ok-heard.heard.items c.in_ok-heard.ensures.order c.in_ok-heard.ensures.texts in
+    c.in_ok-plan_own.ensures ∙ ap (λ (ps : List Planned). puts s (told_own (not (hears seats s)) n c.args.own c.args.quits) ++ ps) rest

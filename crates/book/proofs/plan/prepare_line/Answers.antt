@@ -1,4 +1,4 @@
-use Rattle.std.proofs.Common.{arith, ◌≡◌, ℕ, ◌+◌, List, Option, ap, ◌∙◌}
+use Rattle.std.proofs.Common.{ℕ, List, Option, ap, ◌≡◌, ◌∙◌}
 use Rattle.registration.specs.declared.caps.Caps.{Caps}
 use Rattle.registration.specs.Enrol.{Enrolment}
 use Rattle.roster.specs.LookBack.{caps}
@@ -8,24 +8,18 @@ use Rattle.labels_batches.specs.Rendered.{rendered}
 use Rattle.book.specs.Seats.{heard_text, planned_with}
 use Rattle.commands.specs.Asked.{asked_of}
 use Rattle.deeds.specs.Rows.{of_asked}
-use Rattle.book.proofs.Plans.{verdict_at, planned_same}
+use Rattle.book.proofs.Plans.{planned_same}
 use Rattle.book.proofs.plan.prepare_line.Goals as goal
 
 pub returns-clause-deeds : goal.returns-clause-deeds
-returns-clause-deeds c =
-    let s = c.args.place + 1 in let fs = c.args.roster.now.facts in let g = c.args.roster.now.settings in let k = asked_of c.args.piece.now in
-    let session : c.new-session.result ≡ s = let e = c.new-session.ensures in omega arith in
-    let is = verdict_at c.in_ok-verdict.verdict c.new-session.result s g fs k session c.in_ok-verdict.ensures.verdict in
-    c.in_ok-prepared.ensures.deeds ∙ is.deeds
+returns-clause-deeds c = c.in_ok-prepared.ensures.deeds ∙ c.in_ok-verdict.ensures.verdict.deeds
 
 pub returns-clause-plan : goal.returns-clause-plan
 returns-clause-plan c =
-    let s = c.args.place + 1 in let fs = c.args.roster.now.facts in let g = c.args.roster.now.settings in let k = asked_of c.args.piece.now in
-    let session : c.new-session.result ≡ s = let e = c.new-session.ensures in omega arith in
-    let is = verdict_at c.in_ok-verdict.verdict c.new-session.result s g fs k session c.in_ok-verdict.ensures.verdict in
-    let v = c.in_ok-verdict.verdict in let seats = c.args.seats.now in let n = c.args.number in let m = c.args.moment in let q = c.in_ok-verdict.quits in
+    let s = c.args.session in let fs = c.args.roster.now.facts in let g = c.args.roster.now.settings in let k = asked_of c.args.piece.now in
+    let v = c.in_ok-verdict.verdict in let seats = c.args.seats.now.seats in let n = c.args.number in let m = c.args.moment in let q = c.in_ok-verdict.quits in
     let label : c.in_ok-label.label ≡ label_of (caps fs s) c.args.piece.now =
-    c.in_ok-label.ensures.label ∙ ap (λ (cs : Caps). label_of cs c.args.piece.now) (ap (λ (e : Enrolment). e.caps) c.enrol_of.ensures) ∙ ap (λ (j : ℕ). label_of (caps fs j) c.args.piece.now) session in
+    c.in_ok-label.ensures.label ∙ ap (λ (cs : Caps). label_of cs c.args.piece.now) (ap (λ (e : Enrolment). e.caps) c.enrol_of.ensures) in
     c.in_ok-prepared.ensures.plan
     ∙ ap (λ (l : Option (List ℕ)). planned_with seats s n (rendered (caps fs s) m (answered g.server l n v.reply.items v.copies.items)) (heard_text fs m v.others.items) q) label
-    ∙ planned_same seats g fs s n (label_of (caps fs s) c.args.piece.now) v (of_asked g fs s k) m q is
+    ∙ planned_same seats g fs s n (label_of (caps fs s) c.args.piece.now) v (of_asked g fs s k) m q c.in_ok-verdict.ensures.verdict

@@ -1,4 +1,4 @@
-use Rattle.std.proofs.Common.{arith, ◌≡◌, ◌+◌, ◌<◌, ◌≤◌, ◌∷◌, length, slice_set, true, List, ap, sym, ◌∙◌, subst}
+use Rattle.std.proofs.Common.{arith, ◌≡◌, ◌+◌, ◌<◌, ◌≤◌, ℕ, ◌∷◌, length, true, false, List, ap, sym, ◌∙◌, subst}
 use Rattle.std.proofs.lemmas.Grind.{common_steps}
 use Rattle.line_grammar.specs.declared.splitter.Piece.{Piece}
 use Rattle.chronicle.specs.declared.record.Kind.TheVariants.{Said}
@@ -7,43 +7,33 @@ use Rattle.chronicle.specs.Journal.{fresh_record}
 use Rattle.registration.specs.declared.settings.Settings.{Settings}
 use Rattle.roster.specs.declared.deed.Deed.{Deed}
 use Rattle.roster.specs.LookBack.{after, caps, opened}
+use Rattle.roster.specs.Legal.{IsOpened}
 use Rattle.labels_batches.specs.Labels.{label_of}
 use Rattle.deeds.specs.Deeds.{spelled}
 use Rattle.drafts.specs.Effects.{deeds_of}
 use Rattle.commands.specs.Asked.{asked_of}
 use Rattle.deeds.specs.Rows.{of_asked}
-use Rattle.book.specs.Seats.{planned_from}
-use Rattle.book.specs.declared.seat.Seat.{Seat}
+use Rattle.book.specs.Seats.{Rows, IsSeated, seat_at, planned_from}
 use Rattle.book.specs.Kept.{IsKept}
 use Rattle.book.specs.Book.{Turn, MayBegin, plan_of, begun, held}
 use Rattle.book.proofs.KeptSteps.{shown}
 use Rattle.book.proofs.Opened.{accepted_le}
 use Rattle.book.proofs.Begins.{begun_is}
-use Rattle.book.proofs.Appends.{seat_there, said_plan, said_kept}
+use Rattle.book.proofs.Appends.{said_rows, known_opened, said_plan, said_kept}
 use Rattle.book.proofs.book.Book.begin.Goals as goal
 
 -- where a line may be accepted
-may : (c : goal.After-result-1) → MayBegin (shown c.self.inside.journal c.self.inside.roster.settings c.self.inside.outboxes.items c.self.inside.plan.items c.self.inside.busy) c.args.baton.now c.args.moment
-may c = subst (λ m. MayBegin m c.args.baton.now c.args.moment) (sym c.self.view_is) c.in_ok-place.ensures.ok
+may : (c : goal.After-result-1) → MayBegin (shown c.self.inside.journal c.self.inside.roster.settings c.self.inside.seats.boxes c.self.inside.plan.items c.self.inside.busy) c.args.baton.now c.args.moment
+may c = subst (λ m. MayBegin m c.args.baton.now c.args.moment) (sym c.self.view_is) c.in_ok-check_line.ensures.ok
 
-pub overflow_add-seat : goal.overflow_add-seat
-overflow_add-seat c =
-    let may : MayBegin (shown c.self.inside.journal c.self.inside.roster.settings c.self.inside.outboxes.items c.self.inside.plan.items c.self.inside.busy) c.args.baton.now c.args.moment = subst (λ m. MayBegin m c.args.baton.now c.args.moment) (sym c.self.view_is) c.in_ok-place.ensures.ok in
-    let h = c.self.inside.journal.history in let s = c.args.baton.now.session in
-    let limit : c.self.inside.journal.limit < 18446744073709551616 = subst (λ m. m.limit < 18446744073709551616) (sym c.self.view_is) c.in_ok-place.ensures.fits in
-    let from = may.turn.from_1 in let few = may.turn.opened in let a = c.self.invariant.sound.sessions in let b = c.self.invariant.places in let room = may.room in
-    let to : s ≤ length c.self.inside.seats.items = omega arith in
-    let place : c.in_ok-place.place + 1 ≡ s = c.in_ok-place.ensures.place in let l : c.in_ok-place.place < length c.self.inside.seats.items = omega arith in
-    let seat = seat_there c.self.inside.seats.items c.in_ok-place.place s c.index_mut-seat.result.now place l c.index_mut-seat.ensures.value in
-    let count : c.index_mut-seat.result.now.accepted ≡ length (accepted h s) = ap (λ (x : Seat). x.accepted) seat ∙ (c.self.invariant.each_seat s from to).accepted in
-    let few_lines = accepted_le h s in
-    omega arith
+session : (c : goal.After-result-1) → c.baton.inside.session ≡ c.args.baton.now.session
+session c = ap (λ (b : Turn). b.session) c.baton.view_is
 
 pub overflow_add-result : goal.overflow_add-result
 overflow_add-result c =
-    let may : MayBegin (shown c.self.inside.journal c.self.inside.roster.settings c.self.inside.outboxes.items c.self.inside.plan.items c.self.inside.busy) c.args.baton.now c.args.moment = subst (λ m. MayBegin m c.args.baton.now c.args.moment) (sym c.self.view_is) c.in_ok-place.ensures.ok in
+    let may : MayBegin (shown c.self.inside.journal c.self.inside.roster.settings c.self.inside.seats.boxes c.self.inside.plan.items c.self.inside.busy) c.args.baton.now c.args.moment = subst (λ m. MayBegin m c.args.baton.now c.args.moment) (sym c.self.view_is) c.in_ok-check_line.ensures.ok in
     let h = c.self.inside.journal.history in let s = c.args.baton.now.session in
-    let limit : c.self.inside.journal.limit < 18446744073709551616 = subst (λ m. m.limit < 18446744073709551616) (sym c.self.view_is) c.in_ok-place.ensures.fits in
+    let limit : c.self.inside.journal.limit < 18446744073709551616 = subst (λ m. m.limit < 18446744073709551616) (sym c.self.view_is) c.in_ok-check_line.ensures.fits in
     let room = may.room in let few_lines = accepted_le h s in
     let next : c.baton.inside.next ≡ length (accepted h s) = ap (λ b. b.next) c.baton.view_is ∙ may.turn.next in
     omega arith
@@ -60,39 +50,72 @@ history c =
 limit : (c : goal.After-result-1) → c.append.new.self.limit ≡ c.self.inside.journal.limit
 limit c = c.append.ensures.appended.limit ∙ c.reserve.ensures.same.limit
 
-plan : (c : goal.After-result-1) → c.in_ok-prepared.prepared.plan.items ≡ plan_of c.self.inside.roster.settings c.self.inside.journal.history (Said c.args.baton.now.session c.args.baton.now.next c.args.piece.now) c.args.moment (length c.self.inside.outboxes.items)
+plan : (c : goal.After-result-1) → c.in_ok-prepared.prepared.plan.items ≡ plan_of c.self.inside.roster.settings c.self.inside.journal.history (Said c.args.baton.now.session c.args.baton.now.next c.args.piece.now) c.args.moment (length c.self.inside.seats.boxes)
 plan c =
-    let a = c.self.inside in let q = c.in_ok-prepared.quits in let t = c.in_ok-place.place + 1 in
-    let f = spelled a.roster.settings a.roster.facts t (label_of (caps a.roster.facts t) c.args.piece.now) (of_asked a.roster.settings a.roster.facts t (asked_of c.args.piece.now)) c.args.moment c.new-number.result in
+    let a = c.self.inside in let q = c.in_ok-prepared.quits in let g = a.roster.settings in let fs = a.roster.facts in
     let number : c.new-number.result ≡ length a.journal.history + 1 = grind (arith, common_steps) in
-    let seats : c.deref.result.now ≡ a.seats.items = c.deref.ensures.value in
-    let made : c.in_ok-prepared.prepared.plan.items ≡ planned_from a.seats.items (c.in_ok-place.place + 1) c.new-number.result f q =
-    c.in_ok-prepared.ensures.plan ∙ ap (λ (xs : List Seat). planned_from xs (c.in_ok-place.place + 1) c.new-number.result f q) seats in
-    said_plan a.journal a.roster.settings a.roster.facts a.seats.items a.outboxes.items a.plan.items a.busy c.self.invariant c.args.baton.now c.args.piece.now c.args.moment c.in_ok-place.place
-    c.new-number.result q c.in_ok-prepared.prepared.plan.items (may c) c.in_ok-place.ensures.place number c.in_ok-prepared.ensures.quits made
+    let made = c.in_ok-prepared.ensures.plan ∙ ap (λ (t : ℕ). planned_from a.seats.seats t c.new-number.result (spelled g fs t (label_of (caps fs t) c.args.piece.now) (of_asked g fs t (asked_of c.args.piece.now)) c.args.moment c.new-number.result) q) (session c) in
+    said_plan a.journal g fs a.seats.seats a.seats.boxes a.plan.items a.busy c.self.invariant c.args.baton.now c.args.piece.now c.args.moment
+    c.new-number.result q c.in_ok-prepared.prepared.plan.items (may c) number c.in_ok-prepared.ensures.quits made
 
 settings : (c : goal.After-result-1) → c.commit.new.roster.settings ≡ c.self.inside.roster.settings
 settings c = c.commit.ensures.settings ∙ c.prepare.ensures.settings
 
 pub invariant_of-self-3 : goal.invariant_of-self-3
 invariant_of-self-3 c =
-    let a = c.self.inside in let es = of_asked a.roster.settings a.roster.facts (c.in_ok-place.place + 1) (asked_of c.args.piece.now) in
+    let a = c.self.inside in let s = c.args.baton.now.session in let asked = asked_of c.args.piece.now in
     let room : length c.in_ok-prepared.prepared.plan.items ≤ c.append.new.self.left = grind (arith, common_steps) in
     let kept : c.held-room.result ≡ held a.journal.history = c.held-room.ensures.kept in
     let ok = c.reserve.ensures.ok in let more = c.append.ensures.appended.room in
     let free : held a.journal.history ≤ c.append.new.self.room = grind (arith, common_steps) in
     let more : c.commit.new.roster.facts ≡ after a.roster.facts c.in_ok-prepared.prepared.deeds.items = c.commit.ensures.facts ∙ ap (λ (fs : List Deed). after fs c.in_ok-prepared.prepared.deeds.items) c.prepare.ensures.facts in
-    let known : c.commit.new.roster.facts ≡ after a.roster.facts (deeds_of es) = more ∙ ap (after a.roster.facts) c.in_ok-prepared.ensures.deeds in
+    let known : c.commit.new.roster.facts ≡ after a.roster.facts (deeds_of (of_asked a.roster.settings a.roster.facts s asked)) =
+    more ∙ ap (after a.roster.facts) (c.in_ok-prepared.ensures.deeds ∙ ap (λ (t : ℕ). deeds_of (of_asked a.roster.settings a.roster.facts t asked)) (session c)) in
     let same : opened c.commit.new.roster.facts ≡ opened a.roster.facts = ap opened more ∙ c.in_ok-prepared.ensures.opened in
-    let x = c.index_mut-seat.result.now in let places = slice_set a.seats.items c.in_ok-place.place (record { shut = c.in_ok-prepared.quits; gone = x.gone; accepted = x.accepted + 1 }) in
-    subst (λ (g : Settings). IsKept c.append.new.self g c.commit.new.roster.facts places a.outboxes.items c.in_ok-prepared.prepared.plan.items true) (sym (settings c))
-    (said_kept a.journal a.roster.settings a.roster.facts a.seats.items a.outboxes.items a.plan.items a.busy c.self.invariant c.append.new.self c.commit.new.roster.facts
-    c.in_ok-prepared.prepared.plan.items c.args.baton.now c.args.piece.now c.args.moment c.in_ok-place.place c.in_ok-prepared.quits c.index_mut-seat.result.now
-    (may c) c.in_ok-place.ensures.place c.in_ok-prepared.ensures.quits (plan c) (history c) (limit c) room free known same c.index_mut-seat.ensures.value)
+    let rows : c.say.new.self ≡ said_rows a.seats s c.in_ok-prepared.quits = c.say.ensures ∙ ap (λ (t : ℕ). said_rows a.seats t c.in_ok-prepared.quits) (session c) in
+    subst (λ (g : Settings). IsKept c.append.new.self g c.commit.new.roster.facts c.say.new.self.seats c.say.new.self.boxes c.in_ok-prepared.prepared.plan.items true) (sym (settings c))
+    (subst (λ (r : Rows). IsKept c.append.new.self a.roster.settings c.commit.new.roster.facts r.seats r.boxes c.in_ok-prepared.prepared.plan.items true) (sym rows)
+    (said_kept a.journal a.roster.settings a.roster.facts a.seats.seats a.seats.boxes a.plan.items a.busy c.self.invariant c.append.new.self c.commit.new.roster.facts
+    c.in_ok-prepared.prepared.plan.items c.args.baton.now c.args.piece.now c.args.moment c.in_ok-prepared.quits
+    (may c) c.in_ok-prepared.ensures.quits (plan c) (history c) (limit c) room free known same))
 
 pub returns-clause-ok : goal.returns-clause-ok
 returns-clause-ok c =
     let a = c.self.inside in let b = c.args.baton.now in
-    ap (λ (g : Settings). shown c.append.new.self g a.outboxes.items c.in_ok-prepared.prepared.plan.items true) (settings c)
-    ∙ begun_is a.journal c.append.new.self a.roster.settings a.outboxes.items a.plan.items c.in_ok-prepared.prepared.plan.items a.busy (Said b.session b.next c.args.piece.now) c.args.moment (history c) (limit c) (plan c)
+    ap (λ (g : Settings). shown c.append.new.self g c.say.new.self.boxes c.in_ok-prepared.prepared.plan.items true) (settings c)
+    ∙ ap (λ (r : Rows). shown c.append.new.self a.roster.settings r.boxes c.in_ok-prepared.prepared.plan.items true) c.say.ensures
+    ∙ begun_is a.journal c.append.new.self a.roster.settings a.seats.boxes a.plan.items c.in_ok-prepared.prepared.plan.items a.busy (Said b.session b.next c.args.piece.now) c.args.moment (history c) (limit c) (plan c)
     ∙ ap (λ m. begun m (Said b.session b.next c.args.piece.now) c.args.moment) c.self.view_is
+
+-- ---- what is asked of calls
+
+pub prepare_line-requires-clause-known : goal.prepare_line-requires-clause-known
+prepare_line-requires-clause-known c =
+    let a = c.self.inside in let may : MayBegin (shown c.self.inside.journal c.self.inside.roster.settings c.self.inside.seats.boxes c.self.inside.plan.items c.self.inside.busy) c.args.baton.now c.args.moment = subst (λ m. MayBegin m c.args.baton.now c.args.moment) (sym c.self.view_is) c.in_ok-check_line.ensures.ok in
+    subst (λ (s : ℕ). IsOpened a.roster.facts s) (sym (ap (λ (b : Turn). b.session) c.baton.view_is))
+    (known_opened a.journal a.roster.settings a.roster.facts a.seats.seats a.seats.boxes a.plan.items a.busy c.self.invariant c.args.baton.now.session may.turn.from_1 may.turn.opened)
+
+pub say-requires-clause-seated : goal.say-requires-clause-seated
+say-requires-clause-seated c =
+    let a = c.self.inside in let may : MayBegin (shown c.self.inside.journal c.self.inside.roster.settings c.self.inside.seats.boxes c.self.inside.plan.items c.self.inside.busy) c.args.baton.now c.args.moment = subst (λ m. MayBegin m c.args.baton.now c.args.moment) (sym c.self.view_is) c.in_ok-check_line.ensures.ok in
+    let few = may.turn.opened in let many = c.self.invariant.sound.sessions in let places = c.self.invariant.places in
+    let it : IsSeated a.seats c.args.baton.now.session = record { from_1 = may.turn.from_1; opened = (omega arith); here = may.turn.here } in
+    subst (IsSeated a.seats) (sym (ap (λ (b : Turn). b.session) c.baton.view_is)) it
+
+pub say-requires-clause-few : goal.say-requires-clause-few
+say-requires-clause-few c =
+    let a = c.self.inside in let s = c.args.baton.now.session in
+    let may : MayBegin (shown c.self.inside.journal c.self.inside.roster.settings c.self.inside.seats.boxes c.self.inside.plan.items c.self.inside.busy) c.args.baton.now c.args.moment = subst (λ m. MayBegin m c.args.baton.now c.args.moment) (sym c.self.view_is) c.in_ok-check_line.ensures.ok in
+    let few = may.turn.opened in let many = c.self.invariant.sound.sessions in let places = c.self.invariant.places in let room = may.room in let to : s ≤ length a.seats.seats = omega arith in
+    let limit : a.journal.limit < 18446744073709551616 = subst (λ m. m.limit < 18446744073709551616) (sym c.self.view_is) c.in_ok-check_line.ensures.fits in
+    let count = (c.self.invariant.each_seat s may.turn.from_1 to).accepted may.turn.here in let few_lines = accepted_le a.journal.history s in
+    let goal : (seat_at a.seats.seats s).accepted + 1 < 18446744073709551616 = omega arith in
+    subst (λ (t : ℕ). (seat_at a.seats.seats t).accepted + 1 < 18446744073709551616) (sym (ap (λ (b : Turn). b.session) c.baton.view_is)) goal
+
+pub say-requires-clause-not_shut : goal.say-requires-clause-not_shut
+say-requires-clause-not_shut c =
+    let a = c.self.inside in let s = c.args.baton.now.session in
+    let may : MayBegin (shown c.self.inside.journal c.self.inside.roster.settings c.self.inside.seats.boxes c.self.inside.plan.items c.self.inside.busy) c.args.baton.now c.args.moment = subst (λ m. MayBegin m c.args.baton.now c.args.moment) (sym c.self.view_is) c.in_ok-check_line.ensures.ok in
+    let few = may.turn.opened in let many = c.self.invariant.sound.sessions in let places = c.self.invariant.places in let to : s ≤ length a.seats.seats = omega arith in
+    let open_ : (seat_at a.seats.seats s).shut ≡ false = (c.self.invariant.each_seat s may.turn.from_1 to).shut ∙ may.not_shut in
+    subst (λ (t : ℕ). (seat_at a.seats.seats t).shut ≡ false) (sym (ap (λ (b : Turn). b.session) c.baton.view_is)) open_

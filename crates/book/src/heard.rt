@@ -1,0 +1,113 @@
+//! What each hearer of a record hears.
+ghost use Rattle.std.specs.Prelude.{◌≡◌, ◌≤ℤ◌, ℕ, ◌++◌, pos, map, IfOk, OnOk};
+ghost use Rattle.book.specs.Seats.{heard_text};
+ghost use Rattle.book.specs.Heard.{heard_by, all_heard, text_for, rises};
+
+use chronicle::{Moment, SessionId};
+use deeds::Shown;
+use labels_batches::Spellings;
+use line_grammar::Octets;
+use roster::Roster;
+use std::alloc::{AllocError, Global};
+
+/// A text that a session hears.
+#[derive(Drop)]
+pub(crate) struct Heard {
+    pub(crate) session: SessionId,
+    pub(crate) text: Octets,
+}
+
+/// A line as a session takes it.
+fn hear_one(
+    alloc: Global,
+    roster: &Roster,
+    session: SessionId,
+    line: &mut Spellings,
+) -> Result<Heard, AllocError>
+    ensures same { line.new ≡ line.old }
+    ensures heard { IfOk result (λ x. x ≡ heard_by roster.now.facts line.old.moment line.old.line session) }
+{
+    let caps = roster.enrol_of(session).caps;
+    let mut text = Octets::from_vec(Vec::new(alloc));
+    line.push_to(&mut text, caps)?;
+    Ok(Heard { session, text })
+}
+
+/// Adds a line as each of some sessions takes it.
+fn hear_each(
+    alloc: Global,
+    roster: &Roster,
+    heard: &mut Vec<Heard>,
+    hearers: &[SessionId],
+    line: &mut Spellings,
+) -> Result<(), AllocError>
+    ensures { OnOk result (heard.new.items ≡ heard.old.items ++ map (heard_by roster.now.facts line.old.moment line.old.line) hearers.now) }
+{
+    for hearer in hearers {
+        heard.push(hear_one(alloc, roster, *hearer, line)?)?;
+    }
+    Ok(())
+}
+
+/// Adds a line as each of its hearers takes it.
+fn hear_line(
+    alloc: Global,
+    roster: &Roster,
+    heard: &mut Vec<Heard>,
+    shown: &Shown,
+    moment: Moment,
+) -> Result<(), AllocError>
+    requires from_1970 { pos 0 ≤ℤ moment }
+    requires to_9998 { moment ≤ℤ pos 253370764799999 }
+    ensures { OnOk result (heard.new.items ≡ heard.old.items ++ map (heard_by roster.now.facts moment shown.now.line) shown.now.hearers) }
+{
+    let mut line = Spellings::new(alloc, &shown.line, moment)?;
+    hear_each(alloc, roster, heard, shown.hearers.as_slice(), &mut line)?;
+    Ok(())
+}
+
+/// Lines as each of their hearers takes them, line by line. Each line is spelled once.
+fn hear_all(
+    alloc: Global,
+    roster: &Roster,
+    shown: &[Shown],
+    moment: Moment,
+) -> Result<Vec<Heard>, AllocError>
+    requires from_1970 { pos 0 ≤ℤ moment }
+    requires to_9998 { moment ≤ℤ pos 253370764799999 }
+    ensures { IfOk result (λ v. v.items ≡ all_heard roster.now.facts moment shown.now) }
+{
+    let mut heard = Vec::new(alloc);
+    for one in shown {
+        hear_line(alloc, roster, &mut heard, one, moment)?;
+    }
+    Ok(heard)
+}
+
+/// Puts the texts of each session side by side, by its number, in the order that they have.
+fn sort_by_session(heard: &mut Vec<Heard>) -> Result<(), AllocError>
+    ensures texts { (t : ℕ) → text_for heard.new.items t ≡ text_for heard.old.items t }
+    ensures order { OnOk result (rises 0 heard.new.items) }
+{
+    heard.sort_by_key(|one: &Heard| -> u64
+        ensures { result ≡ one.now.session }
+    { one.session.number() })?;
+    Ok(())
+}
+
+/// What the hearers of lines hear, by the numbers of their sessions.
+pub(crate) fn heard_in_order(
+    alloc: Global,
+    roster: &Roster,
+    shown: &[Shown],
+    moment: Moment,
+) -> Result<Vec<Heard>, AllocError>
+    requires from_1970 { pos 0 ≤ℤ moment }
+    requires to_9998 { moment ≤ℤ pos 253370764799999 }
+    ensures texts { IfOk result (λ v. (t : ℕ) → text_for v.items t ≡ heard_text roster.now.facts moment shown.now t) }
+    ensures order { IfOk result (λ v. rises 0 v.items) }
+{
+    let mut heard = hear_all(alloc, roster, shown, moment)?;
+    sort_by_session(&mut heard)?;
+    Ok(heard)
+}
