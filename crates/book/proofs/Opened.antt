@@ -10,7 +10,6 @@ use Rattle.chronicle.specs.History.{Rec, opened_by, sessions, accepted, said_by,
 use Rattle.chronicle.specs.Journal.{fresh_record}
 use Rattle.outbox.specs.declared.item.Item.{Item}
 use Rattle.book.specs.declared.seat.Seat.{Seat}
-use Rattle.outbox.specs.Ring.{Waiting}
 use Rattle.registration.specs.declared.caps.Caps.{Caps}
 use Rattle.labels_batches.specs.declared.answers.Tagged.{Tagged}
 use Rattle.labels_batches.specs.Rendered.{rendered}
@@ -18,7 +17,7 @@ use Rattle.deeds.specs.Deeds.{facts}
 use Rattle.book.specs.Owed.{item, owed}
 use Rattle.book.specs.Seats.{no_seat, kept_by, IsSeat, seat_at}
 use Rattle.roster.specs.LookBack.{caps, numbers}
-use Rattle.book.specs.Book.{Shown, MayOpen, box_of, kept_for, held, planned, opened, IsSound}
+use Rattle.book.specs.Book.{Shown, MayOpen, sent_by, kept_for, held, planned, opened, IsSound}
 use Rattle.book.proofs.About.{not_owed}
 
 pub numbers_push : (k n : ℕ) → numbers k (suc n) ≡ numbers k n ++ (k + n) ∷ []
@@ -44,8 +43,8 @@ nothing_told cs moment true true = refl
 nothing_told cs moment true false = refl
 nothing_told cs moment false c = refl
 
-pub opened_sound : (m : Shown) (host : List ℕ) (moment : ℤ) (box : Waiting) → IsSound m → MayOpen m moment → (box.queue ≡ []) × (box.taken ≡ []) → IsSound (opened m host moment box)
-opened_sound m host moment box i may fresh =
+pub opened_sound : {O : Type 0} (sent : O → List Item) (m : Shown O) (host : List ℕ) (moment : ℤ) (box : O) → IsSound sent m → MayOpen m moment → sent box ≡ [] → IsSound sent (opened m host moment box)
+opened_sound sent m host moment box i may fresh =
     let h = m.history in let g = m.settings in let n = length m.outboxes in let r = fresh_record h moment (Opened (sessions h + 1) host) in
     let boxes = m.outboxes ++ Some box ∷ [] in let more : length boxes ≡ n + 1 = length-append m.outboxes (Some box ∷ []) in
     let same : (t : ℕ) → owed g (r ∷ h) t ≡ owed g h t = λ t. let E : List Item = [] in ap (λ xs. owed g h t ++ cond (misses r t || shut h t) [] (item (length h + 1) xs)) (nothing_told (caps (facts g h) t) moment (nat_le t (sessions h)) ((sessions h + 1) == t)) ∙ ap (λ xs. owed g h t ++ xs) (elim (misses r t || shut h t) as (λ b. cond b E E ≡ E) [ true ↦ refl | false ↦ refl ]) ∙ append-nil (owed g h t) in
@@ -59,11 +58,11 @@ opened_sound m host moment box i may fresh =
           elim (eqb_tells t (n + 1)) [
             | inl end ↦
                 let none : owed g h t ≡ [] = not_owed g h t i.legal (let e = end.1 in let s = i.sessions in omega arith) in
-                let empty : box.taken ++ box.queue ++ planned m.plan t ≡ [] = rw fresh.1 (rw fresh.0 (ap (λ ps. planned ps t) idle)) in
-                ap (λ o. (box_of o).taken ++ (box_of o).queue ++ planned m.plan t) (last t end.1) ∙ empty ∙ sym none ∙ sym (same t)
+                let empty : sent box ++ planned m.plan t ≡ [] = rw fresh (ap (λ ps. planned ps t) idle) in
+                ap (λ o. sent_by sent o ++ planned m.plan t) (last t end.1) ∙ empty ∙ sym none ∙ sym (same t)
             | inr other ↦
                 let below : t ≤ n = let ne = other.1 in omega arith in let is = kept t from below in
-                ap (λ o. (box_of o).taken ++ (box_of o).queue ++ planned m.plan t) is ∙ i.owed t from below (ap (λ o. is_some o) (sym is) ∙ here) ∙ sym (same t)
+                ap (λ o. sent_by sent o ++ planned m.plan t) is ∙ i.owed t from below (ap (λ o. is_some o) (sym is) ∙ here) ∙ sym (same t)
           ];
       reaped = λ t from to away.
           let to' : t ≤ n + 1 = omega arith in

@@ -1,12 +1,13 @@
 -- What a book keeps for its sessions, and how that stands for the history.
-use Rattle.std.specs.Prelude.{◌≡◌, ℕ, ℤ, ◌-◌, Bool, false, cond, if◌then◌else◌, List, [], ◌∷◌, ◌++◌, filter, map, ◌==◌, length, slice_index_or, None}
+use Rattle.std.specs.Prelude.{◌≡◌, ℕ, ℤ, ◌-◌, Bool, false, cond, if◌then◌else◌, List, [], ◌∷◌, ◌++◌, filter, map, ◌==◌, length, slice_index_or, slice_set, Option, Some, None}
 use Rattle.chronicle.specs.History.{Rec, accepted, shut, gone}
 use Rattle.outbox.specs.declared.item.Item.{Item}
 use Rattle.outbox.specs.declared.item.Item.TheVariants.{Last}
 use Rattle.chronicle.specs.declared.why.Why.TheVariants.{Quit}
 use Rattle.book.specs.declared.seat.Seat.{Seat}
 use Rattle.book.specs.declared.plan.Planned.{Planned}
-use Rattle.book.specs.Book.{puts, others}
+use Rattle.outbox.specs.declared.queue.PutFault.{PutFault}
+use Rattle.book.specs.Book.{puts, others, box_at}
 use Rattle.std.specs.List.{flat_map}
 use Rattle.roster.specs.declared.deed.Deed.{Deed}
 use Rattle.roster.specs.LookBack.{caps}
@@ -66,3 +67,21 @@ pub record IsSeat (seat : Seat) (h : List Rec) (t : ℕ) : Type 0 where
   pub shut : seat.shut ≡ shut h t
   pub gone : seat.gone ≡ gone h t
   pub accepted : seat.accepted ≡ length (accepted h t)
+
+-- ---- a delivery that is offered to its session's outbox
+
+-- it was put, which changed no other outbox
+pub record IsTaken {O : Type 0} (sent : O → List Item) (accepts : O → Item → O → Type 0) (boxes : List (Option O)) (p : Planned) (more : List (Option O)) : Type 0 where
+  pub before : O
+  pub after : O
+  pub here : box_at boxes p.session ≡ Some before
+  pub accepted : accepts before p.item after
+  pub longer : sent after ≡ sent before ++ p.item ∷ []
+  pub now : more ≡ slice_set boxes (p.session - 1) (Some after)
+
+-- it wasn't, for a cause
+pub record IsNotTaken {O : Type 0} (refuses : O → PutFault → Type 0) (boxes : List (Option O)) (p : Planned) : Type 0 where
+  pub before : O
+  pub cause : PutFault
+  pub here : box_at boxes p.session ≡ Some before
+  pub refused : refuses before cause

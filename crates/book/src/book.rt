@@ -7,9 +7,10 @@ ghost use Rattle.chronicle.specs.History.{sessions, last_moment, shut, gone, mis
 ghost use Rattle.chronicle.specs.Journal.{IsRoomier, numbered, record_at};
 ghost use Rattle.roster.specs.LookBack.{nick, on};
 ghost use Rattle.deeds.specs.Deeds.{facts};
-ghost use Rattle.outbox.specs.Ring.{has_room, with_put, with_taken};
+ghost use Rattle.outbox.specs.Ring.{with_taken};
 ghost use Rattle.book.specs.Settings.{IsWellSet};
-ghost use Rattle.book.specs.Book.{outbox_at, is_here, here_by};
+ghost use Rattle.book.specs.Book.{box_at, outbox_at, is_here, here_by, IsLeft};
+ghost use Rattle.book.specs.Seats.{IsTaken, IsNotTaken};
 
 use crate::baton::Baton;
 use crate::out::{Done, Hung, Left, Plan, Step};
@@ -31,57 +32,61 @@ use std::slice;
 
 /// The journal, what is known at its end, and the sessions' outboxes.
 #[derive(Drop)]
-pub struct Book {
+pub struct Book<O: Outbox> {
     alloc: Global,
     journal: Journal,
     roster: Roster,
     seats: Vec<Seat>,
-    outboxes: Vec<Option<Ring>>,
+    outboxes: Vec<Option<O>>,
     plan: VecDeque<Planned>,
     busy: bool,
 }
 
-impl Model for Book {
+impl<O: Outbox> Model for Book<O> {
     ghost use Rattle.book.specs.Book.{Shown};
     ghost use Rattle.book.specs.Kept.{IsKept};
 
-    ghost Value = { Shown };
+    ghost Value = { Shown O };
 
     ghost view = { λ a. record { history = a.journal.history; limit = a.journal.limit; settings = a.roster.settings; outboxes = a.outboxes.items; plan = a.plan.items; busy = a.busy } };
 
-    ghost invariant = { λ a. IsKept a.journal a.roster.settings a.roster.facts a.seats.items a.outboxes.items a.plan.items a.busy };
+    ghost invariant = { λ a. IsKept O.sent a.journal a.roster.settings a.roster.facts a.seats.items a.outboxes.items a.plan.items a.busy };
 }
 
 /// One where there is an outbox.
-fn here_by(outbox: &Option<Ring>) -> usize
+fn here_by<O: Outbox>(outbox: &Option<O>) -> usize
     ensures { result ≡ here_by outbox.now }
 {
     if outbox.is_some() { 1 } else { 0 }
 }
 
 /// How many sessions aren't reaped.
-fn count_here(outboxes: &[Option<Ring>]) -> usize
+fn count_here<O: Outbox>(outboxes: &[Option<O>]) -> usize
     requires { sum_by here_by outboxes.now < 2 ^ 64 }
     ensures { result ≡ sum_by here_by outboxes.now }
 {
-    outboxes.iter().map(here_by).sum()
+    outboxes.iter().map(here_by::<O>).sum()
 }
 
-/// Puts a delivery into its session's outbox, and answers whether that had room. It takes no memory.
-fn offer(outboxes: &mut Vec<Option<Ring>>, put: Planned) -> bool
+/// Puts a delivery into its session's outbox, and answers whether that took it. It takes no memory.
+fn offer<O: Outbox>(outboxes: &mut Vec<Option<O>>, put: Planned) -> bool
     requires from_1 { 0 < put.session }
     requires opened { put.session ≤ length outboxes.old.items }
-    ensures room { result ≡ has_room (outbox_at outboxes.old.items put.session) }
-    ensures put { result ≡ true → outboxes.new.items ≡ slice_set outboxes.old.items (put.session - 1) (Some (with_put (outbox_at outboxes.old.items put.session) put.item)) }
-    ensures full { result ≡ false → outboxes.new.items ≡ outboxes.old.items }
+    requires here { is_here outboxes.old.items put.session ≡ true }
+    ensures put { result ≡ true → IsTaken O.sent O.accepts outboxes.old.items put outboxes.new.items }
+    ensures fault { result ≡ false → IsNotTaken O.refuses outboxes.old.items put }
+    ensures same { result ≡ false → outboxes.new.items ≡ outboxes.old.items }
 {
-    match &mut outboxes[put.session.number() as usize - 1] {
-        Some(outbox) => outbox.put(put.item).is_ok(),
-        None => false,
+    let Some(outbox) = &mut outboxes[put.session.number() as usize - 1] else {
+        unreachable!();
+    };
+    match outbox.put(put.item) {
+        Ok(()) => true,
+        Err(_) => false,
     }
 }
 
-/// Takes the item that waits longest in the outbox at a place.
+/// Takes the item that waits longest in the ring at a place.
 fn take_at(outboxes: &mut Vec<Option<Ring>>, place: usize) -> Option<Item>
     requires { place < length outboxes.old.items }
     ensures value { result ≡ slice_get (outbox_at outboxes.old.items (place + 1)).queue 0 }
@@ -103,24 +108,25 @@ fn reserve(journal: &mut Journal, records: usize, missed: usize) -> Result<(), A
     journal.reserve(records, missed).map_err(|_| AllocError)
 }
 
-/// Gives up the outbox at a place, and answers how many items were left in it.
-fn give_up(outboxes: &mut Vec<Option<Ring>>, place: usize) -> usize
-    requires { place < length outboxes.old.items }
-    ensures count { result ≡ length (outbox_at outboxes.old.items (place + 1)).queue }
+/// Gives up the outbox at a place with its taker, and answers how many items were left in it.
+fn give_up<O: Outbox>(outboxes: &mut Vec<Option<O>>, place: usize, taker: O::Taker) -> usize
+    requires within { place < length outboxes.old.items }
+    requires here { is_here outboxes.old.items (place + 1) ≡ true }
+    requires own { IfSome (box_at outboxes.old.items (place + 1)) (λ o. O.name o ≡ O.taker_of taker) }
+    ensures left { IsLeft O.sent O.taken (box_at outboxes.old.items (place + 1)) taker result }
     ensures given { outboxes.new.items ≡ slice_set outboxes.old.items place None }
 {
-    match outboxes[place].take() {
-        Some(outbox) => outbox.len(),
-        None => 0,
-    }
+    let Some(outbox) = outboxes[place].take() else {
+        unreachable!();
+    };
+    outbox.close(taker)
 }
 
-impl Book {
-    ghost use Rattle.book.specs.Book.{empty_book, opened, begun, done, finished, put_next, put_all, taken, reaped, to_sweep, IsKnown, IsTurn, MayOpen, MayBegin, MayHang, MaySweep, MayReap, IsOpenRefusal, IsLineRefusal, IsHangRefusal, IsSweepRefusal, IsReapRefusal, IsSound, IsOut, newest_missed, held};
-    ghost use Rattle.book.specs.Told.{told_of, IsTakeRefusal};
+impl<O: Outbox> Book<O> {
+    ghost use Rattle.book.specs.Book.{empty_book, opened, begun, finished, reaped, IsPutNext, IsPutAll, IsDone, IsLeft, to_sweep, IsKnown, IsTurn, MayOpen, MayBegin, MayHang, MaySweep, MayReap, IsOpenRefusal, IsLineRefusal, IsHangRefusal, IsSweepRefusal, IsReapRefusal, IsSound, IsOut, newest_missed, held};
 
     /// An empty book for at most `limit` records.
-    pub fn new(alloc: Global, settings: Settings, limit: usize) -> Result<Book, BookFault>
+    pub fn new(alloc: Global, settings: Settings, limit: usize) -> Result<Book<O>, BookFault>
         ensures ok { IfOk result (λ b. (b ≡ empty_book limit settings) × IsWellSet settings limit) }
         ensures bad { IfErr result (λ e. e ≡ BookFault.BadSettings → IsWellSet settings limit → ⊥) }
         ensures memory { IfErr result (λ e. e ≡ BookFault.Memory → IsWellSet settings limit) }
@@ -209,10 +215,10 @@ impl Book {
         &mut self,
         host: Octets,
         moment: Moment,
-        outbox: Ring,
-    ) -> Result<(SessionId, Baton), (OpenRefusal, Ring)>
+        outbox: O,
+    ) -> Result<(SessionId, Baton), (OpenRefusal, O)>
         requires host { host_shape host ≡ true }
-        requires fresh { (outbox.queue ≡ []) × (outbox.taken ≡ []) }
+        requires fresh { O.sent outbox ≡ [] }
         ensures ok { OnOk result (self.new ≡ opened self.old host moment outbox) }
         ensures may { OnOk result (MayOpen self.old moment) }
         ensures session { IfOk result (λ r. (r.0 ≡ sessions self.old.history + 1) × (r.1 ≡ record { session = sessions self.old.history + 1; next = 0 })) }
@@ -340,11 +346,10 @@ impl Book {
     }
 
     /// Puts the first delivery of the plan that is out into its session's outbox, or notes that the session missed the record
-    /// where the outbox is full. It answers `None` where nothing is left, and takes no memory.
+    /// where the outbox doesn't take it. It answers `None` where nothing is left, and takes no memory.
     pub fn put_next(&mut self, plan: &mut Plan) -> Option<Step>
         requires out { IsOut self.old plan.old }
-        ensures told { result ≡ told_of self.old self.old.plan }
-        ensures put { self.new ≡ put_next self.old self.old.plan }
+        ensures put { IsPutNext O.accepts O.refuses self.old self.old.plan result self.new }
         ensures none { result ≡ None → self.new.plan ≡ [] }
         ensures out { IsOut self.new plan.new }
         ensures number { plan.new.number ≡ plan.old.number }
@@ -366,7 +371,7 @@ impl Book {
     /// Puts or misses all that is left of a plan.
     fn put_rest(&mut self, plan: &mut Plan)
         requires out { IsOut self.old plan.old }
-        ensures put { self.new ≡ put_all self.old self.old.plan }
+        ensures put { IsPutAll O.accepts O.refuses self.old self.old.plan self.new }
         ensures out { IsOut self.new plan.new }
         ensures none { self.new.plan ≡ [] }
         ensures number { plan.new.number ≡ plan.old.number }
@@ -437,7 +442,7 @@ impl Book {
         piece: &Piece,
         moment: Moment,
     ) -> Result<Done, LineRefusal>
-        ensures ok { OnOk result (self.new ≡ done self.old (kind.Said baton.old.session baton.old.next piece.now) moment) }
+        ensures ok { OnOk result (IsDone O.accepts O.refuses self.old (kind.Said baton.old.session baton.old.next piece.now) moment self.new) }
         ensures baton { OnOk result (baton.new ≡ record { session = baton.old.session; next = baton.old.next + 1 }) }
         ensures may { OnOk result (MayBegin self.old baton.old moment) }
         ensures number { IfOk result (λ d. d.number ≡ length self.old.history + 1) }
@@ -480,7 +485,7 @@ impl Book {
         why: Why,
         moment: Moment,
     ) -> Result<Hung, HangRefusal>
-        ensures ok { OnOk result (self.new ≡ done self.old (kind.Hung session why) moment) }
+        ensures ok { OnOk result (IsDone O.accepts O.refuses self.old (kind.Hung session why) moment self.new) }
         ensures may { OnOk result (MayHang self.old session moment) }
         ensures number { IfOk result (λ d. d.number ≡ length self.old.history + 1) }
         ensures missed { IfOk result (λ d. d.missed ≡ list_any (λ u. u == session) (newest_missed self.new.history)) }
@@ -577,7 +582,7 @@ impl Book {
 
     /// Sweeps up to one session: begins, puts or misses all that it owes, and finishes. A refusal changes nothing.
     pub fn sweep(&mut self, moment: Moment) -> Result<Option<Done>, SweepRefusal>
-        ensures some { IfOk result (λ o. IfSome o (λ d. (s : ℕ) × (to_sweep self.old.history ≡ Some s) × (self.new ≡ done self.old (kind.Gone s) moment) × (d.number ≡ length self.old.history + 1) × (d.missed ≡ newest_missed self.new.history) × (d.shut ≡ shut self.new.history s))) }
+        ensures some { IfOk result (λ o. IfSome o (λ d. (s : ℕ) × (to_sweep self.old.history ≡ Some s) × IsDone O.accepts O.refuses self.old (kind.Gone s) moment self.new × (d.number ≡ length self.old.history + 1) × (d.missed ≡ newest_missed self.new.history) × (d.shut ≡ shut self.new.history s))) }
         ensures none { IfOk result (λ o. o ≡ None → (to_sweep self.old.history ≡ None) × (self.new ≡ self.old)) }
         ensures may { OnOk result (MaySweep self.old moment) }
         ensures refusal { IfErr result (λ e. IsSweepRefusal self.old moment e) }
@@ -608,41 +613,30 @@ impl Book {
         Ok(place)
     }
 
-    /// Gives up a session that is gone, with what is left in its outbox. It takes no memory; a refusal gives the baton back,
-    /// and changes nothing.
-    pub fn reap(&mut self, baton: Baton) -> Result<Left, (ReapRefusal, Baton)>
+    /// Gives up a session that is gone, with what is left in its outbox, whose taker is given up with it. It takes no memory; a
+    /// refusal gives the baton and the taker back, and changes nothing.
+    pub fn reap(
+        &mut self,
+        baton: Baton,
+        taker: O::Taker,
+    ) -> Result<Left, (ReapRefusal, Baton, O::Taker)>
+        requires own { IfSome (box_at self.old.outboxes baton.session) (λ o. O.name o ≡ O.taker_of taker) }
         ensures ok { OnOk result (self.new ≡ reaped self.old baton.session) }
-        ensures left { IfOk result (λ l. (l.session ≡ baton.session) × (l.count ≡ length (outbox_at self.old.outboxes baton.session).queue)) }
+        ensures session { IfOk result (λ l. l.session ≡ baton.session) }
+        ensures left { IfOk result (λ l. IsLeft O.sent O.taken (box_at self.old.outboxes baton.session) taker l.count) }
         ensures may { OnOk result (MayReap self.old baton.session) }
         ensures refusal { IfErr result (λ e. IsReapRefusal self.old baton.session e.0) }
-        ensures err { IfErr result (λ e. (self.new ≡ self.old) × (e.1 ≡ baton)) }
+        ensures err { IfErr result (λ e. (self.new ≡ self.old) × (e.1 ≡ baton) × (e.2 ≡ taker)) }
     {
         match self.check_reap(baton.session) {
             Ok(place) => {
-                let count = give_up(&mut self.outboxes, place);
+                let count = give_up(&mut self.outboxes, place, taker);
                 Ok(Left {
                     session: baton.session,
                     count,
                 })
             }
-            Err(refusal) => Err((refusal, baton)),
-        }
-    }
-
-    /// Takes the item that waits longest for a session. It takes no memory.
-    pub fn take(&mut self, session: SessionId) -> Result<Item, TakeRefusal>
-        ensures ok { IfOk result (λ x. slice_get (outbox_at self.old.outboxes session).queue 0 ≡ Some x) }
-        ensures taken { OnOk result (self.new ≡ taken self.old session) }
-        ensures known { OnOk result (IsKnown self.old session) }
-        ensures refusal { IfErr result (λ e. IsTakeRefusal self.old session e) }
-        ensures err { OnErr result (self.new ≡ self.old) }
-    {
-        let Some(place) = self.place(session) else {
-            return Err(TakeRefusal::NoSession);
-        };
-        match take_at(&mut self.outboxes, place) {
-            Some(item) => Ok(item),
-            None => Err(TakeRefusal::Empty),
+            Err(refusal) => Err((refusal, baton, taker)),
         }
     }
 
@@ -712,8 +706,30 @@ impl Book {
     /// What holds of every book: its history is legal, and what was put into each session's outbox, with what is still in
     /// the plan, is what the history owes it.
     pub fn sound(&self)
-        ensures { IsSound self.now }
+        ensures { IsSound O.sent self.now }
     {
         let _ = &self.plan;
+    }
+}
+
+impl Book<Ring> {
+    ghost use Rattle.book.specs.Book.{outbox_at, taken, IsKnown};
+    ghost use Rattle.book.specs.Told.{IsTakeRefusal};
+
+    /// Takes the item that waits longest for a session. It takes no memory.
+    pub fn take(&mut self, session: SessionId) -> Result<Item, TakeRefusal>
+        ensures ok { IfOk result (λ x. slice_get (outbox_at self.old.outboxes session).queue 0 ≡ Some x) }
+        ensures taken { OnOk result (self.new ≡ taken self.old session) }
+        ensures known { OnOk result (IsKnown self.old session) }
+        ensures refusal { IfErr result (λ e. IsTakeRefusal self.old session e) }
+        ensures err { OnErr result (self.new ≡ self.old) }
+    {
+        let Some(place) = self.place(session) else {
+            return Err(TakeRefusal::NoSession);
+        };
+        match take_at(&mut self.outboxes, place) {
+            Some(item) => Ok(item),
+            None => Err(TakeRefusal::Empty),
+        }
     }
 }

@@ -20,14 +20,15 @@ use Rattle.book.proofs.KeptSteps.{shown}
 use Rattle.book.proofs.Opened.{accepted_le}
 use Rattle.book.proofs.Begins.{begun_is}
 use Rattle.book.proofs.Appends.{seat_there, said_plan, said_kept}
+use Rattle.book.proofs.book.Book.begin.Given as given
 use Rattle.book.proofs.book.Book.begin.Goals as goal
 
 -- where a line may be accepted
-may : (c : goal.After-result-1) → MayBegin (shown c.self.inside.journal c.self.inside.roster.settings c.self.inside.outboxes.items c.self.inside.plan.items c.self.inside.busy) c.args.baton.now c.args.moment
-may c = subst (λ m. MayBegin m c.args.baton.now c.args.moment) (sym c.self.view_is) c.in_ok-place.ensures.ok
+may : (over : given.Over) (c : goal.After-result-1 over) → MayBegin (shown c.self.inside.journal c.self.inside.roster.settings c.self.inside.outboxes.items c.self.inside.plan.items c.self.inside.busy) c.args.baton.now c.args.moment
+may over c = subst (λ m. MayBegin m c.args.baton.now c.args.moment) (sym c.self.view_is) c.in_ok-place.ensures.ok
 
 pub overflow_add-seat : goal.overflow_add-seat
-overflow_add-seat c =
+overflow_add-seat over c =
     let may : MayBegin (shown c.self.inside.journal c.self.inside.roster.settings c.self.inside.outboxes.items c.self.inside.plan.items c.self.inside.busy) c.args.baton.now c.args.moment = subst (λ m. MayBegin m c.args.baton.now c.args.moment) (sym c.self.view_is) c.in_ok-place.ensures.ok in
     let h = c.self.inside.journal.history in let s = c.args.baton.now.session in
     let limit : c.self.inside.journal.limit < 18446744073709551616 = subst (λ m. m.limit < 18446744073709551616) (sym c.self.view_is) c.in_ok-place.ensures.fits in
@@ -40,7 +41,7 @@ overflow_add-seat c =
     omega arith
 
 pub overflow_add-result : goal.overflow_add-result
-overflow_add-result c =
+overflow_add-result over c =
     let may : MayBegin (shown c.self.inside.journal c.self.inside.roster.settings c.self.inside.outboxes.items c.self.inside.plan.items c.self.inside.busy) c.args.baton.now c.args.moment = subst (λ m. MayBegin m c.args.baton.now c.args.moment) (sym c.self.view_is) c.in_ok-place.ensures.ok in
     let h = c.self.inside.journal.history in let s = c.args.baton.now.session in
     let limit : c.self.inside.journal.limit < 18446744073709551616 = subst (λ m. m.limit < 18446744073709551616) (sym c.self.view_is) c.in_ok-place.ensures.fits in
@@ -48,8 +49,8 @@ overflow_add-result c =
     let next : c.baton.inside.next ≡ length (accepted h s) = ap (λ b. b.next) c.baton.view_is ∙ may.turn.next in
     omega arith
 
-history : (c : goal.After-result-1) → c.append.new.self.history ≡ fresh_record c.self.inside.journal.history c.args.moment (Said c.args.baton.now.session c.args.baton.now.next c.args.piece.now) ∷ c.self.inside.journal.history
-history c =
+history : (over : given.Over) (c : goal.After-result-1 over) → c.append.new.self.history ≡ fresh_record c.self.inside.journal.history c.args.moment (Said c.args.baton.now.session c.args.baton.now.next c.args.piece.now) ∷ c.self.inside.journal.history
+history over c =
     let a = c.self.inside in let same = c.reserve.ensures.same in let app = c.append.ensures.appended in
     let said : c.in_ok-told.told ≡ c.args.piece.now = c.in_ok-told.ensures in
     let b : record { session = c.baton.inside.session; next = c.baton.inside.next } ≡ c.args.baton.now = c.baton.view_is in
@@ -57,25 +58,25 @@ history c =
     ∙ ap (λ (x : Turn). fresh_record a.journal.history c.args.moment (Said x.session x.next c.in_ok-told.told) ∷ a.journal.history) b
     ∙ ap (λ (x : Piece). fresh_record a.journal.history c.args.moment (Said c.args.baton.now.session c.args.baton.now.next x) ∷ a.journal.history) said
 
-limit : (c : goal.After-result-1) → c.append.new.self.limit ≡ c.self.inside.journal.limit
-limit c = c.append.ensures.appended.limit ∙ c.reserve.ensures.same.limit
+limit : (over : given.Over) (c : goal.After-result-1 over) → c.append.new.self.limit ≡ c.self.inside.journal.limit
+limit over c = c.append.ensures.appended.limit ∙ c.reserve.ensures.same.limit
 
-plan : (c : goal.After-result-1) → c.in_ok-prepared.prepared.plan.items ≡ plan_of c.self.inside.roster.settings c.self.inside.journal.history (Said c.args.baton.now.session c.args.baton.now.next c.args.piece.now) c.args.moment (length c.self.inside.outboxes.items)
-plan c =
+plan : (over : given.Over) (c : goal.After-result-1 over) → c.in_ok-prepared.prepared.plan.items ≡ plan_of c.self.inside.roster.settings c.self.inside.journal.history (Said c.args.baton.now.session c.args.baton.now.next c.args.piece.now) c.args.moment (length c.self.inside.outboxes.items)
+plan over c =
     let a = c.self.inside in let q = c.in_ok-prepared.quits in let t = c.in_ok-place.place + 1 in
     let f = spelled a.roster.settings a.roster.facts t (label_of (caps a.roster.facts t) c.args.piece.now) (of_asked a.roster.settings a.roster.facts t (asked_of c.args.piece.now)) c.args.moment c.new-number.result in
     let number : c.new-number.result ≡ length a.journal.history + 1 = grind (arith, common_steps) in
     let seats : c.deref.result.now ≡ a.seats.items = c.deref.ensures.value in
     let made : c.in_ok-prepared.prepared.plan.items ≡ planned_from a.seats.items (c.in_ok-place.place + 1) c.new-number.result f q =
     c.in_ok-prepared.ensures.plan ∙ ap (λ (xs : List Seat). planned_from xs (c.in_ok-place.place + 1) c.new-number.result f q) seats in
-    said_plan a.journal a.roster.settings a.roster.facts a.seats.items a.outboxes.items a.plan.items a.busy c.self.invariant c.args.baton.now c.args.piece.now c.args.moment c.in_ok-place.place
-    c.new-number.result q c.in_ok-prepared.prepared.plan.items (may c) c.in_ok-place.ensures.place number c.in_ok-prepared.ensures.quits made
+    said_plan over.O.Outbox.sent a.journal a.roster.settings a.roster.facts a.seats.items a.outboxes.items a.plan.items a.busy c.self.invariant c.args.baton.now c.args.piece.now c.args.moment c.in_ok-place.place
+    c.new-number.result q c.in_ok-prepared.prepared.plan.items (may over c) c.in_ok-place.ensures.place number c.in_ok-prepared.ensures.quits made
 
-settings : (c : goal.After-result-1) → c.commit.new.roster.settings ≡ c.self.inside.roster.settings
-settings c = c.commit.ensures.settings ∙ c.prepare.ensures.settings
+settings : (over : given.Over) (c : goal.After-result-1 over) → c.commit.new.roster.settings ≡ c.self.inside.roster.settings
+settings over c = c.commit.ensures.settings ∙ c.prepare.ensures.settings
 
 pub invariant_of-self-3 : goal.invariant_of-self-3
-invariant_of-self-3 c =
+invariant_of-self-3 over c =
     let a = c.self.inside in let es = of_asked a.roster.settings a.roster.facts (c.in_ok-place.place + 1) (asked_of c.args.piece.now) in
     let room : length c.in_ok-prepared.prepared.plan.items ≤ c.append.new.self.left = grind (arith, common_steps) in
     let kept : c.held-room.result ≡ held a.journal.history = c.held-room.ensures.kept in
@@ -85,14 +86,14 @@ invariant_of-self-3 c =
     let known : c.commit.new.roster.facts ≡ after a.roster.facts (deeds_of es) = more ∙ ap (after a.roster.facts) c.in_ok-prepared.ensures.deeds in
     let same : opened c.commit.new.roster.facts ≡ opened a.roster.facts = ap opened more ∙ c.in_ok-prepared.ensures.opened in
     let x = c.index_mut-seat.result.now in let places = slice_set a.seats.items c.in_ok-place.place (record { shut = c.in_ok-prepared.quits; gone = x.gone; accepted = x.accepted + 1 }) in
-    subst (λ (g : Settings). IsKept c.append.new.self g c.commit.new.roster.facts places a.outboxes.items c.in_ok-prepared.prepared.plan.items true) (sym (settings c))
-    (said_kept a.journal a.roster.settings a.roster.facts a.seats.items a.outboxes.items a.plan.items a.busy c.self.invariant c.append.new.self c.commit.new.roster.facts
+    subst (λ (g : Settings). IsKept over.O.Outbox.sent c.append.new.self g c.commit.new.roster.facts places a.outboxes.items c.in_ok-prepared.prepared.plan.items true) (sym (settings over c))
+    (said_kept over.O.Outbox.sent a.journal a.roster.settings a.roster.facts a.seats.items a.outboxes.items a.plan.items a.busy c.self.invariant c.append.new.self c.commit.new.roster.facts
     c.in_ok-prepared.prepared.plan.items c.args.baton.now c.args.piece.now c.args.moment c.in_ok-place.place c.in_ok-prepared.quits c.index_mut-seat.result.now
-    (may c) c.in_ok-place.ensures.place c.in_ok-prepared.ensures.quits (plan c) (history c) (limit c) room free known same c.index_mut-seat.ensures.value)
+    (may over c) c.in_ok-place.ensures.place c.in_ok-prepared.ensures.quits (plan over c) (history over c) (limit over c) room free known same c.index_mut-seat.ensures.value)
 
 pub returns-clause-ok : goal.returns-clause-ok
-returns-clause-ok c =
+returns-clause-ok over c =
     let a = c.self.inside in let b = c.args.baton.now in
-    ap (λ (g : Settings). shown c.append.new.self g a.outboxes.items c.in_ok-prepared.prepared.plan.items true) (settings c)
-    ∙ begun_is a.journal c.append.new.self a.roster.settings a.outboxes.items a.plan.items c.in_ok-prepared.prepared.plan.items a.busy (Said b.session b.next c.args.piece.now) c.args.moment (history c) (limit c) (plan c)
+    ap (λ (g : Settings). shown c.append.new.self g a.outboxes.items c.in_ok-prepared.prepared.plan.items true) (settings over c)
+    ∙ begun_is a.journal c.append.new.self a.roster.settings a.outboxes.items a.plan.items c.in_ok-prepared.prepared.plan.items a.busy (Said b.session b.next c.args.piece.now) c.args.moment (history over c) (limit over c) (plan over c)
     ∙ ap (λ m. begun m (Said b.session b.next c.args.piece.now) c.args.moment) c.self.view_is

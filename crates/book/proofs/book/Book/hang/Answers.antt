@@ -1,69 +1,68 @@
 use Rattle.std.proofs.Common.{◌≡◌, ◌+◌, ◌-◌, ◌≤◌, ◌∷◌, [], true, false, length, Some, slice_set, ℕ, ap, sym, ◌∙◌, subst}
 use Rattle.chronicle.specs.declared.record.Kind.TheVariants.{Hung}
-use Rattle.outbox.specs.Ring.{has_room, with_put}
 use Rattle.outbox.specs.declared.item.Item.TheVariants.{Last}
 use Rattle.registration.specs.declared.settings.Settings.{Settings}
 use Rattle.roster.specs.declared.deed.Deed.TheVariants.{Ended}
 use Rattle.book.specs.Kept.{IsKept}
-use Rattle.book.specs.Book.{MayHang, outbox_at, done}
+use Rattle.book.specs.Seats.{IsTaken, IsNotTaken}
+use Rattle.book.specs.Book.{MayHang, IsDone}
 use Rattle.book.proofs.KeptSteps.{shown}
 use Rattle.book.proofs.Begins.{hung_put_is, hung_miss_is}
 use Rattle.book.proofs.Appends.{hang_room, hung_put, hung_missed}
 use Rattle.book.proofs.book.Book.hang.Goals as goal
 
 pub append-number-requires : goal.append-number-requires
-append-number-requires c =
+append-number-requires over c =
     let a = c.self.inside in let may = subst (λ m. MayHang m c.args.session c.args.moment) (sym c.self.view_is) c.in_ok-place.ensures.ok in
-    hang_room a.journal a.roster.settings a.roster.facts a.seats.items a.outboxes.items a.plan.items a.busy c.self.invariant c.args.session c.args.why c.args.moment may
+    hang_room over.O.Outbox.sent a.journal a.roster.settings a.roster.facts a.seats.items a.outboxes.items a.plan.items a.busy c.self.invariant c.args.session c.args.why c.args.moment may
 
 pub invariant_of-self : goal.invariant_of-self
-invariant_of-self c =
+invariant_of-self over c =
     let a = c.self.inside in let h = a.journal.history in let s = c.args.session in let w = c.args.why in
     let may : MayHang (shown a.journal a.roster.settings a.outboxes.items a.plan.items a.busy) s c.args.moment = subst (λ m. MayHang m s c.args.moment) (sym c.self.view_is) c.in_ok-place.ensures.ok in
     let app = c.append-number.ensures.appended in
     let left : 1 ≤ c.append-number.new.self.left = c.append-number.ensures.one in
     let known : c.end.new.self.facts ≡ Ended s w [] ∷ a.roster.facts = c.end.ensures.facts in
-    let has : has_room (outbox_at a.outboxes.items s) ≡ true = sym c.offer.ensures.room ∙ c.if-offer.true in
-    let put : c.offer.new.outboxes.items ≡ slice_set a.outboxes.items (s - 1) (Some (with_put (outbox_at a.outboxes.items s) (Last (length h + 1) w))) =
-    c.offer.ensures.put c.if-offer.true ∙ ap (λ (n : ℕ). slice_set a.outboxes.items (s - 1) (Some (with_put (outbox_at a.outboxes.items s) (Last n w)))) c.append-number.ensures.number in
+    let took : IsTaken over.O.Outbox.sent over.O.Outbox.accepts a.outboxes.items (record { session = s; item = Last (length h + 1) w }) c.offer.new.outboxes.items =
+    subst (λ (n : ℕ). IsTaken over.O.Outbox.sent over.O.Outbox.accepts a.outboxes.items (record { session = s; item = Last n w }) c.offer.new.outboxes.items) c.append-number.ensures.number (c.offer.ensures.put c.if-offer.true) in
     let x = c.index_mut-seat.result.now in let places = slice_set a.seats.items c.in_ok-place.place (record { shut = true; gone = x.gone; accepted = x.accepted }) in
-    subst (λ (g : Settings). IsKept c.append-number.new.self g c.end.new.self.facts places c.offer.new.outboxes.items a.plan.items a.busy) (sym c.end.ensures.settings)
-    (hung_put a.journal a.roster.settings a.roster.facts a.seats.items a.outboxes.items a.plan.items a.busy c.self.invariant c.append-number.new.self c.end.new.self.facts
-    c.offer.new.outboxes.items s w c.args.moment c.in_ok-place.place c.index_mut-seat.result.now may c.in_ok-place.ensures.place app.history app.limit left app.room known
-    c.index_mut-seat.ensures.value has put)
+    subst (λ (g : Settings). IsKept over.O.Outbox.sent c.append-number.new.self g c.end.new.self.facts places c.offer.new.outboxes.items a.plan.items a.busy) (sym c.end.ensures.settings)
+    (hung_put over.O.Outbox.sent a.journal a.roster.settings a.roster.facts a.seats.items a.outboxes.items a.plan.items a.busy c.self.invariant c.append-number.new.self c.end.new.self.facts
+    c.offer.new.outboxes.items s w c.args.moment c.in_ok-place.place c.index_mut-seat.result.now over.O.Outbox.accepts may c.in_ok-place.ensures.place app.history app.limit left app.room known
+    c.index_mut-seat.ensures.value took)
 
 pub returns-then-offer-clause-ok : goal.returns-then-offer-clause-ok
-returns-then-offer-clause-ok c =
+returns-then-offer-clause-ok over c =
     let a = c.self.inside in let h = a.journal.history in let s = c.args.session in let w = c.args.why in
     let may : MayHang (shown a.journal a.roster.settings a.outboxes.items a.plan.items a.busy) s c.args.moment = subst (λ m. MayHang m s c.args.moment) (sym c.self.view_is) c.in_ok-place.ensures.ok in
     let app = c.append-number.ensures.appended in
-    let has : has_room (outbox_at a.outboxes.items s) ≡ true = sym c.offer.ensures.room ∙ c.if-offer.true in
-    let put : c.offer.new.outboxes.items ≡ slice_set a.outboxes.items (s - 1) (Some (with_put (outbox_at a.outboxes.items s) (Last (length h + 1) w))) =
-    c.offer.ensures.put c.if-offer.true ∙ ap (λ (n : ℕ). slice_set a.outboxes.items (s - 1) (Some (with_put (outbox_at a.outboxes.items s) (Last n w)))) c.append-number.ensures.number in
-    ap (λ (g : Settings). shown c.append-number.new.self g c.offer.new.outboxes.items a.plan.items a.busy) c.end.ensures.settings
-    ∙ hung_put_is a.journal c.append-number.new.self a.roster.settings a.outboxes.items a.plan.items a.busy s w c.args.moment (c.self.invariant.sound.idle may.idle) may.idle may.not_shut app.history app.limit c.offer.new.outboxes.items has put
-    ∙ ap (λ m. done m (Hung s w) c.args.moment) c.self.view_is
+    let took : IsTaken over.O.Outbox.sent over.O.Outbox.accepts a.outboxes.items (record { session = s; item = Last (length h + 1) w }) c.offer.new.outboxes.items =
+    subst (λ (n : ℕ). IsTaken over.O.Outbox.sent over.O.Outbox.accepts a.outboxes.items (record { session = s; item = Last n w }) c.offer.new.outboxes.items) c.append-number.ensures.number (c.offer.ensures.put c.if-offer.true) in
+    subst (λ m. IsDone over.O.Outbox.accepts over.O.Outbox.refuses m (Hung s w) c.args.moment (shown c.append-number.new.self c.end.new.self.settings c.offer.new.outboxes.items a.plan.items a.busy)) c.self.view_is
+    (subst (λ (g : Settings). IsDone over.O.Outbox.accepts over.O.Outbox.refuses (shown a.journal a.roster.settings a.outboxes.items a.plan.items a.busy) (Hung s w) c.args.moment (shown c.append-number.new.self g c.offer.new.outboxes.items a.plan.items a.busy)) (sym c.end.ensures.settings)
+    (hung_put_is over.O.Outbox.sent over.O.Outbox.accepts over.O.Outbox.refuses a.journal c.append-number.new.self a.roster.settings a.outboxes.items a.plan.items a.busy s w c.args.moment (c.self.invariant.sound.idle may.idle) may.idle may.not_shut app.history app.limit c.offer.new.outboxes.items took))
 
 pub invariant_of-self-2 : goal.invariant_of-self-2
-invariant_of-self-2 c =
+invariant_of-self-2 over c =
     let a = c.self.inside in let h = a.journal.history in let s = c.args.session in let w = c.args.why in
     let may : MayHang (shown a.journal a.roster.settings a.outboxes.items a.plan.items a.busy) s c.args.moment = subst (λ m. MayHang m s c.args.moment) (sym c.self.view_is) c.in_ok-place.ensures.ok in
     let app = c.append-number.ensures.appended in
     let left : 1 ≤ c.append-number.new.self.left = c.append-number.ensures.one in
     let known : c.end.new.self.facts ≡ Ended s w [] ∷ a.roster.facts = c.end.ensures.facts in
-    let kept = hung_missed a.journal a.roster.settings a.roster.facts a.seats.items a.outboxes.items a.plan.items a.busy c.self.invariant c.append-number.new.self c.miss.new.self c.end.new.self.facts
+    let kept = hung_missed over.O.Outbox.sent a.journal a.roster.settings a.roster.facts a.seats.items a.outboxes.items a.plan.items a.busy c.self.invariant c.append-number.new.self c.miss.new.self c.end.new.self.facts
     s w c.args.moment c.in_ok-place.place c.index_mut-seat.result.now may c.in_ok-place.ensures.place app.history app.limit left app.room known c.index_mut-seat.ensures.value c.miss.ensures in
     let places = slice_set a.seats.items c.in_ok-place.place (record { shut = true; gone = c.index_mut-seat.result.now.gone; accepted = c.index_mut-seat.result.now.accepted }) in
-    subst (λ (g : Settings). IsKept c.miss.new.self g c.end.new.self.facts places c.offer.new.outboxes.items a.plan.items a.busy) (sym c.end.ensures.settings)
-    (subst (λ xs. IsKept c.miss.new.self a.roster.settings c.end.new.self.facts places xs a.plan.items a.busy) (sym (c.offer.ensures.full c.if-offer.false)) kept)
+    subst (λ (g : Settings). IsKept over.O.Outbox.sent c.miss.new.self g c.end.new.self.facts places c.offer.new.outboxes.items a.plan.items a.busy) (sym c.end.ensures.settings)
+    (subst (λ xs. IsKept over.O.Outbox.sent c.miss.new.self a.roster.settings c.end.new.self.facts places xs a.plan.items a.busy) (sym (c.offer.ensures.same c.if-offer.false)) kept)
 
 pub returns-clause-ok : goal.returns-clause-ok
-returns-clause-ok c =
+returns-clause-ok over c =
     let a = c.self.inside in let s = c.args.session in let w = c.args.why in
     let may : MayHang (shown a.journal a.roster.settings a.outboxes.items a.plan.items a.busy) s c.args.moment = subst (λ m. MayHang m s c.args.moment) (sym c.self.view_is) c.in_ok-place.ensures.ok in
     let app = c.append-number.ensures.appended in
-    let full : has_room (outbox_at a.outboxes.items s) ≡ false = sym c.offer.ensures.room ∙ c.if-offer.false in
-    ap (λ (g : Settings). shown c.miss.new.self g c.offer.new.outboxes.items a.plan.items a.busy) c.end.ensures.settings
-    ∙ ap (λ xs. shown c.miss.new.self a.roster.settings xs a.plan.items a.busy) (c.offer.ensures.full c.if-offer.false)
-    ∙ hung_miss_is a.journal c.append-number.new.self a.roster.settings a.outboxes.items a.plan.items a.busy s w c.args.moment (c.self.invariant.sound.idle may.idle) may.idle may.not_shut app.history app.limit c.miss.new.self full c.miss.ensures.history c.miss.ensures.limit
-    ∙ ap (λ m. done m (Hung s w) c.args.moment) c.self.view_is
+    let missed : IsNotTaken over.O.Outbox.refuses a.outboxes.items (record { session = s; item = Last (length a.journal.history + 1) w }) =
+    subst (λ (n : ℕ). IsNotTaken over.O.Outbox.refuses a.outboxes.items (record { session = s; item = Last n w })) c.append-number.ensures.number (c.offer.ensures.fault c.if-offer.false) in
+    subst (λ m. IsDone over.O.Outbox.accepts over.O.Outbox.refuses m (Hung s w) c.args.moment (shown c.miss.new.self c.end.new.self.settings c.offer.new.outboxes.items a.plan.items a.busy)) c.self.view_is
+    (subst (λ (g : Settings). IsDone over.O.Outbox.accepts over.O.Outbox.refuses (shown a.journal a.roster.settings a.outboxes.items a.plan.items a.busy) (Hung s w) c.args.moment (shown c.miss.new.self g c.offer.new.outboxes.items a.plan.items a.busy)) (sym c.end.ensures.settings)
+    (subst (λ xs. IsDone over.O.Outbox.accepts over.O.Outbox.refuses (shown a.journal a.roster.settings a.outboxes.items a.plan.items a.busy) (Hung s w) c.args.moment (shown c.miss.new.self a.roster.settings xs a.plan.items a.busy)) (sym (c.offer.ensures.same c.if-offer.false))
+    (hung_miss_is over.O.Outbox.sent over.O.Outbox.accepts over.O.Outbox.refuses a.journal c.append-number.new.self a.roster.settings a.outboxes.items a.plan.items a.busy s w c.args.moment (c.self.invariant.sound.idle may.idle) may.idle may.not_shut app.history app.limit c.miss.new.self missed c.miss.ensures.history c.miss.ensures.limit)))

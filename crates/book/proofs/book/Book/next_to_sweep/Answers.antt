@@ -7,7 +7,7 @@ use Rattle.book.proofs.Sweeps.{seat_tells, found, passed}
 use Rattle.book.proofs.book.Book.next_to_sweep.Goals as goal
 
 pub returns-then-is_to_sweep-clause-some : goal.returns-then-is_to_sweep-clause-some
-returns-then-is_to_sweep-clause-some c =
+returns-then-is_to_sweep-clause-some over c =
     let a = c.self.inside in let i = c.loop-place.place in let items = c.deref-seat-items.result.now in let d : items ≡ a.seats.items = c.deref-seat-items.ensures.value in let h = c.args.self.now.history in
     let n : sessions a.journal.history ≡ sessions h = ap (λ m. sessions m.history) c.self.view_is in let many = c.self.invariant.sound.sessions in let places = c.self.invariant.places in
     let len : length items ≡ length a.seats.items = ap length d in let test : i < length items = c.loop-place-test.true in
@@ -17,7 +17,7 @@ returns-then-is_to_sweep-clause-some c =
     found (is_to_sweep h) i (sessions h) (to_sweep h) few (sym tells ∙ c.if-is_to_sweep.true) c.loop-place.invariant
 
 pub loop-place-preserved : goal.loop-place-preserved
-loop-place-preserved c =
+loop-place-preserved over c =
     let a = c.self.inside in let i = c.loop-place.place in let items = c.deref-seat-items.result.now in let d : items ≡ a.seats.items = c.deref-seat-items.ensures.value in let h = c.args.self.now.history in
     let n : sessions a.journal.history ≡ sessions h = ap (λ m. sessions m.history) c.self.view_is in let many = c.self.invariant.sound.sessions in let places = c.self.invariant.places in
     let len : length items ≡ length a.seats.items = ap length d in let test : i < length items = c.loop-place-test.true in

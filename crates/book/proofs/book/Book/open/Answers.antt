@@ -12,7 +12,7 @@ use Rattle.book.proofs.KeptSteps.{shown, opened_kept}
 use Rattle.book.proofs.book.Book.open.Goals as goal
 
 pub invariant_of-self-2 : goal.invariant_of-self-2
-invariant_of-self-2 c =
+invariant_of-self-2 over c =
     let a = c.self.inside in
     let may : MayOpen (shown a.journal a.roster.settings a.outboxes.items a.plan.items a.busy) c.args.moment = subst (λ m. MayOpen m c.args.moment) (sym c.self.view_is) (c.in-Ok.ensures.ok) in
     let session : c.new-session.result ≡ length a.seats.items + 1 = grind (arith, common_steps) in
@@ -27,6 +27,6 @@ invariant_of-self-2 c =
     let free : held a.journal.history + 2 ≤ c.append.new.self.room = let ok = c.reserve-else-is_err-3.ensures.ok in let more = app.room in grind (arith, common_steps) in
     let known : c.apply.new.self.facts ≡ deed.Opened c.new-session.result c.args.host ∷ a.roster.facts = c.apply.ensures.facts ∙ ap (λ (fs : List Deed). deed.Opened c.new-session.result c.args.host ∷ fs) c.prepare.ensures.facts in
     let settings : c.apply.new.self.settings ≡ a.roster.settings = c.apply.ensures.settings ∙ c.prepare.ensures.settings in
-    subst (λ (g : Settings). IsKept c.append.new.self g c.apply.new.self.facts c.push_reserved.new.self.items c.push_reserved-2.new.self.items a.plan.items a.busy) (sym settings)
-    (opened_kept a.journal c.append.new.self a.roster.settings a.roster.facts c.apply.new.self.facts a.seats.items c.push_reserved.new.self.items
+    subst (λ (g : Settings). IsKept over.O.Outbox.sent c.append.new.self g c.apply.new.self.facts c.push_reserved.new.self.items c.push_reserved-2.new.self.items a.plan.items a.busy) (sym settings)
+    (opened_kept over.O.Outbox.sent a.journal c.append.new.self a.roster.settings a.roster.facts c.apply.new.self.facts a.seats.items c.push_reserved.new.self.items
     a.outboxes.items c.push_reserved-2.new.self.items a.plan.items a.busy c.args.host c.in-Ok-clone.told c.args.moment c.new-session.result c.args.outbox c.self.invariant may c.requires.fresh session told history limit free known seats boxes)

@@ -17,74 +17,75 @@ use Rattle.book.proofs.Sweeps.{swept_is}
 use Rattle.book.proofs.KeptSteps.{shown}
 use Rattle.book.proofs.Begins.{begun_is}
 use Rattle.book.proofs.Appends.{sweep_room, gone_plan, gone_kept}
+use Rattle.book.proofs.book.Book.sweep_at.Given as given
 use Rattle.book.proofs.book.Book.sweep_at.Goals as goal
 
 pub overflow_add-place : goal.overflow_add-place
-overflow_add-place c =
+overflow_add-place over c =
     let a = c.self.inside in let next = subst (λ m. to_sweep m.history ≡ Some (c.args.place + 1)) (sym c.self.view_is) c.requires.next in
     let limit : a.journal.limit < 18446744073709551616 = subst (λ m. m.limit < 18446744073709551616) (sym c.self.view_is) c.held-room.ensures.fits in
-    let few = sweep_room a.journal a.roster.settings a.roster.facts a.seats.items a.outboxes.items a.plan.items a.busy c.self.invariant (c.args.place + 1) c.args.moment next in let some = few.0 in let seated = few.1 in let known = few.2 in let room = few.3 in
+    let few = sweep_room over.O.Outbox.sent a.journal a.roster.settings a.roster.facts a.seats.items a.outboxes.items a.plan.items a.busy c.self.invariant (c.args.place + 1) c.args.moment next in let some = few.0 in let seated = few.1 in let known = few.2 in let room = few.3 in
     omega arith
 
 pub overflow_add-len : goal.overflow_add-len
-overflow_add-len c =
+overflow_add-len over c =
     let a = c.self.inside in let next = subst (λ m. to_sweep m.history ≡ Some (c.args.place + 1)) (sym c.self.view_is) c.requires.next in
     let limit : a.journal.limit < 18446744073709551616 = subst (λ m. m.limit < 18446744073709551616) (sym c.self.view_is) c.held-room.ensures.fits in
-    let few = sweep_room a.journal a.roster.settings a.roster.facts a.seats.items a.outboxes.items a.plan.items a.busy c.self.invariant (c.args.place + 1) c.args.moment next in let some = few.0 in let seated = few.1 in let known = few.2 in let room = few.3 in
+    let few = sweep_room over.O.Outbox.sent a.journal a.roster.settings a.roster.facts a.seats.items a.outboxes.items a.plan.items a.busy c.self.invariant (c.args.place + 1) c.args.moment next in let some = few.0 in let seated = few.1 in let known = few.2 in let room = few.3 in
     let len : c.len.result ≡ length a.journal.history = c.len.ensures in omega arith
 
 pub prepare_gone-requires-clause-seated : goal.prepare_gone-requires-clause-seated
-prepare_gone-requires-clause-seated c =
+prepare_gone-requires-clause-seated over c =
     let a = c.self.inside in let next = subst (λ m. to_sweep m.history ≡ Some (c.args.place + 1)) (sym c.self.view_is) c.requires.next in
     let limit : a.journal.limit < 18446744073709551616 = subst (λ m. m.limit < 18446744073709551616) (sym c.self.view_is) c.held-room.ensures.fits in
-    let few = sweep_room a.journal a.roster.settings a.roster.facts a.seats.items a.outboxes.items a.plan.items a.busy c.self.invariant (c.args.place + 1) c.args.moment next in let some = few.0 in let seated = few.1 in let known = few.2 in let room = few.3 in
+    let few = sweep_room over.O.Outbox.sent a.journal a.roster.settings a.roster.facts a.seats.items a.outboxes.items a.plan.items a.busy c.self.invariant (c.args.place + 1) c.args.moment next in let some = few.0 in let seated = few.1 in let known = few.2 in let room = few.3 in
     let len : length c.deref.result.now ≡ length a.seats.items = ap length c.deref.ensures.value in omega arith
 
 pub prepare_gone-requires-clause-known : goal.prepare_gone-requires-clause-known
-prepare_gone-requires-clause-known c =
+prepare_gone-requires-clause-known over c =
     let a = c.self.inside in let next = subst (λ m. to_sweep m.history ≡ Some (c.args.place + 1)) (sym c.self.view_is) c.requires.next in
     let limit : a.journal.limit < 18446744073709551616 = subst (λ m. m.limit < 18446744073709551616) (sym c.self.view_is) c.held-room.ensures.fits in
-    let few = sweep_room a.journal a.roster.settings a.roster.facts a.seats.items a.outboxes.items a.plan.items a.busy c.self.invariant (c.args.place + 1) c.args.moment next in let some = few.0 in let seated = few.1 in let known = few.2 in let room = few.3 in
+    let few = sweep_room over.O.Outbox.sent a.journal a.roster.settings a.roster.facts a.seats.items a.outboxes.items a.plan.items a.busy c.self.invariant (c.args.place + 1) c.args.moment next in let some = few.0 in let seated = few.1 in let known = few.2 in let room = few.3 in
     known
 
 pub append-requires : goal.append-requires
-append-requires c =
+append-requires over c =
     let a = c.self.inside in let next = subst (λ m. to_sweep m.history ≡ Some (c.args.place + 1)) (sym c.self.view_is) c.requires.next in
     let limit : a.journal.limit < 18446744073709551616 = subst (λ m. m.limit < 18446744073709551616) (sym c.self.view_is) c.held-room.ensures.fits in
-    let few = sweep_room a.journal a.roster.settings a.roster.facts a.seats.items a.outboxes.items a.plan.items a.busy c.self.invariant (c.args.place + 1) c.args.moment next in let some = few.0 in let seated = few.1 in let known = few.2 in let room = few.3 in
+    let few = sweep_room over.O.Outbox.sent a.journal a.roster.settings a.roster.facts a.seats.items a.outboxes.items a.plan.items a.busy c.self.invariant (c.args.place + 1) c.args.moment next in let some = few.0 in let seated = few.1 in let known = few.2 in let room = few.3 in
     let kept : c.held-room.result ≡ held a.journal.history = c.held-room.ensures.kept ∙ ap (λ m. held m.history) (sym c.self.view_is) in let ok = c.reserve.ensures.ok in grind (arith, common_steps)
 
 pub index_mut-seat-requires : goal.index_mut-seat-requires
-index_mut-seat-requires c =
+index_mut-seat-requires over c =
     let a = c.self.inside in let next = subst (λ m. to_sweep m.history ≡ Some (c.args.place + 1)) (sym c.self.view_is) c.requires.next in
     let limit : a.journal.limit < 18446744073709551616 = subst (λ m. m.limit < 18446744073709551616) (sym c.self.view_is) c.held-room.ensures.fits in
-    let few = sweep_room a.journal a.roster.settings a.roster.facts a.seats.items a.outboxes.items a.plan.items a.busy c.self.invariant (c.args.place + 1) c.args.moment next in let some = few.0 in let seated = few.1 in let known = few.2 in let room = few.3 in
+    let few = sweep_room over.O.Outbox.sent a.journal a.roster.settings a.roster.facts a.seats.items a.outboxes.items a.plan.items a.busy c.self.invariant (c.args.place + 1) c.args.moment next in let some = few.0 in let seated = few.1 in let known = few.2 in let room = few.3 in
     let len : vec_len a.seats ≡ length a.seats.items = grind (arith, common_steps) in omega arith
 
 -- the record that was appended, and the plan of its deliveries
-history : (c : goal.After-self-2-1) → c.append.new.self.history ≡ fresh_record c.self.inside.journal.history c.args.moment (Gone (c.args.place + 1)) ∷ c.self.inside.journal.history
-history c =
+history : (over : given.Over) (c : goal.After-self-2-1 over) → c.append.new.self.history ≡ fresh_record c.self.inside.journal.history c.args.moment (Gone (c.args.place + 1)) ∷ c.self.inside.journal.history
+history over c =
     let app = c.append.ensures.appended in let session : c.new-session.result ≡ c.args.place + 1 = c.new-session.ensures in
     app.history ∙ ap (λ h. fresh_record h c.args.moment (Gone c.new-session.result) ∷ h) c.reserve.ensures.same.history ∙ ap (λ (s : ℕ). fresh_record c.self.inside.journal.history c.args.moment (Gone s) ∷ c.self.inside.journal.history) session
 
-limit : (c : goal.After-self-2-1) → c.append.new.self.limit ≡ c.self.inside.journal.limit
-limit c = c.append.ensures.appended.limit ∙ c.reserve.ensures.same.limit
+limit : (over : given.Over) (c : goal.After-self-2-1 over) → c.append.new.self.limit ≡ c.self.inside.journal.limit
+limit over c = c.append.ensures.appended.limit ∙ c.reserve.ensures.same.limit
 
-plan : (c : goal.After-self-2-1) → c.in_ok-prepared.prepared.plan.items ≡ plan_of c.self.inside.roster.settings c.self.inside.journal.history (Gone (c.args.place + 1)) c.args.moment (length c.self.inside.outboxes.items)
-plan c =
+plan : (over : given.Over) (c : goal.After-self-2-1 over) → c.in_ok-prepared.prepared.plan.items ≡ plan_of c.self.inside.roster.settings c.self.inside.journal.history (Gone (c.args.place + 1)) c.args.moment (length c.self.inside.outboxes.items)
+plan over c =
     let a = c.self.inside in let t = c.args.place + 1 in let f = spelled a.roster.settings a.roster.facts t None (departs a.roster.facts t) c.args.moment c.new-number.result in let next = subst (λ m. to_sweep m.history ≡ Some (c.args.place + 1)) (sym c.self.view_is) c.requires.next in
     let number : c.new-number.result ≡ length a.journal.history + 1 = grind (arith, common_steps) in
     let seats : c.deref.result.now ≡ a.seats.items = c.deref.ensures.value in
     let made : c.in_ok-prepared.prepared.plan.items ≡ planned_from a.seats.items (c.args.place + 1) c.new-number.result f false =
     c.in_ok-prepared.ensures.plan ∙ ap (λ (xs : List Seat). planned_from xs (c.args.place + 1) c.new-number.result f false) seats in
-    gone_plan a.journal a.roster.settings a.roster.facts a.seats.items a.outboxes.items a.plan.items a.busy c.self.invariant c.args.place c.new-number.result c.args.moment c.in_ok-prepared.prepared.plan.items
+    gone_plan over.O.Outbox.sent a.journal a.roster.settings a.roster.facts a.seats.items a.outboxes.items a.plan.items a.busy c.self.invariant c.args.place c.new-number.result c.args.moment c.in_ok-prepared.prepared.plan.items
     next number made
 
-settings : (c : goal.After-self-2-1) → c.commit.new.roster.settings ≡ c.self.inside.roster.settings
-settings c = c.commit.ensures.settings ∙ c.prepare.ensures.settings
+settings : (over : given.Over) (c : goal.After-self-2-1 over) → c.commit.new.roster.settings ≡ c.self.inside.roster.settings
+settings over c = c.commit.ensures.settings ∙ c.prepare.ensures.settings
 
 pub invariant_of-self-2 : goal.invariant_of-self-2
-invariant_of-self-2 c =
+invariant_of-self-2 over c =
     let a = c.self.inside in let es = departs a.roster.facts (c.args.place + 1) in let next = subst (λ m. to_sweep m.history ≡ Some (c.args.place + 1)) (sym c.self.view_is) c.requires.next in
     let may : MaySweep (shown a.journal a.roster.settings a.outboxes.items a.plan.items a.busy) c.args.moment = subst (λ m. MaySweep m c.args.moment) (sym c.self.view_is) c.requires.may in
     let room : length c.in_ok-prepared.prepared.plan.items ≤ c.append.new.self.left = grind (arith, common_steps) in
@@ -95,21 +96,21 @@ invariant_of-self-2 c =
     let known : c.commit.new.roster.facts ≡ after a.roster.facts (deeds_of es) = more_known ∙ ap (after a.roster.facts) c.in_ok-prepared.ensures.deeds in
     let same : opened c.commit.new.roster.facts ≡ opened a.roster.facts = ap opened more_known ∙ c.in_ok-prepared.ensures.opened in
     let x = c.index_mut-seat.result.now in let places = slice_set a.seats.items c.args.place (record { shut = x.shut; gone = true; accepted = x.accepted }) in
-    subst (λ (g : Settings). IsKept c.append.new.self g c.commit.new.roster.facts places a.outboxes.items c.in_ok-prepared.prepared.plan.items true) (sym (settings c))
-    (gone_kept a.journal a.roster.settings a.roster.facts a.seats.items a.outboxes.items a.plan.items a.busy c.self.invariant c.append.new.self c.commit.new.roster.facts
-    c.in_ok-prepared.prepared.plan.items c.args.moment c.args.place c.index_mut-seat.result.now may next (plan c) (history c) (limit c) room free known same c.index_mut-seat.ensures.value)
+    subst (λ (g : Settings). IsKept over.O.Outbox.sent c.append.new.self g c.commit.new.roster.facts places a.outboxes.items c.in_ok-prepared.prepared.plan.items true) (sym (settings over c))
+    (gone_kept over.O.Outbox.sent a.journal a.roster.settings a.roster.facts a.seats.items a.outboxes.items a.plan.items a.busy c.self.invariant c.append.new.self c.commit.new.roster.facts
+    c.in_ok-prepared.prepared.plan.items c.args.moment c.args.place c.index_mut-seat.result.now may next (plan over c) (history over c) (limit over c) room free known same c.index_mut-seat.ensures.value)
 
 pub returns-clause-ok : goal.returns-clause-ok
-returns-clause-ok c =
+returns-clause-ok over c =
     let a = c.self.inside in
-    ap (λ (g : Settings). shown c.append.new.self g a.outboxes.items c.in_ok-prepared.prepared.plan.items true) (settings c)
-    ∙ begun_is a.journal c.append.new.self a.roster.settings a.outboxes.items a.plan.items c.in_ok-prepared.prepared.plan.items a.busy (Gone (c.args.place + 1)) c.args.moment (history c) (limit c) (plan c)
+    ap (λ (g : Settings). shown c.append.new.self g a.outboxes.items c.in_ok-prepared.prepared.plan.items true) (settings over c)
+    ∙ begun_is a.journal c.append.new.self a.roster.settings a.outboxes.items a.plan.items c.in_ok-prepared.prepared.plan.items a.busy (Gone (c.args.place + 1)) c.args.moment (history over c) (limit over c) (plan over c)
     ∙ ap (λ m. begun m (Gone (c.args.place + 1)) c.args.moment) c.self.view_is
 
 pub returns-clause-out : goal.returns-clause-out
-returns-clause-out c =
+returns-clause-out over c =
     let a = c.self.inside in let h = a.journal.history in let next = subst (λ m. to_sweep m.history ≡ Some (c.args.place + 1)) (sym c.self.view_is) c.requires.next in
-    let is = swept_is h (c.args.place + 1) next in let eh = history c in
+    let is = swept_is h (c.args.place + 1) next in let eh = history over c in
     let session : c.new-session.result ≡ c.args.place + 1 = c.new-session.ensures in
     let number : c.new-number.result ≡ length h + 1 = grind (arith, common_steps) in
     let longer : length c.append.new.self.history ≡ length h + 1 = ap length eh ∙ (let f : length (fresh_record h c.args.moment (Gone (c.args.place + 1)) ∷ h) ≡ length h + 1 = omega arith in f) in
