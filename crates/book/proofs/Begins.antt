@@ -18,7 +18,7 @@ use Rattle.registration.specs.declared.settings.Settings.{Settings}
 use Rattle.book.specs.declared.plan.Planned.{Planned}
 use Rattle.book.specs.declared.seat.Seat.{Seat}
 use Rattle.book.specs.Owed.{item, told, reason}
-use Rattle.book.specs.Seats.{IsSeat, seat_at, told as tells, told_to, told_own, planned_from}
+use Rattle.book.specs.Seats.{IsSeat, seat_at, told as tells, told_to, told_own, planned_from, IsTaken, IsNotTaken}
 use Rattle.book.specs.Book.{Shown, due, puts, others, plan_by, plan_of, begun, delivered_to, dropped, finished, IsPutNext, IsPutAll, IsDone}
 use Rattle.book.proofs.Begun.{plan_hung}
 use Rattle.book.proofs.KeptSteps.{shown, shown_with}

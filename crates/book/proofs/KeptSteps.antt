@@ -5,7 +5,7 @@ use Rattle.std.proofs.Common.{◌≡◌, ◌≢◌, inl, inr, ℕ, ℤ, ◌+◌,
 use Rattle.chronicle.specs.declared.record.Kind.{Kind}
 use Rattle.chronicle.specs.declared.record.Kind.TheVariants.{Opened, Said, Hung, Gone}
 use Rattle.chronicle.specs.History.{Rec, actor, opened_by, sessions, said_by, accepted, ends, leaves, shut, gone, last_moment, IsMomentAfter}
-use Rattle.chronicle.specs.Journal.{fresh_record, Appends, Misses, miss}
+use Rattle.chronicle.specs.Journal.{IsRoomier, fresh_record, Appends, Misses, miss}
 use Rattle.chronicle.specs.Journal as journal
 use Rattle.roster.specs.declared.deed.Deed.{Deed}
 use Rattle.registration.specs.declared.settings.Settings.{Settings}
@@ -17,7 +17,7 @@ use Rattle.deeds.specs.Deeds.{deeds, facts}
 use Rattle.roster.specs.LookBack.{after}
 use Rattle.roster.specs.LookBack as told_of
 use Rattle.roster.specs.declared.deed.Deed.TheVariants as deed
-use Rattle.book.specs.Legal.{IsKind}
+use Rattle.book.specs.Legal.{IsKind, IsLegal}
 use Rattle.book.specs.Kept.{IsKept}
 use Rattle.book.specs.Seats.{IsSeat, no_seat, seat_at}
 use Rattle.book.specs.Book.{Shown, MayOpen, box_at, outbox_at, is_here, held, plan_of, IsPlan, IsSound}
@@ -83,7 +83,7 @@ module _ {O : Type 0} (sent : O → List Item) where
       let one_more : length (told_of.opened known ++ n ∷ []) ≡ length (told_of.opened known) + 1 = length-append (told_of.opened known) (n ∷ []) in
       let more : length (seats ++ no_seat ∷ []) ≡ length seats + 1 = length-append seats (no_seat ∷ []) in
       let new : IsSound sent (shown k g all plan busy) =
-      subst (IsSound sent) sent (sym (shown_with j k (r ∷ h) g all plan busy eh el)) (opened_sound sent (shown j g boxes plan busy) host moment box i.sound may fresh) in
+      subst (IsSound sent) (sym (shown_with j k (r ∷ h) g all plan busy eh el)) (opened_sound sent (shown j g boxes plan busy) host moment box i.sound may fresh) in
       let seat : (t : ℕ) → 0 < t → t ≤ length (seats ++ no_seat ∷ []) → IsSeat (seat_at (seats ++ no_seat ∷ []) t) (r ∷ h) t = λ t from to.
       elim (eqb_tells t n) [
         | inl last ↦
@@ -147,7 +147,7 @@ module _ {O : Type 0} (sent : O → List Item) where
       let planned_ : IsPlan g h (length boxes) (p ∷ qs) = subst (IsPlan g h (length boxes)) e i.sound.plan in
       let longer : length plan ≡ length (p ∷ qs) = ap length e in let was = i.left in let less = miss_.left in
       let from : 0 < s = planned_.0 in let to : s ≤ length seats = let a = planned_.1 in let b = i.places in omega arith in
-      let sound : IsSound sent (shown k g boxes qs busy) = subst (IsSound sent) sent (sym (shown_with j k (miss h s) g boxes qs busy miss_.history miss_.limit)) (dropped_sound sent (shown j g boxes plan busy) p qs e i.sound) in
+      let sound : IsSound sent (shown k g boxes qs busy) = subst (IsSound sent) (sym (shown_with j k (miss h s) g boxes qs busy miss_.history miss_.limit)) (dropped_sound sent (shown j g boxes plan busy) p qs e i.sound) in
       let len : length (slice_set seats (s - 1) v) ≡ length seats = simp length-set in
       let seat : (t : ℕ) → 0 < t → t ≤ length seats → IsSeat (seat_at (slice_set seats (s - 1) v) t) (miss h s) t = λ t above below.
       elim (eqb_tells s t) [
@@ -211,7 +211,7 @@ module _ {O : Type 0} (sent : O → List Item) where
       let h = j.history in let s = actor kind in let r = fresh_record h moment kind in
       let to' : s ≤ length boxes = let a = i.places in omega arith in
       let sound : IsSound sent (shown k g boxes plan true) =
-      subst (IsSound sent) sent (sym (shown_with j k (r ∷ h) g boxes plan true eh el))
+      subst (IsSound sent) (sym (shown_with j k (r ∷ h) g boxes plan true eh el))
       (subst (λ (x : List Planned). IsSound sent (record { history = r ∷ h; limit = j.limit; settings = g; outboxes = boxes; plan = x; busy = true })) (sym eplan) (begun_sound sent (shown j g boxes none false) kind moment i.sound refl opens from to' is in_time limit_)) in
       let len : length (slice_set seats (s - 1) v) ≡ length seats = simp length-set in
       let seat : (t : ℕ) → 0 < t → t ≤ length seats → IsSeat (seat_at (slice_set seats (s - 1) v) t) (r ∷ h) t = λ t above below.
@@ -240,6 +240,49 @@ module _ {O : Type 0} (sent : O → List Item) where
         room = rw eh free;
       })
 
+  -- ---- nothing is kept yet
+
+  pub empty_kept : (j : journal.Shown) (g : Settings) (known : List Deed) (seats : List Seat) (boxes : List (Option O)) (plan : List Planned)
+      → j.history ≡ [] → known ≡ [] → seats ≡ [] → boxes ≡ [] → plan ≡ [] → IsKept sent j g known seats boxes plan false
+  empty_kept j g known seats boxes plan eh ek es eb ep =
+      let no_boxes : length boxes ≡ 0 = ap length eb in let no_seats : length seats ≡ 0 = ap length es in
+      let no_records : length j.history ≡ 0 = ap length eh in let no_room : held j.history ≡ 0 = ap held eh in let no_plan : length plan ≡ 0 = ap length ep in
+      record {
+        sound = record {
+          owed = λ t from to here. absurd (omega arith);
+          reaped = λ t from to away. absurd (omega arith);
+          plan = subst (IsPlan g j.history (length boxes)) (sym ep) tt;
+          idle = λ e. ep;
+          legal = subst (IsLegal g) (sym eh) tt;
+          sessions = ap sessions eh ∙ sym no_boxes;
+          room = let goal : length j.history + held j.history ≤ j.limit = omega arith in goal;
+        };
+        facts = ek ∙ sym (ap (facts g) eh);
+        each_seat = λ t from to. absurd (omega arith);
+        opened = ap (λ (fs : List Deed). length (told_of.opened fs)) ek ∙ sym no_boxes;
+        places = no_seats ∙ sym no_boxes;
+        left = omega arith;
+        room = omega arith;
+      }
+
+  -- ---- room is made
+
+  pub roomier_kept : (j k : journal.Shown) (g more : Settings) (known facts_ : List Deed) (seats : List Seat) (boxes : List (Option O)) (plan : List Planned) (busy : Bool)
+      → IsKept sent j g known seats boxes plan busy → IsRoomier j k → more ≡ g → facts_ ≡ known → IsKept sent k more facts_ seats boxes plan busy
+  roomier_kept j k g more known facts_ seats boxes plan busy i r eg ef =
+      let room = r.room in let was = i.room in let left = r.left in let few = i.left in
+      subst (λ (x : Settings). IsKept sent k x facts_ seats boxes plan busy) (sym eg)
+      (subst (λ (fs : List Deed). IsKept sent k g fs seats boxes plan busy) (sym ef)
+      (record {
+        sound = subst (IsSound sent) (sym (shown_with j k j.history g boxes plan busy r.history r.limit)) i.sound;
+        facts = i.facts ∙ sym (ap (facts g) r.history);
+        each_seat = λ t from to. subst (λ (h : List Rec). IsSeat (seat_at seats t) h t) (sym r.history) (i.each_seat t from to);
+        opened = i.opened;
+        places = i.places;
+        left = omega arith;
+        room = rw r.history (let goal : held j.history ≤ k.room = omega arith in goal);
+      }))
+
 -- ---- an item is taken of a ring
 
 pub taken_kept : (j : journal.Shown) (g : Settings) (known : List Deed) (seats : List Seat) (boxes more : List (Option Waiting)) (plan : List Planned) (busy : Bool) (s : ℕ)
@@ -256,4 +299,3 @@ taken_kept j g known seats boxes more plan busy s i from to here em =
       left = i.left;
       room = i.room;
     })
-

@@ -15,14 +15,16 @@ ring_next m k (p ∷ ps) None i = absurd i
 ring_next m k (p ∷ ps) (Some (Put t)) i =
     let d = i.1 in let here : outbox_at m.outboxes p.session ≡ d.before = ap box_of d.here in
     let room : has_room (outbox_at m.outboxes p.session) ≡ true = ap has_room here ∙ d.accepted.0 in
-    let after : d.after ≡ with_put (outbox_at m.outboxes p.session) p.item = d.accepted.1 ∙ ap (λ (b : Waiting). with_put b p.item) (sym here) in
-    (ap (λ (u : ℕ). Some (Put u)) i.0 ∙ sym (ap (λ (c : Bool). Some (cond c (Put p.session) (Missed p.session))) room),
-    d.book ∙ ap (delivered_to m p ps) after ∙ sym (ap (λ (c : Bool). cond c (delivered m p ps) (dropped m p ps)) room))
+    let after : d.after ≡ with_put (outbox_at m.outboxes p.session) p.item = d.accepted.1 ∙ ap (λ (b : Waiting). with_put b p.item) (sym here) in (
+      ap (λ (u : ℕ). Some (Put u)) i.0 ∙ sym (ap (λ (c : Bool). Some (cond c (Put p.session) (Missed p.session))) room),
+      d.book ∙ ap (delivered_to m p ps) after ∙ sym (ap (λ (c : Bool). cond c (delivered m p ps) (dropped m p ps)) room),
+    )
 ring_next m k (p ∷ ps) (Some (Missed t)) i =
     let d = i.1 in let here : outbox_at m.outboxes p.session ≡ d.before = ap box_of d.here in
-    let full : has_room (outbox_at m.outboxes p.session) ≡ false = ap has_room here ∙ d.refused.1 in
-    (ap (λ (u : ℕ). Some (Missed u)) i.0 ∙ sym (ap (λ (c : Bool). Some (cond c (Put p.session) (Missed p.session))) full),
-    d.book ∙ sym (ap (λ (c : Bool). cond c (delivered m p ps) (dropped m p ps)) full))
+    let full : has_room (outbox_at m.outboxes p.session) ≡ false = ap has_room here ∙ d.refused.1 in (
+      ap (λ (u : ℕ). Some (Missed u)) i.0 ∙ sym (ap (λ (c : Bool). Some (cond c (Put p.session) (Missed p.session))) full),
+      d.book ∙ sym (ap (λ (c : Bool). cond c (delivered m p ps) (dropped m p ps)) full),
+    )
 
 ring_all : (m k : Shown Waiting) (ps : List Planned) → IsPutAll accepts refuses m ps k → k ≡ put_all m ps
 ring_all m k [] i = i

@@ -14,7 +14,8 @@ use Rattle.registration.specs.declared.settings.Settings.{Settings}
 use Rattle.book.specs.declared.plan.Planned.{Planned}
 use Rattle.outbox.specs.Ring.{Waiting, with_taken, put_into}
 use Rattle.book.specs.Owed.{delivery, owed}
-use Rattle.book.specs.Legal.{AreMissed}
+use Rattle.book.specs.Legal.{AreMissed, IsLegal}
+use Rattle.book.proofs.About.{gone_before}
 use Rattle.roster.specs.LookBack.{numbers}
 use Rattle.book.specs.Book.{Shown, box_at, sent_by, box_of, outbox_at, is_here, held, planned, delivered_to, dropped, finished, taken, reaped, IsOwed, IsPlan, IsSound}
 
@@ -97,6 +98,11 @@ pub held_missed : (r : Rec) (h : List Rec) (s : ℕ) → held (more r s ∷ h) �
 held_missed r h s =
     sum_le _ _ (numbers 1 (sessions (r ∷ h))) (λ t. kept_less (gone (r ∷ h) t) (shut (more r s ∷ h) t) (gone (r ∷ h) t) (shut (r ∷ h) t) (λ e. e) (shut_more r h s t))
 
+-- who is gone is owed nothing more
+not_gone_owed : (g : Settings) (h : List Rec) (p : Planned) → IsLegal g h → IsOwed g h p → gone h p.session ≡ true → ⊥
+not_gone_owed g [] p l i e = i
+not_gone_owed g (r ∷ h) p l i e = absurd (let f : true ≡ false = sym (gone_before g r h p.session l e) ∙ i.1 in cc)
+
 -- ---- outboxes by the numbers of their sessions
 
 pub box_same : {X : Type 0} (boxes : List (Option X)) (s : ℕ) (v : Option X) → 0 < s → s ≤ length boxes → slice_index_or (slice_set boxes (s - 1) v) (s - 1) None ≡ v
@@ -131,6 +137,14 @@ module _ {O : Type 0} (sent : O → List Item) where
 
   pub dropped_sound : (m : Shown O) (p : Planned) (ps : List Planned) → m.plan ≡ p ∷ ps → IsSound sent m → IsSound sent (dropped m p ps)
   dropped_sound m p ps e i = dropped_at m.history m.limit m.settings m.outboxes m.busy p ps (subst (λ qs. IsSound sent (record { history = m.history; limit = m.limit; settings = m.settings; outboxes = m.outboxes; plan = qs; busy = m.busy })) e i)
+
+  -- whose delivery is next isn't reaped
+  next_by : (m : Shown O) (p : Planned) (ps : List Planned) (b : Bool) → is_here m.outboxes p.session ≡ b → IsPlan m.settings m.history (length m.outboxes) (p ∷ ps) → IsSound sent m → is_here m.outboxes p.session ≡ true
+  next_by m p ps true e i s = e
+  next_by m p ps false e i s = absurd (not_gone_owed m.settings m.history p s.legal i.3 (s.reaped p.session i.0 i.1 e))
+
+  pub next_here : (m : Shown O) (p : Planned) (ps : List Planned) → m.plan ≡ p ∷ ps → IsSound sent m → is_here m.outboxes p.session ≡ true
+  next_here m p ps e s = next_by m p ps (is_here m.outboxes p.session) refl (subst (IsPlan m.settings m.history (length m.outboxes)) e s.plan) s
 
   -- ---- a delivery is put
 

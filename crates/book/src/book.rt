@@ -65,7 +65,11 @@ fn count_here<O: Outbox>(outboxes: &[Option<O>]) -> usize
     requires { sum_by here_by outboxes.now < 2 ^ 64 }
     ensures { result ≡ sum_by here_by outboxes.now }
 {
-    outboxes.iter().map(here_by::<O>).sum()
+    let mut count = 0;
+    for outbox in outboxes {
+        count += here_by(outbox);
+    }
+    count
 }
 
 /// Puts a delivery into its session's outbox, and answers whether that took it. It takes no memory.

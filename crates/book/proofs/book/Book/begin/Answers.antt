@@ -16,7 +16,7 @@ use Rattle.book.specs.Seats.{planned_from}
 use Rattle.book.specs.declared.seat.Seat.{Seat}
 use Rattle.book.specs.Kept.{IsKept}
 use Rattle.book.specs.Book.{Turn, MayBegin, plan_of, begun, held}
-use Rattle.book.proofs.KeptSteps.{shown}
+use Rattle.book.proofs.KeptSteps.{shown, roomier_kept}
 use Rattle.book.proofs.Opened.{accepted_le}
 use Rattle.book.proofs.Begins.{begun_is}
 use Rattle.book.proofs.Appends.{seat_there, said_plan, said_kept}
@@ -97,3 +97,10 @@ returns-clause-ok over c =
     ap (λ (g : Settings). shown c.append.new.self g a.outboxes.items c.in_ok-prepared.prepared.plan.items true) (settings over c)
     ∙ begun_is a.journal c.append.new.self a.roster.settings a.outboxes.items a.plan.items c.in_ok-prepared.prepared.plan.items a.busy (Said b.session b.next c.args.piece.now) c.args.moment (history over c) (limit over c) (plan over c)
     ∙ ap (λ m. begun m (Said b.session b.next c.args.piece.now) c.args.moment) c.self.view_is
+
+-- room was made, and the rest is as it was
+pub invariant_of-self-in_err-map_err : goal.invariant_of-self-in_err-map_err
+invariant_of-self-in_err-map_err over c =
+    let a = c.self.inside in
+    roomier_kept over.O.Outbox.sent a.journal c.reserve.new.journal a.roster.settings c.prepare.new.self.settings a.roster.facts c.prepare.new.self.facts a.seats.items a.outboxes.items a.plan.items a.busy
+    c.self.invariant c.reserve.ensures.same c.prepare.ensures.settings c.prepare.ensures.facts

@@ -2,9 +2,16 @@ use Rattle.std.proofs.Common.{arith, ◌≡◌, ◌-◌, ◌<◌, ◌∷◌, tru
 use Rattle.std.proofs.lemmas.Grind.{common_steps}
 use Rattle.book.specs.Kept.{IsKept}
 use Rattle.book.specs.Seats.{seat_at}
-use Rattle.book.proofs.KeptSteps.{delivered_kept, dropped_kept}
+use Rattle.book.proofs.KeptSteps.{shown, delivered_kept, dropped_kept}
+use Rattle.book.proofs.Sound.{next_here}
 use Rattle.book.proofs.Puts.{seat_is, seats_shut}
 use Rattle.book.proofs.book.Book.put_next.Goals as goal
+
+pub offer-requires-clause-here : goal.offer-requires-clause-here
+offer-requires-clause-here over c =
+    let a = c.self.inside in let p = c.in_ok-put.put in let qs = c.pop_front.new.self.items in
+    let plan : a.plan.items ≡ p ∷ qs = grind (arith, common_steps) in
+    next_here over.O.Outbox.sent (shown a.journal a.roster.settings a.outboxes.items a.plan.items a.busy) p qs plan c.self.invariant.sound
 
 pub invariant_of-self-then-offer : goal.invariant_of-self-then-offer
 invariant_of-self-then-offer over c =
