@@ -97,3 +97,7 @@ open_not_gone g h t false e i open_ = e
 
 pub not_gone_yet : (g : Settings) (h : List Rec) (t : ℕ) → IsLegal g h → shut h t ≡ false → gone h t ≡ false
 not_gone_yet g h t i open_ = open_not_gone g h t (gone h t) refl i open_
+
+-- who is gone was shut before the newest record
+pub gone_before : (g : Settings) (r : Rec) (h : List Rec) (t : ℕ) → IsLegal g (r ∷ h) → gone (r ∷ h) t ≡ true → shut h t ≡ true
+gone_before g r h t i e = gone_by r h t (leaves r.kind t) refl i.2 (gone_shut g h t i.4) e

@@ -8,7 +8,6 @@ use Rattle.chronicle.specs.declared.why.Why.{Why}
 use Rattle.chronicle.specs.History.{sessions, said_by, accepted, ends, shut, gone, is_quit}
 use Rattle.chronicle.specs.Journal.{fresh_record, Misses}
 use Rattle.chronicle.specs.Journal as journal
-use Rattle.outbox.specs.Ring.{Waiting, has_room, with_put}
 use Rattle.outbox.specs.declared.item.Item.{Item}
 use Rattle.outbox.specs.declared.item.Item.TheVariants.{Last}
 use Rattle.roster.specs.declared.deed.Deed.{Deed}
@@ -24,8 +23,8 @@ use Rattle.registration.specs.declared.settings.Settings.{Settings}
 use Rattle.book.specs.declared.plan.Planned.{Planned}
 use Rattle.book.specs.declared.seat.Seat.{Seat}
 use Rattle.book.specs.Kept.{IsKept}
-use Rattle.book.specs.Seats.{Rows, no_seat, seat_at, planned_from}
-use Rattle.book.specs.Book.{Turn, MayBegin, MayHang, MaySweep, outbox_at, held, plan_of, to_sweep}
+use Rattle.book.specs.Seats.{no_seat, seat_at, planned_from, IsTaken}
+use Rattle.book.specs.Book.{Turn, MayBegin, MayHang, MaySweep, held, plan_of, to_sweep}
 use Rattle.book.proofs.About.{not_gone_yet}
 use Rattle.book.proofs.KeptSteps.{shown, quiet, begun_kept, delivered_kept, dropped_kept, finished_kept}
 use Rattle.book.proofs.Sweeps.{swept_is}
@@ -38,22 +37,18 @@ or-false false c e = sym e
 
 -- ---- the seats after a line, after a session was shut, and after it was gone
 
-abbrev pub said_rows : Rows → ℕ → Bool → Rows
-said_rows r s quits = record { seats = slice_set r.seats (s - 1) (record { shut = quits; gone = (seat_at r.seats s).gone; accepted = (seat_at r.seats s).accepted + 1 }); boxes = r.boxes }
+abbrev pub said_seats : List Seat → ℕ → Bool → List Seat
+said_seats seats s quits = slice_set seats (s - 1) (record { shut = quits; gone = (seat_at seats s).gone; accepted = (seat_at seats s).accepted + 1 })
 
-abbrev pub shut_rows : Rows → ℕ → Rows
-shut_rows r s = record { seats = slice_set r.seats (s - 1) (record { shut = true; gone = (seat_at r.seats s).gone; accepted = (seat_at r.seats s).accepted }); boxes = r.boxes }
+abbrev pub shut_seats : List Seat → ℕ → List Seat
+shut_seats seats s = slice_set seats (s - 1) (record { shut = true; gone = (seat_at seats s).gone; accepted = (seat_at seats s).accepted })
 
-abbrev pub left_rows : Rows → ℕ → Rows
-left_rows r s = record { seats = slice_set r.seats (s - 1) (record { shut = (seat_at r.seats s).shut; gone = true; accepted = (seat_at r.seats s).accepted }); boxes = r.boxes }
-
--- and after an item was put
-abbrev pub put_rows : Rows → ℕ → Item → Rows
-put_rows r s x = record { seats = r.seats; boxes = slice_set r.boxes (s - 1) (Some (with_put (outbox_at r.boxes s) x)) }
+abbrev pub left_seats : List Seat → ℕ → List Seat
+left_seats seats s = slice_set seats (s - 1) (record { shut = (seat_at seats s).shut; gone = true; accepted = (seat_at seats s).accepted })
 
 -- ---- a line
 
-module _ (j : journal.Shown) (g : Settings) (known : List Deed) (seats : List Seat) (boxes : List (Option Waiting)) (none : List Planned) (busy : Bool) (i : IsKept j g known seats boxes none busy) where
+module _ {O : Type 0} (sent : O → List Item) (j : journal.Shown) (g : Settings) (known : List Deed) (seats : List Seat) (boxes : List (Option O)) (none : List Planned) (busy : Bool) (i : IsKept sent j g known seats boxes none busy) where
   -- there are as many seats as sessions
   seated : (s : ℕ) → s ≤ sessions j.history → s ≤ length seats
   seated s l = let a = i.sound.sessions in let b = i.places in omega arith
@@ -78,7 +73,7 @@ module _ (j : journal.Shown) (g : Settings) (known : List Deed) (seats : List Se
       → plan ≡ plan_of g j.history (Said b.session b.next piece) moment (length boxes)
       → k.history ≡ fresh_record j.history moment (Said b.session b.next piece) ∷ j.history → k.limit ≡ j.limit → length plan ≤ k.left → held j.history ≤ k.room
       → more_known ≡ after known (deeds_of (of_asked g known b.session (asked_of piece))) → opened more_known ≡ opened known
-      → IsKept k g more_known (slice_set seats (b.session - 1) (record { shut = quits; gone = (seat_at seats b.session).gone; accepted = (seat_at seats b.session).accepted + 1 })) boxes plan true
+      → IsKept sent k g more_known (slice_set seats (b.session - 1) (record { shut = quits; gone = (seat_at seats b.session).gone; accepted = (seat_at seats b.session).accepted + 1 })) boxes plan true
   said_kept k more_known plan b piece moment quits may eq eplan eh el room free ek same_opened =
       let h = j.history in let s = b.session in let kind = Said s b.next piece in let r = fresh_record h moment kind in
       let from : 0 < s = may.turn.from_1 in let to : s ≤ length seats = seated s may.turn.opened in
@@ -87,8 +82,8 @@ module _ (j : journal.Shown) (g : Settings) (known : List Deed) (seats : List Se
       let new : Seat = record { shut = quits; gone = x.gone; accepted = x.accepted + 1 } in
       let same : said_by kind s ≡ piece ∷ [] = rw (eq-eqb s s refl) refl in
       let less = held_after h kind moment refl in
-      begun_kept j k g known more_known seats (slice_set seats (s - 1) new) boxes none plan kind moment new
-      (subst (λ (c : Bool). IsKept j g known seats boxes none c) may.idle i) refl from to (from, may.turn.opened, may.turn.next, may.not_shut) may.in_time
+      begun_kept sent j k g known more_known seats (slice_set seats (s - 1) new) boxes none plan kind moment new
+      (subst (λ (c : Bool). IsKept sent j g known seats boxes none c) may.idle i) refl from to (from, may.turn.opened, may.turn.next, may.not_shut) may.in_time
       (let a = may.room in let goal : length h + 1 + held (r ∷ h) ≤ j.limit = omega arith in goal)
       eh el room (omega arith) ek same_opened refl
       (record {
@@ -124,15 +119,15 @@ module _ (j : journal.Shown) (g : Settings) (known : List Deed) (seats : List Se
       → plan ≡ plan_of g j.history (Gone s) moment (length boxes)
       → k.history ≡ fresh_record j.history moment (Gone s) ∷ j.history → k.limit ≡ j.limit → length plan ≤ k.left → held j.history ≤ k.room + 1
       → more_known ≡ after known (deeds_of (departs known s)) → opened more_known ≡ opened known
-      → IsKept k g more_known (slice_set seats (s - 1) (record { shut = (seat_at seats s).shut; gone = true; accepted = (seat_at seats s).accepted })) boxes plan true
+      → IsKept sent k g more_known (slice_set seats (s - 1) (record { shut = (seat_at seats s).shut; gone = true; accepted = (seat_at seats s).accepted })) boxes plan true
   gone_kept k more_known plan moment s may next eplan eh el room free ek same_opened =
       let h = j.history in let kind = Gone s in let r = fresh_record h moment kind in let is = swept_is h s next in
       let to : s ≤ length seats = seated s is.1 in let x = seat_at seats s in let was = i.each_seat s is.0 to in
       let new : Seat = record { shut = x.shut; gone = true; accepted = x.accepted } in
       let less = held_less h kind moment s refl is.0 is.1 (gone_less h s moment is.2 is.3) in
       let yes : (s == s) ≡ true = eq-eqb s s refl in
-      begun_kept j k g known more_known seats (slice_set seats (s - 1) new) boxes none plan kind moment new
-      (subst (λ (c : Bool). IsKept j g known seats boxes none c) may.idle i) refl is.0 to is may.in_time
+      begun_kept sent j k g known more_known seats (slice_set seats (s - 1) new) boxes none plan kind moment new
+      (subst (λ (c : Bool). IsKept sent j g known seats boxes none c) may.idle i) refl is.0 to is may.in_time
       (let a = i.sound.room in let goal : length h + 1 + held (r ∷ h) ≤ j.limit = omega arith in goal)
       eh el room (omega arith) ek same_opened refl
       (record {
@@ -148,7 +143,7 @@ module _ (j : journal.Shown) (g : Settings) (known : List Deed) (seats : List Se
       → MayHang (shown j g boxes none busy) s moment
       → k.history ≡ fresh_record j.history moment (Hung s w) ∷ j.history → k.limit ≡ j.limit → 1 ≤ k.left → k.room + 1 ≡ j.room
       → more_known ≡ Ended s w [] ∷ known
-      → IsKept k g more_known (slice_set seats (s - 1) (record { shut = true; gone = (seat_at seats s).gone; accepted = (seat_at seats s).accepted })) boxes (record { session = s; item = Last (length j.history + 1) w } ∷ []) true
+      → IsKept sent k g more_known (slice_set seats (s - 1) (record { shut = true; gone = (seat_at seats s).gone; accepted = (seat_at seats s).accepted })) boxes (record { session = s; item = Last (length j.history + 1) w } ∷ []) true
   hung_begun k more_known s w moment may eh el room free ek =
       let h = j.history in let kind = Hung s w in let r = fresh_record h moment kind in
       let from : 0 < s = may.known.from_1 in let few = may.known.opened in let to : s ≤ length seats = seated s few in
@@ -156,8 +151,8 @@ module _ (j : journal.Shown) (g : Settings) (known : List Deed) (seats : List Se
       let new : Seat = record { shut = true; gone = x.gone; accepted = x.accepted } in
       let less = held_less h kind moment s refl from few (hung_less h s w moment may.not_shut (not_gone_yet g h s i.sound.legal may.not_shut)) in
       let kept = i.room in let yes : (s == s) ≡ true = eq-eqb s s refl in
-      begun_kept j k g known more_known seats (slice_set seats (s - 1) new) boxes none _ kind moment new
-      (subst (λ (c : Bool). IsKept j g known seats boxes none c) may.idle i) refl from to (from, few, may.not_shut) may.in_time
+      begun_kept sent j k g known more_known seats (slice_set seats (s - 1) new) boxes none _ kind moment new
+      (subst (λ (c : Bool). IsKept sent j g known seats boxes none c) may.idle i) refl from to (from, few, may.not_shut) may.in_time
       (let a = i.sound.room in let goal : length h + 1 + held (r ∷ h) ≤ j.limit = omega arith in goal)
       eh el room (omega arith) ek (ap opened ek) refl
       (record {
@@ -170,25 +165,25 @@ module _ (j : journal.Shown) (g : Settings) (known : List Deed) (seats : List Se
   idle : (s : ℕ) (moment : ℤ) → MayHang (shown j g boxes none busy) s moment → none ≡ []
   idle s moment may = i.sound.idle may.idle
 
-  pub hung_put : (k : journal.Shown) (more_known : List Deed) (more : List (Option Waiting)) (s : ℕ) (w : Why) (moment : ℤ)
+  pub hung_put : (k : journal.Shown) (more_known : List Deed) (more : List (Option O)) (s : ℕ) (w : Why) (moment : ℤ) (accepts : O → Item → O → Type 0)
       → MayHang (shown j g boxes none busy) s moment
       → k.history ≡ fresh_record j.history moment (Hung s w) ∷ j.history → k.limit ≡ j.limit → 1 ≤ k.left → k.room + 1 ≡ j.room
       → more_known ≡ Ended s w [] ∷ known
-      → has_room (outbox_at boxes s) ≡ true → more ≡ slice_set boxes (s - 1) (Some (with_put (outbox_at boxes s) (Last (length j.history + 1) w)))
-      → IsKept k g more_known (slice_set seats (s - 1) (record { shut = true; gone = (seat_at seats s).gone; accepted = (seat_at seats s).accepted })) more none busy
-  hung_put k more_known more s w moment may eh el room free ek has em =
-      let p : Planned = record { session = s; item = Last (length j.history + 1) w } in let x = seat_at seats s in let new : Seat = record { shut = true; gone = x.gone; accepted = x.accepted } in
+      → IsTaken sent accepts boxes (record { session = s; item = Last (length j.history + 1) w }) more
+      → IsKept sent k g more_known (shut_seats seats s) more none busy
+  hung_put k more_known more s w moment accepts may eh el room free ek took =
+      let p : Planned = record { session = s; item = Last (length j.history + 1) w } in
       let begun_ = hung_begun k more_known s w moment may eh el room free ek in
-      let put = delivered_kept k g more_known (slice_set seats (s - 1) new) boxes more (p ∷ []) [] true p begun_ refl has em in
-      subst (λ (c : Bool). IsKept k g more_known (slice_set seats (s - 1) new) more none c) (sym may.idle)
-      (subst (λ (xs : List Planned). IsKept k g more_known (slice_set seats (s - 1) new) more xs false) (sym (idle s moment may)) (finished_kept k g more_known (slice_set seats (s - 1) new) more [] true put refl))
+      let put = delivered_kept sent k g more_known (shut_seats seats s) boxes more (p ∷ []) [] true p took.before took.after begun_ refl took.here took.longer took.now in
+      subst (λ (c : Bool). IsKept sent k g more_known (shut_seats seats s) more none c) (sym may.idle)
+      (subst (λ (xs : List Planned). IsKept sent k g more_known (shut_seats seats s) more xs false) (sym (idle s moment may)) (finished_kept sent k g more_known (shut_seats seats s) more [] true put refl))
 
   pub hung_missed : (k n : journal.Shown) (more_known : List Deed) (s : ℕ) (w : Why) (moment : ℤ)
       → MayHang (shown j g boxes none busy) s moment
       → k.history ≡ fresh_record j.history moment (Hung s w) ∷ j.history → k.limit ≡ j.limit → 1 ≤ k.left → k.room + 1 ≡ j.room
       → more_known ≡ Ended s w [] ∷ known
       → Misses k n s
-      → IsKept n g more_known (slice_set seats (s - 1) (record { shut = true; gone = (seat_at seats s).gone; accepted = (seat_at seats s).accepted })) boxes none busy
+      → IsKept sent n g more_known (slice_set seats (s - 1) (record { shut = true; gone = (seat_at seats s).gone; accepted = (seat_at seats s).accepted })) boxes none busy
   hung_missed k n more_known s w moment may eh el room free ek missed =
       let p : Planned = record { session = s; item = Last (length j.history + 1) w } in let x = seat_at seats s in let new : Seat = record { shut = true; gone = x.gone; accepted = x.accepted } in
       let places = slice_set seats (s - 1) new in
@@ -199,6 +194,6 @@ module _ (j : journal.Shown) (g : Settings) (known : List Deed) (seats : List Se
       ap (λ (y : Seat). record { shut = true; gone = y.gone; accepted = y.accepted }) mine ∙ sym mine in
       let set : places ≡ slice_set places (s - 1) (record { shut = true; gone = (seat_at places s).gone; accepted = (seat_at places s).accepted }) =
       sym (set-get_or places (s - 1) no_seat) ∙ ap (slice_set places (s - 1)) (sym again) in
-      let put = dropped_kept k n g more_known places places boxes (p ∷ []) [] true p begun_ refl set missed in
-      subst (λ (c : Bool). IsKept n g more_known places boxes none c) (sym may.idle)
-      (subst (λ (xs : List Planned). IsKept n g more_known places boxes xs false) (sym (idle s moment may)) (finished_kept n g more_known places boxes [] true put refl))
+      let put = dropped_kept sent k n g more_known places places boxes (p ∷ []) [] true p begun_ refl set missed in
+      subst (λ (c : Bool). IsKept sent n g more_known places boxes none c) (sym may.idle)
+      (subst (λ (xs : List Planned). IsKept sent n g more_known places boxes xs false) (sym (idle s moment may)) (finished_kept sent n g more_known places boxes [] true put refl))

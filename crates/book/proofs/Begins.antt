@@ -1,5 +1,5 @@
 -- What the code has in hand when a record is appended is the next state.
-use Rattle.std.proofs.Common.{◌≡◌, ◌≢◌, inl, inr, ℕ, ℤ, zero, suc, ◌+◌, ◌-◌, ◌<◌, ◌≤◌, Bool, true, false, not, nat_lt, nat_le, cond, List, [], ◌∷◌, ◌++◌, length, slice_set, Option, Some, arith, refl, sym, ap, ◌∙◌, lit<}
+use Rattle.std.proofs.Common.{◌≡◌, ◌≢◌, inl, inr, ℕ, ℤ, zero, suc, ◌+◌, ◌-◌, ◌<◌, ◌≤◌, Bool, true, false, not, nat_lt, nat_le, cond, List, [], ◌∷◌, ◌++◌, length, slice_set, Option, Some, arith, refl, sym, ap, ◌∙◌, subst, lit<}
 use Rattle.std.proofs.lemmas.Bool.Decides.{eqb_tells, nat_tests}
 use Rattle.chronicle.specs.declared.record.Kind.{Kind}
 use Rattle.chronicle.specs.declared.record.Kind.TheVariants.{Hung}
@@ -10,14 +10,16 @@ use Rattle.chronicle.specs.Journal.{fresh_record, miss}
 use Rattle.chronicle.specs.Journal as journal
 use Rattle.outbox.specs.declared.item.Item.{Item}
 use Rattle.outbox.specs.declared.item.Item.TheVariants.{Last}
-use Rattle.outbox.specs.Ring.{Waiting, has_room, with_put}
+use Rattle.outbox.specs.declared.queue.PutFault.{PutFault}
+use Rattle.book.specs.declared.out.Step.{Step}
+use Rattle.book.specs.declared.out.Step.TheVariants.{Put, Missed}
 use Rattle.deeds.specs.Deeds.{facts, text}
 use Rattle.registration.specs.declared.settings.Settings.{Settings}
 use Rattle.book.specs.declared.plan.Planned.{Planned}
 use Rattle.book.specs.declared.seat.Seat.{Seat}
 use Rattle.book.specs.Owed.{item, told, reason}
-use Rattle.book.specs.Seats.{IsSeat, seat_at, hears, told as tells, told_to, told_own, planned_from}
-use Rattle.book.specs.Book.{Shown, due, puts, others, plan_by, plan_of, begun, is_here, outbox_at, delivered, dropped, put_next, put_all, finished, done}
+use Rattle.book.specs.Seats.{IsSeat, seat_at, hears, told as tells, told_to, told_own, planned_from, IsTaken, IsNotTaken}
+use Rattle.book.specs.Book.{Shown, due, puts, others, plan_by, plan_of, begun, is_here, delivered_to, dropped, finished, IsPutNext, IsPutAll, IsDone}
 use Rattle.book.proofs.Begun.{plan_hung}
 use Rattle.book.proofs.KeptSteps.{shown, shown_with}
 
@@ -50,7 +52,7 @@ hears_not seats t from to =
     let above : nat_lt 0 t ≡ true = grind (arith, nat_tests) in let below : nat_le t (length seats) ≡ true = grind (arith, nat_tests) in
     rw (above, below) (elim (seat_at seats t).shut as (λ b. not (not b) ≡ b) [ true ↦ refl | false ↦ refl ])
 
-pub plan_right : (g : Settings) (h : List Rec) (seats : List Seat) (boxes : List (Option Waiting)) (k : Kind) (moment : ℤ) (quits : Bool) (number n : ℕ) → ((t : ℕ) → 0 < t → t ≤ length seats → IsSeat (seat_at seats t) (is_here boxes t) h t) → number ≡ length h + 1 → length seats ≡ n → length seats ≡ sessions h
+pub plan_right : {O : Type 0} (g : Settings) (h : List Rec) (seats : List Seat) (boxes : List (Option O)) (k : Kind) (moment : ℤ) (quits : Bool) (number n : ℕ) → ((t : ℕ) → 0 < t → t ≤ length seats → IsSeat (seat_at seats t) (is_here boxes t) h t) → number ≡ length h + 1 → length seats ≡ n → length seats ≡ sessions h
     → 0 < actor k → actor k ≤ length seats → ends k (actor k) ≡ quits → reason k ≡ Quit → ((t : ℕ) → actor k ≢ t → ends k t ≡ false)
     → planned_from seats (actor k) number (text g (facts g h) k moment number) quits ≡ plan_of g h k moment n
 plan_right g h seats boxes k moment quits number n seat en el all from to own why others_ =
@@ -65,7 +67,7 @@ plan_right g h seats boxes k moment quits number n seat en el all from to own wh
 
 -- ---- the state
 
-pub begun_is : (j k : journal.Shown) (g : Settings) (boxes : List (Option Waiting)) (none plan : List Planned) (busy : Bool) (kind : Kind) (moment : ℤ)
+pub begun_is : {O : Type 0} (j k : journal.Shown) (g : Settings) (boxes : List (Option O)) (none plan : List Planned) (busy : Bool) (kind : Kind) (moment : ℤ)
     → k.history ≡ fresh_record j.history moment kind ∷ j.history → k.limit ≡ j.limit → plan ≡ plan_of g j.history kind moment (length boxes)
     → shown k g boxes plan true ≡ begun (shown j g boxes none busy) kind moment
 begun_is j k g boxes none plan busy kind moment eh el ep =
@@ -73,34 +75,40 @@ begun_is j k g boxes none plan busy kind moment eh el ep =
     ∙ ap (λ (x : List Planned). record { history = fresh_record j.history moment kind ∷ j.history; limit = j.limit; settings = g; outboxes = boxes; plan = x; busy = true }) ep
 
 -- a session that is hung is told so at once, or misses it
-pub hung_is : (m : Shown) (s : ℕ) (w : Why) (moment : ℤ) → shut m.history s ≡ false
-    → done m (Hung s w) moment ≡ finished (put_next (begun m (Hung s w) moment) (record { session = s; item = Last (length m.history + 1) w } ∷ []))
-hung_is m s w moment open_ =
-    let p : Planned = record { session = s; item = Last (length m.history + 1) w } in let one = plan_hung m.settings m.history s w moment (length m.outboxes) open_ in
-    let b = begun m (Hung s w) moment in
-    ap (λ ps. finished (put_all b ps)) one
+pub hung_is : {O : Type 0} (accepts : O → Item → O → Type 0) (refuses : O → PutFault → Type 0) (m n : Shown O) (s : ℕ) (w : Why) (moment : ℤ) (step : Step) → shut m.history s ≡ false
+    → IsPutNext accepts refuses (begun m (Hung s w) moment) (record { session = s; item = Last (length m.history + 1) w } ∷ []) (Some step) n → IsDone accepts refuses m (Hung s w) moment (finished n)
+hung_is accepts refuses m n s w moment step open_ is =
+    let one = plan_hung m.settings m.history s w moment (length m.outboxes) open_ in
+    (n, subst (λ (ps : List Planned). IsPutAll accepts refuses (begun m (Hung s w) moment) ps n) (sym one) (n, step, is, refl), refl)
 
-module _ (j k : journal.Shown) (g : Settings) (boxes : List (Option Waiting)) (none : List Planned) (busy : Bool) (s : ℕ) (w : Why) (moment : ℤ) (en : none ≡ []) (eb : busy ≡ false) (open_ : shut j.history s ≡ false)
+module _ {O : Type 0} (sent : O → List Item) (accepts : O → Item → O → Type 0) (refuses : O → PutFault → Type 0) (j k : journal.Shown) (g : Settings) (boxes : List (Option O)) (none : List Planned) (busy : Bool) (s : ℕ) (w : Why) (moment : ℤ) (en : none ≡ []) (eb : busy ≡ false) (open_ : shut j.history s ≡ false)
     (eh : k.history ≡ fresh_record j.history moment (Hung s w) ∷ j.history) (el : k.limit ≡ j.limit) where
-  abbrev before : Shown
+  abbrev before : Shown O
   before = shown j g boxes none busy
 
   abbrev last : Planned
   last = record { session = s; item = Last (length j.history + 1) w }
 
-  pub hung_put_is : (more : List (Option Waiting)) → has_room (outbox_at boxes s) ≡ true → more ≡ slice_set boxes (s - 1) (Some (with_put (outbox_at boxes s) (Last (length j.history + 1) w))) → shown k g more none busy ≡ done before (Hung s w) moment
-  hung_put_is more has em =
-      let r = fresh_record j.history moment (Hung s w) in let b = begun before (Hung s w) moment in
-      shown_with j k (r ∷ j.history) g more none busy eh el
-      ∙ ap (λ xs. record { history = r ∷ j.history; limit = j.limit; settings = g; outboxes = xs; plan = none; busy = busy }) em
-      ∙ ap (λ ps. record { history = r ∷ j.history; limit = j.limit; settings = g; outboxes = slice_set boxes (s - 1) (Some (with_put (outbox_at boxes s) (Last (length j.history + 1) w))); plan = ps; busy = busy }) en
-      ∙ ap (λ c. record { history = r ∷ j.history; limit = j.limit; settings = g; outboxes = slice_set boxes (s - 1) (Some (with_put (outbox_at boxes s) (Last (length j.history + 1) w))); plan = []; busy = c }) eb
-      ∙ sym (hung_is before s w moment open_ ∙ ap (λ c. finished (cond c (delivered b last []) (dropped b last []))) has)
+  abbrev began : Shown O
+  began = begun before (Hung s w) moment
 
-  pub hung_miss_is : (n : journal.Shown) → has_room (outbox_at boxes s) ≡ false → n.history ≡ miss k.history s → n.limit ≡ k.limit → shown n g boxes none busy ≡ done before (Hung s w) moment
-  hung_miss_is n full en_ el_ =
-      let r = fresh_record j.history moment (Hung s w) in let b = begun before (Hung s w) moment in let h = miss (r ∷ j.history) s in
-      shown_with j n h g boxes none busy (en_ ∙ ap (λ x. miss x s) eh) (el_ ∙ el)
-      ∙ ap (λ ps. record { history = h; limit = j.limit; settings = g; outboxes = boxes; plan = ps; busy = busy }) en
-      ∙ ap (λ c. record { history = h; limit = j.limit; settings = g; outboxes = boxes; plan = []; busy = c }) eb
-      ∙ sym (hung_is before s w moment open_ ∙ ap (λ c. finished (cond c (delivered b last []) (dropped b last []))) full)
+  pub hung_put_is : (more : List (Option O)) → IsTaken sent accepts boxes last more → IsDone accepts refuses before (Hung s w) moment (shown k g more none busy)
+  hung_put_is more i =
+      let r = fresh_record j.history moment (Hung s w) in let n : Shown O = delivered_to began last [] i.after in
+      let is : shown k g more none busy ≡ finished n =
+      shown_with j k (r ∷ j.history) g more none busy eh el
+      ∙ ap (λ (xs : List (Option O)). record { history = r ∷ j.history; limit = j.limit; settings = g; outboxes = xs; plan = none; busy = busy }) i.now
+      ∙ ap (λ (ps : List Planned). record { history = r ∷ j.history; limit = j.limit; settings = g; outboxes = slice_set boxes (s - 1) (Some i.after); plan = ps; busy = busy }) en
+      ∙ ap (λ (c : Bool). record { history = r ∷ j.history; limit = j.limit; settings = g; outboxes = slice_set boxes (s - 1) (Some i.after); plan = []; busy = c }) eb in
+      subst (IsDone accepts refuses before (Hung s w) moment) (sym is)
+      (hung_is accepts refuses before n s w moment (Put s) open_ (refl, record { before = i.before; after = i.after; here = i.here; accepted = i.accepted; book = refl }))
+
+  pub hung_miss_is : (m : journal.Shown) → IsNotTaken refuses boxes last → m.history ≡ miss k.history s → m.limit ≡ k.limit → IsDone accepts refuses before (Hung s w) moment (shown m g boxes none busy)
+  hung_miss_is m i em lm =
+      let r = fresh_record j.history moment (Hung s w) in let h = miss (r ∷ j.history) s in let n : Shown O = dropped began last [] in
+      let is : shown m g boxes none busy ≡ finished n =
+      shown_with j m h g boxes none busy (em ∙ ap (λ x. miss x s) eh) (lm ∙ el)
+      ∙ ap (λ (ps : List Planned). record { history = h; limit = j.limit; settings = g; outboxes = boxes; plan = ps; busy = busy }) en
+      ∙ ap (λ (c : Bool). record { history = h; limit = j.limit; settings = g; outboxes = boxes; plan = []; busy = c }) eb in
+      subst (IsDone accepts refuses before (Hung s w) moment) (sym is)
+      (hung_is accepts refuses before n s w moment (Missed s) open_ (refl, record { before = i.before; cause = i.cause; here = i.here; refused = i.refused; book = refl }))

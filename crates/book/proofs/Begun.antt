@@ -14,7 +14,7 @@ use Rattle.outbox.specs.declared.item.Item.TheVariants.{Last}
 use Rattle.book.specs.Owed.{told, item, reason, delivery}
 use Rattle.book.specs.Legal.{IsKind}
 use Rattle.roster.specs.LookBack.{numbers}
-use Rattle.book.specs.Book.{Shown, outbox_at, kept_for, held, due, puts, others, plan_by, plan_of, planned, begun, IsPlan, IsSound}
+use Rattle.book.specs.Book.{Shown, box_at, sent_by, kept_for, held, due, puts, others, plan_by, plan_of, planned, begun, IsPlan, IsSound}
 use Rattle.book.proofs.Sound.{sum_le, kept_less}
 
 pub planned_puts : (k t : ℕ) (xs : List Item) (ps : List Planned) → planned (puts k xs ++ ps) t ≡ cond (k == t) (xs ++ planned ps t) (planned ps t)
@@ -104,16 +104,16 @@ plan_ok g r h n s nobody from to = puts_ok g r h n s (others (due g h r.kind r.m
 
 -- ---- the step
 
-pub begun_sound : (m : Shown) (k : Kind) (moment : _) → IsSound m → m.busy ≡ false → opened_by k ≡ 0 → 0 < actor k → actor k ≤ length m.outboxes → IsKind m.history k → IsMomentAfter (last_moment m.history) moment
-    → length m.history + 1 + held (fresh_record m.history moment k ∷ m.history) ≤ m.limit → IsSound (begun m k moment)
-begun_sound m k moment i free none from to is in_time room_ =
+pub begun_sound : {O : Type 0} (sent : O → List Item) (m : Shown O) (k : Kind) (moment : _) → IsSound sent m → m.busy ≡ false → opened_by k ≡ 0 → 0 < actor k → actor k ≤ length m.outboxes → IsKind m.history k → IsMomentAfter (last_moment m.history) moment
+    → length m.history + 1 + held (fresh_record m.history moment k ∷ m.history) ≤ m.limit → IsSound sent (begun m k moment)
+begun_sound sent m k moment i free none from to is in_time room_ =
     let h = m.history in let g = m.settings in let n = length m.outboxes in let r = fresh_record h moment k in
-    let nothing : (t : ℕ) → (outbox_at m.outboxes t).taken ++ (outbox_at m.outboxes t).queue ++ planned m.plan t ≡ (outbox_at m.outboxes t).taken ++ (outbox_at m.outboxes t).queue =
-    λ t. ap (λ ps. (outbox_at m.outboxes t).taken ++ (outbox_at m.outboxes t).queue ++ planned ps t) (i.idle free) ∙ append-nil _ in
+    let nothing : (t : ℕ) → sent_by sent (box_at m.outboxes t) ++ planned m.plan t ≡ sent_by sent (box_at m.outboxes t) =
+    λ t. ap (λ ps. sent_by sent (box_at m.outboxes t) ++ planned ps t) (i.idle free) ∙ append-nil _ in
     let same : opened_by k + sessions h ≡ sessions h = ap (λ (j : ℕ). j + sessions h) none ∙ zero-add (sessions h) in
     record {
       owed = λ t above below here.
-          ap (λ xs. (outbox_at m.outboxes t).taken ++ (outbox_at m.outboxes t).queue ++ xs) (planned_plan (due g h k moment) (actor k) n t above below)
+          ap (λ xs. sent_by sent (box_at m.outboxes t) ++ xs) (planned_plan (due g h k moment) (actor k) n t above below)
           ∙ ap (λ xs. xs ++ due g h k moment t) (sym (nothing t) ∙ i.owed t above below here);
       reaped = λ t above below away. rw (i.reaped t above below away) (elim (leaves k t) as (λ b. (b || true) ≡ true) [ true ↦ refl | false ↦ refl ]);
       plan = plan_ok g r h n (actor k) refl from to;

@@ -6,22 +6,12 @@ use Rattle.std.proofs.lemmas.Bool.Decides.{eqb_tells}
 use Rattle.std.proofs.Common.{◌≡◌, ◌≢◌, inl, inr, ℕ, ◌+◌, ◌-◌, ◌<◌, ◌≤◌, Bool, true, false, not, ◌&&◌, if◌then◌else◌, cond, suc, List, [], ◌∷◌, ◌++◌, filter, length, drop, slice_set, slice_index_or, Option, Some, None, arith, refl, sym, ap, ◌∙◌, subst, append-nil, length-append, lit≤}
 use Rattle.std.specs.List.{sum_by}
 use Rattle.std.specs.Option.{is_some}
-use Rattle.outbox.specs.Ring.{Waiting}
 use Rattle.roster.specs.LookBack.{numbers}
 use Rattle.book.specs.declared.seat.Seat.{Seat}
 use Rattle.book.specs.Book.{first, here_by, count_here}
-use Rattle.book.specs.Seats.{no_seat, away, seat_at, kept_by, open_by, sweeps, placed, Rows, IsSeated, IsCounted}
+use Rattle.book.specs.Seats.{no_seat, away, seat_at, kept_by, open_by, sweeps, placed, IsSeated, IsCounted}
 use Rattle.book.proofs.Listed.{first_is, filter_same, placed_picked, first_gone, picked_up, picked_holds}
 use Rattle.book.proofs.Opened.{numbers_push}
-
-one_each : (o : Option Waiting) → here_by o ≤ 1
-one_each None = lit≤ tt
-one_each (Some b) = lit≤ tt
-
--- there are no more sessions that aren't reaped than were opened
-pub count_small : (boxes : List (Option Waiting)) → count_here boxes ≤ length boxes
-count_small [] = lit≤ tt
-count_small (o ∷ boxes) = let a = one_each o in let b = count_small boxes in rw (sum_by-cons here_by o boxes) (let goal : here_by o + sum_by here_by boxes ≤ length (o ∷ boxes) = omega arith in goal)
 
 -- ---- who is to be swept where a seat changed
 
@@ -59,14 +49,14 @@ ends_not true false false e stays = absurd (let f : true ≡ false = e in cc)
 ends_not false true b e stays = absurd (let f : false ≡ true = stays refl in cc)
 ends_not false false b e stays = (refl, refl, refl)
 
-module _ (seats : List Seat) (boxes : List (Option Waiting)) (held here : ℕ) (to_sweep : List ℕ) (room : ℕ) (i : IsCounted seats boxes held here to_sweep room) where
+module _ (seats : List Seat) (held : ℕ) (to_sweep : List ℕ) (room : ℕ) (i : IsCounted seats held to_sweep room) where
   -- more room
-  pub roomier : (more : ℕ) → room ≤ more → IsCounted seats boxes held here to_sweep more
-  roomier more l = record { places = i.places; held = i.held; here = i.here; listed = i.listed; open_ = i.open_; room = (let r = i.room in omega arith) }
+  pub roomier : (more : ℕ) → room ≤ more → IsCounted seats held to_sweep more
+  roomier more l = record { held = i.held; listed = i.listed; open_ = i.open_; room = (let r = i.room in omega arith) }
 
   -- ---- a seat changed in nothing that counts
 
-  pub unchanged : (s : ℕ) (was v : Seat) → 0 < s → s ≤ length seats → was ≡ seat_at seats s → kept_by v ≡ kept_by was → open_by v ≡ open_by was → (v.shut && not v.gone) ≡ (was.shut && not was.gone) → IsCounted (slice_set seats (s - 1) v) boxes held here to_sweep room
+  pub unchanged : (s : ℕ) (was v : Seat) → 0 < s → s ≤ length seats → was ≡ seat_at seats s → kept_by v ≡ kept_by was → open_by v ≡ open_by was → (v.shut && not v.gone) ≡ (was.shut && not was.gone) → IsCounted (slice_set seats (s - 1) v) held to_sweep room
   unchanged s was v from to is kept open_ sweeps_ =
       let l : s - 1 < length seats = omega arith in let len : length (slice_set seats (s - 1) v) ≡ length seats = simp length-set in
       let sum = sum_by-set kept_by seats (s - 1) v no_seat l in let one : kept_by v ≡ kept_by (seat_at seats s) = kept ∙ ap kept_by is in let all = i.held in
@@ -76,9 +66,7 @@ module _ (seats : List Seat) (boxes : List (Option Waiting)) (held here : ℕ) (
         | inr other ↦ sym (sweeps_other seats s t v from a other.1)
       ] in
       record {
-        places = len ∙ i.places;
         held = (omega arith);
-        here = i.here;
         listed = i.listed ∙ filter_same (sweeps seats) (sweeps (slice_set seats (s - 1) v)) 1 (length seats) agree ∙ ap (λ (n : ℕ). filter (sweeps (slice_set seats (s - 1) v)) (numbers 1 n)) (sym len);
         open_ = (omega arith);
         room = i.room;
@@ -109,7 +97,7 @@ module _ (seats : List Seat) (boxes : List (Option Waiting)) (held here : ℕ) (
       let o = open_seat s was is es eg in let f : true ≡ false = sym h ∙ ap (sweeps seats) e ∙ o.2 in cc
 
   pub shut_counted : (s more : ℕ) (was v : Seat) (now : List ℕ) → 0 < s → s ≤ length seats → was ≡ seat_at seats s → was.shut ≡ false → was.gone ≡ false → v.shut ≡ true → v.gone ≡ false → now ≡ placed s to_sweep → length now ≡ length to_sweep + 1 → room ≤ more
-      → IsCounted (slice_set seats (s - 1) v) boxes (held - 1) here now more
+      → IsCounted (slice_set seats (s - 1) v) (held - 1) now more
   shut_counted s more was v now from to is es eg vs vg en ln r =
       let l : s - 1 < length seats = omega arith in let len : length (slice_set seats (s - 1) v) ≡ length seats = simp length-set in let o = open_seat s was is es eg in
       let kept : kept_by v ≡ 1 = ap (λ g. if g then 0 else (if v.shut then 1 else 2)) vg ∙ ap (λ b. if b then 1 else 2) vs in
@@ -119,9 +107,7 @@ module _ (seats : List Seat) (boxes : List (Option Waiting)) (held here : ℕ) (
       let on : sweeps (slice_set seats (s - 1) v) s ≡ true = sweeps_same seats s v from to ∙ ap (λ b. b && not v.gone) vs ∙ ap not vg in
       let agree : (t : ℕ) → 1 ≤ t → t ≢ s → sweeps seats t ≡ sweeps (slice_set seats (s - 1) v) t = λ t a ne. sym (sweeps_other seats s t v from a ne) in
       record {
-        places = len ∙ i.places;
         held = (omega arith);
-        here = i.here;
         listed =
             en ∙ ap (placed s) i.listed ∙ placed_picked (sweeps seats) (sweeps (slice_set seats (s - 1) v)) s 1 (length seats) o.2 on agree from (omega arith)
             ∙ ap (λ (n : ℕ). filter (sweeps (slice_set seats (s - 1) v)) (numbers 1 n)) (sym len);
@@ -132,7 +118,7 @@ module _ (seats : List Seat) (boxes : List (Option Waiting)) (held here : ℕ) (
   -- ---- a session is gone
 
   pub left_counted : (s : ℕ) (was v : Seat) (now : List ℕ) → 0 < s → s ≤ length seats → was ≡ seat_at seats s → was.shut ≡ true → was.gone ≡ false → v.gone ≡ true
-      → first (sweeps seats) (numbers 1 (length seats)) ≡ Some s → now ≡ drop 1 to_sweep → IsCounted (slice_set seats (s - 1) v) boxes (held - 1) here now room
+      → first (sweeps seats) (numbers 1 (length seats)) ≡ Some s → now ≡ drop 1 to_sweep → IsCounted (slice_set seats (s - 1) v) (held - 1) now room
   left_counted s was v now from to is es eg vg next en =
       let l : s - 1 < length seats = omega arith in let len : length (slice_set seats (s - 1) v) ≡ length seats = simp length-set in
       let was_kept : kept_by (seat_at seats s) ≡ 1 = ap kept_by (sym is) ∙ ap (λ g. if g then 0 else (if was.shut then 1 else 2)) eg ∙ ap (λ b. if b then 1 else 2) es in
@@ -148,9 +134,7 @@ module _ (seats : List Seat) (boxes : List (Option Waiting)) (held here : ℕ) (
       let rest : now ≡ G = en ∙ ap (drop 1) split in
       let longer : length to_sweep ≡ length G + 1 = ap length split ∙ (let f : length (s ∷ G) ≡ length G + 1 = omega arith in f) in let same : length now ≡ length G = ap length rest in
       record {
-        places = len ∙ i.places;
         held = (omega arith);
-        here = i.here;
         listed = rest ∙ ap (λ (n : ℕ). filter (sweeps (slice_set seats (s - 1) v)) (numbers 1 n)) (sym len);
         open_ = (omega arith);
         room = (let q = i.room in omega arith);
@@ -158,18 +142,16 @@ module _ (seats : List Seat) (boxes : List (Option Waiting)) (held here : ℕ) (
 
   -- ---- a session more
 
-  pub one_more : (box : Waiting) (more : ℕ) → held + 2 ≤ more → IsCounted (seats ++ no_seat ∷ []) (boxes ++ Some box ∷ []) (held + 2) (here + 1) to_sweep more
-  one_more box more r =
-      let sum = sum_by_push kept_by seats no_seat in let sum2 = sum_by_push open_by seats no_seat in let count = sum_by_push here_by boxes (Some box) in let all = i.held in let there = i.here in let both = i.open_ in
+  pub one_more : (more : ℕ) → held + 2 ≤ more → IsCounted (seats ++ no_seat ∷ []) (held + 2) to_sweep more
+  one_more more r =
+      let sum = sum_by_push kept_by seats no_seat in let sum2 = sum_by_push open_by seats no_seat in let all = i.held in let both = i.open_ in
       let n = length seats in let rows = seats ++ no_seat ∷ [] in let longer : length rows ≡ n + 1 = length-append seats (no_seat ∷ []) in
       let agree : (t : ℕ) → 1 ≤ t → t < 1 + n → sweeps seats t ≡ sweeps rows t = λ t a b. let l : t - 1 < n = omega arith in ap (λ (x : Seat). x.shut && not x.gone) (sym (get_or_append_left seats (no_seat ∷ []) no_seat (t - 1) l)) in
       let at : n ≡ 1 + n - 1 = omega arith in
       let off : sweeps rows (1 + n) ≡ false = ap (λ (x : Seat). x.shut && not x.gone) (get_or_push seats no_seat no_seat (1 + n - 1) at) in
       let last : filter (sweeps rows) ((1 + n) ∷ []) ≡ [] = ap (λ b. filter_one b (1 + n)) off in
       record {
-        places = longer ∙ ap (λ (m : ℕ). m + 1) i.places ∙ sym (length-append boxes (Some box ∷ []));
         held = (omega arith);
-        here = (omega arith);
         listed =
             i.listed ∙ filter_same (sweeps seats) (sweeps rows) 1 n agree ∙ sym (append-nil (filter (sweeps rows) (numbers 1 n))) ∙ ap (λ xs. filter (sweeps rows) (numbers 1 n) ++ xs) (sym last)
             ∙ sym (filter-append (sweeps rows) (numbers 1 n) ((1 + n) ∷ [])) ∙ ap (filter (sweeps rows)) (sym (numbers_push 1 n)) ∙ ap (λ (m : ℕ). filter (sweeps rows) (numbers 1 m)) (let e : suc n ≡ length rows = omega arith in e);
@@ -180,20 +162,6 @@ module _ (seats : List Seat) (boxes : List (Option Waiting)) (held here : ℕ) (
       filter_one : Bool → ℕ → List ℕ
       filter_one b t = cond b (t ∷ []) []
 
-  -- ---- an outbox changed, or was given up
-
-  pub boxed : (k : ℕ) (v : Waiting) → k < length boxes → is_some (slice_index_or boxes k None) ≡ true → IsCounted seats (slice_set boxes k (Some v)) held here to_sweep room
-  boxed k v l some =
-      let sum = sum_by-set here_by boxes k (Some v) None l in let one : here_by (slice_index_or boxes k None) ≡ 1 = ap (λ b. if b then 1 else 0) some in let all = i.here in
-      let len : length (slice_set boxes k (Some v)) ≡ length boxes = simp length-set in
-      record { places = i.places ∙ sym len; held = i.held; here = (omega arith); listed = i.listed; open_ = i.open_; room = i.room }
-
-  pub one_less : (k : ℕ) → k < length boxes → is_some (slice_index_or boxes k None) ≡ true → IsCounted seats (slice_set boxes k None) held (here - 1) to_sweep room
-  one_less k l some =
-      let sum = sum_by-set here_by boxes k None None l in let one : here_by (slice_index_or boxes k None) ≡ 1 = ap (λ b. if b then 1 else 0) some in let all = i.here in
-      let len : length (slice_set boxes k None) ≡ length boxes = simp length-set in
-      record { places = i.places ∙ sym len; held = i.held; here = (omega arith); listed = i.listed; open_ = i.open_; room = i.room }
-
   pub left_kept : (s : ℕ) → s ≤ length seats → 0 < s → (seat_at seats s).shut ≡ true → (seat_at seats s).gone ≡ false → 1 ≤ held
   left_kept s to from es eg =
       let l : s - 1 < length seats = omega arith in let part = get_or-le-sum_by kept_by seats (s - 1) no_seat l in let all = i.held in let x = seat_at seats s in
@@ -201,21 +169,48 @@ module _ (seats : List Seat) (boxes : List (Option Waiting)) (held here : ℕ) (
 
 -- ---- a session is given up that is gone
 
-pub given_counted : (seats : List Seat) (boxes : List (Option Waiting)) (held here : ℕ) (to_sweep : List ℕ) (room : ℕ) → IsCounted seats boxes held here to_sweep room → (rows : Rows) (n s : ℕ) → n ≡ s → record { seats = seats; boxes = boxes } ≡ rows → IsSeated rows s → (seat_at rows.seats s).gone ≡ true
-    → IsCounted (slice_set seats (n - 1) away) (slice_set boxes (n - 1) None) held (here - 1) to_sweep room
-given_counted seats boxes held here to_sweep room i rows n s en view seated gone =
-    let it : IsSeated (record { seats = seats; boxes = boxes }) n = subst (λ (r : Rows). IsSeated r n) (sym view) (subst (IsSeated rows) (sym en) seated) in
-    let off : (seat_at seats n).gone ≡ true = ap (λ (r : Rows). (seat_at r.seats n).gone) view ∙ ap (λ (k : ℕ). (seat_at rows.seats k).gone) en ∙ gone in
-    let x = seat_at seats n in let few = it.opened in let from = it.from_1 in let places = i.places in let l : n - 1 < length boxes = omega arith in
+pub given_counted : (seats rows : List Seat) (held : ℕ) (to_sweep : List ℕ) (room : ℕ) → IsCounted seats held to_sweep room → (n s : ℕ) → n ≡ s → seats ≡ rows → IsSeated rows s → (seat_at rows s).gone ≡ true
+    → IsCounted (slice_set seats (n - 1) away) held to_sweep room
+given_counted seats rows held to_sweep room i n s en view seated gone =
+    let it : IsSeated seats n = subst (λ (r : List Seat). IsSeated r n) (sym view) (subst (IsSeated rows) (sym en) seated) in
+    let off : (seat_at seats n).gone ≡ true = ap (λ (r : List Seat). (seat_at r n).gone) view ∙ ap (λ (k : ℕ). (seat_at rows k).gone) en ∙ gone in
+    let x = seat_at seats n in
     let kept : 0 ≡ kept_by x = sym (ap (λ b. if b then 0 else (if x.shut then 1 else 2)) off) in
     let open_ : 0 ≡ open_by x = sym (ap (λ b. if b then 0 else (if x.shut then 0 else 2)) off) in
     let swept : false ≡ (x.shut && not x.gone) = sym (ap (λ b. x.shut && not b) off ∙ elim x.shut as (λ b. (b && false) ≡ false) [ true ↦ refl | false ↦ refl ]) in
-    one_less (slice_set seats (n - 1) away) boxes held here to_sweep room (unchanged seats boxes held here to_sweep room i n x away from few refl kept open_ swept) (n - 1) l it.here
+    unchanged seats held to_sweep room i n x away it.from_1 it.opened refl kept open_ swept
 
 -- who is next by what is seen is next by what is kept
-pub next_here : (seats : List Seat) (boxes : List (Option Waiting)) (rows : Rows) (n s : ℕ) → n ≡ s → record { seats = seats; boxes = boxes } ≡ rows → first (sweeps rows.seats) (numbers 1 (length rows.seats)) ≡ Some s
-    → first (sweeps seats) (numbers 1 (length seats)) ≡ Some n
-next_here seats boxes rows n s en view next = ap (λ (r : Rows). first (sweeps r.seats) (numbers 1 (length r.seats))) view ∙ next ∙ ap (λ (k : ℕ). Some k) (sym en)
+pub next_here : (seats rows : List Seat) (n s : ℕ) → n ≡ s → seats ≡ rows → first (sweeps rows) (numbers 1 (length rows)) ≡ Some s → first (sweeps seats) (numbers 1 (length seats)) ≡ Some n
+next_here seats rows n s en view next = ap (λ (r : List Seat). first (sweeps r) (numbers 1 (length r))) view ∙ next ∙ ap (λ (k : ℕ). Some k) (sym en)
 
-pub kept_at : (seats : List Seat) (boxes : List (Option Waiting)) (rows : Rows) (n s : ℕ) → n ≡ s → record { seats = seats; boxes = boxes } ≡ rows → 0 < s → s ≤ length rows.seats → (0 < n) × (n ≤ length seats)
-kept_at seats boxes rows n s en view from to = let len : length seats ≡ length rows.seats = ap (λ (r : Rows). length r.seats) view in ((omega arith), (omega arith))
+pub kept_at : (seats rows : List Seat) (n s : ℕ) → n ≡ s → seats ≡ rows → 0 < s → s ≤ length rows → (0 < n) × (n ≤ length seats)
+kept_at seats rows n s en view from to = let len : length seats ≡ length rows = ap length view in ((omega arith), (omega arith))
+
+-- ---- how many sessions aren't reaped
+
+module _ {O : Type 0} where
+  one_each : (o : Option O) → here_by o ≤ 1
+  one_each None = lit≤ tt
+  one_each (Some b) = lit≤ tt
+
+  -- there are no more of them than were opened
+  pub count_small : (boxes : List (Option O)) → count_here boxes ≤ length boxes
+  count_small [] = lit≤ tt
+  count_small (o ∷ boxes) = let a = one_each o in let b = count_small boxes in rw (sum_by-cons here_by o boxes) (let goal : here_by o + sum_by here_by boxes ≤ length (o ∷ boxes) = omega arith in goal)
+
+  -- one more
+  pub count_more : (boxes : List (Option O)) (box : O) → count_here (boxes ++ Some box ∷ []) ≡ count_here boxes + 1
+  count_more boxes box = sum_by_push here_by boxes (Some box)
+
+  -- an outbox changed
+  pub count_same : (boxes : List (Option O)) (k : ℕ) (v : O) → k < length boxes → is_some (slice_index_or boxes k None) ≡ true → count_here (slice_set boxes k (Some v)) ≡ count_here boxes
+  count_same boxes k v l some =
+      let sum = sum_by-set here_by boxes k (Some v) None l in let one : here_by (slice_index_or boxes k None) ≡ 1 = ap (λ b. if b then 1 else 0) some in
+      let mine : here_by (Some v) ≡ 1 = refl in omega arith
+
+  -- one was given up
+  pub count_less : (boxes : List (Option O)) (k : ℕ) → k < length boxes → is_some (slice_index_or boxes k None) ≡ true → count_here (slice_set boxes k None) + 1 ≡ count_here boxes
+  count_less boxes k l some =
+      let sum = sum_by-set here_by boxes k None None l in let one : here_by (slice_index_or boxes k None) ≡ 1 = ap (λ b. if b then 1 else 0) some in
+      let none : here_by {O} None ≡ 0 = refl in omega arith

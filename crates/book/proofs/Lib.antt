@@ -10,6 +10,7 @@ pub mod Puts
 pub mod KeptSteps
 pub mod Begins
 pub mod Outs
+pub mod RingSteps
 pub mod Sweeps
 pub mod Appends
 pub mod Examples

@@ -10,7 +10,6 @@ use Rattle.chronicle.specs.History.{Rec, opened_by, sessions, accepted, said_by,
 use Rattle.chronicle.specs.Journal.{fresh_record}
 use Rattle.outbox.specs.declared.item.Item.{Item}
 use Rattle.book.specs.declared.seat.Seat.{Seat}
-use Rattle.outbox.specs.Ring.{Waiting}
 use Rattle.registration.specs.declared.caps.Caps.{Caps}
 use Rattle.labels_batches.specs.declared.answers.Tagged.{Tagged}
 use Rattle.labels_batches.specs.Rendered.{rendered}
@@ -18,7 +17,7 @@ use Rattle.deeds.specs.Deeds.{facts}
 use Rattle.book.specs.Owed.{item, owed}
 use Rattle.book.specs.Seats.{no_seat, kept_by, IsSeat, seat_at}
 use Rattle.roster.specs.LookBack.{caps, numbers}
-use Rattle.book.specs.Book.{Shown, MayOpen, is_here, box_of, kept_for, held, planned, opened, IsSound}
+use Rattle.book.specs.Book.{Shown, MayOpen, is_here, sent_by, kept_for, held, planned, opened, IsSound}
 use Rattle.book.proofs.About.{not_owed}
 
 pub numbers_push : (k n : ℕ) → numbers k (suc n) ≡ numbers k n ++ (k + n) ∷ []
@@ -44,8 +43,8 @@ nothing_told cs moment true true = refl
 nothing_told cs moment true false = refl
 nothing_told cs moment false c = refl
 
-pub opened_sound : (m : Shown) (host : List ℕ) (moment : ℤ) (box : Waiting) → IsSound m → MayOpen m moment → (box.queue ≡ []) × (box.taken ≡ []) → IsSound (opened m host moment box)
-opened_sound m host moment box i may fresh =
+pub opened_sound : {O : Type 0} (sent : O → List Item) (m : Shown O) (host : List ℕ) (moment : ℤ) (box : O) → IsSound sent m → MayOpen m moment → sent box ≡ [] → IsSound sent (opened m host moment box)
+opened_sound sent m host moment box i may fresh =
     let h = m.history in let g = m.settings in let n = length m.outboxes in let r = fresh_record h moment (Opened (sessions h + 1) host) in
     let boxes = m.outboxes ++ Some box ∷ [] in let more : length boxes ≡ n + 1 = length-append m.outboxes (Some box ∷ []) in
     let same : (t : ℕ) → owed g (r ∷ h) t ≡ owed g h t = λ t. let E : List Item = [] in ap (λ xs. owed g h t ++ cond (misses r t || shut h t) [] (item (length h + 1) xs)) (nothing_told (caps (facts g h) t) moment (nat_le t (sessions h)) ((sessions h + 1) == t)) ∙ ap (λ xs. owed g h t ++ xs) (elim (misses r t || shut h t) as (λ b. cond b E E ≡ E) [ true ↦ refl | false ↦ refl ]) ∙ append-nil (owed g h t) in
@@ -59,11 +58,11 @@ opened_sound m host moment box i may fresh =
           elim (eqb_tells t (n + 1)) [
             | inl end ↦
                 let none : owed g h t ≡ [] = not_owed g h t i.legal (let e = end.1 in let s = i.sessions in omega arith) in
-                let empty : box.taken ++ box.queue ++ planned m.plan t ≡ [] = rw fresh.1 (rw fresh.0 (ap (λ ps. planned ps t) idle)) in
-                ap (λ o. (box_of o).taken ++ (box_of o).queue ++ planned m.plan t) (last t end.1) ∙ empty ∙ sym none ∙ sym (same t)
+                let empty : sent box ++ planned m.plan t ≡ [] = rw fresh (ap (λ ps. planned ps t) idle) in
+                ap (λ o. sent_by sent o ++ planned m.plan t) (last t end.1) ∙ empty ∙ sym none ∙ sym (same t)
             | inr other ↦
                 let below : t ≤ n = let ne = other.1 in omega arith in let is = kept t from below in
-                ap (λ o. (box_of o).taken ++ (box_of o).queue ++ planned m.plan t) is ∙ i.owed t from below (ap (λ o. is_some o) (sym is) ∙ here) ∙ sym (same t)
+                ap (λ o. sent_by sent o ++ planned m.plan t) is ∙ i.owed t from below (ap (λ o. is_some o) (sym is) ∙ here) ∙ sym (same t)
           ];
       reaped = λ t from to away.
           let to' : t ≤ n + 1 = omega arith in
@@ -93,7 +92,7 @@ kept_sum h (x ∷ xs) k f =
     let here : kept_by x ≡ kept_for h k = let e : k + 0 ≡ k = omega arith in f 0 (omega arith) ∙ ap (kept_for h) e in
     sum_by-cons kept_by x xs ∙ ap (λ (j : ℕ). kept_by x + j) rest ∙ ap (λ (j : ℕ). j + sum_by (kept_for h) (numbers (k + 1) (length xs))) here ∙ sym (sum_by-cons (kept_for h) k (numbers (k + 1) (length xs)))
 
-pub seats_held : (h : List Rec) (seats : List Seat) (boxes : List (Option Waiting)) → ((t : ℕ) → 0 < t → t ≤ length seats → IsSeat (seat_at seats t) (is_here boxes t) h t) → sessions h ≡ length seats → sum_by kept_by seats ≡ held h
+pub seats_held : {O : Type 0} (h : List Rec) (seats : List Seat) (boxes : List (Option O)) → ((t : ℕ) → 0 < t → t ≤ length seats → IsSeat (seat_at seats t) (is_here boxes t) h t) → sessions h ≡ length seats → sum_by kept_by seats ≡ held h
 seats_held h seats boxes f e =
     kept_sum h seats 1 (λ i l. let from : 0 < 1 + i = omega arith in let to : 1 + i ≤ length seats = omega arith in let j : i ≡ 1 + i - 1 = omega arith in
     ap (λ (k : ℕ). kept_by (slice_index_or seats k no_seat)) j ∙ kept_same h (seat_at seats (1 + i)) (1 + i) (f (1 + i) from to).shut (f (1 + i) from to).gone)

@@ -1,13 +1,13 @@
 -- The plan that is out stays the one that is out.
-use Rattle.std.proofs.Common.{◌≡◌, ℕ, ◌+◌, ◌<◌, ◌≤◌, Bool, true, false, cond, List, [], ◌∷◌, ◌++◌, length, Option, Some, None, arith, refl, sym, ap, ◌∙◌, subst}
+use Rattle.std.proofs.Common.{◌≡◌, ℕ, ◌+◌, ◌<◌, ◌≤◌, List, [], ◌∷◌, ◌++◌, length, Option, Some, None, arith, refl, sym, ap, ◌∙◌, subst}
 use Rattle.chronicle.specs.History.{Rec, sessions}
 use Rattle.chronicle.specs.Journal.{miss}
-use Rattle.outbox.specs.Ring.{has_room}
+use Rattle.outbox.specs.declared.item.Item.{Item}
+use Rattle.outbox.specs.declared.queue.PutFault.{PutFault}
 use Rattle.book.specs.declared.plan.Planned.{Planned}
 use Rattle.book.specs.declared.out.Step.{Step}
 use Rattle.book.specs.declared.out.Step.TheVariants.{Put, Missed}
-use Rattle.book.specs.Told.{told_of}
-use Rattle.book.specs.Book.{Shown, outbox_at, delivered, dropped, put_next, Out, IsOut, newest_missed, newest_actor, newest_next}
+use Rattle.book.specs.Book.{Shown, delivered_to, dropped, IsPutNext, Out, IsOut, newest_missed, newest_actor, newest_next}
 
 -- what is noted of a step
 abbrev pub IsNoted : Out → Option Step → Out → Type 0
@@ -35,7 +35,7 @@ length_same : (h : List Rec) (t : ℕ) → length (miss h t) ≡ length h
 length_same [] t = refl
 length_same (r ∷ h) t = refl
 
-out_missed : (m : Shown) (p q : Out) (x : Planned) (xs : List Planned) → IsOut m p → m.plan ≡ x ∷ xs → IsNoted p (Some (Missed x.session)) q → IsOut (dropped m x xs) q
+out_missed : {O : Type 0} (m : Shown O) (p q : Out) (x : Planned) (xs : List Planned) → IsOut m p → m.plan ≡ x ∷ xs → IsNoted p (Some (Missed x.session)) q → IsOut (dropped m x xs) q
 out_missed m p q x xs i e n =
     let h = m.history in let t = x.session in let longer : length m.plan ≡ length xs + 1 = ap length e ∙ (let f : length (x ∷ xs) ≡ length xs + 1 = omega arith in f) in
     let fits = i.room in let less = n.4 in let actor : 0 < newest_actor h = subst (λ (s : ℕ). 0 < s) i.session i.from_1 in
@@ -50,18 +50,17 @@ out_missed m p q x xs i e n =
       room = omega arith;
     }
 
-out_put : (m : Shown) (p : Out) (x : Planned) (xs : List Planned) → IsOut m p → m.plan ≡ x ∷ xs → IsOut (delivered m x xs) p
-out_put m p x xs i e =
+out_put : {O : Type 0} (m : Shown O) (p : Out) (x : Planned) (xs : List Planned) (box : O) → IsOut m p → m.plan ≡ x ∷ xs → IsOut (delivered_to m x xs box) p
+out_put m p x xs box i e =
     let longer : length m.plan ≡ length xs + 1 = ap length e ∙ (let f : length (x ∷ xs) ≡ length xs + 1 = omega arith in f) in let fits = i.room in
     record { busy = i.busy; number = i.number; session = i.session; next = i.next; from_1 = i.from_1; opened = i.opened; missed = i.missed; room = omega arith }
 
-by_room : (m : Shown) (p q : Out) (x : Planned) (xs : List Planned) (b : Bool) → IsOut m p → m.plan ≡ x ∷ xs → IsNoted p (Some (cond b (Put x.session) (Missed x.session))) q → IsOut (cond b (delivered m x xs) (dropped m x xs)) q
-by_room m p q x xs true i e n = subst (IsOut (delivered m x xs)) (sym n) (out_put m p x xs i e)
-by_room m p q x xs false i e n = out_missed m p q x xs i e n
+by_plan : {O : Type 0} (accepts : O → Item → O → Type 0) (refuses : O → PutFault → Type 0) (m k : Shown O) (p q : Out) (ps : List Planned) (step : Option Step) → m.plan ≡ ps → IsOut m p → IsPutNext accepts refuses m ps step k → IsNoted p step q → IsOut k q
+by_plan accepts refuses m k p q [] None e i is n = subst (λ x. IsOut x q) (sym is) (subst (IsOut m) (sym n) i)
+by_plan accepts refuses m k p q [] (Some step) e i is n = absurd is
+by_plan accepts refuses m k p q (x ∷ xs) None e i is n = absurd is
+by_plan accepts refuses m k p q (x ∷ xs) (Some (Put t)) e i is n = subst (λ y. IsOut y q) (sym is.1.book) (subst (IsOut (delivered_to m x xs is.1.after)) (sym n) (out_put m p x xs is.1.after i e))
+by_plan accepts refuses m k p q (x ∷ xs) (Some (Missed t)) e i is n = subst (λ y. IsOut y q) (sym is.1.book) (out_missed m p q x xs i e (subst (λ (u : ℕ). IsNoted p (Some (Missed u)) q) is.0 n))
 
-by_plan : (m : Shown) (p q : Out) (ps : List Planned) → m.plan ≡ ps → IsOut m p → IsNoted p (told_of m ps) q → IsOut (put_next m ps) q
-by_plan m p q [] e i n = subst (IsOut m) (sym n) i
-by_plan m p q (x ∷ xs) e i n = by_room m p q x xs (has_room (outbox_at m.outboxes x.session)) i e n
-
-pub out_next : (m k : Shown) (p q : Out) (step : Option Step) → IsOut m p → step ≡ told_of m m.plan → k ≡ put_next m m.plan → IsNoted p step q → IsOut k q
-out_next m k p q step i es ek n = subst (λ (x : Shown). IsOut x q) (sym ek) (by_plan m p q m.plan refl i (subst (λ o. IsNoted p o q) es n))
+pub out_next : {O : Type 0} (accepts : O → Item → O → Type 0) (refuses : O → PutFault → Type 0) (m k : Shown O) (p q : Out) (step : Option Step) → IsOut m p → IsPutNext accepts refuses m m.plan step k → IsNoted p step q → IsOut k q
+out_next accepts refuses m k p q step i is n = by_plan accepts refuses m k p q m.plan step refl i is n

@@ -12,11 +12,12 @@ use Rattle.chronicle.specs.History.{Rec, sessions, misses, ends, shut, gone}
 use Rattle.outbox.specs.declared.item.Item.{Item}
 use Rattle.registration.specs.declared.settings.Settings.{Settings}
 use Rattle.book.specs.declared.plan.Planned.{Planned}
-use Rattle.outbox.specs.Ring.{Waiting, has_room, with_put, with_taken}
+use Rattle.outbox.specs.Ring.{Waiting, with_taken, put_into}
 use Rattle.book.specs.Owed.{delivery, owed}
-use Rattle.book.specs.Legal.{AreMissed}
+use Rattle.book.specs.Legal.{AreMissed, IsLegal}
+use Rattle.book.proofs.About.{gone_before}
 use Rattle.roster.specs.LookBack.{numbers}
-use Rattle.book.specs.Book.{Shown, box_of, outbox_at, is_here, held, planned, delivered, dropped, finished, taken, reaped, IsOwed, IsPlan, IsSound}
+use Rattle.book.specs.Book.{Shown, box_at, sent_by, box_of, outbox_at, is_here, held, planned, delivered_to, dropped, finished, taken, reaped, IsOwed, IsPlan, IsSound}
 
 -- ---- the newest record is missed by one more session
 
@@ -97,160 +98,181 @@ pub held_missed : (r : Rec) (h : List Rec) (s : ℕ) → held (more r s ∷ h) �
 held_missed r h s =
     sum_le _ _ (numbers 1 (sessions (r ∷ h))) (λ t. kept_less (gone (r ∷ h) t) (shut (more r s ∷ h) t) (gone (r ∷ h) t) (shut (r ∷ h) t) (λ e. e) (shut_more r h s t))
 
-dropped_at : (h : List Rec) (limit : ℕ) (g : Settings) (boxes : List (Option Waiting)) (busy : Bool) (p : Planned) (ps : List Planned) → let m : Shown = record { history = h; limit = limit; settings = g; outboxes = boxes; plan = p ∷ ps; busy = busy } in IsSound m → IsSound (dropped m p ps)
-dropped_at [] limit g boxes busy p ps i = absurd i.plan.3
-dropped_at (r ∷ h) limit g boxes busy p ps i =
-    let own = i.plan.3 in
-    record {
-      owed = λ t from to here.
-          let had = (outbox_at boxes t).taken ++ (outbox_at boxes t).queue in
-          elim (eqb_tells p.session t) [
-            | inl same ↦
-                let k = i.owed p.session i.plan.0 i.plan.1 (ap (is_here boxes) same.1 ∙ here) in let was = (outbox_at boxes p.session).taken ++ (outbox_at boxes p.session).queue in
-                subst (λ (u : ℕ). (outbox_at boxes u).taken ++ (outbox_at boxes u).queue ++ planned ps u ≡ owed g (more r p.session ∷ h) u) same.1 (owed_missed g r h was p ps i.plan.2 own k)
-            | inr other ↦ owed_elsewhere g r h had p ps t other.1 (i.owed t from to here)
-          ];
-      reaped = λ t from to away. i.reaped t from to away;
-      plan = plan_after g r h (length boxes) p.session ps i.plan.2 i.plan.4;
-      idle = λ e. absurd (let f : p ∷ ps ≡ [] = i.idle e in cc);
-      legal = (i.legal.0, i.legal.1, i.legal.2, missed_more g h r.kind r.moment r.missed p.session (λ e. let f : p.item ∷ [] ≡ [] = sym own.0 ∙ e in cc) own.1 own.2 i.legal.3, i.legal.4);
-      sessions = i.sessions;
-      room =
-          let less = held_missed r h p.session in let old : length (r ∷ h) + held (r ∷ h) ≤ limit = i.room in
-          let goal : length (more r p.session ∷ h) + held (more r p.session ∷ h) ≤ limit = omega arith in goal;
-    }
-
-pub dropped_sound : (m : Shown) (p : Planned) (ps : List Planned) → m.plan ≡ p ∷ ps → IsSound m → IsSound (dropped m p ps)
-dropped_sound m p ps e i = dropped_at m.history m.limit m.settings m.outboxes m.busy p ps (subst (λ qs. IsSound (record { history = m.history; limit = m.limit; settings = m.settings; outboxes = m.outboxes; plan = qs; busy = m.busy })) e i)
+-- who is gone is owed nothing more
+not_gone_owed : (g : Settings) (h : List Rec) (p : Planned) → IsLegal g h → IsOwed g h p → gone h p.session ≡ true → ⊥
+not_gone_owed g [] p l i e = i
+not_gone_owed g (r ∷ h) p l i e = absurd (let f : true ≡ false = sym (gone_before g r h p.session l e) ∙ i.1 in cc)
 
 -- ---- outboxes by the numbers of their sessions
 
-pub box_same : (boxes : List (Option Waiting)) (s : ℕ) (v : Option Waiting) → 0 < s → s ≤ length boxes → slice_index_or (slice_set boxes (s - 1) v) (s - 1) None ≡ v
+pub box_same : {X : Type 0} (boxes : List (Option X)) (s : ℕ) (v : Option X) → 0 < s → s ≤ length boxes → slice_index_or (slice_set boxes (s - 1) v) (s - 1) None ≡ v
 box_same boxes s v from to = let l : s - 1 < length boxes = omega arith in get_or-set_same boxes (s - 1) v None l
 
-pub box_other : (boxes : List (Option Waiting)) (s t : ℕ) (v : Option Waiting) → 0 < s → 0 < t → s ≢ t → slice_index_or (slice_set boxes (s - 1) v) (t - 1) None ≡ slice_index_or boxes (t - 1) None
+pub box_other : {X : Type 0} (boxes : List (Option X)) (s t : ℕ) (v : Option X) → 0 < s → 0 < t → s ≢ t → slice_index_or (slice_set boxes (s - 1) v) (t - 1) None ≡ slice_index_or boxes (t - 1) None
 box_other boxes s t v a b ne = get_or-set_other boxes (s - 1) (t - 1) v None (λ e. ne (omega arith))
 
--- an outbox with room is that of a session that isn't reaped
-pub room_here : (o : Option Waiting) → has_room (box_of o) ≡ true → is_some o ≡ true
-room_here None e = absurd (let f : false ≡ true = e in cc)
-room_here (Some b) e = refl
-
 -- who has an outbox after another is put in a place had one before
-pub was_here : (boxes : List (Option Waiting)) (s t : ℕ) (v : Waiting) → is_here boxes s ≡ true → 0 < s → 0 < t → is_here (slice_set boxes (s - 1) (Some v)) t ≡ true → is_here boxes t ≡ true
+pub was_here : {X : Type 0} (boxes : List (Option X)) (s t : ℕ) (v : X) → is_here boxes s ≡ true → 0 < s → 0 < t → is_here (slice_set boxes (s - 1) (Some v)) t ≡ true → is_here boxes t ≡ true
 was_here boxes s t v there a b here =
     elim (eqb_tells s t) [
       | inl same ↦ ap (is_here boxes) (sym same.1) ∙ there
       | inr other ↦ ap (λ o. is_some o) (sym (box_other boxes s t (Some v) a b other.1)) ∙ here
     ]
 
--- ---- a delivery is put
+module _ {O : Type 0} (sent : O → List Item) where
+  dropped_at : (h : List Rec) (limit : ℕ) (g : Settings) (boxes : List (Option O)) (busy : Bool) (p : Planned) (ps : List Planned) → let m : Shown O = record { history = h; limit = limit; settings = g; outboxes = boxes; plan = p ∷ ps; busy = busy } in IsSound sent m → IsSound sent (dropped m p ps)
+  dropped_at [] limit g boxes busy p ps i = absurd i.plan.3
+  dropped_at (r ∷ h) limit g boxes busy p ps i =
+      let own = i.plan.3 in
+      record {
+        owed = λ t from to here.
+            let had = sent_by sent (box_at boxes t) in
+            elim (eqb_tells p.session t) [
+              | inl same ↦
+                  let k = i.owed p.session i.plan.0 i.plan.1 (ap (is_here boxes) same.1 ∙ here) in let was = sent_by sent (box_at boxes p.session) in
+                  subst (λ (u : ℕ). sent_by sent (box_at boxes u) ++ planned ps u ≡ owed g (more r p.session ∷ h) u) same.1 (owed_missed g r h was p ps i.plan.2 own k)
+              | inr other ↦ owed_elsewhere g r h had p ps t other.1 (i.owed t from to here)
+            ];
+        reaped = λ t from to away. i.reaped t from to away;
+        plan = plan_after g r h (length boxes) p.session ps i.plan.2 i.plan.4;
+        idle = λ e. absurd (let f : p ∷ ps ≡ [] = i.idle e in cc);
+        legal = (i.legal.0, i.legal.1, i.legal.2, missed_more g h r.kind r.moment r.missed p.session (λ e. let f : p.item ∷ [] ≡ [] = sym own.0 ∙ e in cc) own.1 own.2 i.legal.3, i.legal.4);
+        sessions = i.sessions;
+        room =
+            let less = held_missed r h p.session in let old : length (r ∷ h) + held (r ∷ h) ≤ limit = i.room in
+            let goal : length (more r p.session ∷ h) + held (more r p.session ∷ h) ≤ limit = omega arith in goal;
+      }
 
-delivered_at : (h : List Rec) (limit : ℕ) (g : Settings) (boxes : List (Option Waiting)) (busy : Bool) (p : Planned) (ps : List Planned) → has_room (outbox_at boxes p.session) ≡ true
-    → let m : Shown = record { history = h; limit = limit; settings = g; outboxes = boxes; plan = p ∷ ps; busy = busy } in IsSound m → IsSound (delivered m p ps)
-delivered_at h limit g boxes busy p ps room_ i =
-    let s = p.session in let b = outbox_at boxes s in let v = with_put b p.item in let new = slice_set boxes (s - 1) (Some v) in
-    let len : length new ≡ length boxes = simp length-set in
-    let there : is_here boxes s ≡ true = room_here (slice_index_or boxes (s - 1) None) room_ in
-    record {
-      owed = λ t from to here.
-          let to' : t ≤ length boxes = omega arith in
-          elim (eqb_tells s t) [
-            | inl same ↦
-                let head : planned (p ∷ ps) s ≡ p.item ∷ planned ps s = rw (eq-eqb s s refl) refl in
-                let k : (b.taken ++ (b.queue ++ p.item ∷ [])) ++ planned ps s ≡ owed g h s =
-                append_assoc b.taken (b.queue ++ p.item ∷ []) (planned ps s) ∙ ap (λ xs. b.taken ++ xs) (append_assoc b.queue (p.item ∷ []) (planned ps s)) ∙ sym (append_assoc b.taken b.queue (p.item ∷ planned ps s))
-                ∙ ap (λ xs. (b.taken ++ b.queue) ++ xs) (sym head) ∙ i.owed s i.plan.0 i.plan.1 there in
-                let here_ : (outbox_at new s).taken ++ (outbox_at new s).queue ++ planned ps s ≡ owed g h s =
-                ap (λ o. (box_of o).taken ++ (box_of o).queue ++ planned ps s) (box_same boxes s (Some v) i.plan.0 i.plan.1) ∙ k in
-                subst (λ (u : ℕ). (outbox_at new u).taken ++ (outbox_at new u).queue ++ planned ps u ≡ owed g h u) same.1 here_
-            | inr other ↦
-                let is = box_other boxes s t (Some v) i.plan.0 from other.1 in
-                ap (λ o. (box_of o).taken ++ (box_of o).queue ++ planned ps t) is
-                ∙ ap (λ (c : Bool). (outbox_at boxes t).taken ++ (outbox_at boxes t).queue ++ cond c (p.item ∷ planned ps t) (planned ps t)) (sym other.0) ∙ i.owed t from to' (ap (λ o. is_some o) (sym is) ∙ here)
-          ];
-      reaped = λ t from to away.
-          let to' : t ≤ length boxes = omega arith in
-          elim (eqb_tells s t) [
-            | inl same ↦ absurd (let f : true ≡ false = ap (λ o. is_some o) (sym (box_same boxes s (Some v) i.plan.0 i.plan.1)) ∙ ap (is_here new) same.1 ∙ away in cc)
-            | inr other ↦ i.reaped t from to' (ap (λ o. is_some o) (sym (box_other boxes s t (Some v) i.plan.0 from other.1)) ∙ away)
-          ];
-      plan = rw len i.plan.4;
-      idle = λ e. absurd (let f : p ∷ ps ≡ [] = i.idle e in cc);
-      legal = i.legal;
-      sessions = i.sessions ∙ sym len;
-      room = i.room;
-    }
+  pub dropped_sound : (m : Shown O) (p : Planned) (ps : List Planned) → m.plan ≡ p ∷ ps → IsSound sent m → IsSound sent (dropped m p ps)
+  dropped_sound m p ps e i = dropped_at m.history m.limit m.settings m.outboxes m.busy p ps (subst (λ qs. IsSound sent (record { history = m.history; limit = m.limit; settings = m.settings; outboxes = m.outboxes; plan = qs; busy = m.busy })) e i)
 
-pub delivered_sound : (m : Shown) (p : Planned) (ps : List Planned) → m.plan ≡ p ∷ ps → has_room (outbox_at m.outboxes p.session) ≡ true → IsSound m → IsSound (delivered m p ps)
-delivered_sound m p ps e room_ i =
-    delivered_at m.history m.limit m.settings m.outboxes m.busy p ps room_ (subst (λ qs. IsSound (record { history = m.history; limit = m.limit; settings = m.settings; outboxes = m.outboxes; plan = qs; busy = m.busy })) e i)
+  -- whose delivery is next isn't reaped
+  next_by : (m : Shown O) (p : Planned) (ps : List Planned) (b : Bool) → is_here m.outboxes p.session ≡ b → IsPlan m.settings m.history (length m.outboxes) (p ∷ ps) → IsSound sent m → is_here m.outboxes p.session ≡ true
+  next_by m p ps true e i s = e
+  next_by m p ps false e i s = absurd (not_gone_owed m.settings m.history p s.legal i.3 (s.reaped p.session i.0 i.1 e))
 
--- ---- the plan is given back
+  pub next_here : (m : Shown O) (p : Planned) (ps : List Planned) → m.plan ≡ p ∷ ps → IsSound sent m → is_here m.outboxes p.session ≡ true
+  next_here m p ps e s = next_by m p ps (is_here m.outboxes p.session) refl (subst (IsPlan m.settings m.history (length m.outboxes)) e s.plan) s
 
-pub finished_sound : (m : Shown) → m.plan ≡ [] → IsSound m → IsSound (finished m)
-finished_sound m none i = record { owed = i.owed; reaped = i.reaped; plan = i.plan; idle = λ e. none; legal = i.legal; sessions = i.sessions; room = i.room }
+  -- ---- a delivery is put
 
--- ---- an item is taken
+  delivered_at : (h : List Rec) (limit : ℕ) (g : Settings) (boxes : List (Option O)) (busy : Bool) (p : Planned) (ps : List Planned) (a b : O) → box_at boxes p.session ≡ Some a → sent b ≡ sent a ++ p.item ∷ []
+      → let m : Shown O = record { history = h; limit = limit; settings = g; outboxes = boxes; plan = p ∷ ps; busy = busy } in IsSound sent m → IsSound sent (delivered_to m p ps b)
+  delivered_at h limit g boxes busy p ps a b at grew i =
+      let s = p.session in let new = slice_set boxes (s - 1) (Some b) in
+      let len : length new ≡ length boxes = simp length-set in
+      let there : is_here boxes s ≡ true = ap (λ o. is_some o) at in
+      record {
+        owed = λ t from to here.
+            let to' : t ≤ length boxes = omega arith in
+            elim (eqb_tells s t) [
+              | inl same ↦
+                  let head : planned (p ∷ ps) s ≡ p.item ∷ planned ps s = rw (eq-eqb s s refl) refl in
+                  let k : sent b ++ planned ps s ≡ owed g h s =
+                  ap (λ xs. xs ++ planned ps s) grew ∙ append_assoc (sent a) (p.item ∷ []) (planned ps s) ∙ ap (λ xs. sent a ++ xs) (sym head)
+                  ∙ ap (λ o. sent_by sent o ++ planned (p ∷ ps) s) (sym at) ∙ i.owed s i.plan.0 i.plan.1 there in
+                  let here_ : sent_by sent (box_at new s) ++ planned ps s ≡ owed g h s = ap (λ o. sent_by sent o ++ planned ps s) (box_same boxes s (Some b) i.plan.0 i.plan.1) ∙ k in
+                  subst (λ (u : ℕ). sent_by sent (box_at new u) ++ planned ps u ≡ owed g h u) same.1 here_
+              | inr other ↦
+                  let is = box_other boxes s t (Some b) i.plan.0 from other.1 in
+                  ap (λ o. sent_by sent o ++ planned ps t) is
+                  ∙ ap (λ (c : Bool). sent_by sent (box_at boxes t) ++ cond c (p.item ∷ planned ps t) (planned ps t)) (sym other.0) ∙ i.owed t from to' (ap (λ o. is_some o) (sym is) ∙ here)
+            ];
+        reaped = λ t from to away.
+            let to' : t ≤ length boxes = omega arith in
+            elim (eqb_tells s t) [
+              | inl same ↦ absurd (let f : true ≡ false = ap (λ o. is_some o) (sym (box_same boxes s (Some b) i.plan.0 i.plan.1)) ∙ ap (is_here new) same.1 ∙ away in cc)
+              | inr other ↦ i.reaped t from to' (ap (λ o. is_some o) (sym (box_other boxes s t (Some b) i.plan.0 from other.1)) ∙ away)
+            ];
+        plan = rw len i.plan.4;
+        idle = λ e. absurd (let f : p ∷ ps ≡ [] = i.idle e in cc);
+        legal = i.legal;
+        sessions = i.sessions ∙ sym len;
+        room = i.room;
+      }
+
+  pub delivered_sound : (m : Shown O) (p : Planned) (ps : List Planned) (a b : O) → m.plan ≡ p ∷ ps → box_at m.outboxes p.session ≡ Some a → sent b ≡ sent a ++ p.item ∷ [] → IsSound sent m → IsSound sent (delivered_to m p ps b)
+  delivered_sound m p ps a b e at grew i =
+      delivered_at m.history m.limit m.settings m.outboxes m.busy p ps a b at grew (subst (λ qs. IsSound sent (record { history = m.history; limit = m.limit; settings = m.settings; outboxes = m.outboxes; plan = qs; busy = m.busy })) e i)
+
+  -- ---- the plan is given back
+
+  pub finished_sound : (m : Shown O) → m.plan ≡ [] → IsSound sent m → IsSound sent (finished m)
+  finished_sound m none i = record { owed = i.owed; reaped = i.reaped; plan = i.plan; idle = λ e. none; legal = i.legal; sessions = i.sessions; room = i.room }
+
+  -- ---- an outbox changes, but for what was put into it
+
+  pub changed_sound : (m : Shown O) (s : ℕ) (a b : O) → 0 < s → s ≤ length m.outboxes → box_at m.outboxes s ≡ Some a → sent b ≡ sent a → IsSound sent m
+      → IsSound sent (record { history = m.history; limit = m.limit; settings = m.settings; outboxes = slice_set m.outboxes (s - 1) (Some b); plan = m.plan; busy = m.busy })
+  changed_sound m s a b above below at same_sent i =
+      let boxes = m.outboxes in let new = slice_set boxes (s - 1) (Some b) in
+      let len : length new ≡ length boxes = simp length-set in
+      record {
+        owed = λ t from to here.
+            let to' : t ≤ length boxes = omega arith in
+            elim (eqb_tells s t) [
+              | inl same ↦
+                  let here_ : sent_by sent (box_at new s) ++ planned m.plan s ≡ owed m.settings m.history s =
+                  ap (λ o. sent_by sent o ++ planned m.plan s) (box_same boxes s (Some b) above below) ∙ ap (λ xs. xs ++ planned m.plan s) same_sent
+                  ∙ ap (λ o. sent_by sent o ++ planned m.plan s) (sym at) ∙ i.owed s above below (ap (λ o. is_some o) at) in
+                  subst (λ (u : ℕ). sent_by sent (box_at new u) ++ planned m.plan u ≡ owed m.settings m.history u) same.1 here_
+              | inr other ↦
+                  let is = box_other boxes s t (Some b) above from other.1 in
+                  ap (λ o. sent_by sent o ++ planned m.plan t) is ∙ i.owed t from to' (ap (λ o. is_some o) (sym is) ∙ here)
+            ];
+        reaped = λ t from to away.
+            let to' : t ≤ length boxes = omega arith in
+            elim (eqb_tells s t) [
+              | inl same ↦ absurd (let f : true ≡ false = ap (λ o. is_some o) (sym (box_same boxes s (Some b) above below)) ∙ ap (is_here new) same.1 ∙ away in cc)
+              | inr other ↦ i.reaped t from to' (ap (λ o. is_some o) (sym (box_other boxes s t (Some b) above from other.1)) ∙ away)
+            ];
+        plan = rw len i.plan;
+        idle = i.idle;
+        legal = i.legal;
+        sessions = i.sessions ∙ sym len;
+        room = i.room;
+      }
+
+  -- ---- a session is given up
+
+  pub reaped_sound : (m : Shown O) (s : ℕ) → 0 < s → s ≤ length m.outboxes → gone m.history s ≡ true → IsSound sent m → IsSound sent (reaped m s)
+  reaped_sound m s above below left i =
+      let boxes = m.outboxes in let new = slice_set boxes (s - 1) None in
+      let len : length new ≡ length boxes = simp length-set in
+      record {
+        owed = λ t from to here.
+            let to' : t ≤ length boxes = omega arith in
+            elim (eqb_tells s t) [
+              | inl same ↦ absurd (let f : false ≡ true = ap (λ o. is_some o) (sym (box_same boxes s None above below)) ∙ ap (is_here new) same.1 ∙ here in cc)
+              | inr other ↦
+                  let is = box_other boxes s t None above from other.1 in
+                  ap (λ o. sent_by sent o ++ planned m.plan t) is ∙ i.owed t from to' (ap (λ o. is_some o) (sym is) ∙ here)
+            ];
+        reaped = λ t from to away.
+            let to' : t ≤ length boxes = omega arith in
+            elim (eqb_tells s t) [
+              | inl same ↦ ap (gone m.history) (sym same.1) ∙ left
+              | inr other ↦ i.reaped t from to' (ap (λ o. is_some o) (sym (box_other boxes s t None above from other.1)) ∙ away)
+            ];
+        plan = rw len i.plan;
+        idle = i.idle;
+        legal = i.legal;
+        sessions = i.sessions ∙ sym len;
+        room = i.room;
+      }
+
+-- ---- an item is taken of a ring
 
 take_one : (q : List Item) → take 1 q ++ drop 1 q ≡ q
 take_one [] = refl
 take_one (x ∷ q) = refl
 
-pub taken_sound : (m : Shown) (s : ℕ) → 0 < s → s ≤ length m.outboxes → is_here m.outboxes s ≡ true → IsSound m → IsSound (taken m s)
+taken_as : (o : Option Waiting) → is_some o ≡ true → o ≡ Some (box_of o)
+taken_as None e = absurd (let f : false ≡ true = e in cc)
+taken_as (Some b) e = refl
+
+pub taken_sound : (m : Shown Waiting) (s : ℕ) → 0 < s → s ≤ length m.outboxes → is_here m.outboxes s ≡ true → IsSound put_into m → IsSound put_into (taken m s)
 taken_sound m s above below there i =
-    let boxes = m.outboxes in let b = outbox_at boxes s in let v = with_taken b in let new = slice_set boxes (s - 1) (Some v) in
-    let len : length new ≡ length boxes = simp length-set in
-    record {
-      owed = λ t from to here.
-          let to' : t ≤ length boxes = omega arith in
-          elim (eqb_tells s t) [
-            | inl same ↦
-                let all : (b.taken ++ take 1 b.queue) ++ drop 1 b.queue ≡ b.taken ++ b.queue = append_assoc b.taken (take 1 b.queue) (drop 1 b.queue) ∙ ap (λ xs. b.taken ++ xs) (take_one b.queue) in
-                let here_ : (outbox_at new s).taken ++ (outbox_at new s).queue ++ planned m.plan s ≡ owed m.settings m.history s =
-                ap (λ o. (box_of o).taken ++ (box_of o).queue ++ planned m.plan s) (box_same boxes s (Some v) above below) ∙ ap (λ xs. xs ++ planned m.plan s) all ∙ i.owed s above below there in
-                subst (λ (u : ℕ). (outbox_at new u).taken ++ (outbox_at new u).queue ++ planned m.plan u ≡ owed m.settings m.history u) same.1 here_
-            | inr other ↦
-                let is = box_other boxes s t (Some v) above from other.1 in
-                ap (λ o. (box_of o).taken ++ (box_of o).queue ++ planned m.plan t) is ∙ i.owed t from to' (ap (λ o. is_some o) (sym is) ∙ here)
-          ];
-      reaped = λ t from to away.
-          let to' : t ≤ length boxes = omega arith in
-          elim (eqb_tells s t) [
-            | inl same ↦ absurd (let f : true ≡ false = ap (λ o. is_some o) (sym (box_same boxes s (Some v) above below)) ∙ ap (is_here new) same.1 ∙ away in cc)
-            | inr other ↦ i.reaped t from to' (ap (λ o. is_some o) (sym (box_other boxes s t (Some v) above from other.1)) ∙ away)
-          ];
-      plan = rw len i.plan;
-      idle = i.idle;
-      legal = i.legal;
-      sessions = i.sessions ∙ sym len;
-      room = i.room;
-    }
-
--- ---- a session is given up
-
-pub reaped_sound : (m : Shown) (s : ℕ) → 0 < s → s ≤ length m.outboxes → gone m.history s ≡ true → IsSound m → IsSound (reaped m s)
-reaped_sound m s above below left i =
-    let boxes = m.outboxes in let new = slice_set boxes (s - 1) None in
-    let len : length new ≡ length boxes = simp length-set in
-    record {
-      owed = λ t from to here.
-          let to' : t ≤ length boxes = omega arith in
-          elim (eqb_tells s t) [
-            | inl same ↦ absurd (let f : false ≡ true = ap (λ o. is_some o) (sym (box_same boxes s None above below)) ∙ ap (is_here new) same.1 ∙ here in cc)
-            | inr other ↦
-                let is = box_other boxes s t None above from other.1 in
-                ap (λ o. (box_of o).taken ++ (box_of o).queue ++ planned m.plan t) is ∙ i.owed t from to' (ap (λ o. is_some o) (sym is) ∙ here)
-          ];
-      reaped = λ t from to away.
-          let to' : t ≤ length boxes = omega arith in
-          elim (eqb_tells s t) [
-            | inl same ↦ ap (gone m.history) (sym same.1) ∙ left
-            | inr other ↦ i.reaped t from to' (ap (λ o. is_some o) (sym (box_other boxes s t None above from other.1)) ∙ away)
-          ];
-      plan = rw len i.plan;
-      idle = i.idle;
-      legal = i.legal;
-      sessions = i.sessions ∙ sym len;
-      room = i.room;
-    }
+    let b = outbox_at m.outboxes s in
+    changed_sound put_into m s b (with_taken b) above below (taken_as (box_at m.outboxes s) there)
+    (append_assoc b.taken (take 1 b.queue) (drop 1 b.queue) ∙ ap (λ xs. b.taken ++ xs) (take_one b.queue)) i

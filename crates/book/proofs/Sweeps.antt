@@ -4,7 +4,6 @@ use Rattle.chronicle.specs.History.{Rec, sessions, shut, gone}
 use Rattle.roster.specs.LookBack.{numbers}
 use Rattle.book.proofs.Listed.{first_is}
 use Rattle.book.specs.declared.seat.Seat.{Seat}
-use Rattle.outbox.specs.Ring.{Waiting}
 use Rattle.book.specs.Seats.{IsSeat, seat_at, sweeps}
 use Rattle.book.specs.Book.{is_here, first, is_to_sweep, to_sweep}
 
@@ -25,7 +24,7 @@ first_agree f g k zero same = refl
 first_agree f g k (suc n) same =
     ap (λ b. cond b (Some k) (first f (numbers (k + 1) n))) (same k (omega arith) (omega arith)) ∙ ap (λ o. cond (g k) (Some k) o) (first_agree f g (k + 1) n (λ t a b. same t (omega arith) (omega arith)))
 
-pub seats_sweep : (h : List Rec) (seats : List Seat) (boxes : List (Option Waiting)) → ((t : ℕ) → 0 < t → t ≤ length seats → IsSeat (seat_at seats t) (is_here boxes t) h t) → length seats ≡ sessions h
+pub seats_sweep : {O : Type 0} (h : List Rec) (seats : List Seat) (boxes : List (Option O)) → ((t : ℕ) → 0 < t → t ≤ length seats → IsSeat (seat_at seats t) (is_here boxes t) h t) → length seats ≡ sessions h
     → first (sweeps seats) (numbers 1 (length seats)) ≡ to_sweep h
 seats_sweep h seats boxes f e =
     first_agree (sweeps seats) (is_to_sweep h) 1 (length seats) (λ t a b. let to : t ≤ length seats = omega arith in let is = f t a to in ap (λ c. c && not (seat_at seats t).gone) is.shut ∙ ap (λ c. shut h t && not c) is.gone)

@@ -18,6 +18,9 @@ use Rattle.book.specs.declared.refusals.SweepRefusal.{SweepRefusal}
 use Rattle.book.specs.declared.refusals.SweepRefusal.TheVariants as sweeping
 use Rattle.book.specs.declared.refusals.ReapRefusal.{ReapRefusal}
 use Rattle.book.specs.declared.refusals.ReapRefusal.TheVariants as reaping
+use Rattle.book.specs.declared.out.Step.{Step}
+use Rattle.book.specs.declared.out.Step.TheVariants.{Put, Missed}
+use Rattle.outbox.specs.declared.queue.PutFault.{PutFault}
 use Rattle.outbox.specs.Ring.{Waiting, empty_ring, has_room, with_put, with_taken}
 use Rattle.book.specs.Owed.{delivery, owed}
 use Rattle.book.specs.Legal.{IsLegal}
@@ -25,32 +28,42 @@ use Rattle.roster.specs.LookBack.{numbers}
 
 -- the history, how many records there may be, the settings of the server, each session's outbox until it is reaped, the deliveries
 -- of the newest record that aren't put yet, and whether a plan is out
-pub record Shown : Type 0 where
+pub record Shown (O : Type 0) : Type 0 where
   pub history : List Rec
   pub limit : ℕ
   pub settings : Settings
-  pub outboxes : List (Option Waiting)
+  pub outboxes : List (Option O)
   pub plan : List Planned
   pub busy : Bool
 
+-- the outbox of session t, until it is reaped
+abbrev pub box_at : {O : Type 0} → List (Option O) → ℕ → Option O
+box_at boxes t = slice_index_or boxes (t - 1) None
+
+-- all that was ever put into an outbox
+abbrev pub sent_by : {O : Type 0} → (O → List Item) → Option O → List Item
+sent_by sent None = []
+sent_by sent (Some o) = sent o
+
+-- whether session t was opened and isn't reaped
+abbrev pub is_here : {O : Type 0} → List (Option O) → ℕ → Bool
+is_here boxes t = is_some (slice_index_or boxes (t - 1) None)
+
+-- how many sessions are
+abbrev pub here_by : {O : Type 0} → Option O → ℕ
+here_by o = if is_some o then 1 else 0
+
+abbrev pub count_here : {O : Type 0} → List (Option O) → ℕ
+count_here boxes = sum_by here_by boxes
+
+-- a ring, empty where there is none
 abbrev pub box_of : Option Waiting → Waiting
 box_of None = empty_ring 0
 box_of (Some b) = b
 
--- the outbox of session t
+-- the ring of session t
 abbrev pub outbox_at : List (Option Waiting) → ℕ → Waiting
 outbox_at boxes t = box_of (slice_index_or boxes (t - 1) None)
-
--- whether session t was opened and isn't reaped
-abbrev pub is_here : List (Option Waiting) → ℕ → Bool
-is_here boxes t = is_some (slice_index_or boxes (t - 1) None)
-
--- how many sessions are
-abbrev pub here_by : Option Waiting → ℕ
-here_by o = if is_some o then 1 else 0
-
-abbrev pub count_here : List (Option Waiting) → ℕ
-count_here boxes = sum_by here_by boxes
 
 -- records that are kept free for a session: two until it is shut, one until it is gone
 abbrev pub kept_for : List Rec → ℕ → ℕ
@@ -85,11 +98,11 @@ planned (p ∷ ps) t = cond (p.session == t) (p.item ∷ planned ps t) (planned 
 
 -- ---- steps
 
-abbrev pub empty_book : ℕ → Settings → Shown
+abbrev pub empty_book : {O : Type 0} → ℕ → Settings → Shown O
 empty_book limit settings = record { history = []; limit = limit; settings = settings; outboxes = []; plan = []; busy = false }
 
 -- one more session
-abbrev pub opened : Shown → List ℕ → ℤ → Waiting → Shown
+abbrev pub opened : {O : Type 0} → Shown O → List ℕ → ℤ → O → Shown O
 opened m host moment box =
     record {
       history = fresh_record m.history moment (Opened (sessions m.history + 1) host) ∷ m.history;
@@ -101,52 +114,93 @@ opened m host moment box =
     }
 
 -- a record was appended, and its deliveries are planned
-abbrev pub begun : Shown → Kind → ℤ → Shown
+abbrev pub begun : {O : Type 0} → Shown O → Kind → ℤ → Shown O
 begun m k moment =
     record { history = fresh_record m.history moment k ∷ m.history; limit = m.limit; settings = m.settings; outboxes = m.outboxes; plan = plan_of m.settings m.history k moment (length m.outboxes); busy = true }
 
--- a planned delivery was put at the end of its outbox
-abbrev pub delivered : Shown → Planned → List Planned → Shown
-delivered m p ps =
-    record {
-      history = m.history;
-      limit = m.limit;
-      settings = m.settings;
-      outboxes = slice_set m.outboxes (p.session - 1) (Some (with_put (outbox_at m.outboxes p.session) p.item));
-      plan = ps;
-      busy = m.busy;
-    }
+-- a planned delivery was put, and this is its outbox then
+abbrev pub delivered_to : {O : Type 0} → Shown O → Planned → List Planned → O → Shown O
+delivered_to m p ps box = record { history = m.history; limit = m.limit; settings = m.settings; outboxes = slice_set m.outboxes (p.session - 1) (Some box); plan = ps; busy = m.busy }
 
--- a planned delivery found its outbox full: the newest record misses the session
-abbrev pub dropped : Shown → Planned → List Planned → Shown
+-- a planned delivery wasn't put: the newest record misses the session
+abbrev pub dropped : {O : Type 0} → Shown O → Planned → List Planned → Shown O
 dropped m p ps = record { history = miss m.history p.session; limit = m.limit; settings = m.settings; outboxes = m.outboxes; plan = ps; busy = m.busy }
 
--- the plan's first delivery was put, or missed where its outbox was full
-abbrev pub put_next : Shown → List Planned → Shown
+-- the outbox of a planned delivery took it
+pub record IsDelivered {O : Type 0} (accepts : O → Item → O → Type 0) (m : Shown O) (p : Planned) (ps : List Planned) (k : Shown O) : Type 0 where
+  pub before : O
+  pub after : O
+  pub here : box_at m.outboxes p.session ≡ Some before
+  pub accepted : accepts before p.item after
+  pub book : k ≡ delivered_to m p ps after
+
+-- the outbox of a planned delivery didn't take it, for a cause
+pub record IsMissed {O : Type 0} (refuses : O → PutFault → Type 0) (m : Shown O) (p : Planned) (ps : List Planned) (k : Shown O) : Type 0 where
+  pub before : O
+  pub cause : PutFault
+  pub here : box_at m.outboxes p.session ≡ Some before
+  pub refused : refuses before cause
+  pub book : k ≡ dropped m p ps
+
+-- what became of the plan's first delivery: it was put, or missed where its outbox didn't take it
+abbrev pub IsPutNext : {O : Type 0} → (O → Item → O → Type 0) → (O → PutFault → Type 0) → Shown O → List Planned → Option Step → Shown O → Type 0
+IsPutNext accepts refuses m [] None k = k ≡ m
+IsPutNext accepts refuses m [] (Some step) k = ⊥
+IsPutNext accepts refuses m (p ∷ ps) None k = ⊥
+IsPutNext accepts refuses m (p ∷ ps) (Some (Put t)) k = (t ≡ p.session) × IsDelivered accepts m p ps k
+IsPutNext accepts refuses m (p ∷ ps) (Some (Missed t)) k = (t ≡ p.session) × IsMissed refuses m p ps k
+
+-- until nothing is left in the plan
+abbrev pub IsPutAll : {O : Type 0} → (O → Item → O → Type 0) → (O → PutFault → Type 0) → Shown O → List Planned → Shown O → Type 0
+IsPutAll accepts refuses m [] k = k ≡ m
+IsPutAll {O} accepts refuses m (p ∷ ps) k = (n : Shown O) × (step : Step) × IsPutNext accepts refuses m (p ∷ ps) (Some step) n × IsPutAll accepts refuses n ps k
+
+-- the plan is given back
+abbrev pub finished : {O : Type 0} → Shown O → Shown O
+finished m = record { history = m.history; limit = m.limit; settings = m.settings; outboxes = m.outboxes; plan = m.plan; busy = false }
+
+-- a record was appended, and all its deliveries were put or missed
+abbrev pub IsDone : {O : Type 0} → (O → Item → O → Type 0) → (O → PutFault → Type 0) → Shown O → Kind → ℤ → Shown O → Type 0
+IsDone {O} accepts refuses m kind moment k = (n : Shown O) × IsPutAll accepts refuses (begun m kind moment) (plan_of m.settings m.history kind moment (length m.outboxes)) n × (k ≡ finished n)
+
+-- a session and its outbox were given up
+abbrev pub reaped : {O : Type 0} → Shown O → ℕ → Shown O
+reaped m t = record { history = m.history; limit = m.limit; settings = m.settings; outboxes = slice_set m.outboxes (t - 1) None; plan = m.plan; busy = m.busy }
+
+-- so many items were put into an outbox that its taker didn't take
+pub record IsLeft {O W : Type 0} (sent : O → List Item) (taken : O → W → List Item) (box : Option O) (taker : W) (count : ℕ) : Type 0 where
+  pub outbox : O
+  pub here : box ≡ Some outbox
+  pub left : List Item
+  pub rest : sent outbox ≡ taken outbox taker ++ left
+  pub count_is : count ≡ length left
+
+-- ---- steps over rings, of which is known what they have room for
+
+-- a planned delivery was put at the end of its ring
+abbrev pub delivered : Shown Waiting → Planned → List Planned → Shown Waiting
+delivered m p ps = delivered_to m p ps (with_put (outbox_at m.outboxes p.session) p.item)
+
+-- the plan's first delivery was put, or missed where its ring was full
+abbrev pub put_next : Shown Waiting → List Planned → Shown Waiting
 put_next m [] = m
 put_next m (p ∷ ps) = cond (has_room (outbox_at m.outboxes p.session)) (delivered m p ps) (dropped m p ps)
 
 -- until nothing is left in the plan
-abbrev pub put_all : Shown → List Planned → Shown
+abbrev pub put_all : Shown Waiting → List Planned → Shown Waiting
 put_all m [] = m
 put_all m (p ∷ ps) = put_all (put_next m (p ∷ ps)) ps
 
--- the plan is given back
-abbrev pub finished : Shown → Shown
-finished m = record { history = m.history; limit = m.limit; settings = m.settings; outboxes = m.outboxes; plan = m.plan; busy = false }
-
 -- a record was appended, and all its deliveries were put or missed
-abbrev pub done : Shown → Kind → ℤ → Shown
+abbrev pub done : Shown Waiting → Kind → ℤ → Shown Waiting
 done m k moment = finished (put_all (begun m k moment) (plan_of m.settings m.history k moment (length m.outboxes)))
 
--- the front of a session's outbox was taken
-abbrev pub taken : Shown → ℕ → Shown
+-- the front of a session's ring was taken
+abbrev pub taken : Shown Waiting → ℕ → Shown Waiting
 taken m t =
     record { history = m.history; limit = m.limit; settings = m.settings; outboxes = slice_set m.outboxes (t - 1) (Some (with_taken (outbox_at m.outboxes t))); plan = m.plan; busy = m.busy }
 
--- a session and its outbox were given up
-abbrev pub reaped : Shown → ℕ → Shown
-reaped m t = record { history = m.history; limit = m.limit; settings = m.settings; outboxes = slice_set m.outboxes (t - 1) None; plan = m.plan; busy = m.busy }
+-- ---- who is to be swept
 
 -- the first that f holds of
 abbrev pub first : (ℕ → Bool) → List ℕ → Option ℕ
@@ -173,9 +227,9 @@ abbrev pub IsPlan : Settings → List Rec → ℕ → List Planned → Type 0
 IsPlan g h n [] = Unit {0}
 IsPlan g h n (p ∷ ps) = (0 < p.session) × (p.session ≤ n) × (planned ps p.session ≡ []) × IsOwed g h p × IsPlan g h n ps
 
--- the promise: what was taken, what waits and what is still in the plan is what the history owes
-pub record IsSound (m : Shown) : Type 0 where
-  pub owed : (t : ℕ) → 0 < t → t ≤ length m.outboxes → is_here m.outboxes t ≡ true → (outbox_at m.outboxes t).taken ++ (outbox_at m.outboxes t).queue ++ planned m.plan t ≡ owed m.settings m.history t
+-- the promise: what was put and what is still in the plan is what the history owes
+pub record IsSound {O : Type 0} (sent : O → List Item) (m : Shown O) : Type 0 where
+  pub owed : (t : ℕ) → 0 < t → t ≤ length m.outboxes → is_here m.outboxes t ≡ true → sent_by sent (box_at m.outboxes t) ++ planned m.plan t ≡ owed m.settings m.history t
   pub reaped : (t : ℕ) → 0 < t → t ≤ length m.outboxes → is_here m.outboxes t ≡ false → gone m.history t ≡ true
   pub plan : IsPlan m.settings m.history (length m.outboxes) m.plan
   pub idle : m.busy ≡ false → m.plan ≡ []
@@ -191,34 +245,34 @@ pub record Turn : Type 0 where
   pub next : ℕ
 
 -- the next line of a session that was opened
-pub record IsTurn (m : Shown) (b : Turn) : Type 0 where
+pub record IsTurn {O : Type 0} (m : Shown O) (b : Turn) : Type 0 where
   pub from_1 : 0 < b.session
   pub opened : b.session ≤ sessions m.history
   pub here : is_here m.outboxes b.session ≡ true
   pub next : b.next ≡ length (accepted m.history b.session)
 
-pub record MayOpen (m : Shown) (moment : ℤ) : Type 0 where
+pub record MayOpen {O : Type 0} (m : Shown O) (moment : ℤ) : Type 0 where
   pub idle : m.busy ≡ false
   pub few : count_here m.outboxes < m.settings.sessions
   pub room : length m.history + held m.history + 3 ≤ m.limit
   pub in_time : IsMomentAfter (last_moment m.history) moment
 
 -- the first of the refusals whose cause holds, want of memory last
-abbrev pub IsOpenRefusal : Shown → ℤ → OpenRefusal → Type 0
+abbrev pub IsOpenRefusal : {O : Type 0} → Shown O → ℤ → OpenRefusal → Type 0
 IsOpenRefusal m moment opening.Busy = m.busy ≡ true
 IsOpenRefusal m moment opening.TooManySessions = (m.busy ≡ false) × (m.settings.sessions ≤ count_here m.outboxes)
 IsOpenRefusal m moment opening.JournalFull = (m.busy ≡ false) × (count_here m.outboxes < m.settings.sessions) × (m.limit < length m.history + held m.history + 3)
 IsOpenRefusal m moment opening.BadMoment = (m.busy ≡ false) × (count_here m.outboxes < m.settings.sessions) × (length m.history + held m.history + 3 ≤ m.limit) × (IsMomentAfter (last_moment m.history) moment → ⊥)
 IsOpenRefusal m moment opening.Memory = MayOpen m moment
 
-pub record MayBegin (m : Shown) (b : Turn) (moment : ℤ) : Type 0 where
+pub record MayBegin {O : Type 0} (m : Shown O) (b : Turn) (moment : ℤ) : Type 0 where
   pub idle : m.busy ≡ false
   pub turn : IsTurn m b
   pub not_shut : shut m.history b.session ≡ false
   pub room : length m.history + held m.history + 1 ≤ m.limit
   pub in_time : IsMomentAfter (last_moment m.history) moment
 
-abbrev pub IsLineRefusal : Shown → Turn → ℤ → LineRefusal → Type 0
+abbrev pub IsLineRefusal : {O : Type 0} → Shown O → Turn → ℤ → LineRefusal → Type 0
 IsLineRefusal m b moment accepting.Busy = m.busy ≡ true
 IsLineRefusal m b moment accepting.WrongTurn = (m.busy ≡ false) × (IsTurn m b → ⊥)
 IsLineRefusal m b moment accepting.Shut = (m.busy ≡ false) × IsTurn m b × (shut m.history b.session ≡ true)
@@ -227,39 +281,39 @@ IsLineRefusal m b moment accepting.BadMoment = (m.busy ≡ false) × IsTurn m b 
 IsLineRefusal m b moment accepting.Memory = MayBegin m b moment
 
 -- a session that was opened and isn't reaped
-pub record IsKnown (m : Shown) (s : ℕ) : Type 0 where
+pub record IsKnown {O : Type 0} (m : Shown O) (s : ℕ) : Type 0 where
   pub from_1 : 0 < s
   pub opened : s ≤ sessions m.history
   pub here : is_here m.outboxes s ≡ true
 
-pub record MayHang (m : Shown) (s : ℕ) (moment : ℤ) : Type 0 where
+pub record MayHang {O : Type 0} (m : Shown O) (s : ℕ) (moment : ℤ) : Type 0 where
   pub idle : m.busy ≡ false
   pub known : IsKnown m s
   pub not_shut : shut m.history s ≡ false
   pub in_time : IsMomentAfter (last_moment m.history) moment
 
-abbrev pub IsHangRefusal : Shown → ℕ → ℤ → HangRefusal → Type 0
+abbrev pub IsHangRefusal : {O : Type 0} → Shown O → ℕ → ℤ → HangRefusal → Type 0
 IsHangRefusal m s moment hanging.Busy = m.busy ≡ true
 IsHangRefusal m s moment hanging.NoSession = (m.busy ≡ false) × (IsKnown m s → ⊥)
 IsHangRefusal m s moment hanging.Shut = (m.busy ≡ false) × IsKnown m s × (shut m.history s ≡ true)
 IsHangRefusal m s moment hanging.BadMoment = (m.busy ≡ false) × IsKnown m s × (shut m.history s ≡ false) × (IsMomentAfter (last_moment m.history) moment → ⊥)
 
-pub record MaySweep (m : Shown) (moment : ℤ) : Type 0 where
+pub record MaySweep {O : Type 0} (m : Shown O) (moment : ℤ) : Type 0 where
   pub idle : m.busy ≡ false
   pub in_time : IsMomentAfter (last_moment m.history) moment
 
 -- want of memory comes only where there is a session to sweep
-abbrev pub IsSweepRefusal : Shown → ℤ → SweepRefusal → Type 0
+abbrev pub IsSweepRefusal : {O : Type 0} → Shown O → ℤ → SweepRefusal → Type 0
 IsSweepRefusal m moment sweeping.Busy = m.busy ≡ true
 IsSweepRefusal m moment sweeping.BadMoment = (m.busy ≡ false) × (IsMomentAfter (last_moment m.history) moment → ⊥)
 IsSweepRefusal m moment sweeping.Memory = MaySweep m moment × IsSome (to_sweep m.history)
 
-pub record MayReap (m : Shown) (s : ℕ) : Type 0 where
+pub record MayReap {O : Type 0} (m : Shown O) (s : ℕ) : Type 0 where
   pub idle : m.busy ≡ false
   pub known : IsKnown m s
   pub gone : gone m.history s ≡ true
 
-abbrev pub IsReapRefusal : Shown → ℕ → ReapRefusal → Type 0
+abbrev pub IsReapRefusal : {O : Type 0} → Shown O → ℕ → ReapRefusal → Type 0
 IsReapRefusal m s reaping.Busy = m.busy ≡ true
 IsReapRefusal m s reaping.Stranger = (m.busy ≡ false) × (IsKnown m s → ⊥)
 IsReapRefusal m s reaping.NotGone = (m.busy ≡ false) × IsKnown m s × (gone m.history s ≡ false)
@@ -297,7 +351,7 @@ pub record Out : Type 0 where
   pub room : ℕ
 
 -- it is the one that is out
-pub record IsOut (m : Shown) (p : Out) : Type 0 where
+pub record IsOut {O : Type 0} (m : Shown O) (p : Out) : Type 0 where
   pub busy : m.busy ≡ true
   pub number : p.number ≡ length m.history
   pub session : p.session ≡ newest_actor m.history

@@ -6,15 +6,15 @@ use Rattle.roster.specs.declared.deed.Deed.{Deed}
 use Rattle.roster.specs.LookBack.{opened}
 use Rattle.book.specs.declared.seat.Seat.{Seat}
 use Rattle.book.specs.declared.plan.Planned.{Planned}
-use Rattle.outbox.specs.Ring.{Waiting}
+use Rattle.outbox.specs.declared.item.Item.{Item}
 use Rattle.deeds.specs.Deeds.{facts}
 use Rattle.book.specs.Seats.{IsSeat, seat_at}
 use Rattle.book.specs.Book.{is_here, held, IsSound}
 
 -- all that a book keeps stands for its history, the facts that its roster knows are those of the history, and there is room
 -- for the records that are kept free
-pub record IsKept (j : journal.Shown) (g : Settings) (known : List Deed) (seats : List Seat) (boxes : List (Option Waiting)) (plan : List Planned) (busy : Bool) : Type 0 where
-  pub sound : IsSound (record { history = j.history; limit = j.limit; settings = g; outboxes = boxes; plan = plan; busy = busy })
+pub record IsKept {O : Type 0} (sent : O → List Item) (j : journal.Shown) (g : Settings) (known : List Deed) (seats : List Seat) (boxes : List (Option O)) (plan : List Planned) (busy : Bool) : Type 0 where
+  pub sound : IsSound sent (record { history = j.history; limit = j.limit; settings = g; outboxes = boxes; plan = plan; busy = busy })
   pub facts : known ≡ facts g j.history
   pub each_seat : (t : ℕ) → 0 < t → t ≤ length seats → IsSeat (seat_at seats t) (is_here boxes t) j.history t
   pub opened : length (opened known) ≡ length boxes

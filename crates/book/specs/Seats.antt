@@ -1,13 +1,13 @@
 -- What a book keeps for its sessions, and how that stands for the history.
-use Rattle.std.specs.Prelude.{◌≡◌, ℕ, ℤ, ◌+◌, ◌-◌, ◌<◌, ◌≤◌, Bool, true, false, not, ◌&&◌, nat_lt, nat_le, cond, if◌then◌else◌, List, [], ◌∷◌, ◌++◌, filter, map, length, sum_by, slice_index_or, Option, None}
+use Rattle.std.specs.Prelude.{◌≡◌, ℕ, ℤ, ◌+◌, ◌-◌, ◌<◌, ◌≤◌, Bool, true, false, not, ◌&&◌, nat_lt, nat_le, cond, if◌then◌else◌, List, [], ◌∷◌, ◌++◌, filter, map, length, sum_by, slice_index_or, slice_set, Option, Some, None}
 use Rattle.chronicle.specs.History.{Rec, accepted, shut, gone}
 use Rattle.outbox.specs.declared.item.Item.{Item}
 use Rattle.outbox.specs.declared.item.Item.TheVariants.{Last}
 use Rattle.chronicle.specs.declared.why.Why.TheVariants.{Quit}
 use Rattle.book.specs.declared.seat.Seat.{Seat}
 use Rattle.book.specs.declared.plan.Planned.{Planned}
-use Rattle.outbox.specs.Ring.{Waiting}
-use Rattle.book.specs.Book.{is_here, count_here, puts, others}
+use Rattle.outbox.specs.declared.queue.PutFault.{PutFault}
+use Rattle.book.specs.Book.{box_at, is_here, puts, others}
 use Rattle.roster.specs.declared.deed.Deed.{Deed}
 use Rattle.roster.specs.LookBack.{caps, numbers}
 use Rattle.labels_batches.specs.Answers.{tagged_as}
@@ -26,16 +26,10 @@ seat_at seats t = slice_index_or seats (t - 1) no_seat
 abbrev pub away : Seat
 away = record { shut = true; gone = true; accepted = 0 }
 
--- the seats of all sessions by their numbers, and the outboxes of those that aren't reaped
-pub record Rows : Type 0 where
-  pub seats : List Seat
-  pub boxes : List (Option Waiting)
-
--- session t was opened and isn't reaped
-pub record IsSeated (rows : Rows) (t : ℕ) : Type 0 where
+-- session t was opened
+pub record IsSeated (seats : List Seat) (t : ℕ) : Type 0 where
   pub from_1 : 0 < t
-  pub opened : t ≤ length rows.seats
-  pub here : is_here rows.boxes t ≡ true
+  pub opened : t ≤ length seats
 
 -- whether session t was opened and isn't shut
 abbrev pub hears : List Seat → ℕ → Bool
@@ -58,10 +52,8 @@ placed s [] = s ∷ []
 placed s (x ∷ xs) = cond (nat_lt x s) (x ∷ placed s xs) (s ∷ x ∷ xs)
 
 -- what stands ready is what the seats say, and there is room to list each session that may be shut
-pub record IsCounted (seats : List Seat) (boxes : List (Option Waiting)) (kept count : ℕ) (to_sweep : List ℕ) (most : ℕ) : Type 0 where
-  pub places : length seats ≡ length boxes
+pub record IsCounted (seats : List Seat) (kept : ℕ) (to_sweep : List ℕ) (most : ℕ) : Type 0 where
   pub held : kept ≡ sum_by kept_by seats
-  pub here : count ≡ count_here boxes
   pub listed : to_sweep ≡ filter (sweeps seats) (numbers 1 (length seats))
   pub open_ : kept ≡ length to_sweep + sum_by open_by seats
   pub room : kept ≤ most
@@ -103,3 +95,32 @@ pub record IsSeat (seat : Seat) (here : Bool) (h : List Rec) (t : ℕ) : Type 0 
   pub shut : seat.shut ≡ shut h t
   pub gone : seat.gone ≡ gone h t
   pub accepted : here ≡ true → seat.accepted ≡ length (accepted h t)
+
+-- ---- the outboxes
+
+-- the outboxes of all sessions by their numbers, but for those that were reaped, and how many may come before more memory is taken
+pub record Boxes (O : Type 0) : Type 0 where
+  pub boxes : List (Option O)
+  pub room : ℕ
+
+-- session t was opened and isn't reaped
+pub record IsThere {O : Type 0} (boxes : List (Option O)) (t : ℕ) : Type 0 where
+  pub from_1 : 0 < t
+  pub opened : t ≤ length boxes
+  pub here : is_here boxes t ≡ true
+
+-- a delivery was put into its session's outbox, which changed no other
+pub record IsTaken {O : Type 0} (sent : O → List Item) (accepts : O → Item → O → Type 0) (boxes : List (Option O)) (p : Planned) (more : List (Option O)) : Type 0 where
+  pub before : O
+  pub after : O
+  pub here : box_at boxes p.session ≡ Some before
+  pub accepted : accepts before p.item after
+  pub longer : sent after ≡ sent before ++ p.item ∷ []
+  pub now : more ≡ slice_set boxes (p.session - 1) (Some after)
+
+-- it wasn't, for a cause
+pub record IsNotTaken {O : Type 0} (refuses : O → PutFault → Type 0) (boxes : List (Option O)) (p : Planned) : Type 0 where
+  pub before : O
+  pub cause : PutFault
+  pub here : box_at boxes p.session ≡ Some before
+  pub refused : refuses before cause

@@ -8,11 +8,12 @@ ghost use Rattle.chronicle.specs.Journal.{IsRoomier, numbered, record_at};
 ghost use Rattle.roster.specs.LookBack.{nick, on};
 ghost use Rattle.deeds.specs.Deeds.{facts};
 ghost use Rattle.book.specs.Settings.{IsWellSet};
-ghost use Rattle.book.specs.Book.{outbox_at};
+ghost use Rattle.book.specs.Book.{box_at, outbox_at};
 ghost use Rattle.book.specs.Seats.{IsSeat};
 
 use crate::baton::Baton;
 use crate::out::{Done, Hung, Left, Plan, Step};
+use crate::outboxes::Outboxes;
 use crate::plan::{Planned, Prepared, commit, prepare_gone, prepare_line};
 use crate::refusals::{
     BookFault, HangRefusal, LineRefusal, OpenRefusal, ReapRefusal, SweepRefusal, TakeRefusal,
@@ -22,7 +23,7 @@ use crate::seats::Seats;
 use crate::settings::is_well_set;
 use chronicle::{Journal, Kind, Moment, Record, RecordNumber, SessionId, Why};
 use line_grammar::{Octets, Piece};
-use outbox::{Item, Ring};
+use outbox::{Item, Outbox, Ring};
 use registration::Settings;
 use roster::{Deed, Roster, Sessions};
 use std::alloc::{AllocError, Global};
@@ -32,24 +33,25 @@ use std::slice;
 
 /// The journal, what is known at its end, and the sessions' outboxes.
 #[derive(Drop)]
-pub struct Book {
+pub struct Book<O: Outbox> {
     alloc: Global,
     journal: Journal,
     roster: Roster,
     seats: Seats,
+    outboxes: Outboxes<O>,
     plan: VecDeque<Planned>,
     busy: bool,
 }
 
-impl Model for Book {
+impl<O: Outbox> Model for Book<O> {
     ghost use Rattle.book.specs.Book.{Shown};
     ghost use Rattle.book.specs.Kept.{IsKept};
 
-    ghost Value = { Shown };
+    ghost Value = { Shown O };
 
-    ghost view = { λ a. record { history = a.journal.history; limit = a.journal.limit; settings = a.roster.settings; outboxes = a.seats.boxes; plan = a.plan.items; busy = a.busy } };
+    ghost view = { λ a. record { history = a.journal.history; limit = a.journal.limit; settings = a.roster.settings; outboxes = a.outboxes.boxes; plan = a.plan.items; busy = a.busy } };
 
-    ghost invariant = { λ a. IsKept a.journal a.roster.settings a.roster.facts a.seats.seats a.seats.boxes a.plan.items a.busy };
+    ghost invariant = { λ a. IsKept O.sent a.journal a.roster.settings a.roster.facts a.seats a.outboxes.boxes a.plan.items a.busy };
 }
 
 /// Makes room for so many more records, which are within the journal's limit, and for so many sessions that miss the next.
@@ -61,12 +63,11 @@ fn reserve(journal: &mut Journal, records: usize, missed: usize) -> Result<(), A
     journal.reserve(records, missed).map_err(|_| AllocError)
 }
 
-impl Book {
-    ghost use Rattle.book.specs.Book.{empty_book, opened, begun, done, finished, put_next, put_all, taken, reaped, to_sweep, IsKnown, IsTurn, MayOpen, MayBegin, MayHang, MaySweep, MayReap, IsOpenRefusal, IsLineRefusal, IsHangRefusal, IsSweepRefusal, IsReapRefusal, IsSound, IsOut, newest_missed, held};
-    ghost use Rattle.book.specs.Told.{told_of, IsTakeRefusal};
+impl<O: Outbox> Book<O> {
+    ghost use Rattle.book.specs.Book.{empty_book, opened, begun, finished, reaped, IsPutNext, IsPutAll, IsDone, IsLeft, to_sweep, IsKnown, IsTurn, MayOpen, MayBegin, MayHang, MaySweep, MayReap, IsOpenRefusal, IsLineRefusal, IsHangRefusal, IsSweepRefusal, IsReapRefusal, IsSound, IsOut, newest_missed, held};
 
     /// An empty book for at most `limit` records.
-    pub fn new(alloc: Global, settings: Settings, limit: usize) -> Result<Book, BookFault>
+    pub fn new(alloc: Global, settings: Settings, limit: usize) -> Result<Book<O>, BookFault>
         ensures ok { IfOk result (λ b. (b ≡ empty_book limit settings) × IsWellSet settings limit) }
         ensures bad { IfErr result (λ e. e ≡ BookFault.BadSettings → IsWellSet settings limit → ⊥) }
         ensures memory { IfErr result (λ e. e ≡ BookFault.Memory → IsWellSet settings limit) }
@@ -80,6 +81,7 @@ impl Book {
             journal,
             roster: Roster::new(alloc, settings),
             seats: Seats::new(alloc),
+            outboxes: Outboxes::new(alloc),
             plan: VecDeque::new(alloc),
             busy: false,
         })
@@ -106,6 +108,9 @@ impl Book {
         ensures known { IfSome result (λ seat. IsKnown self.now session × IsSeat seat true self.now.history session) }
         ensures unknown { result ≡ None → IsKnown self.now session → ⊥ }
     {
+        if !self.outboxes.is_here(session) {
+            return None;
+        }
         let seat = self.seats.seat(session)?;
         Some(seat)
     }
@@ -121,7 +126,7 @@ impl Book {
         if self.busy {
             return Err(OpenRefusal::Busy);
         }
-        if self.roster.settings().sessions <= self.seats.here() {
+        if self.roster.settings().sessions <= self.outboxes.here() {
             return Err(OpenRefusal::TooManySessions);
         }
         if free < 3 {
@@ -147,10 +152,10 @@ impl Book {
         &mut self,
         host: Octets,
         moment: Moment,
-        outbox: Ring,
-    ) -> Result<(SessionId, Baton), (OpenRefusal, Ring)>
+        outbox: O,
+    ) -> Result<(SessionId, Baton), (OpenRefusal, O)>
         requires host { host_shape host ≡ true }
-        requires fresh { (outbox.queue ≡ []) × (outbox.taken ≡ []) }
+        requires fresh { O.sent outbox ≡ [] }
         ensures ok { OnOk result (self.new ≡ opened self.old host moment outbox) }
         ensures may { OnOk result (MayOpen self.old moment) }
         ensures session { IfOk result (λ r. (r.0 ≡ sessions self.old.history + 1) × (r.1 ≡ record { session = sessions self.old.history + 1; next = 0 })) }
@@ -169,13 +174,12 @@ impl Book {
         let deed = Deed::Opened { session, host };
         if self.roster.prepare(slice::from_ref(&deed)).is_err()
             || reserve(&mut self.journal, room, 0).is_err()
+            || self.outboxes.make_room().is_err()
+            || self.seats.open().is_err()
         {
             return Err((OpenRefusal::Memory, outbox));
         }
-        match self.seats.open(outbox) {
-            Ok(()) => {}
-            Err(outbox) => return Err((OpenRefusal::Memory, outbox)),
-        }
+        self.outboxes.open(outbox);
         self.journal.append(
             moment,
             Kind::Opened {
@@ -270,11 +274,10 @@ impl Book {
     }
 
     /// Puts the first delivery of the plan that is out into its session's outbox, or notes that the session missed the record
-    /// where the outbox is full. It answers `None` where nothing is left, and takes no memory.
+    /// where the outbox doesn't take it. It answers `None` where nothing is left, and takes no memory.
     pub fn put_next(&mut self, plan: &mut Plan) -> Option<Step>
         requires out { IsOut self.old plan.old }
-        ensures told { result ≡ told_of self.old self.old.plan }
-        ensures put { self.new ≡ put_next self.old self.old.plan }
+        ensures put { IsPutNext O.accepts O.refuses self.old self.old.plan result self.new }
         ensures none { result ≡ None → self.new.plan ≡ [] }
         ensures out { IsOut self.new plan.new }
         ensures number { plan.new.number ≡ plan.old.number }
@@ -283,7 +286,7 @@ impl Book {
     {
         let put = self.plan.pop_front()?;
         let hearer = put.session;
-        if self.seats.offer(put) {
+        if self.outboxes.offer(put) {
             return Some(Step::Put(hearer));
         }
         self.seats.shut(hearer);
@@ -295,7 +298,7 @@ impl Book {
     /// Puts or misses all that is left of a plan.
     fn put_rest(&mut self, plan: &mut Plan)
         requires out { IsOut self.old plan.old }
-        ensures put { self.new ≡ put_all self.old self.old.plan }
+        ensures put { IsPutAll O.accepts O.refuses self.old self.old.plan self.new }
         ensures out { IsOut self.new plan.new }
         ensures none { self.new.plan ≡ [] }
         ensures number { plan.new.number ≡ plan.old.number }
@@ -366,7 +369,7 @@ impl Book {
         piece: &Piece,
         moment: Moment,
     ) -> Result<Done, LineRefusal>
-        ensures ok { OnOk result (self.new ≡ done self.old (kind.Said baton.old.session baton.old.next piece.now) moment) }
+        ensures ok { OnOk result (IsDone O.accepts O.refuses self.old (kind.Said baton.old.session baton.old.next piece.now) moment self.new) }
         ensures baton { OnOk result (baton.new ≡ record { session = baton.old.session; next = baton.old.next + 1 }) }
         ensures may { OnOk result (MayBegin self.old baton.old moment) }
         ensures number { IfOk result (λ d. d.number ≡ length self.old.history + 1) }
@@ -400,7 +403,7 @@ impl Book {
         Ok(())
     }
 
-    /// Ends a session: one record is appended, and its last item is put, or missed where its outbox is full. It takes no
+    /// Ends a session: one record is appended, and its last item is put, or missed where its outbox doesn't take it. It takes no
     /// memory; a refusal changes nothing.
     pub fn hang(
         &mut self,
@@ -408,7 +411,7 @@ impl Book {
         why: Why,
         moment: Moment,
     ) -> Result<Hung, HangRefusal>
-        ensures ok { OnOk result (self.new ≡ done self.old (kind.Hung session why) moment) }
+        ensures ok { OnOk result (IsDone O.accepts O.refuses self.old (kind.Hung session why) moment self.new) }
         ensures may { OnOk result (MayHang self.old session moment) }
         ensures number { IfOk result (λ d. d.number ≡ length self.old.history + 1) }
         ensures missed { IfOk result (λ d. d.missed ≡ list_any (λ u. u == session) (newest_missed self.new.history)) }
@@ -420,7 +423,7 @@ impl Book {
         self.roster.end(session, why);
         self.seats.shut(session);
         let item = Item::Last { number, why };
-        if self.seats.offer(Planned { session, item }) {
+        if self.outboxes.offer(Planned { session, item }) {
             return Ok(Hung {
                 number,
                 missed: false,
@@ -496,7 +499,7 @@ impl Book {
 
     /// Sweeps up to one session: begins, puts or misses all that it owes, and finishes. A refusal changes nothing.
     pub fn sweep(&mut self, moment: Moment) -> Result<Option<Done>, SweepRefusal>
-        ensures some { IfOk result (λ o. IfSome o (λ d. (s : ℕ) × (to_sweep self.old.history ≡ Some s) × (self.new ≡ done self.old (kind.Gone s) moment) × (d.number ≡ length self.old.history + 1) × (d.missed ≡ newest_missed self.new.history) × (d.shut ≡ shut self.new.history s))) }
+        ensures some { IfOk result (λ o. IfSome o (λ d. (s : ℕ) × (to_sweep self.old.history ≡ Some s) × IsDone O.accepts O.refuses self.old (kind.Gone s) moment self.new × (d.number ≡ length self.old.history + 1) × (d.missed ≡ newest_missed self.new.history) × (d.shut ≡ shut self.new.history s))) }
         ensures none { IfOk result (λ o. o ≡ None → (to_sweep self.old.history ≡ None) × (self.new ≡ self.old)) }
         ensures may { OnOk result (MaySweep self.old moment) }
         ensures refusal { IfErr result (λ e. IsSweepRefusal self.old moment e) }
@@ -526,41 +529,31 @@ impl Book {
         Ok(())
     }
 
-    /// Gives up a session that is gone, with what is left in its outbox. It takes no memory; a refusal gives the baton back,
-    /// and changes nothing.
-    pub fn reap(&mut self, baton: Baton) -> Result<Left, (ReapRefusal, Baton)>
+    /// Gives up a session that is gone, with what is left in its outbox, whose taker is given up with it. It takes no memory; a
+    /// refusal gives the baton and the taker back, and changes nothing.
+    pub fn reap(
+        &mut self,
+        baton: Baton,
+        taker: O::Taker,
+    ) -> Result<Left, (ReapRefusal, Baton, O::Taker)>
+        requires own { IfSome (box_at self.old.outboxes baton.session) (λ o. O.name o ≡ O.taker_of taker) }
         ensures ok { OnOk result (self.new ≡ reaped self.old baton.session) }
-        ensures left { IfOk result (λ l. (l.session ≡ baton.session) × (l.count ≡ length (outbox_at self.old.outboxes baton.session).queue)) }
+        ensures session { IfOk result (λ l. l.session ≡ baton.session) }
+        ensures left { IfOk result (λ l. IsLeft O.sent O.taken (box_at self.old.outboxes baton.session) taker l.count) }
         ensures may { OnOk result (MayReap self.old baton.session) }
         ensures refusal { IfErr result (λ e. IsReapRefusal self.old baton.session e.0) }
-        ensures err { IfErr result (λ e. (self.new ≡ self.old) × (e.1 ≡ baton)) }
+        ensures err { IfErr result (λ e. (self.new ≡ self.old) × (e.1 ≡ baton) × (e.2 ≡ taker)) }
     {
         match self.check_reap(baton.session) {
             Ok(()) => {
-                let count = self.seats.give_up(baton.session);
+                self.seats.give_up(baton.session);
+                let count = self.outboxes.give_up(baton.session, taker);
                 Ok(Left {
                     session: baton.session,
                     count,
                 })
             }
-            Err(refusal) => Err((refusal, baton)),
-        }
-    }
-
-    /// Takes the item that waits longest for a session. It takes no memory.
-    pub fn take(&mut self, session: SessionId) -> Result<Item, TakeRefusal>
-        ensures ok { IfOk result (λ x. slice_get (outbox_at self.old.outboxes session).queue 0 ≡ Some x) }
-        ensures taken { OnOk result (self.new ≡ taken self.old session) }
-        ensures known { OnOk result (IsKnown self.old session) }
-        ensures refusal { IfErr result (λ e. IsTakeRefusal self.old session e) }
-        ensures err { OnErr result (self.new ≡ self.old) }
-    {
-        if self.seat(session).is_none() {
-            return Err(TakeRefusal::NoSession);
-        }
-        match self.seats.take(session) {
-            Some(item) => Ok(item),
-            None => Err(TakeRefusal::Empty),
+            Err(refusal) => Err((refusal, baton, taker)),
         }
     }
 
@@ -625,8 +618,30 @@ impl Book {
     /// What holds of every book: its history is legal, and what was put into each session's outbox, with what is still in
     /// the plan, is what the history owes it.
     pub fn sound(&self)
-        ensures { IsSound self.now }
+        ensures { IsSound O.sent self.now }
     {
         let _ = &self.plan;
+    }
+}
+
+impl Book<Ring> {
+    ghost use Rattle.book.specs.Book.{taken, IsKnown};
+    ghost use Rattle.book.specs.Told.{IsTakeRefusal};
+
+    /// Takes the item that waits longest for a session. It takes no memory.
+    pub fn take(&mut self, session: SessionId) -> Result<Item, TakeRefusal>
+        ensures ok { IfOk result (λ x. slice_get (outbox_at self.old.outboxes session).queue 0 ≡ Some x) }
+        ensures taken { OnOk result (self.new ≡ taken self.old session) }
+        ensures known { OnOk result (IsKnown self.old session) }
+        ensures refusal { IfErr result (λ e. IsTakeRefusal self.old session e) }
+        ensures err { OnErr result (self.new ≡ self.old) }
+    {
+        if !self.outboxes.is_here(session) {
+            return Err(TakeRefusal::NoSession);
+        }
+        match self.outboxes.take(session) {
+            Some(item) => Ok(item),
+            None => Err(TakeRefusal::Empty),
+        }
     }
 }

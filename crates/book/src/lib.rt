@@ -4,15 +4,19 @@
 mod baton;
 mod book;
 mod heard;
+mod laws;
 mod out;
+mod outboxes;
 mod plan;
 mod refusals;
+mod rings;
 mod seat;
 mod seats;
 mod settings;
 
 pub use baton::Baton;
 pub use book::Book;
+pub use laws::{rings_take_each_record, rings_take_what_fits};
 pub use out::{Done, Hung, Left, Plan, Step};
 pub use outbox::{Item, Outbox, PutFault, Ring};
 pub use refusals::{

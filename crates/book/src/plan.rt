@@ -73,7 +73,7 @@ fn plan_one(
     number: RecordNumber,
     heard: Heard,
 ) -> Result<(), AllocError>
-    ensures { OnOk result (plan.new.items ≡ plan.old.items ++ delivery_of seats.now.seats actor number heard) }
+    ensures { OnOk result (plan.new.items ≡ plan.old.items ++ delivery_of seats.now actor number heard) }
 {
     let Heard { session, text } = heard;
     if session == actor || !seats.is_listening(session) || text.is_empty() {
@@ -94,7 +94,7 @@ fn plan_others(
     actor: SessionId,
     number: RecordNumber,
 ) -> Result<VecDeque<Planned>, AllocError>
-    ensures { IfOk result (λ plan. plan.items ≡ deliveries_of seats.now.seats actor number (joined heard.items)) }
+    ensures { IfOk result (λ plan. plan.items ≡ deliveries_of seats.now actor number (joined heard.items)) }
 {
     let mut plan = VecDeque::new(alloc);
     let mut rest = heard.into_iter();
@@ -122,7 +122,7 @@ fn plan_own(
     text: Octets,
     quits: bool,
 ) -> Result<(), AllocError>
-    ensures { OnOk result (plan.new.items ≡ puts session (told_own (not (hears seats.now.seats session)) number text quits) ++ plan.old.items) }
+    ensures { OnOk result (plan.new.items ≡ puts session (told_own (not (hears seats.now session)) number text quits) ++ plan.old.items) }
 {
     if !seats.is_listening(session) || (!quits && text.is_empty()) {
         return Ok(());
@@ -153,7 +153,7 @@ fn plan_for(
 ) -> Result<VecDeque<Planned>, AllocError>
     requires from_1970 { pos 0 ≤ℤ moment }
     requires to_9998 { moment ≤ℤ pos 253370764799999 }
-    ensures { IfOk result (λ plan. plan.items ≡ planned_with seats.now.seats actor number own (heard_text roster.now.facts moment shown.now) quits) }
+    ensures { IfOk result (λ plan. plan.items ≡ planned_with seats.now actor number own (heard_text roster.now.facts moment shown.now) quits) }
 {
     let heard = heard_in_order(alloc, roster, shown, moment)?;
     let mut plan = plan_others(alloc, seats, heard, actor, number)?;
@@ -176,7 +176,7 @@ fn with_room(
     requires from_1970 { pos 0 ≤ℤ moment }
     requires to_9998 { moment ≤ℤ pos 253370764799999 }
     ensures deeds { IfOk result (λ p. p.deeds.items ≡ verdict.deeds.items) }
-    ensures plan { IfOk result (λ p. p.plan.items ≡ planned_with seats.now.seats actor number (rendered (caps roster.now.facts actor) moment (answered roster.now.settings.server label.now number verdict.reply.items verdict.copies.items)) (heard_text roster.now.facts moment verdict.others.items) quits) }
+    ensures plan { IfOk result (λ p. p.plan.items ≡ planned_with seats.now actor number (rendered (caps roster.now.facts actor) moment (answered roster.now.settings.server label.now number verdict.reply.items verdict.copies.items)) (heard_text roster.now.facts moment verdict.others.items) quits) }
     ensures missed { IfOk result (λ p. (p.missed.items ≡ []) × (length p.plan.items ≤ vec_capacity p.missed)) }
 {
     let Verdict {
@@ -235,7 +235,7 @@ pub(crate) fn prepare_line(
     ensures next { IfOk result (λ p. AreNext roster.now.facts p.0.deeds.items) }
     ensures opened { IfOk result (λ p. opened (after roster.now.facts p.0.deeds.items) ≡ opened roster.now.facts) }
     ensures quits { IfOk result (λ p. p.1 ≡ is_quit piece.now) }
-    ensures plan { IfOk result (λ p. p.0.plan.items ≡ planned_from seats.now.seats session number (spelled roster.now.settings roster.now.facts session (label_of (caps roster.now.facts session) piece.now) (of_asked roster.now.settings roster.now.facts session (asked_of piece.now)) moment number) p.1) }
+    ensures plan { IfOk result (λ p. p.0.plan.items ≡ planned_from seats.now session number (spelled roster.now.settings roster.now.facts session (label_of (caps roster.now.facts session) piece.now) (of_asked roster.now.settings roster.now.facts session (asked_of piece.now)) moment number) p.1) }
     ensures missed { IfOk result (λ p. (p.0.missed.items ≡ []) × (length p.0.plan.items ≤ vec_capacity p.0.missed)) }
 {
     let (verdict, quits) = decide_piece(alloc, roster, session, piece, moment)?;
@@ -261,7 +261,7 @@ pub(crate) fn prepare_gone(
     ensures deeds { IfOk result (λ p. p.deeds.items ≡ deeds_of (departs roster.now.facts session)) }
     ensures next { IfOk result (λ p. AreNext roster.now.facts p.deeds.items) }
     ensures opened { IfOk result (λ p. opened (after roster.now.facts p.deeds.items) ≡ opened roster.now.facts) }
-    ensures plan { IfOk result (λ p. p.plan.items ≡ planned_from seats.now.seats session number (spelled roster.now.settings roster.now.facts session None (departs roster.now.facts session) moment number) false) }
+    ensures plan { IfOk result (λ p. p.plan.items ≡ planned_from seats.now session number (spelled roster.now.settings roster.now.facts session None (departs roster.now.facts session) moment number) false) }
     ensures missed { IfOk result (λ p. (p.missed.items ≡ []) × (length p.plan.items ≤ vec_capacity p.missed)) }
 {
     let verdict = decide_gone(alloc, roster, session)?;

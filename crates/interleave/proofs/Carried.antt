@@ -9,7 +9,7 @@ use Rattle.chronicle.specs.History.{Rec, said_by, accepted, misses, ends, shut, 
 use Rattle.chronicle.specs.Journal.{fresh_record, miss}
 use Rattle.registration.specs.declared.settings.Settings.{Settings}
 use Rattle.outbox.specs.declared.item.Item.{Item}
-use Rattle.outbox.specs.Ring.{Waiting, has_room, with_put}
+use Rattle.outbox.specs.Ring.{Waiting, has_room, with_put, put_into}
 use Rattle.book.specs.declared.plan.Planned.{Planned}
 use Rattle.book.specs.Legal.{IsKind, IsLegal}
 use Rattle.book.specs.Owed.{delivery, owed}
@@ -30,7 +30,7 @@ ShutBefore [] t = ⊥
 ShutBefore (r ∷ h) t = shut h t ≡ true
 
 -- from book m to book n
-pub record Carries (m n : Shown) (t : ℕ) : Type 0 where
+pub record Carries (m n : Shown Waiting) (t : ℕ) : Type 0 where
   pub accepted : accepted n.history t ≡ accepted m.history t
   pub box : IsKeptBox (slice_index_or m.outboxes (t - 1) None) (slice_index_or n.outboxes (t - 1) None) (owed m.settings m.history t) (owed n.settings n.history t)
   pub before : ShutBefore m.history t → ShutBefore n.history t
@@ -73,7 +73,7 @@ carried_box None (Some w) b sendq x y k i = absurd k
 carried_box (Some v) None b sendq x y k i = absurd k
 carried_box (Some v) (Some w) b sendq x y k i = (k.0 ∙ i.0, k.1 ∙ i.1)
 
-pub carried : (m n : Shown) (b : Seen) (sendq t : ℕ) → Carries m n t → IsSoundAt m.settings m.history (slice_index_or m.outboxes (t - 1) None) b sendq t → IsSoundAt n.settings n.history (slice_index_or n.outboxes (t - 1) None) b sendq t
+pub carried : (m n : Shown Waiting) (b : Seen) (sendq t : ℕ) → Carries m n t → IsSoundAt m.settings m.history (slice_index_or m.outboxes (t - 1) None) b sendq t → IsSoundAt n.settings n.history (slice_index_or n.outboxes (t - 1) None) b sendq t
 carried m n b sendq t c i =
     record {
       accepted = ap (λ xs. xs ++ b.pending) c.accepted ∙ i.accepted;
@@ -81,10 +81,10 @@ carried m n b sendq t c i =
       hand = i.hand;
     }
 
-pub carries_same : (m : Shown) (t : ℕ) → Carries m m t
+pub carries_same : (m : Shown Waiting) (t : ℕ) → Carries m m t
 carries_same m t = record { accepted = refl; box = same_box (slice_index_or m.outboxes (t - 1) None) _ _ (λ e. refl); before = λ b. b }
 
-pub carries_then : (l m n : Shown) (t : ℕ) → Carries l m t → Carries m n t → Carries l n t
+pub carries_then : (l m n : Shown Waiting) (t : ℕ) → Carries l m t → Carries m n t → Carries l n t
 carries_then l m n t a b =
     record {
       accepted = b.accepted ∙ a.accepted;
@@ -122,7 +122,7 @@ gone_before g [] t i e = absurd (let f : false ≡ true = e in cc)
 gone_before g (r ∷ h) t i e = gone_by r h t (leaves r.kind t) refl i.2 (gone_shut g h t i.4) e
 
 -- a session that was given up was shut before the newest record
-pub away_before : (m : Shown) (t : ℕ) → book.IsSound m → 0 < t → t ≤ length m.outboxes → is_here m.outboxes t ≡ false → ShutBefore m.history t
+pub away_before : (m : Shown Waiting) (t : ℕ) → book.IsSound put_into m → 0 < t → t ≤ length m.outboxes → is_here m.outboxes t ≡ false → ShutBefore m.history t
 away_before m t i from to away = gone_before m.settings m.history t i.legal (i.reaped t from to away)
 
 -- ---- who was shut before is owed nothing more
@@ -152,7 +152,7 @@ before_shut [] t b = absurd b
 before_shut (r ∷ h) t b = shut_more (misses r t) (ends r.kind t) (shut h t) b
 
 -- a record that accepts nothing of t
-pub begun_carries : (m : Shown) (k : Kind) (moment : ℤ) (t : ℕ) → (is_here m.outboxes t ≡ false → ShutBefore m.history t) → said_by k t ≡ [] → Carries m (begun m k moment) t
+pub begun_carries : (m : Shown Waiting) (k : Kind) (moment : ℤ) (t : ℕ) → (is_here m.outboxes t ≡ false → ShutBefore m.history t) → said_by k t ≡ [] → Carries m (begun m k moment) t
 begun_carries m k moment t f e =
     let r : Rec = fresh_record m.history moment k in
     record {
@@ -161,7 +161,7 @@ begun_carries m k moment t f e =
       before = λ b. before_shut m.history t b;
     }
 
-pub put_carries : (m : Shown) (p : Planned) (ps : List Planned) (t : ℕ) → (is_here m.outboxes t ≡ false → ShutBefore m.history t) → Carries m (put_next m (p ∷ ps)) t
+pub put_carries : (m : Shown Waiting) (p : Planned) (ps : List Planned) (t : ℕ) → (is_here m.outboxes t ≡ false → ShutBefore m.history t) → Carries m (put_next m (p ∷ ps)) t
 put_carries m p ps t f =
     let o : Option Waiting = slice_index_or m.outboxes (p.session - 1) None in
     let here : (b : Bool) → has_room (outbox_at m.outboxes p.session) ≡ b → Carries m (cond b (delivered m p ps) (dropped m p ps)) t =
@@ -172,39 +172,39 @@ put_carries m p ps t f =
     ] in
     here (has_room (outbox_at m.outboxes p.session)) refl
 
-pub puts_carry : (m : Shown) (ps : List Planned) (t : ℕ) → (is_here m.outboxes t ≡ false → ShutBefore m.history t) → Carries m (put_all m ps) t
+pub puts_carry : (m : Shown Waiting) (ps : List Planned) (t : ℕ) → (is_here m.outboxes t ≡ false → ShutBefore m.history t) → Carries m (put_all m ps) t
 puts_carry m [] t f = carries_same m t
 puts_carry m (p ∷ ps) t f =
-    let n : Shown = put_next m (p ∷ ps) in
+    let n : Shown Waiting = put_next m (p ∷ ps) in
     let one : Carries m n t = put_carries m p ps t f in
     let stays : is_here n.outboxes t ≡ is_here m.outboxes t = kept_here (slice_index_or m.outboxes (t - 1) None) (slice_index_or n.outboxes (t - 1) None) (owed m.settings m.history t) (owed n.settings n.history t) one.box in
     carries_then m n (put_all n ps) t one (puts_carry n ps t (λ away. one.before (f (sym stays ∙ away))))
 
-pub done_carries : (m : Shown) (k : Kind) (moment : ℤ) (t : ℕ) → (is_here m.outboxes t ≡ false → ShutBefore m.history t) → said_by k t ≡ [] → Carries m (done m k moment) t
+pub done_carries : (m : Shown Waiting) (k : Kind) (moment : ℤ) (t : ℕ) → (is_here m.outboxes t ≡ false → ShutBefore m.history t) → said_by k t ≡ [] → Carries m (done m k moment) t
 done_carries m k moment t f e =
-    let n : Shown = begun m k moment in
+    let n : Shown Waiting = begun m k moment in
     let one : Carries m n t = begun_carries m k moment t f e in
     let all = carries_then m n (put_all n (plan_of m.settings m.history k moment (length m.outboxes))) t one (puts_carry n (plan_of m.settings m.history k moment (length m.outboxes)) t (λ away. one.before (f away))) in
     record { accepted = all.accepted; box = all.box; before = all.before }
 
 -- ---- how many outboxes there are
 
-put_length : (m : Shown) (p : Planned) (ps : List Planned) → length (put_next m (p ∷ ps)).outboxes ≡ length m.outboxes
+put_length : (m : Shown Waiting) (p : Planned) (ps : List Planned) → length (put_next m (p ∷ ps)).outboxes ≡ length m.outboxes
 put_length m p ps =
     elim (has_room (outbox_at m.outboxes p.session)) as (λ b. length (cond b (delivered m p ps) (dropped m p ps)).outboxes ≡ length m.outboxes) [
       | true ↦ simp length-set
       | false ↦ refl
     ]
 
-pub next_length : (m : Shown) (ps : List Planned) → length (put_next m ps).outboxes ≡ length m.outboxes
+pub next_length : (m : Shown Waiting) (ps : List Planned) → length (put_next m ps).outboxes ≡ length m.outboxes
 next_length m [] = refl
 next_length m (p ∷ ps) = put_length m p ps
 
-puts_length : (m : Shown) (ps : List Planned) → length (put_all m ps).outboxes ≡ length m.outboxes
+puts_length : (m : Shown Waiting) (ps : List Planned) → length (put_all m ps).outboxes ≡ length m.outboxes
 puts_length m [] = refl
 puts_length m (p ∷ ps) = puts_length (put_next m (p ∷ ps)) ps ∙ put_length m p ps
 
-pub done_length : (m : Shown) (k : Kind) (moment : ℤ) → length (done m k moment).outboxes ≡ length m.outboxes
+pub done_length : (m : Shown Waiting) (k : Kind) (moment : ℤ) → length (done m k moment).outboxes ≡ length m.outboxes
 done_length m k moment = puts_length (begun m k moment) (plan_of m.settings m.history k moment (length m.outboxes))
 
 -- ---- a plan has nothing for who was shut before
@@ -213,22 +213,22 @@ shut_not_owed : (g : Settings) (h : List Rec) (p : Planned) → ShutBefore h p.s
 shut_not_owed g [] p b i = i
 shut_not_owed g (r ∷ h) p b i = let f : true ≡ false = sym b ∙ i.1 in cc
 
-none_by : (m : Shown) (p : Planned) (t : ℕ) (xs : List Item) → ShutBefore m.history t → book.IsOwed m.settings m.history p → xs ≡ [] → cond (p.session == t) (p.item ∷ xs) xs ≡ []
+none_by : (m : Shown Waiting) (p : Planned) (t : ℕ) (xs : List Item) → ShutBefore m.history t → book.IsOwed m.settings m.history p → xs ≡ [] → cond (p.session == t) (p.item ∷ xs) xs ≡ []
 none_by m p t xs b i e =
     elim (eqb_tells p.session t) [
       | inl same ↦ absurd (shut_not_owed m.settings m.history p (subst (ShutBefore m.history) (sym same.1) b) i)
       | inr other ↦ rw other.0 e
     ]
 
-pub none_planned : (m : Shown) (ps : List Planned) (t : ℕ) → ShutBefore m.history t → IsPlan m.settings m.history (length m.outboxes) ps → planned ps t ≡ []
+pub none_planned : (m : Shown Waiting) (ps : List Planned) (t : ℕ) → ShutBefore m.history t → IsPlan m.settings m.history (length m.outboxes) ps → planned ps t ≡ []
 none_planned m [] t b i = refl
 none_planned m (p ∷ ps) t b i = none_by m p t (planned ps t) b i.3 (none_planned m ps t b i.4)
 
-pub next_carries : (m : Shown) (ps : List Planned) (t : ℕ) → (is_here m.outboxes t ≡ false → ShutBefore m.history t) → Carries m (put_next m ps) t
+pub next_carries : (m : Shown Waiting) (ps : List Planned) (t : ℕ) → (is_here m.outboxes t ≡ false → ShutBefore m.history t) → Carries m (put_next m ps) t
 next_carries m [] t f = carries_same m t
 next_carries m (p ∷ ps) t f = put_carries m p ps t f
 
-pub put_busy : (m : Shown) (ps : List Planned) → (put_next m ps).busy ≡ m.busy
+pub put_busy : (m : Shown Waiting) (ps : List Planned) → (put_next m ps).busy ≡ m.busy
 put_busy m [] = refl
 put_busy m (p ∷ ps) =
     elim (has_room (outbox_at m.outboxes p.session)) as (λ b. (cond b (delivered m p ps) (dropped m p ps)).busy ≡ m.busy) [
@@ -236,7 +236,7 @@ put_busy m (p ∷ ps) =
       | false ↦ refl
     ]
 
-pub put_accepted : (m : Shown) (ps : List Planned) (t : ℕ) → accepted (put_next m ps).history t ≡ accepted m.history t
+pub put_accepted : (m : Shown Waiting) (ps : List Planned) (t : ℕ) → accepted (put_next m ps).history t ≡ accepted m.history t
 put_accepted m [] t = refl
 put_accepted m (p ∷ ps) t =
     elim (has_room (outbox_at m.outboxes p.session)) as (λ b. accepted (cond b (delivered m p ps) (dropped m p ps)).history t ≡ accepted m.history t) [

@@ -10,8 +10,8 @@ use Rattle.book.specs.Owed.{item, told, reason, delivery, owed}
 use Rattle.line_grammar.specs.declared.splitter.Piece.{Piece}
 use Rattle.line_grammar.specs.Lines.{lines}
 use Rattle.chronicle.specs.History.{accepted}
-use Rattle.outbox.specs.Ring.{Waiting}
-use Rattle.book.specs.Book.{box_of}
+use Rattle.outbox.specs.Ring.{Waiting, put_into}
+use Rattle.book.specs.Book.{sent_by}
 use Rattle.interleave.specs.declared.worker.Place.{Place}
 use Rattle.interleave.specs.declared.worker.Place.TheVariants.{Home, Hand, Begun}
 use Rattle.interleave.specs.State.{Seen, State, IsSound, IsBoxOf, ForEach, hand, behind, waits, box_at, inbox_at, in_hand, unread, taken_of, queue_of, planned_for}
@@ -88,7 +88,7 @@ pub prefix_rises : (g : Settings) (h : List Rec) (t : ℕ) (xs : List Item) → 
 prefix_rises g h t xs p = rising_front xs p.0 (subst IsRising (sym p.1) (once_in_order g h t))
 
 -- what was taken, what waits and what a plan still has is owed
-owed_by : (o : Option Waiting) (b : Seen) (sendq : ℕ) (ps xs : List Item) → IsBoxOf o b sendq xs → (is_some o ≡ false → ps ≡ []) → (is_some o ≡ true → (box_of o).taken ++ (box_of o).queue ++ ps ≡ xs) → b.taken ++ waits o b.left ++ ps ≡ xs
+owed_by : (o : Option Waiting) (b : Seen) (sendq : ℕ) (ps xs : List Item) → IsBoxOf o b sendq xs → (is_some o ≡ false → ps ≡ []) → (is_some o ≡ true → sent_by put_into o ++ ps ≡ xs) → b.taken ++ waits o b.left ++ ps ≡ xs
 owed_by None b sendq ps xs i none here = ap (λ qs. b.taken ++ b.left ++ qs) (none refl) ∙ append-nil (b.taken ++ b.left) ∙ i.0
 owed_by (Some w) b sendq ps xs i none here = ap (λ qs. qs ++ w.queue ++ ps) (sym i.0) ∙ here refl
 

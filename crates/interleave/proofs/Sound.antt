@@ -10,9 +10,9 @@ use Rattle.chronicle.specs.declared.why.Why.{Why}
 use Rattle.chronicle.specs.History.{Rec, sessions, accepted}
 use Rattle.registration.specs.declared.settings.Settings.{Settings}
 use Rattle.outbox.specs.declared.item.Item.{Item}
-use Rattle.outbox.specs.Ring.{Waiting, empty_ring, with_taken as ring_taken}
+use Rattle.outbox.specs.Ring.{Waiting, empty_ring, with_taken as ring_taken, put_into}
 use Rattle.book.specs.Owed.{owed}
-use Rattle.book.specs.Book.{Shown, is_here, box_of}
+use Rattle.book.specs.Book.{Shown, is_here, box_of, sent_by}
 use Rattle.book.specs.Book as book
 use Rattle.interleave.specs.declared.worker.Place.{Place}
 use Rattle.interleave.specs.declared.worker.Place.TheVariants.{Home, Hand, Begun}
@@ -154,7 +154,7 @@ lock_batons jobs boxes old new w none like h i u e =
 
 -- ---- the book changes, and at most one inbox
 
-book_sound : (m : State) (n : Shown) (holder : Option ℕ) → IsSound m → book.IsSound n → n.busy ≡ is_some holder → length n.outboxes ≡ length m.book.outboxes → ((t : ℕ) → 0 < t → t ≤ length m.inboxes → Carries m.book n t)
+book_sound : (m : State) (n : Shown Waiting) (holder : Option ℕ) → IsSound m → book.IsSound put_into n → n.busy ≡ is_some holder → length n.outboxes ≡ length m.book.outboxes → ((t : ℕ) → 0 < t → t ≤ length m.inboxes → Carries m.book n t)
     → HasBatons m.jobs m.inboxes holder → ((w : ℕ) → holder ≡ Some w → (0 < w) × (w ≤ length m.jobs)) → IsSound (record { book = n; sendq = m.sendq; inboxes = m.inboxes; jobs = m.jobs; holder = holder })
 book_sound m n holder i sound lock len c jobs who =
     record {
@@ -166,7 +166,7 @@ book_sound m n holder i sound lock len c jobs who =
       holder = who;
     }
 
-one_sound : (m : State) (n : Shown) (s : ℕ) (b : Seen) (jobs : List (Option ℕ)) (holder : Option ℕ) → IsSound m → book.IsSound n → 0 < s → s ≤ length m.inboxes → n.busy ≡ is_some holder → length n.outboxes ≡ length m.book.outboxes
+one_sound : (m : State) (n : Shown Waiting) (s : ℕ) (b : Seen) (jobs : List (Option ℕ)) (holder : Option ℕ) → IsSound m → book.IsSound put_into n → 0 < s → s ≤ length m.inboxes → n.busy ≡ is_some holder → length n.outboxes ≡ length m.book.outboxes
     → ((t : ℕ) → t ≢ s → 0 < t → t ≤ length m.inboxes → Carries m.book n t) → IsSoundAt n.settings n.history (slice_index_or n.outboxes (s - 1) None) b m.sendq s → HasBatons jobs (slice_set m.inboxes (s - 1) b) holder → ((w : ℕ) → holder ≡ Some w → (0 < w) × (w ≤ length jobs))
     → IsSound (record { book = n; sendq = m.sendq; inboxes = slice_set m.inboxes (s - 1) b; jobs = jobs; holder = holder })
 one_sound m n s b jobs holder i sound above below lock len c here batons who =
@@ -234,12 +234,12 @@ place_apart v w e = cc
 place_home : (w : ℕ) → Home ≡ Hand w → ⊥
 place_home w e = cc
 
-pub begun_sound : (m : State) (w s : ℕ) (piece : Piece) (rest : List Piece) (moment : ℤ) → IsSound m → m.holder ≡ None → 0 < w → w ≤ length m.jobs → job_of m w ≡ Some s → is_here m.book.outboxes s ≡ true → (inbox_at m s).pending ≡ piece ∷ rest → book.IsSound (begun m w s piece rest moment).book → IsSound (begun m w s piece rest moment)
+pub begun_sound : (m : State) (w s : ℕ) (piece : Piece) (rest : List Piece) (moment : ℤ) → IsSound m → m.holder ≡ None → 0 < w → w ≤ length m.jobs → job_of m w ≡ Some s → is_here m.book.outboxes s ≡ true → (inbox_at m s).pending ≡ piece ∷ rest → book.IsSound put_into (begun m w s piece rest moment).book → IsSound (begun m w s piece rest moment)
 begun_sound m w s piece rest moment i free a l has here next sound =
     let jobs : HasBatons m.jobs m.inboxes None = subst (HasBatons m.jobs m.inboxes) free i.jobs in
     let mine = jobs (w - 1) s has in let above = mine.0 in let below = mine.1 in
     let b = inbox_at m s in let was = i.each s above below in let h = m.book.history in
-    let n : Shown = (begun m w s piece rest moment).book in
+    let n : Shown Waiting = (begun m w s piece rest moment).book in
     let said = length (accepted h s) in
     let same = i.inboxes in
     one_sound m n s (with_begun b w rest) m.jobs (Some w) i sound above below refl refl
@@ -252,7 +252,7 @@ begun_sound m w s piece rest moment i free a l has here next sound =
     (begin_batons m.jobs m.inboxes w s (with_begun b w rest) a has refl jobs)
     (λ v e. let vw : w ≡ v = (let f : Some w ≡ Some v = e in cc) in (subst (λ (j : ℕ). 0 < j) vw a, subst (λ (j : ℕ). j ≤ length m.jobs) vw l))
 
-pub put_sound : (m : State) → IsSound m → is_some m.holder ≡ true → book.IsSound (put m).book → IsSound (put m)
+pub put_sound : (m : State) → IsSound m → is_some m.holder ≡ true → book.IsSound put_into (put m).book → IsSound (put m)
 put_sound m i held sound =
     let same = i.inboxes in
     book_sound m (put m).book m.holder i sound (put_busy m.book m.book.plan ∙ i.lock) (next_length m.book m.book.plan) (λ t from to. next_carries m.book m.book.plan t (λ gone. away_before m.book t i.book from (omega arith) gone)) i.jobs i.holder
@@ -261,16 +261,16 @@ put_sound m i held sound =
 like_without : (w v : ℕ) → v ≢ w → place_with (Some w) v ≡ place_with None v
 like_without w v ne = not_begun_by w v (λ e. ne (sym e))
 
-finish_carries : (m : Shown) (t : ℕ) → Carries m (book.finished m) t
+finish_carries : (m : Shown Waiting) (t : ℕ) → Carries m (book.finished m) t
 finish_carries m t = let c = carries_same m t in record { accepted = c.accepted; box = c.box; before = c.before }
 
-pub sweep_ended_sound : (m : State) (w : ℕ) → IsSound m → m.holder ≡ Some w → job_of m w ≡ None → book.IsSound (book.finished m.book) → IsSound (ended m w None)
+pub sweep_ended_sound : (m : State) (w : ℕ) → IsSound m → m.holder ≡ Some w → job_of m w ≡ None → book.IsSound put_into (book.finished m.book) → IsSound (ended m w None)
 sweep_ended_sound m w i held none sound =
     book_sound m (book.finished m.book) None i sound refl refl (λ t from to. finish_carries m.book t)
     (lock_batons m.jobs m.inboxes (Some w) None w none (like_without w) (subst (HasBatons m.jobs m.inboxes) held i.jobs))
     (λ v e. absurd (let f : None ≡ Some v = e in cc))
 
-pub line_ended_sound : (m : State) (w s : ℕ) → IsSound m → m.holder ≡ Some w → job_of m w ≡ Some s → is_here m.book.outboxes s ≡ true → book.IsSound (book.finished m.book) → IsSound (ended m w (Some s))
+pub line_ended_sound : (m : State) (w s : ℕ) → IsSound m → m.holder ≡ Some w → job_of m w ≡ Some s → is_here m.book.outboxes s ≡ true → book.IsSound put_into (book.finished m.book) → IsSound (ended m w (Some s))
 line_ended_sound m w s i held has here sound =
     let jobs : HasBatons m.jobs m.inboxes (Some w) = subst (HasBatons m.jobs m.inboxes) held i.jobs in
     let who = i.holder w held in
@@ -295,7 +295,7 @@ back_sound m w s i a l has here =
 box_set : (boxes : List (Option Waiting)) (s t : ℕ) (o : Option Waiting) → 0 < s → 0 < t → t ≢ s → slice_index_or (slice_set boxes (s - 1) o) (t - 1) None ≡ slice_index_or boxes (t - 1) None
 box_set boxes s t o a b ne = get_or-set_other boxes (s - 1) (t - 1) o None (λ e. ne (omega arith))
 
-other_carries : (m : Shown) (s t : ℕ) (o : Option Waiting) (n : Shown) → 0 < s → 0 < t → t ≢ s → n.settings ≡ m.settings → n.history ≡ m.history → n.outboxes ≡ slice_set m.outboxes (s - 1) o → Carries m n t
+other_carries : (m : Shown Waiting) (s t : ℕ) (o : Option Waiting) (n : Shown Waiting) → 0 < s → 0 < t → t ≢ s → n.settings ≡ m.settings → n.history ≡ m.history → n.outboxes ≡ slice_set m.outboxes (s - 1) o → Carries m n t
 other_carries m s t o n a b ne settings history boxes =
     let c = carries_same m t in
     record {
@@ -314,12 +314,12 @@ took_box : (o : Option Waiting) (b : Seen) (sendq : ℕ) (left xs ys : List Item
 took_box None b sendq left xs ys x here e i = absurd (let f : false ≡ true = here in cc)
 took_box (Some w) b sendq left xs ys x here e i = (ap (λ zs. zs ++ take 1 w.queue) i.0 ∙ ap (λ zs. b.taken ++ zs) (front w.queue x e), i.1)
 
-pub took_sound : (m : State) (s : ℕ) (x : Item) → IsSound m → 0 < s → s ≤ length m.inboxes → is_here m.book.outboxes s ≡ true → slice_get (queue_of m s) 0 ≡ Some x → book.IsSound (took m s x).book → IsSound (took m s x)
+pub took_sound : (m : State) (s : ℕ) (x : Item) → IsSound m → 0 < s → s ≤ length m.inboxes → is_here m.book.outboxes s ≡ true → slice_get (queue_of m s) 0 ≡ Some x → book.IsSound put_into (took m s x).book → IsSound (took m s x)
 took_sound m s x i above below here e sound =
     let b = inbox_at m s in let was = i.each s above below in
     let same = i.inboxes in
     let within : s - 1 < length m.book.outboxes = omega arith in
-    let n : Shown = (took m s x).book in
+    let n : Shown Waiting = (took m s x).book in
     let o : Option Waiting = Some (ring_taken (book.outbox_at m.book.outboxes s)) in
     let new : slice_index_or n.outboxes (s - 1) None ≡ o = get_or-set_same m.book.outboxes (s - 1) o None within in
     one_sound m n s (with_taken b x) m.jobs m.holder i sound above below i.lock (set_length m.book.outboxes (s - 1) o)
@@ -331,13 +331,13 @@ took_sound m s x i above below here e sound =
     })
     (same_batons m.jobs m.inboxes m.holder s (with_taken b x) above below refl i.jobs) i.holder
 
-pub hung_sound : (m : State) (s : ℕ) (why : Why) (moment : ℤ) → IsSound m → m.holder ≡ None → book.IsSound (hung m s why moment).book → IsSound (hung m s why moment)
+pub hung_sound : (m : State) (s : ℕ) (why : Why) (moment : ℤ) → IsSound m → m.holder ≡ None → book.IsSound put_into (hung m s why moment).book → IsSound (hung m s why moment)
 hung_sound m s why moment i free sound =
     let same = i.inboxes in
     book_sound m (hung m s why moment).book m.holder i sound (ap is_some (sym free)) (done_length m.book (kind.Hung s why) moment)
     (λ t from to. done_carries m.book (kind.Hung s why) moment t (λ gone. away_before m.book t i.book from (omega arith) gone) refl) i.jobs i.holder
 
-pub swept_sound : (m : State) (w s : ℕ) (moment : ℤ) → IsSound m → m.holder ≡ None → 0 < w → w ≤ length m.jobs → job_of m w ≡ None → book.IsSound (swept m w s moment).book → IsSound (swept m w s moment)
+pub swept_sound : (m : State) (w s : ℕ) (moment : ℤ) → IsSound m → m.holder ≡ None → 0 < w → w ≤ length m.jobs → job_of m w ≡ None → book.IsSound put_into (swept m w s moment).book → IsSound (swept m w s moment)
 swept_sound m w s moment i free a l none sound =
     let same = i.inboxes in
     book_sound m (swept m w s moment).book (Some w) i sound refl refl
@@ -350,21 +350,21 @@ is_at_home Home e = refl
 is_at_home (Hand w) e = absurd (let f : false ≡ true = e in cc)
 is_at_home (Begun w) e = absurd (let f : false ≡ true = e in cc)
 
-reaped_box : (o : Option Waiting) (b : Seen) (sendq : ℕ) (xs : List Item) → is_some o ≡ true → IsBoxOf o b sendq xs → (box_of o).taken ++ (box_of o).queue ++ [] ≡ xs → b.place ≡ Home → IsBoxOf None (with_left b (waits o b.left)) sendq xs
+reaped_box : (o : Option Waiting) (b : Seen) (sendq : ℕ) (xs : List Item) → is_some o ≡ true → IsBoxOf o b sendq xs → sent_by put_into o ++ [] ≡ xs → b.place ≡ Home → IsBoxOf None (with_left b (waits o b.left)) sendq xs
 reaped_box None b sendq xs here i e home = absurd (let f : false ≡ true = here in cc)
 reaped_box (Some w) b sendq xs here i e home = (ap (λ ys. ys ++ w.queue) (sym i.0) ∙ sym (append-nil (w.taken ++ w.queue)) ∙ e, home)
 
-pub reaped_sound : (m : State) (s : ℕ) → IsSound m → m.holder ≡ None → 0 < s → s ≤ length m.inboxes → is_here m.book.outboxes s ≡ true → is_home (inbox_at m s).place ≡ true → book.IsSound (reaped m s).book → IsSound (reaped m s)
+pub reaped_sound : (m : State) (s : ℕ) → IsSound m → m.holder ≡ None → 0 < s → s ≤ length m.inboxes → is_here m.book.outboxes s ≡ true → is_home (inbox_at m s).place ≡ true → book.IsSound put_into (reaped m s).book → IsSound (reaped m s)
 reaped_sound m s i free above below here home sound =
     let b = inbox_at m s in let was = i.each s above below in
     let same = i.inboxes in
     let within : s - 1 < length m.book.outboxes = omega arith in
     let below_too : s ≤ length m.book.outboxes = omega arith in
-    let n : Shown = (reaped m s).book in
+    let n : Shown Waiting = (reaped m s).book in
     let idle : m.book.plan ≡ [] = i.book.idle (i.lock ∙ ap is_some free) in
     let new : slice_index_or n.outboxes (s - 1) None ≡ None = get_or-set_same m.book.outboxes (s - 1) None None within in
-    let all : (book.outbox_at m.book.outboxes s).taken ++ (book.outbox_at m.book.outboxes s).queue ++ [] ≡ owed m.book.settings m.book.history s =
-    ap (λ ps. (book.outbox_at m.book.outboxes s).taken ++ (book.outbox_at m.book.outboxes s).queue ++ book.planned ps s) (sym idle) ∙ i.book.owed s above below_too here in
+    let all : sent_by put_into (box_at m s) ++ [] ≡ owed m.book.settings m.book.history s =
+    ap (λ ps. sent_by put_into (box_at m s) ++ book.planned ps s) (sym idle) ∙ i.book.owed s above below_too here in
     one_sound m n s (with_left b (queue_of m s)) m.jobs m.holder i sound above below i.lock (set_length m.book.outboxes (s - 1) None)
     (λ t ne from to. other_carries m.book s t None n above from ne refl refl refl)
     (record {
@@ -376,7 +376,7 @@ reaped_sound m s i free above below here home sound =
 
 -- ---- a client connects
 
-open_carries : (m : Shown) (t : ℕ) (host : List ℕ) (moment : ℤ) (box : Waiting) → 0 < t → t ≤ length m.outboxes → (is_here m.outboxes t ≡ false → ShutBefore m.history t) → Carries m (book.opened m host moment box) t
+open_carries : (m : Shown Waiting) (t : ℕ) (host : List ℕ) (moment : ℤ) (box : Waiting) → 0 < t → t ≤ length m.outboxes → (is_here m.outboxes t ≡ false → ShutBefore m.history t) → Carries m (book.opened m host moment box) t
 open_carries m t host moment box from to f =
     let within : t - 1 < length m.outboxes = omega arith in
     let k = kind.Opened (sessions m.history + 1) host in
@@ -394,9 +394,9 @@ new_batons jobs boxes holder b h i u e =
     let within : u - 1 < length boxes = omega arith in
     (old.0, omega arith, ap (λ (x : Seen). x.place) (get_or_append_left boxes (b ∷ []) nothing_fed (u - 1) within) ∙ old.2)
 
-pub connected_sound : (m : State) (host : List ℕ) (moment : ℤ) → IsSound m → book.IsSound (connected m host moment).book → IsSound (connected m host moment)
+pub connected_sound : (m : State) (host : List ℕ) (moment : ℤ) → IsSound m → book.IsSound put_into (connected m host moment).book → IsSound (connected m host moment)
 connected_sound m host moment i sound =
-    let n : Shown = (connected m host moment).book in
+    let n : Shown Waiting = (connected m host moment).book in
     let box : Waiting = empty_ring m.sendq in
     let same = i.inboxes in
     let size : length (m.inboxes ++ nothing_fed ∷ []) ≡ length m.inboxes + 1 = length-append m.inboxes (nothing_fed ∷ []) in

@@ -6,6 +6,7 @@ use Rattle.chronicle.specs.declared.record.Kind.TheVariants.{Said}
 use Rattle.outbox.specs.declared.item.Item.{Item}
 use Rattle.interleave.specs.declared.worker.Place.{Place}
 use Rattle.interleave.specs.declared.worker.Place.TheVariants.{Home}
+use Rattle.outbox.specs.Ring.{Waiting}
 use Rattle.book.specs.Book.{Shown, Turn, Out, IsOut, MayBegin, begun}
 use Rattle.interleave.specs.State.{Seen, nothing_fed}
 use Rattle.interleave.specs.Steps.{moved, with_left, with_fed, with_begun}
@@ -48,7 +49,7 @@ pub record IsRead (b : Held) (octets : List ℕ) (n : ℕ) (c : Held) : Type 0 w
   pub after : c ≡ with_seen b (with_fed b.seen octets added)
 
 -- the book m began the line in a worker's hand, and is k
-pub record IsBegun (b : Held) (m : Shown) (w : ℕ) (moment : ℤ) (p : Out) (c : Held) (k : Shown) : Type 0 where
+pub record IsBegun (b : Held) (m : Shown Waiting) (w : ℕ) (moment : ℤ) (p : Out) (c : Held) (k : Shown Waiting) : Type 0 where
   pub turn : Turn
   pub piece : Piece
   pub rest : List Piece

@@ -1,6 +1,7 @@
 -- How what a play keeps stands for its book: this project's own choice.
 use Rattle.std.specs.Prelude.{◌≡◌, ℕ, ◌-◌, ◌<◌, ◌≤◌, Bool, cond, List, length, map, slice_index_or, Option, Some, None}
 use Rattle.chronicle.specs.History.{Rec, accepted}
+use Rattle.outbox.specs.Ring.{Waiting}
 use Rattle.book.specs.Book.{Shown, Turn, Out, IsOut, is_here}
 use Rattle.interleave.specs.declared.worker.Place.{Place}
 use Rattle.interleave.specs.declared.worker.Place.TheVariants.{Home, Hand, Begun}
@@ -16,7 +17,7 @@ worker_of None = None
 worker_of (Some x) = Some x.worker
 
 -- without the batons and the plan
-abbrev pub state_of : Shown → ℕ → List Held → List (Option ℕ) → Option Holder → State
+abbrev pub state_of : Shown Waiting → ℕ → List Held → List (Option ℕ) → Option Holder → State
 state_of m sendq boxes jobs holder = record { book = m; sendq = sendq; inboxes = map seen_of boxes; jobs = jobs; holder = worker_of holder }
 
 -- a baton goes on where its line ends, not where that begins
@@ -34,7 +35,7 @@ IsPlanOf h None p = p.next ≡ None
 IsPlanOf h (Some s) p = (p.session ≡ s) × (p.next ≡ Some (length (accepted h s))) × (0 < length (accepted h s))
 
 -- who holds the lock has the plan that is out
-abbrev pub IsHolding : Shown → List (Option ℕ) → Option Holder → Type 0
+abbrev pub IsHolding : Shown Waiting → List (Option ℕ) → Option Holder → Type 0
 IsHolding m jobs None = Unit {0}
 IsHolding m jobs (Some x) = IsOut m x.plan × IsPlanOf m.history (slice_index_or jobs (x.worker - 1) None) x.plan
 
@@ -43,7 +44,7 @@ abbrev pub baton_of : Bool → Turn → Option Turn
 baton_of here turn = cond here (Some turn) None
 
 -- what clauses see is sound, and each session has its baton
-pub record IsKept (m : Shown) (sendq : ℕ) (boxes : List Held) (jobs : List (Option ℕ)) (holder : Option Holder) : Type 0 where
+pub record IsKept (m : Shown Waiting) (sendq : ℕ) (boxes : List Held) (jobs : List (Option ℕ)) (holder : Option Holder) : Type 0 where
   pub sound : IsSound (state_of m sendq boxes jobs holder)
   pub turns : (t : ℕ) → 0 < t → t ≤ length boxes → (held_at boxes t).turn ≡ baton_of (is_here m.outboxes t) (baton_at m.history t (held_at boxes t).seen.place)
   pub holding : IsHolding m jobs holder

@@ -2,6 +2,7 @@
 use Rattle.std.specs.Prelude.{◌≡◌, ◌≢◌, ℕ, ℤ, ◌||◌, Bool, true, false, cond, List, [], ◌∷◌, length, Option, Some, None, IsSome}
 use Rattle.std.specs.Option.{is_some}
 use Rattle.chronicle.specs.History.{accepted}
+use Rattle.outbox.specs.Ring.{Waiting}
 use Rattle.book.specs.declared.refusals.OpenRefusal.{OpenRefusal}
 use Rattle.book.specs.declared.refusals.OpenRefusal.TheVariants as opening
 use Rattle.book.specs.declared.refusals.LineRefusal.{LineRefusal}
@@ -73,7 +74,7 @@ own_refusal m (Reap s) = no_session m s (locked m (in_flight m s None))
 -- memory
 
 -- the next line of session t
-abbrev pub turn_of : Shown → ℕ → Turn
+abbrev pub turn_of : Shown Waiting → ℕ → Turn
 turn_of m t = record { session = t; next = length (accepted m.history t) }
 
 -- want of memory is told as itself
@@ -89,30 +90,30 @@ abbrev pub of_sweep : SweepRefusal → StepRefusal
 of_sweep sweeping.Memory = Memory
 of_sweep e = Book (by_book.Sweep e)
 
-abbrev pub IsOpenRefused : Shown → ℤ → StepRefusal → Type 0
+abbrev pub IsOpenRefused : Shown Waiting → ℤ → StepRefusal → Type 0
 IsOpenRefused m moment (Book (by_book.Open e)) = IsOpenRefusal m moment e × (e ≢ opening.Memory)
 IsOpenRefused m moment Memory = MayOpen m moment
 IsOpenRefused m moment r = ⊥
 
-abbrev pub IsLineRefused : Shown → Turn → ℤ → StepRefusal → Type 0
+abbrev pub IsLineRefused : Shown Waiting → Turn → ℤ → StepRefusal → Type 0
 IsLineRefused m turn moment (Book (by_book.Line e)) = IsLineRefusal m turn moment e × (e ≢ accepting.Memory)
 IsLineRefused m turn moment Memory = MayBegin m turn moment
 IsLineRefused m turn moment r = ⊥
 
-abbrev pub IsBeginRefused : Shown → Option ℕ → ℤ → StepRefusal → Type 0
+abbrev pub IsBeginRefused : Shown Waiting → Option ℕ → ℤ → StepRefusal → Type 0
 IsBeginRefused m None moment r = ⊥
 IsBeginRefused m (Some s) moment r = IsLineRefused m (turn_of m s) moment r
 
-abbrev pub IsHangRefused : Shown → ℕ → ℤ → StepRefusal → Type 0
+abbrev pub IsHangRefused : Shown Waiting → ℕ → ℤ → StepRefusal → Type 0
 IsHangRefused m s moment (Book (by_book.Hang e)) = IsHangRefusal m s moment e
 IsHangRefused m s moment r = ⊥
 
-abbrev pub IsSweepRefused : Shown → ℤ → StepRefusal → Type 0
+abbrev pub IsSweepRefused : Shown Waiting → ℤ → StepRefusal → Type 0
 IsSweepRefused m moment (Book (by_book.Sweep e)) = IsSweepRefusal m moment e × (e ≢ sweeping.Memory)
 IsSweepRefused m moment Memory = MaySweep m moment × IsSome (to_sweep m.history)
 IsSweepRefused m moment r = ⊥
 
-abbrev pub IsReapRefused : Shown → ℕ → StepRefusal → Type 0
+abbrev pub IsReapRefused : Shown Waiting → ℕ → StepRefusal → Type 0
 IsReapRefused m s (Book (by_book.Reap e)) = IsReapRefusal m s e
 IsReapRefused m s r = ⊥
 

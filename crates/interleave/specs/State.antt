@@ -6,7 +6,7 @@ use Rattle.line_grammar.specs.Lines.{lines}
 use Rattle.chronicle.specs.History.{Rec, accepted}
 use Rattle.registration.specs.declared.settings.Settings.{Settings}
 use Rattle.outbox.specs.declared.item.Item.{Item}
-use Rattle.outbox.specs.Ring.{Waiting}
+use Rattle.outbox.specs.Ring.{Waiting, put_into}
 use Rattle.book.specs.Owed.{owed}
 use Rattle.book.specs.Book.{is_here, planned}
 use Rattle.book.specs.Book as book
@@ -26,7 +26,7 @@ pub record Seen : Type 0 where
 -- the book, how many items an outbox has room for, what is seen of each session, the session whose line each worker has, and
 -- the worker who holds the lock
 pub record State : Type 0 where
-  pub book : book.Shown
+  pub book : book.Shown Waiting
   pub sendq : ℕ
   pub inboxes : List Seen
   pub jobs : List (Option ℕ)
@@ -126,7 +126,7 @@ pub record IsSoundAt (g : Settings) (h : List Rec) (o : Option Waiting) (b : See
 -- the book's own promise, and each session's; a worker who has a session's line has its baton; the lock is held where a plan is
 -- out
 pub record IsSound (m : State) : Type 0 where
-  pub book : book.IsSound m.book
+  pub book : book.IsSound put_into m.book
   pub inboxes : length m.inboxes ≡ length m.book.outboxes
   pub each : (t : ℕ) → 0 < t → t ≤ length m.inboxes → IsSoundAt m.book.settings m.book.history (box_at m t) (inbox_at m t) m.sendq t
   pub jobs : (i s : ℕ) → slice_index_or m.jobs i None ≡ Some s → (0 < s) × (s ≤ length m.inboxes) × ((inbox_at m s).place ≡ place_with m.holder (i + 1))

@@ -9,7 +9,7 @@ ghost use Rattle.interleave.specs.Inbox.{Held, IsRead, IsBegun, held_at, with_he
 
 use crate::event::{StepRefusal, of_line};
 use crate::worker::{Place, WorkerId};
-use book::{Baton, Book, Done, Item, Plan, ReapRefusal};
+use book::{Baton, Book, Done, Item, Plan, ReapRefusal, Ring};
 use chronicle::{Moment, SessionId};
 use ghosts::{Change, Snapshot, append, append_all, apply, blank, copied};
 use line_grammar::{Piece, Splitter};
@@ -59,7 +59,7 @@ fn move_up(alloc: Global, next: &mut VecDeque<Piece>, arrived: &mut Vec<Piece>)
 // What waits in the outbox of a session.
 struct LeftIn;
 
-impl<'a> Change<LinkedList<Item>, (&'a Book, SessionId)> for LeftIn {
+impl<'a> Change<LinkedList<Item>, (&'a Book<Ring>, SessionId)> for LeftIn {
     ghost use Rattle.book.specs.Book.{outbox_at};
 
     ghost changed = { λ xs by. (outbox_at by.0.now.outboxes by.1).queue };
@@ -135,7 +135,7 @@ impl Inbox {
     /// Has the book begin the line in a worker's hand.
     pub(crate) fn begin(
         &mut self,
-        book: &mut Book,
+        book: &mut Book<Ring>,
         worker: WorkerId,
         moment: Moment,
     ) -> Result<Plan, StepRefusal>
@@ -164,7 +164,7 @@ impl Inbox {
     }
 
     /// Gives the plan of its line back, and the baton home.
-    pub(crate) fn end(&mut self, book: &mut Book, plan: Plan) -> Done
+    pub(crate) fn end(&mut self, book: &mut Book<Ring>, plan: Plan) -> Done
         requires out { IsOut book.old plan }
         requires none { book.old.plan ≡ [] }
         requires baton { IsSome self.old.turn }
@@ -183,7 +183,7 @@ impl Inbox {
     }
 
     /// Gives the session up, and tells clauses of what was left for it. It answers how many items that were.
-    pub(crate) fn reap(&mut self, book: &mut Book) -> Result<usize, ReapRefusal>
+    pub(crate) fn reap(&mut self, book: &mut Book<Ring>) -> Result<usize, ReapRefusal>
         requires baton { IsSome self.old.turn }
         ensures ok { IfSome self.old.turn (λ turn. OnOk result (self.new ≡ reaped_at self.old (outbox_at book.old.outboxes turn.session).queue)) }
         ensures book { IfSome self.old.turn (λ turn. OnOk result (book.new ≡ reaped book.old turn.session)) }
@@ -197,8 +197,8 @@ impl Inbox {
         };
         let mut left = copied(&self.left);
         let session = baton.session();
-        apply::<LeftIn, LinkedList<Item>, (&Book, SessionId)>(&mut left, &(&*book, session));
-        match book.reap(baton) {
+        apply::<LeftIn, LinkedList<Item>, (&Book<Ring>, SessionId)>(&mut left, &(&*book, session));
+        match book.reap_ring(baton) {
             Ok(given_up) => {
                 self.left = left;
                 Ok(given_up.count)
@@ -248,7 +248,7 @@ pub(crate) fn tell_taken(inboxes: &mut Vec<Inbox>, session: SessionId, item: &It
 /// Has the book begin the line of a session that is in a worker's hand.
 pub(crate) fn begin(
     inboxes: &mut Vec<Inbox>,
-    book: &mut Book,
+    book: &mut Book<Ring>,
     session: SessionId,
     worker: WorkerId,
     moment: Moment,
@@ -266,7 +266,7 @@ pub(crate) fn begin(
 }
 
 /// Gives the plan of a session's line back, and the baton home.
-pub(crate) fn end(inboxes: &mut Vec<Inbox>, book: &mut Book, session: SessionId, plan: Plan) -> Done
+pub(crate) fn end(inboxes: &mut Vec<Inbox>, book: &mut Book<Ring>, session: SessionId, plan: Plan) -> Done
     requires from_1 { 0 < session }
     requires opened { session ≤ length inboxes.old.items }
     requires out { IsOut book.old plan }
@@ -285,7 +285,7 @@ pub(crate) fn end(inboxes: &mut Vec<Inbox>, book: &mut Book, session: SessionId,
 /// Gives a session up, and answers how many items were left for it.
 pub(crate) fn reap(
     inboxes: &mut Vec<Inbox>,
-    book: &mut Book,
+    book: &mut Book<Ring>,
     session: SessionId,
 ) -> Result<usize, ReapRefusal>
     requires from_1 { 0 < session }

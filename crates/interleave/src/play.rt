@@ -36,7 +36,7 @@ struct Holder {
 #[derive(Drop)]
 pub struct Play {
     alloc: Global,
-    book: Book,
+    book: Book<Ring>,
     sendq: usize,
     inboxes: Vec<Inbox>,
     jobs: Vec<Option<SessionId>>,
@@ -129,7 +129,7 @@ impl Play {
     }
 
     /// The book, as it stands.
-    pub fn book(&self) -> &Book
+    pub fn book(&self) -> &Book<Ring>
         ensures { result.now ≡ self.now.book }
     {
         &self.book
@@ -397,7 +397,7 @@ impl Play {
         else {
             unreachable!();
         };
-        let step = self.book.put_next(&mut plan);
+        let step = self.book.put_next_ring(&mut plan);
         self.book.sound();
         self.holder = Some(Holder { worker, plan });
         match step {
@@ -463,7 +463,7 @@ impl Play {
         requires free { own_refusal self.old (event.Hang worker session why moment) ≡ None }
         ensures { IsStep self.old (event.Hang worker session why moment) result self.new }
     {
-        let hung = self.book.hang(session, why, moment);
+        let hung = self.book.hang_ring(session, why, moment);
         self.book.sound();
         match hung {
             Ok(hung) => Ok(Note::Hung(hung)),

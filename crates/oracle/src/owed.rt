@@ -4,7 +4,7 @@ use crate::obeying::{end, is_quit, obey};
 use crate::rendering::{Style, label_of, text_of};
 use crate::replies::TOO_LONG;
 use crate::world::{World, new_client};
-use book::Book;
+use book::{Book, Outbox};
 use chronicle::{Kind, Record, RecordNumber, SessionId, Why};
 use line_grammar::{LineFault, Message, Octets, Piece, parse};
 use outbox::Item;
@@ -22,7 +22,7 @@ pub fn slow_on(world: &World, session: SessionId, channel: &[u8]) -> bool {
 }
 
 /// The record at a place, from 0.
-fn record_at(book: &Book, place: usize) -> Option<&Record> {
+fn record_at<O: Outbox>(book: &Book<O>, place: usize) -> Option<&Record> {
     book.record(RecordNumber::new((place as u64).saturating_add(1)))
 }
 
@@ -174,7 +174,7 @@ impl Reader {
     }
 
     /// Reads the records that are new. Once it failed for want of memory it fails for good.
-    pub fn read_on(&mut self, book: &Book) -> Result<(), AllocError> {
+    pub fn read_on<O: Outbox>(&mut self, book: &Book<O>) -> Result<(), AllocError> {
         if let Some(record) = book.record(RecordNumber::new(self.next as u64)) {
             self.look_again(record);
         }
@@ -210,7 +210,7 @@ fn number_of(item: &Item) -> RecordNumber {
 }
 
 /// All that the records of the book owe to a session, read from the first of them. Fails where there is no memory.
-pub fn slow_owed(alloc: Global, book: &Book, to: SessionId) -> Result<Vec<Item>, AllocError> {
+pub fn slow_owed<O: Outbox>(alloc: Global, book: &Book<O>, to: SessionId) -> Result<Vec<Item>, AllocError> {
     let mut reader = Reader::new(alloc, to);
     reader.read_on(book)?;
     Ok(reader.owed)

@@ -56,20 +56,32 @@ impl Ring {
 }
 
 impl Outbox for Ring {
-    ghost use Rattle.std.specs.Prelude.{◌≡◌, ◌<◌, ◌↔◌, ◌++◌, length, IsOk, OnOk, IfErr};
-    ghost use Rattle.outbox.specs.Ring.{with_put};
-    ghost use Rattle.outbox.specs.declared.queue.PutFault.TheVariants.{Full};
+    ghost use Rattle.outbox.specs.Ring.{put_into, accepts, refuses};
 
-    ghost sent = { λ b. b.taken ++ b.queue };
+    type Taker = ();
 
-    fn put(&mut self, item: Item) -> Result<(), (PutFault, Item)>
-        ensures room { IsOk result ↔ (length self.old.queue < self.old.cap) }
-        ensures ok { OnOk result (self.new ≡ with_put self.old item) }
-        ensures err { IfErr result (λ e. (e.0 ≡ Full) × (e.1 ≡ item) × (self.new ≡ self.old)) }
-    {
+    type Name = ();
+
+    ghost sent = { put_into };
+
+    ghost name = { λ b. tt };
+
+    ghost taker_of = { λ w. tt };
+
+    ghost taken = { λ b w. b.taken };
+
+    ghost accepts = { accepts };
+
+    ghost refuses = { refuses };
+
+    fn put(&mut self, item: Item) -> Result<(), (PutFault, Item)> {
         match self.items.try_push_back(item) {
             Ok(()) => Ok(()),
             Err(item) => Err((PutFault::Full, item)),
         }
+    }
+
+    fn close(self, _taker: ()) -> usize {
+        self.items.len()
     }
 }

@@ -13,7 +13,7 @@ use std::test::Fail;
 
 const NOON: i64 = 43_200_000;
 
-fn book(alloc: Global, limit: usize) -> Result<Book, Fail> {
+fn book(alloc: Global, limit: usize) -> Result<Book<Ring>, Fail> {
     let settings = settings(alloc, 2)?;
     Ok(Book::new(alloc, settings, limit).ok().ok_or("a book")?)
 }
@@ -22,7 +22,7 @@ fn book(alloc: Global, limit: usize) -> Result<Book, Fail> {
 fn open(
     rt: &impl Abort,
     alloc: Global,
-    book: &mut Book,
+    book: &mut Book<Ring>,
     host: &[u8],
 ) -> Result<(SessionId, Baton), Fail> {
     let first = copied(alloc, host)?;
@@ -39,7 +39,7 @@ fn open(
     Ok(opened.ok().ok_or("a session")?)
 }
 
-fn say(alloc: Global, book: &mut Book, baton: &mut Baton, line: &[u8]) -> Result<(), Fail> {
+fn say(alloc: Global, book: &mut Book<Ring>, baton: &mut Baton, line: &[u8]) -> Result<(), Fail> {
     let piece = Piece::Line(copied(alloc, line)?);
     let done = match book.line(baton, &piece, Moment::new(NOON)) {
         Err(LineRefusal::Memory) => book.line(baton, &piece, Moment::new(NOON)),
@@ -52,7 +52,7 @@ fn say(alloc: Global, book: &mut Book, baton: &mut Baton, line: &[u8]) -> Result
 }
 
 /// Joins a channel after a NICK line.
-fn join(alloc: Global, book: &mut Book, baton: &mut Baton, nick: &[u8]) -> Result<(), Fail> {
+fn join(alloc: Global, book: &mut Book<Ring>, baton: &mut Baton, nick: &[u8]) -> Result<(), Fail> {
     say(alloc, book, baton, nick)?;
     say(alloc, book, baton, b"USER a 0 * :A")?;
     say(alloc, book, baton, b"JOIN #a")
@@ -60,7 +60,7 @@ fn join(alloc: Global, book: &mut Book, baton: &mut Baton, nick: &[u8]) -> Resul
 
 /// Has a line accepted that owes one delivery, and answers what became of that.
 fn say_in_steps(
-    book: &mut Book,
+    book: &mut Book<Ring>,
     baton: &mut Baton,
     piece: &Piece,
 ) -> Option<(Option<Step>, SessionId, Done)> {
@@ -76,7 +76,7 @@ fn say_in_steps(
 }
 
 /// Sweeps a session of whose end nobody is told.
-fn sweep_in_steps(book: &mut Book) -> Option<Done> {
+fn sweep_in_steps(book: &mut Book<Ring>) -> Option<Done> {
     let Ok(Some(mut plan)) = book.begin_sweep(Moment::new(NOON)) else {
         return None;
     };
@@ -87,7 +87,7 @@ fn sweep_in_steps(book: &mut Book) -> Option<Done> {
 }
 
 /// Opens the sessions 1 and 2 of a book, al and bo, who join a channel by records 1 to 8.
-fn meet(rt: &impl Abort, alloc: Global, book: &mut Book) -> Result<(Baton, Baton), Fail> {
+fn meet(rt: &impl Abort, alloc: Global, book: &mut Book<Ring>) -> Result<(Baton, Baton), Fail> {
     let (_, mut first) = open(rt, alloc, book, b"h1")?;
     let (_, mut second) = open(rt, alloc, book, b"h2")?;
     join(alloc, book, &mut first, b"NICK al")?;
@@ -98,7 +98,7 @@ fn meet(rt: &impl Abort, alloc: Global, book: &mut Book) -> Result<(Baton, Baton
 /// Has bo say something to al, once more where a growth was refused.
 fn said(
     alloc: Global,
-    book: &mut Book,
+    book: &mut Book<Ring>,
     baton: &mut Baton,
 ) -> Result<(Option<Step>, SessionId, Done), Fail> {
     let piece = Piece::Line(copied(alloc, b"PRIVMSG #a :hi")?);
@@ -110,7 +110,7 @@ fn said(
 }
 
 /// Compares a book with what the line of bo was to make of it.
-fn compare_said(rt: &impl Abort, book: &Book, done: &Done) {
+fn compare_said(rt: &impl Abort, book: &Book<Ring>, done: &Done) {
     assert!(rt; done.number.number() == 9);
     assert!(rt; done.missed.is_empty() && !done.shut);
     assert!(rt; book.len() == 9);
@@ -119,7 +119,7 @@ fn compare_said(rt: &impl Abort, book: &Book, done: &Done) {
 }
 
 /// Has bo say a line in steps, and compares what became of each.
-fn compare_steps(rt: &impl Abort, alloc: Global, book: &mut Book) -> Result<(), Fail> {
+fn compare_steps(rt: &impl Abort, alloc: Global, book: &mut Book<Ring>) -> Result<(), Fail> {
     let (_first, mut second) = meet(rt, alloc, book)?;
     let (step, actor, done) = said(alloc, book, &mut second)?;
     assert_eq!(rt; step, Some(Step::Put(SessionId::new(1))));
@@ -136,7 +136,7 @@ fn a_line_goes_in_steps(rt: HostRuntime) -> Result<(), Fail> {
 }
 
 /// Begins a line and drops its plan.
-fn drop_plan(book: &mut Book, baton: &Baton, piece: &Piece) -> Result<(), LineRefusal> {
+fn drop_plan(book: &mut Book<Ring>, baton: &Baton, piece: &Piece) -> Result<(), LineRefusal> {
     let moment = Moment::new(NOON);
     let plan = match book.begin(baton, piece, moment) {
         Err(LineRefusal::Memory) => book.begin(baton, piece, moment)?,
@@ -147,7 +147,7 @@ fn drop_plan(book: &mut Book, baton: &Baton, piece: &Piece) -> Result<(), LineRe
 }
 
 /// Compares what a book answers whose plan was dropped.
-fn compare_busy(rt: &impl Abort, alloc: Global, book: &mut Book) -> Result<(), Fail> {
+fn compare_busy(rt: &impl Abort, alloc: Global, book: &mut Book<Ring>) -> Result<(), Fail> {
     let (al, baton) = open(rt, alloc, book, b"h1")?;
     let piece = Piece::Line(copied(alloc, b"NICK al")?);
     let moment = Moment::new(NOON);
@@ -166,7 +166,7 @@ fn a_plan_that_is_dropped_leaves_the_book_busy(rt: HostRuntime) -> Result<(), Fa
 }
 
 /// Compares a session's nickname, none where it is empty, and whether it is on a channel.
-fn known(rt: &impl Abort, book: &Book, session: u64, nick: &[u8], on: bool, channel: &Octets) {
+fn known(rt: &impl Abort, book: &Book<Ring>, session: u64, nick: &[u8], on: bool, channel: &Octets) {
     let session = SessionId::new(session);
     match book.nick_of(session) {
         Some(own) => assert!(rt; own.as_slice() == nick),
@@ -176,13 +176,13 @@ fn known(rt: &impl Abort, book: &Book, session: u64, nick: &[u8], on: bool, chan
 }
 
 /// Hangs al, who can't be given up before a sweep, and sweeps.
-fn hang_and_sweep(rt: &impl Abort, book: &mut Book, baton: Baton) -> Result<Baton, Fail> {
+fn hang_and_sweep(rt: &impl Abort, book: &mut Book<Ring>, baton: Baton) -> Result<Baton, Fail> {
     let moment = Moment::new(NOON);
     let al = SessionId::new(1);
     let hung = book.hang(al, Why::ReadEnded, moment).ok().ok_or("hung")?;
     assert_eq!(rt; (hung.number.number(), hung.missed), (9, false));
     assert!(rt; !book.is_open(al) && book.is_open(SessionId::new(2)));
-    let Err((ReapRefusal::NotGone, baton)) = book.reap(baton) else {
+    let Err((ReapRefusal::NotGone, baton, ())) = book.reap(baton, ()) else {
         return Err("not gone".into());
     };
     let done = swept(book, moment).ok_or("swept")?;
@@ -210,7 +210,7 @@ CHANTYPES=#& KICKLEN=200 MAXLIST=b:60 MODES=4 NICKLEN=30 PREFIX=(ov)@+ TOPICLEN=
     ":al!a@h1 QUIT :Connection closed\r\n",
 ];
 
-fn take_lines(rt: &impl Abort, book: &mut Book) -> Result<(), Fail> {
+fn take_lines(rt: &impl Abort, book: &mut Book<Ring>) -> Result<(), Fail> {
     for want in &LINES {
         match book.take(SessionId::new(2)) {
             Ok(Item::Lines { text, .. }) => assert_eq!(rt; text.as_slice(), want.as_bytes()),
@@ -221,20 +221,20 @@ fn take_lines(rt: &impl Abort, book: &mut Book) -> Result<(), Fail> {
 }
 
 /// Ends al, whom bo is told of, and gives it up.
-fn end_first(rt: &impl Abort, alloc: Global, book: &mut Book, first: Baton) -> Result<(), Fail> {
+fn end_first(rt: &impl Abort, alloc: Global, book: &mut Book<Ring>, first: Baton) -> Result<(), Fail> {
     let channel = copied(alloc, b"#A")?;
     known(rt, book, 1, b"al", true, &channel);
     let first = hang_and_sweep(rt, book, first)?;
     known(rt, book, 1, b"", false, &channel);
     known(rt, book, 2, b"bo", true, &channel);
     take_lines(rt, book)?;
-    let left = book.reap(first).ok().ok_or("left")?;
+    let left = book.reap_ring(first).ok().ok_or("left")?;
     assert_eq!(rt; (left.session.number(), left.count), (1, 4));
     Ok(())
 }
 
 /// Al and bo meet, and al ends.
-fn end_after_meeting(rt: &impl Abort, alloc: Global, book: &mut Book) -> Result<(), Fail> {
+fn end_after_meeting(rt: &impl Abort, alloc: Global, book: &mut Book<Ring>) -> Result<(), Fail> {
     let (first, _second) = meet(rt, alloc, book)?;
     end_first(rt, alloc, book, first)
 }
@@ -246,7 +246,7 @@ fn a_session_ends(rt: HostRuntime) -> Result<(), Fail> {
 }
 
 /// Sweeps a session in steps, once more where a growth was refused.
-fn swept_in_steps(book: &mut Book) -> Option<Done> {
+fn swept_in_steps(book: &mut Book<Ring>) -> Option<Done> {
     match sweep_in_steps(book) {
         None => sweep_in_steps(book),
         swept => swept,
@@ -254,13 +254,13 @@ fn swept_in_steps(book: &mut Book) -> Option<Done> {
 }
 
 /// Opens the session 1 of a book, which quits.
-fn quit(rt: &impl Abort, alloc: Global, book: &mut Book) -> Result<(), Fail> {
+fn quit(rt: &impl Abort, alloc: Global, book: &mut Book<Ring>) -> Result<(), Fail> {
     let (_, mut baton) = open(rt, alloc, book, b"h1")?;
     say(alloc, book, &mut baton, b"QUIT")
 }
 
 /// Compares the sweep of a session that has quit.
-fn compare_sweep(rt: &impl Abort, book: &mut Book) -> Result<(), Fail> {
+fn compare_sweep(rt: &impl Abort, book: &mut Book<Ring>) -> Result<(), Fail> {
     let al = SessionId::new(1);
     assert!(rt; !book.is_open(al));
     assert!(rt; matches!(book.take(al), Ok(Item::Last { why: Why::Quit, .. })));
@@ -272,7 +272,7 @@ fn compare_sweep(rt: &impl Abort, book: &mut Book) -> Result<(), Fail> {
 }
 
 /// Sweeps a session after it has quit.
-fn sweep_after_a_quit(rt: &impl Abort, alloc: Global, book: &mut Book) -> Result<(), Fail> {
+fn sweep_after_a_quit(rt: &impl Abort, alloc: Global, book: &mut Book<Ring>) -> Result<(), Fail> {
     quit(rt, alloc, book)?;
     compare_sweep(rt, book)
 }
@@ -284,7 +284,7 @@ fn a_sweep_goes_in_steps(rt: HostRuntime) -> Result<(), Fail> {
 }
 
 /// Sweeps, once more where a growth was refused.
-fn swept(book: &mut Book, moment: Moment) -> Option<Done> {
+fn swept(book: &mut Book<Ring>, moment: Moment) -> Option<Done> {
     let swept = match book.sweep(moment) {
         Err(_) => book.sweep(moment),
         answer => answer,
@@ -293,18 +293,18 @@ fn swept(book: &mut Book, moment: Moment) -> Option<Done> {
 }
 
 /// Ends session 1 of a full journal in the room that is kept for that.
-fn end(rt: &impl Abort, book: &mut Book, baton: Baton) {
+fn end(rt: &impl Abort, book: &mut Book<Ring>, baton: Baton) {
     let moment = Moment::new(NOON);
     assert!(rt; book.hang(SessionId::new(1), Why::Shutdown, moment).is_ok());
     assert!(rt; swept(book, moment).is_some());
-    assert!(rt; book.reap(baton).is_ok());
+    assert!(rt; book.reap_ring(baton).is_ok());
 }
 
 /// Has a session say so many lines, with which the journal is full.
 fn say_all(
     rt: &impl Abort,
     alloc: Global,
-    book: &mut Book,
+    book: &mut Book<Ring>,
     baton: &mut Baton,
     lines: usize,
 ) -> Result<(), Fail> {
@@ -318,7 +318,7 @@ fn say_all(
 }
 
 /// Fills a journal for a session and so many lines of it, and ends the session.
-fn fill_book(rt: &impl Abort, alloc: Global, book: &mut Book, lines: usize) -> Result<(), Fail> {
+fn fill_book(rt: &impl Abort, alloc: Global, book: &mut Book<Ring>, lines: usize) -> Result<(), Fail> {
     let (_, mut baton) = open(rt, alloc, book, b"h1")?;
     say_all(rt, alloc, book, &mut baton, lines)?;
     end(rt, book, baton);

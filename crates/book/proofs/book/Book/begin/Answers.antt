@@ -13,33 +13,35 @@ use Rattle.deeds.specs.Deeds.{spelled}
 use Rattle.drafts.specs.Effects.{deeds_of}
 use Rattle.commands.specs.Asked.{asked_of}
 use Rattle.deeds.specs.Rows.{of_asked}
-use Rattle.book.specs.Seats.{Rows, IsSeated, seat_at, planned_from}
+use Rattle.book.specs.declared.seat.Seat.{Seat}
+use Rattle.book.specs.Seats.{IsSeated, seat_at, planned_from}
 use Rattle.book.specs.Kept.{IsKept}
 use Rattle.book.specs.Book.{Turn, MayBegin, plan_of, begun, held}
 use Rattle.book.proofs.KeptSteps.{shown}
 use Rattle.book.proofs.Opened.{accepted_le}
 use Rattle.book.proofs.Begins.{begun_is}
-use Rattle.book.proofs.Appends.{said_rows, known_opened, said_plan, said_kept}
+use Rattle.book.proofs.Appends.{said_seats, known_opened, said_plan, said_kept}
+use Rattle.book.proofs.book.Book.begin.Given as given
 use Rattle.book.proofs.book.Book.begin.Goals as goal
 
 -- where a line may be accepted
-may : (c : goal.After-result-1) → MayBegin (shown c.self.inside.journal c.self.inside.roster.settings c.self.inside.seats.boxes c.self.inside.plan.items c.self.inside.busy) c.args.baton.now c.args.moment
-may c = subst (λ m. MayBegin m c.args.baton.now c.args.moment) (sym c.self.view_is) c.in_ok-check_line.ensures.ok
+may : (over : given.Over) (c : goal.After-result-1 over) → MayBegin (shown c.self.inside.journal c.self.inside.roster.settings c.self.inside.outboxes.boxes c.self.inside.plan.items c.self.inside.busy) c.args.baton.now c.args.moment
+may over c = subst (λ m. MayBegin m c.args.baton.now c.args.moment) (sym c.self.view_is) c.in_ok-check_line.ensures.ok
 
-session : (c : goal.After-result-1) → c.baton.inside.session ≡ c.args.baton.now.session
-session c = ap (λ (b : Turn). b.session) c.baton.view_is
+session : (over : given.Over) (c : goal.After-result-1 over) → c.baton.inside.session ≡ c.args.baton.now.session
+session over c = ap (λ (b : Turn). b.session) c.baton.view_is
 
 pub overflow_add-result : goal.overflow_add-result
-overflow_add-result c =
-    let may : MayBegin (shown c.self.inside.journal c.self.inside.roster.settings c.self.inside.seats.boxes c.self.inside.plan.items c.self.inside.busy) c.args.baton.now c.args.moment = subst (λ m. MayBegin m c.args.baton.now c.args.moment) (sym c.self.view_is) c.in_ok-check_line.ensures.ok in
+overflow_add-result over c =
+    let may : MayBegin (shown c.self.inside.journal c.self.inside.roster.settings c.self.inside.outboxes.boxes c.self.inside.plan.items c.self.inside.busy) c.args.baton.now c.args.moment = subst (λ m. MayBegin m c.args.baton.now c.args.moment) (sym c.self.view_is) c.in_ok-check_line.ensures.ok in
     let h = c.self.inside.journal.history in let s = c.args.baton.now.session in
     let limit : c.self.inside.journal.limit < 18446744073709551616 = subst (λ m. m.limit < 18446744073709551616) (sym c.self.view_is) c.in_ok-check_line.ensures.fits in
     let room = may.room in let few_lines = accepted_le h s in
     let next : c.baton.inside.next ≡ length (accepted h s) = ap (λ b. b.next) c.baton.view_is ∙ may.turn.next in
     omega arith
 
-history : (c : goal.After-result-1) → c.append.new.self.history ≡ fresh_record c.self.inside.journal.history c.args.moment (Said c.args.baton.now.session c.args.baton.now.next c.args.piece.now) ∷ c.self.inside.journal.history
-history c =
+history : (over : given.Over) (c : goal.After-result-1 over) → c.append.new.self.history ≡ fresh_record c.self.inside.journal.history c.args.moment (Said c.args.baton.now.session c.args.baton.now.next c.args.piece.now) ∷ c.self.inside.journal.history
+history over c =
     let a = c.self.inside in let same = c.reserve.ensures.same in let app = c.append.ensures.appended in
     let said : c.in_ok-told.told ≡ c.args.piece.now = c.in_ok-told.ensures in
     let b : record { session = c.baton.inside.session; next = c.baton.inside.next } ≡ c.args.baton.now = c.baton.view_is in
@@ -47,22 +49,22 @@ history c =
     ∙ ap (λ (x : Turn). fresh_record a.journal.history c.args.moment (Said x.session x.next c.in_ok-told.told) ∷ a.journal.history) b
     ∙ ap (λ (x : Piece). fresh_record a.journal.history c.args.moment (Said c.args.baton.now.session c.args.baton.now.next x) ∷ a.journal.history) said
 
-limit : (c : goal.After-result-1) → c.append.new.self.limit ≡ c.self.inside.journal.limit
-limit c = c.append.ensures.appended.limit ∙ c.reserve.ensures.same.limit
+limit : (over : given.Over) (c : goal.After-result-1 over) → c.append.new.self.limit ≡ c.self.inside.journal.limit
+limit over c = c.append.ensures.appended.limit ∙ c.reserve.ensures.same.limit
 
-plan : (c : goal.After-result-1) → c.in_ok-prepared.prepared.plan.items ≡ plan_of c.self.inside.roster.settings c.self.inside.journal.history (Said c.args.baton.now.session c.args.baton.now.next c.args.piece.now) c.args.moment (length c.self.inside.seats.boxes)
-plan c =
+plan : (over : given.Over) (c : goal.After-result-1 over) → c.in_ok-prepared.prepared.plan.items ≡ plan_of c.self.inside.roster.settings c.self.inside.journal.history (Said c.args.baton.now.session c.args.baton.now.next c.args.piece.now) c.args.moment (length c.self.inside.outboxes.boxes)
+plan over c =
     let a = c.self.inside in let q = c.in_ok-prepared.quits in let g = a.roster.settings in let fs = a.roster.facts in
     let number : c.new-number.result ≡ length a.journal.history + 1 = grind (arith, common_steps) in
-    let made = c.in_ok-prepared.ensures.plan ∙ ap (λ (t : ℕ). planned_from a.seats.seats t c.new-number.result (spelled g fs t (label_of (caps fs t) c.args.piece.now) (of_asked g fs t (asked_of c.args.piece.now)) c.args.moment c.new-number.result) q) (session c) in
-    said_plan a.journal g fs a.seats.seats a.seats.boxes a.plan.items a.busy c.self.invariant c.args.baton.now c.args.piece.now c.args.moment
-    c.new-number.result q c.in_ok-prepared.prepared.plan.items (may c) number c.in_ok-prepared.ensures.quits made
+    let made = c.in_ok-prepared.ensures.plan ∙ ap (λ (t : ℕ). planned_from a.seats t c.new-number.result (spelled g fs t (label_of (caps fs t) c.args.piece.now) (of_asked g fs t (asked_of c.args.piece.now)) c.args.moment c.new-number.result) q) (session over c) in
+    said_plan over.O.Outbox.sent a.journal g fs a.seats a.outboxes.boxes a.plan.items a.busy c.self.invariant c.args.baton.now c.args.piece.now c.args.moment
+    c.new-number.result q c.in_ok-prepared.prepared.plan.items (may over c) number c.in_ok-prepared.ensures.quits made
 
-settings : (c : goal.After-result-1) → c.commit.new.roster.settings ≡ c.self.inside.roster.settings
-settings c = c.commit.ensures.settings ∙ c.prepare.ensures.settings
+settings : (over : given.Over) (c : goal.After-result-1 over) → c.commit.new.roster.settings ≡ c.self.inside.roster.settings
+settings over c = c.commit.ensures.settings ∙ c.prepare.ensures.settings
 
 pub invariant_of-self-3 : goal.invariant_of-self-3
-invariant_of-self-3 c =
+invariant_of-self-3 over c =
     let a = c.self.inside in let s = c.args.baton.now.session in let asked = asked_of c.args.piece.now in
     let room : length c.in_ok-prepared.prepared.plan.items ≤ c.append.new.self.left = grind (arith, common_steps) in
     let kept : c.held-room.result ≡ held a.journal.history = c.held-room.ensures.kept in
@@ -70,52 +72,51 @@ invariant_of-self-3 c =
     let free : held a.journal.history ≤ c.append.new.self.room = grind (arith, common_steps) in
     let more : c.commit.new.roster.facts ≡ after a.roster.facts c.in_ok-prepared.prepared.deeds.items = c.commit.ensures.facts ∙ ap (λ (fs : List Deed). after fs c.in_ok-prepared.prepared.deeds.items) c.prepare.ensures.facts in
     let known : c.commit.new.roster.facts ≡ after a.roster.facts (deeds_of (of_asked a.roster.settings a.roster.facts s asked)) =
-    more ∙ ap (after a.roster.facts) (c.in_ok-prepared.ensures.deeds ∙ ap (λ (t : ℕ). deeds_of (of_asked a.roster.settings a.roster.facts t asked)) (session c)) in
+    more ∙ ap (after a.roster.facts) (c.in_ok-prepared.ensures.deeds ∙ ap (λ (t : ℕ). deeds_of (of_asked a.roster.settings a.roster.facts t asked)) (session over c)) in
     let same : opened c.commit.new.roster.facts ≡ opened a.roster.facts = ap opened more ∙ c.in_ok-prepared.ensures.opened in
-    let rows : c.say.new.self ≡ said_rows a.seats s c.in_ok-prepared.quits = c.say.ensures ∙ ap (λ (t : ℕ). said_rows a.seats t c.in_ok-prepared.quits) (session c) in
-    subst (λ (g : Settings). IsKept c.append.new.self g c.commit.new.roster.facts c.say.new.self.seats c.say.new.self.boxes c.in_ok-prepared.prepared.plan.items true) (sym (settings c))
-    (subst (λ (r : Rows). IsKept c.append.new.self a.roster.settings c.commit.new.roster.facts r.seats r.boxes c.in_ok-prepared.prepared.plan.items true) (sym rows)
-    (said_kept a.journal a.roster.settings a.roster.facts a.seats.seats a.seats.boxes a.plan.items a.busy c.self.invariant c.append.new.self c.commit.new.roster.facts
+    let rows : c.say.new.self ≡ said_seats a.seats s c.in_ok-prepared.quits = c.say.ensures ∙ ap (λ (t : ℕ). said_seats a.seats t c.in_ok-prepared.quits) (session over c) in
+    subst (λ (g : Settings). IsKept over.O.Outbox.sent c.append.new.self g c.commit.new.roster.facts c.say.new.self a.outboxes.boxes c.in_ok-prepared.prepared.plan.items true) (sym (settings over c))
+    (subst (λ (xs : List Seat). IsKept over.O.Outbox.sent c.append.new.self a.roster.settings c.commit.new.roster.facts xs a.outboxes.boxes c.in_ok-prepared.prepared.plan.items true) (sym rows)
+    (said_kept over.O.Outbox.sent a.journal a.roster.settings a.roster.facts a.seats a.outboxes.boxes a.plan.items a.busy c.self.invariant c.append.new.self c.commit.new.roster.facts
     c.in_ok-prepared.prepared.plan.items c.args.baton.now c.args.piece.now c.args.moment c.in_ok-prepared.quits
-    (may c) c.in_ok-prepared.ensures.quits (plan c) (history c) (limit c) room free known same))
+    (may over c) c.in_ok-prepared.ensures.quits (plan over c) (history over c) (limit over c) room free known same))
 
 pub returns-clause-ok : goal.returns-clause-ok
-returns-clause-ok c =
+returns-clause-ok over c =
     let a = c.self.inside in let b = c.args.baton.now in
-    ap (λ (g : Settings). shown c.append.new.self g c.say.new.self.boxes c.in_ok-prepared.prepared.plan.items true) (settings c)
-    ∙ ap (λ (r : Rows). shown c.append.new.self a.roster.settings r.boxes c.in_ok-prepared.prepared.plan.items true) c.say.ensures
-    ∙ begun_is a.journal c.append.new.self a.roster.settings a.seats.boxes a.plan.items c.in_ok-prepared.prepared.plan.items a.busy (Said b.session b.next c.args.piece.now) c.args.moment (history c) (limit c) (plan c)
+    ap (λ (g : Settings). shown c.append.new.self g a.outboxes.boxes c.in_ok-prepared.prepared.plan.items true) (settings over c)
+    ∙ begun_is a.journal c.append.new.self a.roster.settings a.outboxes.boxes a.plan.items c.in_ok-prepared.prepared.plan.items a.busy (Said b.session b.next c.args.piece.now) c.args.moment (history over c) (limit over c) (plan over c)
     ∙ ap (λ m. begun m (Said b.session b.next c.args.piece.now) c.args.moment) c.self.view_is
 
 -- ---- what is asked of calls
 
 pub prepare_line-requires-clause-known : goal.prepare_line-requires-clause-known
-prepare_line-requires-clause-known c =
-    let a = c.self.inside in let may : MayBegin (shown c.self.inside.journal c.self.inside.roster.settings c.self.inside.seats.boxes c.self.inside.plan.items c.self.inside.busy) c.args.baton.now c.args.moment = subst (λ m. MayBegin m c.args.baton.now c.args.moment) (sym c.self.view_is) c.in_ok-check_line.ensures.ok in
+prepare_line-requires-clause-known over c =
+    let a = c.self.inside in let may : MayBegin (shown c.self.inside.journal c.self.inside.roster.settings c.self.inside.outboxes.boxes c.self.inside.plan.items c.self.inside.busy) c.args.baton.now c.args.moment = subst (λ m. MayBegin m c.args.baton.now c.args.moment) (sym c.self.view_is) c.in_ok-check_line.ensures.ok in
     subst (λ (s : ℕ). IsOpened a.roster.facts s) (sym (ap (λ (b : Turn). b.session) c.baton.view_is))
-    (known_opened a.journal a.roster.settings a.roster.facts a.seats.seats a.seats.boxes a.plan.items a.busy c.self.invariant c.args.baton.now.session may.turn.from_1 may.turn.opened)
+    (known_opened over.O.Outbox.sent a.journal a.roster.settings a.roster.facts a.seats a.outboxes.boxes a.plan.items a.busy c.self.invariant c.args.baton.now.session may.turn.from_1 may.turn.opened)
 
 pub say-requires-clause-seated : goal.say-requires-clause-seated
-say-requires-clause-seated c =
-    let a = c.self.inside in let may : MayBegin (shown c.self.inside.journal c.self.inside.roster.settings c.self.inside.seats.boxes c.self.inside.plan.items c.self.inside.busy) c.args.baton.now c.args.moment = subst (λ m. MayBegin m c.args.baton.now c.args.moment) (sym c.self.view_is) c.in_ok-check_line.ensures.ok in
+say-requires-clause-seated over c =
+    let a = c.self.inside in let may : MayBegin (shown c.self.inside.journal c.self.inside.roster.settings c.self.inside.outboxes.boxes c.self.inside.plan.items c.self.inside.busy) c.args.baton.now c.args.moment = subst (λ m. MayBegin m c.args.baton.now c.args.moment) (sym c.self.view_is) c.in_ok-check_line.ensures.ok in
     let few = may.turn.opened in let many = c.self.invariant.sound.sessions in let places = c.self.invariant.places in
-    let it : IsSeated a.seats c.args.baton.now.session = record { from_1 = may.turn.from_1; opened = (omega arith); here = may.turn.here } in
+    let it : IsSeated a.seats c.args.baton.now.session = record { from_1 = may.turn.from_1; opened = (omega arith) } in
     subst (IsSeated a.seats) (sym (ap (λ (b : Turn). b.session) c.baton.view_is)) it
 
 pub say-requires-clause-few : goal.say-requires-clause-few
-say-requires-clause-few c =
+say-requires-clause-few over c =
     let a = c.self.inside in let s = c.args.baton.now.session in
-    let may : MayBegin (shown c.self.inside.journal c.self.inside.roster.settings c.self.inside.seats.boxes c.self.inside.plan.items c.self.inside.busy) c.args.baton.now c.args.moment = subst (λ m. MayBegin m c.args.baton.now c.args.moment) (sym c.self.view_is) c.in_ok-check_line.ensures.ok in
-    let few = may.turn.opened in let many = c.self.invariant.sound.sessions in let places = c.self.invariant.places in let room = may.room in let to : s ≤ length a.seats.seats = omega arith in
+    let may : MayBegin (shown c.self.inside.journal c.self.inside.roster.settings c.self.inside.outboxes.boxes c.self.inside.plan.items c.self.inside.busy) c.args.baton.now c.args.moment = subst (λ m. MayBegin m c.args.baton.now c.args.moment) (sym c.self.view_is) c.in_ok-check_line.ensures.ok in
+    let few = may.turn.opened in let many = c.self.invariant.sound.sessions in let places = c.self.invariant.places in let room = may.room in let to : s ≤ length a.seats = omega arith in
     let limit : a.journal.limit < 18446744073709551616 = subst (λ m. m.limit < 18446744073709551616) (sym c.self.view_is) c.in_ok-check_line.ensures.fits in
     let count = (c.self.invariant.each_seat s may.turn.from_1 to).accepted may.turn.here in let few_lines = accepted_le a.journal.history s in
-    let goal : (seat_at a.seats.seats s).accepted + 1 < 18446744073709551616 = omega arith in
-    subst (λ (t : ℕ). (seat_at a.seats.seats t).accepted + 1 < 18446744073709551616) (sym (ap (λ (b : Turn). b.session) c.baton.view_is)) goal
+    let goal : (seat_at a.seats s).accepted + 1 < 18446744073709551616 = omega arith in
+    subst (λ (t : ℕ). (seat_at a.seats t).accepted + 1 < 18446744073709551616) (sym (ap (λ (b : Turn). b.session) c.baton.view_is)) goal
 
 pub say-requires-clause-not_shut : goal.say-requires-clause-not_shut
-say-requires-clause-not_shut c =
+say-requires-clause-not_shut over c =
     let a = c.self.inside in let s = c.args.baton.now.session in
-    let may : MayBegin (shown c.self.inside.journal c.self.inside.roster.settings c.self.inside.seats.boxes c.self.inside.plan.items c.self.inside.busy) c.args.baton.now c.args.moment = subst (λ m. MayBegin m c.args.baton.now c.args.moment) (sym c.self.view_is) c.in_ok-check_line.ensures.ok in
-    let few = may.turn.opened in let many = c.self.invariant.sound.sessions in let places = c.self.invariant.places in let to : s ≤ length a.seats.seats = omega arith in
-    let open_ : (seat_at a.seats.seats s).shut ≡ false = (c.self.invariant.each_seat s may.turn.from_1 to).shut ∙ may.not_shut in
-    subst (λ (t : ℕ). (seat_at a.seats.seats t).shut ≡ false) (sym (ap (λ (b : Turn). b.session) c.baton.view_is)) open_
+    let may : MayBegin (shown c.self.inside.journal c.self.inside.roster.settings c.self.inside.outboxes.boxes c.self.inside.plan.items c.self.inside.busy) c.args.baton.now c.args.moment = subst (λ m. MayBegin m c.args.baton.now c.args.moment) (sym c.self.view_is) c.in_ok-check_line.ensures.ok in
+    let few = may.turn.opened in let many = c.self.invariant.sound.sessions in let places = c.self.invariant.places in let to : s ≤ length a.seats = omega arith in
+    let open_ : (seat_at a.seats s).shut ≡ false = (c.self.invariant.each_seat s may.turn.from_1 to).shut ∙ may.not_shut in
+    subst (λ (t : ℕ). (seat_at a.seats t).shut ≡ false) (sym (ap (λ (b : Turn). b.session) c.baton.view_is)) open_

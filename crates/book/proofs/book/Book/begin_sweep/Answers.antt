@@ -4,7 +4,7 @@ use Rattle.book.specs.Book.{begun}
 use Rattle.book.proofs.book.Book.begin_sweep.Goals as goal
 
 pub returns-in_ok-sweep_one-in-Some-clause-some : goal.returns-in_ok-sweep_one-in-Some-clause-some
-returns-in_ok-sweep_one-in-Some-clause-some c =
+returns-in_ok-sweep_one-in-Some-clause-some over c =
     let swept = c.in_ok-sweep_one-in-Some.ensures in let session = sym swept.line.0 in (
       sym c.in-Some.ensures ∙ ap (λ (s : ℕ). Some s) session,
       swept.ok ∙ ap (λ (s : ℕ). begun c.args.self.now (Gone s) c.args.moment) session,

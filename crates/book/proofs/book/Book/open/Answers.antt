@@ -1,11 +1,11 @@
-use Rattle.std.proofs.Common.{arith, ◌≡◌, ◌+◌, ◌≤◌, ◌<◌, ◌∷◌, List, length, refl, sym, ap, ◌∙◌, subst}
+use Rattle.std.proofs.Common.{arith, ◌≡◌, ◌+◌, ◌≤◌, ◌<◌, ◌∷◌, [], ◌++◌, Some, List, length, sym, ap, ◌∙◌, subst}
 use Rattle.std.proofs.lemmas.Grind.{common_steps}
 use Rattle.chronicle.specs.declared.record.Kind.TheVariants.{Opened}
 use Rattle.chronicle.specs.Journal.{fresh_record}
 use Rattle.registration.specs.declared.settings.Settings.{Settings}
 use Rattle.roster.specs.declared.deed.Deed.{Deed}
 use Rattle.roster.specs.declared.deed.Deed.TheVariants as deed
-use Rattle.book.specs.Seats.{Rows}
+use Rattle.book.specs.Seats.{no_seat}
 use Rattle.book.specs.Kept.{IsKept}
 use Rattle.book.specs.Book.{MayOpen, held}
 use Rattle.book.proofs.Counted.{count_small}
@@ -14,10 +14,10 @@ use Rattle.book.proofs.KeptSteps.{shown, opened_kept}
 use Rattle.book.proofs.book.Book.open.Goals as goal
 
 pub invariant_of-self-2 : goal.invariant_of-self-2
-invariant_of-self-2 c =
+invariant_of-self-2 over c =
     let a = c.self.inside in
-    let may : MayOpen (shown a.journal a.roster.settings a.seats.boxes a.plan.items a.busy) c.args.moment = subst (λ m. MayOpen m c.args.moment) (sym c.self.view_is) (c.in-Ok.ensures.ok) in
-    let session : c.new-session.result ≡ length a.seats.seats + 1 = grind (arith, common_steps) in
+    let may : MayOpen (shown a.journal a.roster.settings a.outboxes.boxes a.plan.items a.busy) c.args.moment = subst (λ m. MayOpen m c.args.moment) (sym c.self.view_is) (c.in-Ok.ensures.ok) in
+    let session : c.new-session.result ≡ length a.seats + 1 = grind (arith, common_steps) in
     let told : c.in-Ok-clone.told ≡ c.args.host = grind (arith, common_steps) in
     let same = c.reserve.ensures.same in let app = c.append.ensures.appended in
     let history : c.append.new.self.history ≡ fresh_record a.journal.history c.args.moment (Opened c.new-session.result c.in-Ok-clone.told) ∷ a.journal.history =
@@ -27,26 +27,27 @@ invariant_of-self-2 c =
     let free : held a.journal.history + 2 ≤ c.append.new.self.room = let ok = c.reserve.ensures.ok in let more = app.room in grind (arith, common_steps) in
     let known : c.apply.new.self.facts ≡ deed.Opened c.new-session.result c.args.host ∷ a.roster.facts = c.apply.ensures.facts ∙ ap (λ (fs : List Deed). deed.Opened c.new-session.result c.args.host ∷ fs) c.prepare.ensures.facts in
     let settings : c.apply.new.self.settings ≡ a.roster.settings = c.apply.ensures.settings ∙ c.prepare.ensures.settings in
-    subst (λ (g : Settings). IsKept c.append.new.self g c.apply.new.self.facts c.open.new.self.seats c.open.new.self.boxes a.plan.items a.busy) (sym settings)
-    (subst (λ (r : Rows). IsKept c.append.new.self a.roster.settings c.apply.new.self.facts r.seats r.boxes a.plan.items a.busy) (sym c.in-Ok-open.ensures.ok)
-    (opened_kept a.journal c.append.new.self a.roster.settings a.roster.facts c.apply.new.self.facts a.seats.seats _
-    a.seats.boxes _ a.plan.items a.busy c.args.host c.in-Ok-clone.told c.args.moment c.new-session.result c.args.outbox c.self.invariant may c.requires.fresh session told history limit free known refl refl))
+    let boxes : c.open.new.self.boxes ≡ a.outboxes.boxes ++ Some c.args.outbox ∷ [] = c.open.ensures ∙ ap (λ xs. xs ++ Some c.args.outbox ∷ []) c.make_room.ensures.same in
+    let seats : c.open-is_err.new.self ≡ a.seats ++ no_seat ∷ [] = c.open-is_err.ensures.ok in
+    subst (λ (g : Settings). IsKept over.O.Outbox.sent c.append.new.self g c.apply.new.self.facts c.open-is_err.new.self c.open.new.self.boxes a.plan.items a.busy) (sym settings)
+    (opened_kept over.O.Outbox.sent a.journal c.append.new.self a.roster.settings a.roster.facts c.apply.new.self.facts a.seats c.open-is_err.new.self
+    a.outboxes.boxes c.open.new.self.boxes a.plan.items a.busy c.args.host c.in-Ok-clone.told c.args.moment c.new-session.result c.args.outbox c.self.invariant may c.requires.fresh session told history limit free known seats boxes)
 
 pub overflow_add-opened : goal.overflow_add-opened
-overflow_add-opened c =
+overflow_add-opened over c =
     let a = c.self.inside in let limit : a.journal.limit < 18446744073709551616 = subst (λ m. m.limit < 18446744073709551616) (sym c.self.view_is) c.in-Ok.ensures.fits in
     let few = sessions_le a.journal.history in let room = c.self.invariant.sound.room in let many = c.self.invariant.sound.sessions in let places = c.self.invariant.places in
-    let may : MayOpen (shown a.journal a.roster.settings a.seats.boxes a.plan.items a.busy) c.args.moment = subst (λ m. MayOpen m c.args.moment) (sym c.self.view_is) (c.in-Ok.ensures.ok) in
+    let may : MayOpen (shown a.journal a.roster.settings a.outboxes.boxes a.plan.items a.busy) c.args.moment = subst (λ m. MayOpen m c.args.moment) (sym c.self.view_is) (c.in-Ok.ensures.ok) in
     let more = may.room in let is = c.opened.ensures in omega arith
 
 pub open-requires-clause-held : goal.open-requires-clause-held
-open-requires-clause-held c =
+open-requires-clause-held over c =
     let a = c.self.inside in let i = c.self.invariant in let limit : a.journal.limit < 18446744073709551616 = subst (λ m. m.limit < 18446744073709551616) (sym c.self.view_is) c.in-Ok.ensures.fits in
-    let may : MayOpen (shown a.journal a.roster.settings a.seats.boxes a.plan.items a.busy) c.args.moment = subst (λ m. MayOpen m c.args.moment) (sym c.self.view_is) (c.in-Ok.ensures.ok) in
-    let more = may.room in let all = seats_held a.journal.history a.seats.seats a.seats.boxes i.each_seat (i.sound.sessions ∙ sym i.places) in omega arith
+    let may : MayOpen (shown a.journal a.roster.settings a.outboxes.boxes a.plan.items a.busy) c.args.moment = subst (λ m. MayOpen m c.args.moment) (sym c.self.view_is) (c.in-Ok.ensures.ok) in
+    let more = may.room in let all = seats_held a.journal.history a.seats a.outboxes.boxes i.each_seat (i.sound.sessions ∙ sym i.places) in omega arith
 
 pub open-requires-clause-here : goal.open-requires-clause-here
-open-requires-clause-here c =
+open-requires-clause-here over c =
     let a = c.self.inside in let limit : a.journal.limit < 18446744073709551616 = subst (λ m. m.limit < 18446744073709551616) (sym c.self.view_is) c.in-Ok.ensures.fits in
-    let may : MayOpen (shown a.journal a.roster.settings a.seats.boxes a.plan.items a.busy) c.args.moment = subst (λ m. MayOpen m c.args.moment) (sym c.self.view_is) (c.in-Ok.ensures.ok) in
-    let more = may.room in let few = sessions_le a.journal.history in let many = c.self.invariant.sound.sessions in let small = count_small a.seats.boxes in omega arith
+    let may : MayOpen (shown a.journal a.roster.settings a.outboxes.boxes a.plan.items a.busy) c.args.moment = subst (λ m. MayOpen m c.args.moment) (sym c.self.view_is) (c.in-Ok.ensures.ok) in
+    let more = may.room in let few = sessions_le a.journal.history in let many = c.self.invariant.sound.sessions in let small = count_small a.outboxes.boxes in omega arith

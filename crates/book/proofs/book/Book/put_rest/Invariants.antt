@@ -1,11 +1,11 @@
 use Rattle.std.proofs.Common.{◌≡◌, length}
-use Rattle.book.specs.Book.{put_all, IsOut}
+use Rattle.book.specs.Book.{Shown, IsPutAll, IsOut}
 use Rattle.book.proofs.book.Book.put_rest.Given as goal
 
--- what is left to put makes the whole, and the plan is the one that is out
+-- what puts the rest puts the whole, and the plan is the one that is out
 abbrev pub invariant-loop : goal.invariant-loop
-invariant-loop l = record {
-  rest : put_all l.self l.self.plan ≡ put_all l.fn.self l.fn.self.plan;
+invariant-loop over l = record {
+  rest : (k : Shown over.row.O.Denot) → IsPutAll over.O.Outbox.accepts over.O.Outbox.refuses l.self l.self.plan k → IsPutAll over.O.Outbox.accepts over.O.Outbox.refuses l.fn.self l.fn.self.plan k;
   out : IsOut l.self l.plan;
   number : l.plan.number ≡ l.fn.plan.number;
   session : l.plan.session ≡ l.fn.plan.session;
@@ -13,4 +13,4 @@ invariant-loop l = record {
 }
 
 abbrev pub decreases-loop : goal.decreases-loop
-decreases-loop l = length l.self.plan
+decreases-loop over l = length l.self.plan

@@ -1,14 +1,31 @@
-use Rattle.std.proofs.Common.{arith, ◌≤◌, length, refl, sym, subst}
-use Rattle.book.specs.Kept.{IsKept}
-use Rattle.book.specs.Seats.{Rows}
+use Rattle.std.proofs.Common.{arith, ◌≡◌, ◌≤◌, true, length, sym, ◌∙◌, subst}
 use Rattle.book.specs.Book.{MayReap}
 use Rattle.book.proofs.KeptSteps.{shown, reaped_kept}
 use Rattle.book.proofs.book.Book.reap.Goals as goal
 
 pub invariant_of-self : goal.invariant_of-self
-invariant_of-self c =
+invariant_of-self over c =
     let a = c.self.inside in let s = c.baton.inside.session in
-    let may : MayReap (shown a.journal a.roster.settings a.seats.boxes a.plan.items a.busy) s = subst (λ m. MayReap m s) (sym c.self.view_is) c.in-Ok.ensures.ok in
-    let few = may.known.opened in let many = c.self.invariant.sound.sessions in let to : s ≤ length a.seats.boxes = omega arith in
-    subst (λ (r : Rows). IsKept a.journal a.roster.settings a.roster.facts r.seats r.boxes a.plan.items a.busy) (sym c.give_up-count.ensures.given)
-    (reaped_kept a.journal a.roster.settings a.roster.facts a.seats.seats _ a.seats.boxes _ a.plan.items a.busy s c.self.invariant may.known.from_1 to may.gone refl refl)
+    let may : MayReap (shown a.journal a.roster.settings a.outboxes.boxes a.plan.items a.busy) s = subst (λ m. MayReap m s) (sym c.self.view_is) c.in-Ok.ensures.ok in
+    let few = may.known.opened in let many = c.self.invariant.sound.sessions in let to : s ≤ length a.outboxes.boxes = omega arith in
+    reaped_kept over.O.Outbox.sent a.journal a.roster.settings a.roster.facts a.seats c.give_up.new.self a.outboxes.boxes c.give_up-count.new.self.boxes a.plan.items a.busy s c.self.invariant may.known.from_1 to may.gone
+    c.give_up.ensures c.give_up-count.ensures.given
+
+pub give_up-requires-clause-seated : goal.give_up-requires-clause-seated
+give_up-requires-clause-seated over c =
+    let a = c.self.inside in let s = c.baton.inside.session in
+    let may : MayReap (shown a.journal a.roster.settings a.outboxes.boxes a.plan.items a.busy) s = subst (λ m. MayReap m s) (sym c.self.view_is) c.in-Ok.ensures.ok in
+    let few = may.known.opened in let many = c.self.invariant.sound.sessions in let places = c.self.invariant.places in record { from_1 = may.known.from_1; opened = (omega arith) }
+
+pub give_up-requires-clause-gone : goal.give_up-requires-clause-gone
+give_up-requires-clause-gone over c =
+    let a = c.self.inside in let s = c.baton.inside.session in
+    let may : MayReap (shown a.journal a.roster.settings a.outboxes.boxes a.plan.items a.busy) s = subst (λ m. MayReap m s) (sym c.self.view_is) c.in-Ok.ensures.ok in
+    let few = may.known.opened in let many = c.self.invariant.sound.sessions in let places = c.self.invariant.places in let to : s ≤ length a.seats = omega arith in
+    (c.self.invariant.each_seat s may.known.from_1 to).gone ∙ may.gone
+
+pub give_up-count-requires-clause-there : goal.give_up-count-requires-clause-there
+give_up-count-requires-clause-there over c =
+    let a = c.self.inside in let s = c.baton.inside.session in
+    let may : MayReap (shown a.journal a.roster.settings a.outboxes.boxes a.plan.items a.busy) s = subst (λ m. MayReap m s) (sym c.self.view_is) c.in-Ok.ensures.ok in
+    let few = may.known.opened in let many = c.self.invariant.sound.sessions in record { from_1 = may.known.from_1; opened = (omega arith); here = may.known.here }

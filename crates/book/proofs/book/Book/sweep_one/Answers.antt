@@ -7,7 +7,7 @@ use Rattle.roster.specs.declared.deed.Deed.{Deed}
 use Rattle.roster.specs.LookBack.{after, opened}
 use Rattle.drafts.specs.Effects.{deeds_of}
 use Rattle.deeds.specs.Departure.{departs}
-use Rattle.book.specs.Seats.{Rows}
+use Rattle.book.specs.declared.seat.Seat.{Seat}
 use Rattle.chronicle.specs.History.{sessions}
 use Rattle.book.specs.Kept.{IsKept}
 use Rattle.book.specs.Book.{MaySweep, to_sweep, plan_of, begun, held, newest_actor, newest_next, newest_missed}
@@ -15,56 +15,57 @@ use Rattle.book.proofs.Sweeps.{swept_is, seats_sweep}
 use Rattle.book.proofs.KeptSteps.{shown}
 use Rattle.book.proofs.Begins.{begun_is}
 use Rattle.book.proofs.Appends.{sweep_room, gone_plan, gone_kept}
+use Rattle.book.proofs.book.Book.sweep_one.Given as given
 use Rattle.book.proofs.book.Book.sweep_one.Goals as goal
 
 pub overflow_add-len : goal.overflow_add-len
-overflow_add-len c =
+overflow_add-len over c =
     let a = c.self.inside in let next = subst (λ m. to_sweep m.history ≡ Some c.args.session) (sym c.self.view_is) c.requires.next in
     let limit : a.journal.limit < 18446744073709551616 = subst (λ m. m.limit < 18446744073709551616) (sym c.self.view_is) c.held-room.ensures.fits in
-    let few = sweep_room a.journal a.roster.settings a.roster.facts a.seats.seats a.seats.boxes a.plan.items a.busy c.self.invariant c.args.session c.args.moment next in let some = few.0 in let seated = few.1 in let known = few.2 in let room = few.3 in
+    let few = sweep_room over.O.Outbox.sent a.journal a.roster.settings a.roster.facts a.seats a.outboxes.boxes a.plan.items a.busy c.self.invariant c.args.session c.args.moment next in let some = few.0 in let seated = few.1 in let known = few.2 in let room = few.3 in
     let len : c.len.result ≡ length a.journal.history = c.len.ensures in omega arith
 
 pub prepare_gone-requires-clause-known : goal.prepare_gone-requires-clause-known
-prepare_gone-requires-clause-known c =
+prepare_gone-requires-clause-known over c =
     let a = c.self.inside in let next = subst (λ m. to_sweep m.history ≡ Some c.args.session) (sym c.self.view_is) c.requires.next in
     let limit : a.journal.limit < 18446744073709551616 = subst (λ m. m.limit < 18446744073709551616) (sym c.self.view_is) c.held-room.ensures.fits in
-    let few = sweep_room a.journal a.roster.settings a.roster.facts a.seats.seats a.seats.boxes a.plan.items a.busy c.self.invariant c.args.session c.args.moment next in let some = few.0 in let seated = few.1 in let known = few.2 in let room = few.3 in
+    let few = sweep_room over.O.Outbox.sent a.journal a.roster.settings a.roster.facts a.seats a.outboxes.boxes a.plan.items a.busy c.self.invariant c.args.session c.args.moment next in let some = few.0 in let seated = few.1 in let known = few.2 in let room = few.3 in
     known
 
 pub append-requires : goal.append-requires
-append-requires c =
+append-requires over c =
     let a = c.self.inside in let next = subst (λ m. to_sweep m.history ≡ Some c.args.session) (sym c.self.view_is) c.requires.next in
     let limit : a.journal.limit < 18446744073709551616 = subst (λ m. m.limit < 18446744073709551616) (sym c.self.view_is) c.held-room.ensures.fits in
-    let few = sweep_room a.journal a.roster.settings a.roster.facts a.seats.seats a.seats.boxes a.plan.items a.busy c.self.invariant c.args.session c.args.moment next in let some = few.0 in let seated = few.1 in let known = few.2 in let room = few.3 in
+    let few = sweep_room over.O.Outbox.sent a.journal a.roster.settings a.roster.facts a.seats a.outboxes.boxes a.plan.items a.busy c.self.invariant c.args.session c.args.moment next in let some = few.0 in let seated = few.1 in let known = few.2 in let room = few.3 in
     let kept : c.held-room.result ≡ held a.journal.history = c.held-room.ensures.kept ∙ ap (λ m. held m.history) (sym c.self.view_is) in let ok = c.reserve.ensures.ok in grind (arith, common_steps)
 
 pub leave-requires : goal.leave-requires
-leave-requires c =
+leave-requires over c =
     let a = c.self.inside in let i = c.self.invariant in let next = subst (λ m. to_sweep m.history ≡ Some c.args.session) (sym c.self.view_is) c.requires.next in
-    record { next = seats_sweep a.journal.history a.seats.seats a.seats.boxes i.each_seat (i.places ∙ sym i.sound.sessions) ∙ next }
+    record { next = seats_sweep a.journal.history a.seats a.outboxes.boxes i.each_seat (i.places ∙ sym i.sound.sessions) ∙ next }
 
 -- the record that was appended, and the plan of its deliveries
-history : (c : goal.After-self-1) → c.append.new.self.history ≡ fresh_record c.self.inside.journal.history c.args.moment (Gone c.args.session) ∷ c.self.inside.journal.history
-history c =
+history : (over : given.Over) (c : goal.After-self-1 over) → c.append.new.self.history ≡ fresh_record c.self.inside.journal.history c.args.moment (Gone c.args.session) ∷ c.self.inside.journal.history
+history over c =
     c.append.ensures.appended.history ∙ ap (λ h. fresh_record h c.args.moment (Gone c.args.session) ∷ h) c.reserve.ensures.same.history
 
-limit : (c : goal.After-self-1) → c.append.new.self.limit ≡ c.self.inside.journal.limit
-limit c = c.append.ensures.appended.limit ∙ c.reserve.ensures.same.limit
+limit : (over : given.Over) (c : goal.After-self-1 over) → c.append.new.self.limit ≡ c.self.inside.journal.limit
+limit over c = c.append.ensures.appended.limit ∙ c.reserve.ensures.same.limit
 
-plan : (c : goal.After-self-1) → c.in_ok-prepared.prepared.plan.items ≡ plan_of c.self.inside.roster.settings c.self.inside.journal.history (Gone c.args.session) c.args.moment (length c.self.inside.seats.boxes)
-plan c =
+plan : (over : given.Over) (c : goal.After-self-1 over) → c.in_ok-prepared.prepared.plan.items ≡ plan_of c.self.inside.roster.settings c.self.inside.journal.history (Gone c.args.session) c.args.moment (length c.self.inside.outboxes.boxes)
+plan over c =
     let a = c.self.inside in let next = subst (λ m. to_sweep m.history ≡ Some c.args.session) (sym c.self.view_is) c.requires.next in
     let number : c.new-number.result ≡ length a.journal.history + 1 = grind (arith, common_steps) in
-    gone_plan a.journal a.roster.settings a.roster.facts a.seats.seats a.seats.boxes a.plan.items a.busy c.self.invariant c.args.session c.new-number.result c.args.moment c.in_ok-prepared.prepared.plan.items
+    gone_plan over.O.Outbox.sent a.journal a.roster.settings a.roster.facts a.seats a.outboxes.boxes a.plan.items a.busy c.self.invariant c.args.session c.new-number.result c.args.moment c.in_ok-prepared.prepared.plan.items
     next number c.in_ok-prepared.ensures.plan
 
-settings : (c : goal.After-self-1) → c.commit.new.roster.settings ≡ c.self.inside.roster.settings
-settings c = c.commit.ensures.settings ∙ c.prepare.ensures.settings
+settings : (over : given.Over) (c : goal.After-self-1 over) → c.commit.new.roster.settings ≡ c.self.inside.roster.settings
+settings over c = c.commit.ensures.settings ∙ c.prepare.ensures.settings
 
 pub invariant_of-self-2 : goal.invariant_of-self-2
-invariant_of-self-2 c =
+invariant_of-self-2 over c =
     let a = c.self.inside in let es = departs a.roster.facts c.args.session in let next = subst (λ m. to_sweep m.history ≡ Some c.args.session) (sym c.self.view_is) c.requires.next in
-    let may : MaySweep (shown a.journal a.roster.settings a.seats.boxes a.plan.items a.busy) c.args.moment = subst (λ m. MaySweep m c.args.moment) (sym c.self.view_is) c.requires.may in
+    let may : MaySweep (shown a.journal a.roster.settings a.outboxes.boxes a.plan.items a.busy) c.args.moment = subst (λ m. MaySweep m c.args.moment) (sym c.self.view_is) c.requires.may in
     let room : length c.in_ok-prepared.prepared.plan.items ≤ c.append.new.self.left = grind (arith, common_steps) in
     let kept : c.held-room.result ≡ held a.journal.history = c.held-room.ensures.kept ∙ ap (λ m. held m.history) (sym c.self.view_is) in
     let ok = c.reserve.ensures.ok in let more = c.append.ensures.appended.room in
@@ -72,23 +73,22 @@ invariant_of-self-2 c =
     let more_known : c.commit.new.roster.facts ≡ after a.roster.facts c.in_ok-prepared.prepared.deeds.items = c.commit.ensures.facts ∙ ap (λ (fs : List Deed). after fs c.in_ok-prepared.prepared.deeds.items) c.prepare.ensures.facts in
     let known : c.commit.new.roster.facts ≡ after a.roster.facts (deeds_of es) = more_known ∙ ap (after a.roster.facts) c.in_ok-prepared.ensures.deeds in
     let same : opened c.commit.new.roster.facts ≡ opened a.roster.facts = ap opened more_known ∙ c.in_ok-prepared.ensures.opened in
-    subst (λ (g : Settings). IsKept c.append.new.self g c.commit.new.roster.facts c.leave.new.self.seats c.leave.new.self.boxes c.in_ok-prepared.prepared.plan.items true) (sym (settings c))
-    (subst (λ (r : Rows). IsKept c.append.new.self a.roster.settings c.commit.new.roster.facts r.seats r.boxes c.in_ok-prepared.prepared.plan.items true) (sym c.leave.ensures)
-    (gone_kept a.journal a.roster.settings a.roster.facts a.seats.seats a.seats.boxes a.plan.items a.busy c.self.invariant c.append.new.self c.commit.new.roster.facts
-    c.in_ok-prepared.prepared.plan.items c.args.moment c.args.session may next (plan c) (history c) (limit c) room free known same))
+    subst (λ (g : Settings). IsKept over.O.Outbox.sent c.append.new.self g c.commit.new.roster.facts c.leave.new.self a.outboxes.boxes c.in_ok-prepared.prepared.plan.items true) (sym (settings over c))
+    (subst (λ (xs : List Seat). IsKept over.O.Outbox.sent c.append.new.self a.roster.settings c.commit.new.roster.facts xs a.outboxes.boxes c.in_ok-prepared.prepared.plan.items true) (sym c.leave.ensures)
+    (gone_kept over.O.Outbox.sent a.journal a.roster.settings a.roster.facts a.seats a.outboxes.boxes a.plan.items a.busy c.self.invariant c.append.new.self c.commit.new.roster.facts
+    c.in_ok-prepared.prepared.plan.items c.args.moment c.args.session may next (plan over c) (history over c) (limit over c) room free known same))
 
 pub returns-clause-ok : goal.returns-clause-ok
-returns-clause-ok c =
+returns-clause-ok over c =
     let a = c.self.inside in
-    ap (λ (g : Settings). shown c.append.new.self g c.leave.new.self.boxes c.in_ok-prepared.prepared.plan.items true) (settings c)
-    ∙ ap (λ (r : Rows). shown c.append.new.self a.roster.settings r.boxes c.in_ok-prepared.prepared.plan.items true) c.leave.ensures
-    ∙ begun_is a.journal c.append.new.self a.roster.settings a.seats.boxes a.plan.items c.in_ok-prepared.prepared.plan.items a.busy (Gone c.args.session) c.args.moment (history c) (limit c) (plan c)
+    ap (λ (g : Settings). shown c.append.new.self g a.outboxes.boxes c.in_ok-prepared.prepared.plan.items true) (settings over c)
+    ∙ begun_is a.journal c.append.new.self a.roster.settings a.outboxes.boxes a.plan.items c.in_ok-prepared.prepared.plan.items a.busy (Gone c.args.session) c.args.moment (history over c) (limit over c) (plan over c)
     ∙ ap (λ m. begun m (Gone c.args.session) c.args.moment) c.self.view_is
 
 pub returns-clause-out : goal.returns-clause-out
-returns-clause-out c =
+returns-clause-out over c =
     let a = c.self.inside in let h = a.journal.history in let next = subst (λ m. to_sweep m.history ≡ Some c.args.session) (sym c.self.view_is) c.requires.next in
-    let is = swept_is h c.args.session next in let eh = history c in
+    let is = swept_is h c.args.session next in let eh = history over c in
     let number : c.new-number.result ≡ length h + 1 = grind (arith, common_steps) in
     let longer : length c.append.new.self.history ≡ length h + 1 = ap length eh ∙ (let f : length (fresh_record h c.args.moment (Gone c.args.session) ∷ h) ≡ length h + 1 = omega arith in f) in
     let same : sessions c.append.new.self.history ≡ sessions h = ap sessions eh ∙ zero-add (sessions h) in
