@@ -75,10 +75,11 @@ module _ (seats : List Seat) (held : ℕ) (to_sweep : List ℕ) (room : ℕ) (i 
   -- ---- a session is shut
 
   open_seat : (s : ℕ) (was : Seat) → was ≡ seat_at seats s → was.shut ≡ false → was.gone ≡ false → (kept_by (seat_at seats s) ≡ 2) × (open_by (seat_at seats s) ≡ 2) × (sweeps seats s ≡ false)
-  open_seat s was is es eg =
-      (ap kept_by (sym is) ∙ ap (λ g. if g then 0 else (if was.shut then 1 else 2)) eg ∙ ap (λ b. if b then 1 else 2) es,
-      ap open_by (sym is) ∙ ap (λ g. if g then 0 else (if was.shut then 0 else 2)) eg ∙ ap (λ b. if b then 0 else 2) es,
-      ap (λ (x : Seat). x.shut && not x.gone) (sym is) ∙ ap (λ b. b && not was.gone) es)
+  open_seat s was is es eg = (
+    ap kept_by (sym is) ∙ ap (λ g. if g then 0 else (if was.shut then 1 else 2)) eg ∙ ap (λ b. if b then 1 else 2) es,
+    ap open_by (sym is) ∙ ap (λ g. if g then 0 else (if was.shut then 0 else 2)) eg ∙ ap (λ b. if b then 0 else 2) es,
+    ap (λ (x : Seat). x.shut && not x.gone) (sym is) ∙ ap (λ b. b && not was.gone) es,
+  )
 
   pub shut_kept : (s : ℕ) (was : Seat) → 0 < s → s ≤ length seats → was ≡ seat_at seats s → was.shut ≡ false → was.gone ≡ false → 1 ≤ held
   shut_kept s was from to is es eg =

@@ -476,7 +476,14 @@ impl<O: Outbox> Book<O> {
     {
         let room = self.held();
         let number = RecordNumber::new(self.journal.len() as u64 + 1);
-        let prepared = prepare_gone(self.alloc, &self.roster, &self.seats, session, number, moment)?;
+        let prepared = prepare_gone(
+            self.alloc,
+            &self.roster,
+            &self.seats,
+            session,
+            number,
+            moment,
+        )?;
         let Prepared {
             deeds,
             plan,

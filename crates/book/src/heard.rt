@@ -89,9 +89,11 @@ fn sort_by_session(heard: &mut Vec<Heard>) -> Result<(), AllocError>
     ensures texts { (t : ℕ) → text_for heard.new.items t ≡ text_for heard.old.items t }
     ensures order { OnOk result (rises 0 heard.new.items) }
 {
-    heard.sort_by_key(|one: &Heard| -> u64
-        ensures { result ≡ one.now.session }
-    { one.session.number() })?;
+    heard.sort_by_key(
+        |one: &Heard| -> u64
+            ensures { result ≡ one.now.session }
+        { one.session.number() },
+    )?;
     Ok(())
 }
 
