@@ -214,4 +214,4 @@ module _ {O : Type 0} where
   pub count_less : (boxes : List (Option O)) (k : ℕ) → k < length boxes → is_some (slice_index_or boxes k None) ≡ true → count_here (slice_set boxes k None) + 1 ≡ count_here boxes
   count_less boxes k l some =
       let sum = sum_by-set here_by boxes k None None l in let one : here_by (slice_index_or boxes k None) ≡ 1 = ap (λ b. if b then 1 else 0) some in
-      let none : here_by {O} None ≡ 0 = refl in omega arith
+      let none : here_by {O = O} None ≡ 0 = refl in omega arith

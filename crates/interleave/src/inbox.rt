@@ -266,7 +266,12 @@ pub(crate) fn begin(
 }
 
 /// Gives the plan of a session's line back, and the baton home.
-pub(crate) fn end(inboxes: &mut Vec<Inbox>, book: &mut Book<Ring>, session: SessionId, plan: Plan) -> Done
+pub(crate) fn end(
+    inboxes: &mut Vec<Inbox>,
+    book: &mut Book<Ring>,
+    session: SessionId,
+    plan: Plan,
+) -> Done
     requires from_1 { 0 < session }
     requires opened { session ≤ length inboxes.old.items }
     requires out { IsOut book.old plan }

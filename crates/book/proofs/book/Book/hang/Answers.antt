@@ -9,7 +9,7 @@ use Rattle.book.specs.Seats.{IsTaken, IsNotTaken}
 use Rattle.book.specs.Book.{MayHang, IsDone}
 use Rattle.book.proofs.KeptSteps.{shown}
 use Rattle.book.proofs.Begins.{hung_put_is, hung_miss_is}
-use Rattle.book.proofs.Appends.{hang_room, hung_put, hung_missed}
+use Rattle.book.proofs.Appends.{shut_seats, hang_room, hung_put, hung_missed}
 use Rattle.book.proofs.book.Book.hang.Goals as goal
 
 pub append-number-requires : goal.append-number-requires
@@ -51,7 +51,7 @@ invariant_of-self-2 over c =
     let known : c.end.new.self.facts ≡ Ended s w [] ∷ a.roster.facts = c.end.ensures.facts in
     subst (λ (g : Settings). IsKept over.O.Outbox.sent c.miss.new.self g c.end.new.self.facts c.shut.new.self c.offer.new.self.boxes a.plan.items a.busy) (sym c.end.ensures.settings)
     (subst (λ (xs : List Seat). IsKept over.O.Outbox.sent c.miss.new.self a.roster.settings c.end.new.self.facts xs c.offer.new.self.boxes a.plan.items a.busy) (sym c.shut.ensures)
-    (subst (λ xs. IsKept over.O.Outbox.sent c.miss.new.self a.roster.settings c.end.new.self.facts _ xs a.plan.items a.busy) (sym (c.offer.ensures.same c.if-offer.false))
+    (subst (λ xs. IsKept over.O.Outbox.sent c.miss.new.self a.roster.settings c.end.new.self.facts (shut_seats a.seats s) xs a.plan.items a.busy) (sym (c.offer.ensures.same c.if-offer.false))
     (hung_missed over.O.Outbox.sent a.journal a.roster.settings a.roster.facts a.seats a.outboxes.boxes a.plan.items a.busy c.self.invariant c.append-number.new.self c.miss.new.self c.end.new.self.facts
     s w c.args.moment may app.history app.limit left app.room known c.miss.ensures)))
 

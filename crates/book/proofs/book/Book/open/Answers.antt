@@ -7,7 +7,7 @@ use Rattle.roster.specs.declared.deed.Deed.{Deed}
 use Rattle.roster.specs.declared.deed.Deed.TheVariants as deed
 use Rattle.book.specs.Seats.{no_seat}
 use Rattle.book.specs.Kept.{IsKept}
-use Rattle.book.specs.Book.{MayOpen, held}
+use Rattle.book.specs.Book.{MayOpen, count_here, held}
 use Rattle.book.proofs.Counted.{count_small}
 use Rattle.book.proofs.Opened.{sessions_le, seats_held}
 use Rattle.book.proofs.KeptSteps.{shown, opened_kept}
@@ -27,11 +27,11 @@ invariant_of-self-2 over c =
     let free : held a.journal.history + 2 ≤ c.append.new.self.room = let ok = c.reserve.ensures.ok in let more = app.room in grind (arith, common_steps) in
     let known : c.apply.new.self.facts ≡ deed.Opened c.new-session.result c.args.host ∷ a.roster.facts = c.apply.ensures.facts ∙ ap (λ (fs : List Deed). deed.Opened c.new-session.result c.args.host ∷ fs) c.prepare.ensures.facts in
     let settings : c.apply.new.self.settings ≡ a.roster.settings = c.apply.ensures.settings ∙ c.prepare.ensures.settings in
-    let boxes : c.open.new.self.boxes ≡ a.outboxes.boxes ++ Some c.args.outbox ∷ [] = c.open.ensures ∙ ap (λ xs. xs ++ Some c.args.outbox ∷ []) c.make_room.ensures.same in
-    let seats : c.open-is_err.new.self ≡ a.seats ++ no_seat ∷ [] = c.open-is_err.ensures.ok in
-    subst (λ (g : Settings). IsKept over.O.Outbox.sent c.append.new.self g c.apply.new.self.facts c.open-is_err.new.self c.open.new.self.boxes a.plan.items a.busy) (sym settings)
-    (opened_kept over.O.Outbox.sent a.journal c.append.new.self a.roster.settings a.roster.facts c.apply.new.self.facts a.seats c.open-is_err.new.self
-    a.outboxes.boxes c.open.new.self.boxes a.plan.items a.busy c.args.host c.in-Ok-clone.told c.args.moment c.new-session.result c.args.outbox c.self.invariant may c.requires.fresh session told history limit free known seats boxes)
+    let boxes : c.open-2.new.self.boxes ≡ a.outboxes.boxes ++ Some c.args.outbox ∷ [] = c.open-2.ensures ∙ ap (λ xs. xs ++ Some c.args.outbox ∷ []) c.make_room.ensures.same in
+    let seats : c.open.new.self ≡ a.seats ++ no_seat ∷ [] = let ok = c.open.ensures.ok in grind (arith, common_steps) in
+    subst (λ (g : Settings). IsKept over.O.Outbox.sent c.append.new.self g c.apply.new.self.facts c.open.new.self c.open-2.new.self.boxes a.plan.items a.busy) (sym settings)
+    (opened_kept over.O.Outbox.sent a.journal c.append.new.self a.roster.settings a.roster.facts c.apply.new.self.facts a.seats c.open.new.self
+    a.outboxes.boxes c.open-2.new.self.boxes a.plan.items a.busy c.args.host c.in-Ok-clone.told c.args.moment c.new-session.result c.args.outbox c.self.invariant may c.requires.fresh session told history limit free known seats boxes)
 
 pub overflow_add-opened : goal.overflow_add-opened
 overflow_add-opened over c =
@@ -40,14 +40,14 @@ overflow_add-opened over c =
     let may : MayOpen (shown a.journal a.roster.settings a.outboxes.boxes a.plan.items a.busy) c.args.moment = subst (λ m. MayOpen m c.args.moment) (sym c.self.view_is) (c.in-Ok.ensures.ok) in
     let more = may.room in let is = c.opened.ensures in omega arith
 
-pub open-requires-clause-held : goal.open-requires-clause-held
-open-requires-clause-held over c =
+pub open-requires : goal.open-requires
+open-requires over c =
     let a = c.self.inside in let i = c.self.invariant in let limit : a.journal.limit < 18446744073709551616 = subst (λ m. m.limit < 18446744073709551616) (sym c.self.view_is) c.in-Ok.ensures.fits in
     let may : MayOpen (shown a.journal a.roster.settings a.outboxes.boxes a.plan.items a.busy) c.args.moment = subst (λ m. MayOpen m c.args.moment) (sym c.self.view_is) (c.in-Ok.ensures.ok) in
     let more = may.room in let all = seats_held a.journal.history a.seats a.outboxes.boxes i.each_seat (i.sound.sessions ∙ sym i.places) in omega arith
 
-pub open-requires-clause-here : goal.open-requires-clause-here
-open-requires-clause-here over c =
+pub open-requires-2-clause-few : goal.open-requires-2-clause-few
+open-requires-2-clause-few over c =
     let a = c.self.inside in let limit : a.journal.limit < 18446744073709551616 = subst (λ m. m.limit < 18446744073709551616) (sym c.self.view_is) c.in-Ok.ensures.fits in
     let may : MayOpen (shown a.journal a.roster.settings a.outboxes.boxes a.plan.items a.busy) c.args.moment = subst (λ m. MayOpen m c.args.moment) (sym c.self.view_is) (c.in-Ok.ensures.ok) in
-    let more = may.room in let few = sessions_le a.journal.history in let many = c.self.invariant.sound.sessions in let small = count_small a.outboxes.boxes in omega arith
+    let more = may.room in let few = sessions_le a.journal.history in let many = c.self.invariant.sound.sessions in let small = count_small a.outboxes.boxes in let goal : count_here a.outboxes.boxes + 1 < 18446744073709551616 = omega arith in subst (λ xs. count_here xs + 1 < 18446744073709551616) (sym c.make_room.ensures.same) goal
