@@ -1,3 +1,4 @@
 pub mod Owed
 pub mod Growth
 pub mod Items
+pub mod Text
