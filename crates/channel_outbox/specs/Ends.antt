@@ -1,9 +1,11 @@
 -- What clauses see of the two ends of an outbox: this project's own queue between two threads.
-use Rattle.std.specs.Prelude.{ℕ, List, [], ◌∷◌, ◌++◌, None, false}
+use Rattle.std.specs.Prelude.{◌≡◌, ◌≤◌, ℕ, List, [], ◌∷◌, ◌++◌, length, None, false}
 use Rattle.crossbeam_channel.specs.Claims.{Pass, view}
 use Rattle.crossbeam_channel.specs.Ring.{doing}
 use Rattle.crossbeam_channel.specs.declared.flavors.array.Stage.TheVariants.{Idle}
 use Rattle.deliveries.specs.declared.item.Item.{Item}
+use Rattle.channel_outbox.specs.declared.queue.PutFault.{PutFault}
+use Rattle.channel_outbox.specs.declared.queue.PutFault.TheVariants.{Full}
 use Rattle.channel_outbox.specs.declared.rule.Log.{Log}
 use Rattle.channel_outbox.specs.Rule.{log}
 
@@ -29,3 +31,15 @@ pub record Takings : Type 0 where
 -- an item was taken
 abbrev pub with_item : Takings → Item → Takings
 with_item w x = record { taken = w.taken ++ x ∷ []; channel = w.channel }
+
+-- an item was put
+abbrev pub with_sent : Puttings → Item → Puttings
+with_sent s x = record { sent = s.sent ++ x ∷ []; cap = s.cap; channel = s.channel }
+
+-- an item is put at the end
+abbrev pub accepts : Puttings → Item → Puttings → Type 0
+accepts s x t = t ≡ with_sent s x
+
+-- it isn't put for want of room only where as many were ever put as may wait; of any other cause nothing is known
+abbrev pub refuses : Puttings → PutFault → Type 0
+refuses s e = e ≡ Full → s.cap ≤ length s.sent

@@ -1,6 +1,8 @@
 -- What clauses see of an outbox: this project's own bounded queue.
-use Rattle.std.specs.Prelude.{ℕ, Bool, nat_lt, List, [], ◌∷◌, ◌++◌, length, take, drop}
+use Rattle.std.specs.Prelude.{◌≡◌, ℕ, Bool, true, false, nat_lt, List, [], ◌∷◌, ◌++◌, length, take, drop}
 use Rattle.deliveries.specs.declared.item.Item.{Item}
+use Rattle.channel_outbox.specs.declared.queue.PutFault.{PutFault}
+use Rattle.channel_outbox.specs.declared.queue.PutFault.TheVariants.{Full}
 
 -- the items that wait and how many may, and all that were ever taken, which the program doesn't keep
 pub record Waiting : Type 0 where
@@ -21,3 +23,11 @@ with_put b x = record { queue = b.queue ++ x ∷ []; cap = b.cap; taken = b.take
 -- the front, if there is one, was taken
 abbrev pub with_taken : Waiting → Waiting
 with_taken b = record { queue = drop 1 b.queue; cap = b.cap; taken = b.taken ++ take 1 b.queue }
+
+-- an item is put where there is room, at the end
+abbrev pub accepts : Waiting → Item → Waiting → Type 0
+accepts b x c = (has_room b ≡ true) × (c ≡ with_put b x)
+
+-- it isn't where there is none: then the outbox is full
+abbrev pub refuses : Waiting → PutFault → Type 0
+refuses b e = (e ≡ Full) × (has_room b ≡ false)

@@ -108,7 +108,8 @@ impl<R: Wait + Drop> Sender<R> {
 }
 
 impl<R: Wait + Drop> Outbox for Sender<R> {
-    ghost use Rattle.std.specs.Prelude.{⊤, true};
+    ghost use Rattle.std.specs.Prelude.{true};
+    ghost use Rattle.channel_outbox.specs.Ends.{accepts, refuses};
 
     type Taker = Writer;
 
@@ -126,7 +127,9 @@ impl<R: Wait + Drop> Outbox for Sender<R> {
 
     ghost may_be_cut = { true };
 
-    ghost tells = { λ a answer. ⊤ };
+    ghost accepts = { accepts };
+
+    ghost refuses = { refuses };
 
     fn put(&mut self, item: Item) -> Result<(), (PutFault, Item)> {
         match self
@@ -162,7 +165,7 @@ impl Writer {
         ensures took { IfOk result (λ x. self.new ≡ with_item self.old x) }
         ensures owed { IfOk result (λ x. deliveries self.new.taken ≡ owed_by_front x) }
         ensures whose { IfOk result (λ x. All (λ (y : Delivered). y.session ≡ x.session) self.old.taken) }
-        ensures settings { IfOk result (λ x. All (λ (y : Delivered). y.settings.value ≡ x.settings.value) self.old.taken) }
+        ensures settings { IfOk result (λ x. All (λ (y : Delivered). y.settings ≡ x.settings) self.old.taken) }
         ensures grows { IfOk result (λ x. All (λ (y : Delivered). Grows (front y) (front x)) self.old.taken) }
         ensures none { OnErr result (self.new ≡ self.old) }
     {
@@ -177,7 +180,7 @@ impl Writer {
         ensures took { IfOk result (λ x. self.new ≡ with_item self.old x) }
         ensures owed { IfOk result (λ x. deliveries self.new.taken ≡ owed_by_front x) }
         ensures whose { IfOk result (λ x. All (λ (y : Delivered). y.session ≡ x.session) self.old.taken) }
-        ensures settings { IfOk result (λ x. All (λ (y : Delivered). y.settings.value ≡ x.settings.value) self.old.taken) }
+        ensures settings { IfOk result (λ x. All (λ (y : Delivered). y.settings ≡ x.settings) self.old.taken) }
         ensures grows { IfOk result (λ x. All (λ (y : Delivered). Grows (front y) (front x)) self.old.taken) }
         ensures none { OnErr result (self.new ≡ self.old) }
     {

@@ -12,9 +12,10 @@ pub enum PutFault {
 
 /// A queue of items with a bound. One end puts, the other takes.
 pub trait Outbox: Drop {
-    ghost use Rattle.std.specs.Prelude.{◌≡◌, ◌≤◌, ◌∷◌, [], ◌++◌, ℕ, Bool, true, false, List, length, OnOk, OnErr, IfErr};
+    ghost use Rattle.std.specs.Prelude.{◌≡◌, ◌≤◌, ◌∷◌, [], ◌++◌, ℕ, Bool, true, List, length, OnOk, IfErr};
     ghost use Rattle.deliveries.specs.declared.item.Item.{Item};
     ghost use Rattle.deliveries.specs.Items.{Continues};
+    ghost use Rattle.channel_outbox.specs.declared.queue.PutFault.{PutFault};
     ghost use Rattle.channel_outbox.specs.declared.queue.PutFault.TheVariants.{Full, Cut};
 
     /// What takes the items out.
@@ -41,8 +42,11 @@ pub trait Outbox: Drop {
     /// Whether the end that takes may go by itself.
     ghost may_be_cut: { Bool };
 
-    /// What is known of an outbox that had room for an item, or had none.
-    ghost tells: { Self → Bool → Type 0 };
+    /// That an item is put into the one, which then is the other.
+    ghost accepts: { Self → Item → Self → Type 0 };
+
+    /// That an item isn't put for this cause.
+    ghost refuses: { Self → PutFault → Type 0 };
 
     /// Puts an item at the end. It takes no memory, and a fault gives the item back and changes nothing.
     fn put(&mut self, item: Item) -> Result<(), (PutFault, Item)>
@@ -51,9 +55,9 @@ pub trait Outbox: Drop {
         ensures same_room { room self.new ≡ room self.old }
         ensures same_taken { (w : Self.Taker) → taken self.new w ≡ taken self.old w }
         ensures ok { OnOk result (sent self.new ≡ sent self.old ++ item ∷ []) }
+        ensures accepted { OnOk result (accepts self.old item self.new) }
         ensures err { IfErr result (λ e. (e.1 ≡ item) × (self.new ≡ self.old)) }
-        ensures had_room { OnOk result (tells self.old true) }
-        ensures had_none { OnErr result (tells self.old false) }
+        ensures refused { IfErr result (λ e. refuses self.old e.0) }
         ensures full { IfErr result (λ e. e.0 ≡ Full → room self.old ≤ length (sent self.old)) }
         ensures cut { IfErr result (λ e. e.0 ≡ Cut → may_be_cut ≡ true) };
 

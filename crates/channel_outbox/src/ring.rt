@@ -57,7 +57,7 @@ impl Ring {
 
 impl Outbox for Ring {
     ghost use Rattle.std.specs.Prelude.{◌≡◌, ◌<◌, ◌↔◌, ◌++◌, false, length, IsOk, OnOk, IfErr};
-    ghost use Rattle.channel_outbox.specs.Ring.{has_room, with_put};
+    ghost use Rattle.channel_outbox.specs.Ring.{with_put, accepts, refuses};
     ghost use Rattle.channel_outbox.specs.declared.queue.PutFault.TheVariants.{Full};
 
     type Taker = ();
@@ -76,7 +76,9 @@ impl Outbox for Ring {
 
     ghost may_be_cut = { false };
 
-    ghost tells = { λ b answer. has_room b ≡ answer };
+    ghost accepts = { accepts };
+
+    ghost refuses = { refuses };
 
     fn put(&mut self, item: Item) -> Result<(), (PutFault, Item)>
         ensures room { IsOk result ↔ (length self.old.queue < self.old.cap) }

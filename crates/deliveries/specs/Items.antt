@@ -12,16 +12,16 @@ deliveries items = map (λ (x : Item). x.delivery) items
 
 -- the history in which an item is put
 abbrev pub front : Item → List Rec
-front x = x.front.value.history
+front x = x.front
 
 -- all that this history owes the item's session
 abbrev pub owed_by_front : Item → List Delivery
-owed_by_front x = owed x.settings.value (front x) x.session
+owed_by_front x = owed x.settings (front x) x.session
 
 -- an item may come after these: with it they are what its history owes its session; they are of that session and of that server,
 -- and the history of each grows to its own
 pub record Continues (before : List Item) (x : Item) : Type 0 where
   pub owed : deliveries (before ++ x ∷ []) ≡ owed_by_front x
   pub whose : All (λ (y : Item). y.session ≡ x.session) before
-  pub settings : All (λ (y : Item). y.settings.value ≡ x.settings.value) before
+  pub settings : All (λ (y : Item). y.settings ≡ x.settings) before
   pub grows : All (λ (y : Item). Grows (front y) (front x)) before

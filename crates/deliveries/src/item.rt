@@ -5,14 +5,23 @@ use crate::delivery::Delivery;
 use chronicle::{Journal, SessionId};
 use ghosts::Snapshot;
 use registration::Settings;
+use std::marker::Model;
 
-/// A delivery and the session that it is for. Clauses see beside these the journal in which it is put, and the server's settings.
+/// A delivery and the session that it is for. A clause sees beside these the history in which it is put, and the server's settings.
 #[derive(Drop)]
 pub struct Item {
-    pub delivery: Delivery,
-    pub session: SessionId,
-    pub front: Snapshot<Journal>,
-    pub settings: Snapshot<Settings>,
+    delivery: Delivery,
+    session: SessionId,
+    front: Snapshot<Journal>,
+    settings: Snapshot<Settings>,
+}
+
+impl Model for Item {
+    ghost use Rattle.deliveries.specs.Shown.{Shown};
+
+    ghost Value = { Shown };
+
+    ghost view = { λ x. record { delivery = x.delivery; session = x.session; front = x.front.value.history; settings = x.settings.value } };
 }
 
 impl Item {
@@ -25,8 +34,8 @@ impl Item {
     ) -> Item
         ensures delivery { result.delivery ≡ delivery }
         ensures session { result.session ≡ session }
-        ensures front { result.front.value ≡ journal.now }
-        ensures settings { result.settings.value ≡ settings.now }
+        ensures front { result.front ≡ journal.now.history }
+        ensures settings { result.settings ≡ settings.now }
     {
         Item {
             delivery,
@@ -34,5 +43,26 @@ impl Item {
             front: Snapshot::of(journal),
             settings: Snapshot::of(settings),
         }
+    }
+
+    /// What is delivered.
+    pub fn delivery(&self) -> &Delivery
+        ensures { result.now ≡ self.now.delivery }
+    {
+        &self.delivery
+    }
+
+    /// The session that it is for.
+    pub fn session(&self) -> SessionId
+        ensures { result ≡ self.now.session }
+    {
+        self.session
+    }
+
+    /// The delivery alone.
+    pub fn into_delivery(self) -> Delivery
+        ensures { result ≡ self.delivery }
+    {
+        self.delivery
     }
 }

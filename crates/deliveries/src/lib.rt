@@ -1,8 +1,10 @@
-//! Deliveries, what the history owes each session, and the items that stand in an outbox.
+//! Deliveries, what the history owes each session, the items that stand in an outbox, and how a delivery is written.
 #![tactic(auto)]
 
 mod delivery;
 mod item;
+mod writing;
 
 pub use delivery::Delivery;
 pub use item::Item;
+pub use writing::{WriteFault, write_out};

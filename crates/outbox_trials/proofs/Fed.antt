@@ -1,9 +1,9 @@
 -- One delivery more of a history whose lines are all too long.
-use Rattle.std.proofs.Common.{◌≡◌, ◌∙◌, ℕ, pos, ◌+◌, Bool, false, List, [], ◌∷◌, ◌++◌, length, ap, sym, refl, subst, arith, cond}
+use Rattle.std.proofs.Common.{◌≡◌, ◌∙◌, ℕ, pos, ◌+◌, Bool, false, List, [], ◌∷◌, ◌++◌, length, ap, sym, refl, subst, arith, cond, drop}
 use Rattle.std.specs.Prelude.{All, codes, nat_le, None}
 use Rattle.std.specs.List.{flat_map}
 use Rattle.std.proofs.lemmas.List.{map-append}
-use Rattle.std.proofs.lemmas.List.Elements.{All-nil, All-push, All-weaker}
+use Rattle.std.proofs.lemmas.List.Elements.{All-push, All-weaker}
 use Rattle.chronicle.specs.History.{Rec, shut, is_quit}
 use Rattle.chronicle.specs.Journal.{fresh_record}
 use Rattle.line_grammar.specs.Spelling.{untagged}
@@ -25,23 +25,7 @@ use Rattle.deliveries.specs.Growth.{Grows}
 use Rattle.deliveries.specs.Items.{Continues, deliveries, front, owed_by_front}
 use Rattle.deliveries.specs.Owed.{owed, told, item}
 use Rattle.deliveries.proofs.Growing.{grows_to_itself, grows_by_one, grows_on}
-use Rattle.outbox_trials.specs.Fed.{opens, says, server_name, line, IsFed}
-
-abbrev next : List Rec → List Rec
-next h = fresh_record h (pos 0) says ∷ h
-
-pub begins : (g : Settings) → g.server ≡ server_name → IsFed [] g (fresh_record [] (pos 0) opens ∷ []) 0
-begins g server = record {
-  server = server;
-  facts = refl;
-  sessions = refl;
-  still_here = refl;
-  number = refl;
-  owed = refl;
-  whose = All-nil (λ (y : Item). y.session ≡ 1);
-  settings = All-nil (λ (y : Item). y.settings.value ≡ g);
-  grows = All-nil (λ (y : Item). Grows (front y) (fresh_record [] (pos 0) opens ∷ []));
-}
+use Rattle.outbox_trials.specs.Fed.{says, next, server_name, line, IsFed, IsReady}
 
 -- the line, as a server of this name spells it
 abbrev spelled_by : List ℕ → List ℕ
@@ -75,8 +59,8 @@ unfolding is_quit
 still_open h here = here
 
 -- the next delivery may be put after those that were, and then one more was sent
-pub feeds : (sent : List Item) (g : Settings) (h : List Rec) (n : ℕ) (x : Item) → IsFed sent g h n
-    → x.delivery ≡ Lines (n + 2) line → x.session ≡ 1 → x.settings.value ≡ g → front x ≡ next h → Continues sent x × IsFed (sent ++ x ∷ []) g (next h) (n + 1)
+feeds : (sent : List Item) (g : Settings) (h : List Rec) (n : ℕ) (x : Item) → IsFed sent g h n
+    → x.delivery ≡ Lines (n + 2) line → x.session ≡ 1 → x.settings ≡ g → front x ≡ next h → Continues sent x × IsFed (sent ++ x ∷ []) g (next h) (n + 1)
 feeds sent g h n x fed delivery session settings here =
     let all : deliveries (sent ++ x ∷ []) ≡ owed g (next h) 1 =
     map-append (λ (y : Item). y.delivery) sent (x ∷ []) ∙ ap (λ (q : List Delivery × Delivery). q.0 ++ q.1 ∷ []) (λ i. (fed.owed i, delivery i)) ∙ sym (owed_next sent g h n fed) in
@@ -87,7 +71,7 @@ feeds sent g h n x fed delivery session settings here =
       record {
         owed = all ∙ mine;
         whose = subst (λ (s : ℕ). All (λ (y : Item). y.session ≡ s) sent) (sym session) fed.whose;
-        settings = subst (λ (s : Settings). All (λ (y : Item). y.settings.value ≡ s) sent) (sym settings) fed.settings;
+        settings = subst (λ (s : Settings). All (λ (y : Item). y.settings ≡ s) sent) (sym settings) fed.settings;
         grows = subst (λ (k : List Rec). All (λ (y : Item). Grows (front y) k) sent) (sym here) grown;
       },
       record {
@@ -98,7 +82,14 @@ feeds sent g h n x fed delivery session settings here =
         number = longer;
         owed = all;
         whose = All-push (λ (y : Item). y.session ≡ 1) sent x fed.whose session;
-        settings = All-push (λ (y : Item). y.settings.value ≡ g) sent x fed.settings settings;
+        settings = All-push (λ (y : Item). y.settings ≡ g) sent x fed.settings settings;
         grows = All-push (λ (y : Item). Grows (front y) (next h)) sent x grown (subst (λ (k : List Rec). Grows k (next h)) (sym here) (grows_to_itself (next h)));
       },
     )
+
+-- the delivery that comes next may be put, and with one record more the one after it comes next
+pub ready_again : (sent : List Item) (g : Settings) (h : List Rec) (n : ℕ) (x : Item) → IsReady sent g h n
+    → x.delivery ≡ Lines (n + 2) line → x.session ≡ 1 → x.settings ≡ g → front x ≡ h → Continues sent x × IsReady (sent ++ x ∷ []) g (next h) (n + 1)
+ready_again sent g h n x ready delivery session settings here =
+    let fed = feeds sent g (drop 1 h) n x ready.fed delivery session settings (here ∙ ready.newest) in
+    (fed.0, record { newest = refl; fed = subst (λ (k : List Rec). IsFed (sent ++ x ∷ []) g k (n + 1)) (sym ready.newest) fed.1 })

@@ -1,13 +1,12 @@
-//! A history that exists in proofs alone, whose deliveries are put into an outbox one after another.
+//! A history whose deliveries are put into an outbox one after another.
 ghost use Rattle.std.specs.Prelude.{◌≡◌, ◌+◌, [], ◌∷◌, None, pos, IfOk, IfSome, OnErr, slice_get};
 ghost use Rattle.channel_outbox.specs.Ring.{with_taken};
 ghost use Rattle.chronicle.specs.Journal.{fresh_record};
-ghost use Rattle.outbox_trials.specs.Fed.{opens, says, server_name};
+ghost use Rattle.outbox_trials.specs.Fed.{opens, says, next, server_name};
 
 use channel_outbox::{Outbox, PutFault, Ring};
 use chronicle::{Journal, Kind, Moment, RecordNumber, SessionId};
 use deliveries::{Delivery, Item};
-use ghosts::{Change, Snapshot, apply, copied};
 use line_grammar::{Octets, Piece};
 use registration::{Accounts, Settings};
 use std::alloc::{AllocError, Global};
@@ -18,33 +17,25 @@ const SERVER: &[u8; 11] = b"irc.example";
 /// What a session is told that says a line which is too long.
 const TOLD: &[u8; 45] = b":irc.example 417 * :Input line was too long\r\n";
 
-// One record more.
-struct Appends;
-
-impl Change<Journal, Kind> for Appends {
-    ghost use Rattle.outbox_trials.specs.Fed.{with_record};
-
-    ghost changed = { with_record };
-}
-
-/// An outbox, and the history by which deliveries were put into it. A clause sees the outbox and how many were put.
+/// An outbox, and the journal by which deliveries were put into it: of its newest record none was put yet. A clause sees the outbox
+/// and how many were put.
 #[derive(Drop)]
 pub struct Feed<O: Outbox> {
     outbox: O,
-    settings: Snapshot<Settings>,
-    front: Snapshot<Journal>,
+    settings: Settings,
+    journal: Journal,
     count: u64,
 }
 
 impl<O: Outbox> Model for Feed<O> {
     ghost use Rattle.std.specs.Prelude.{ℕ};
-    ghost use Rattle.outbox_trials.specs.Fed.{IsFed};
+    ghost use Rattle.outbox_trials.specs.Fed.{IsReady};
 
     ghost Value = { O × ℕ };
 
     ghost view = { λ a. (a.outbox, a.count) };
 
-    ghost invariant = { λ a. IsFed (O.sent a.outbox) a.settings.value a.front.value.history a.count };
+    ghost invariant = { λ a. IsReady (O.sent a.outbox) a.settings a.journal.history a.count };
 }
 
 /// The line that is too long.
@@ -59,10 +50,10 @@ fn line() -> Kind
 }
 
 /// A server's settings.
-fn settings(alloc: Global) -> Result<Snapshot<Settings>, AllocError>
-    ensures { IfOk result (λ g. g.value.server ≡ server_name) }
+fn settings(alloc: Global) -> Result<Settings, AllocError>
+    ensures { IfOk result (λ g. g.server ≡ server_name) }
 {
-    let settings = Settings {
+    Ok(Settings {
         server: Octets::copied(alloc, SERVER)?,
         info: Octets::from_vec(Vec::new(alloc)),
         version: Octets::from_vec(Vec::new(alloc)),
@@ -70,22 +61,22 @@ fn settings(alloc: Global) -> Result<Snapshot<Settings>, AllocError>
         motd: None,
         accounts: Accounts::new(alloc),
         sessions: 1,
-    };
-    Ok(Snapshot::of(&settings))
+    })
 }
 
-/// A journal in which session 1 was opened.
-fn opened(alloc: Global) -> Result<Snapshot<Journal>, AllocError>
-    ensures { IfOk result (λ j. j.value.history ≡ fresh_record [] (pos 0) opens ∷ []) }
+/// A journal in which session 1 was opened, and then said the line.
+fn opened(alloc: Global) -> Result<Journal, AllocError>
+    ensures { IfOk result (λ j. j.history ≡ next (fresh_record [] (pos 0) opens ∷ [])) }
 {
-    let journal = Journal::with_limit(alloc, 0)?;
-    let mut front = Snapshot::of(&journal);
+    let mut journal = Journal::with_limit(alloc, usize::MAX)?;
+    journal.reserve(2, 0).map_err(|_| AllocError)?;
     let opens = Kind::Opened {
         session: SessionId::new(1),
         host: Octets::from_vec(Vec::new(alloc)),
     };
-    apply::<Appends, Journal, Kind>(&mut front, &opens);
-    Ok(front)
+    journal.append(Moment::new(0), opens);
+    journal.append(Moment::new(0), line());
+    Ok(journal)
 }
 
 impl<O: Outbox> Feed<O> {
@@ -95,11 +86,11 @@ impl<O: Outbox> Feed<O> {
         ensures { IfOk result (λ f. f ≡ (outbox, 0)) }
     {
         let settings = settings(alloc)?;
-        let front = opened(alloc)?;
+        let journal = opened(alloc)?;
         Ok(Feed {
             outbox,
             settings,
-            front,
+            journal,
             count: 0,
         })
     }
@@ -140,17 +131,11 @@ impl<O: Outbox> Feed<O> {
             number: RecordNumber::new(number),
             text: Octets::copied(alloc, TOLD)?,
         };
-        let mut front = copied(&self.front);
-        apply::<Appends, Journal, Kind>(&mut front, &line());
-        let item = Item {
-            delivery,
-            session: SessionId::new(1),
-            front: copied(&front),
-            settings: copied(&self.settings),
-        };
+        self.journal.reserve(1, 0).map_err(|_| AllocError)?;
+        let item = Item::new(delivery, SessionId::new(1), &self.journal, &self.settings);
         match self.outbox.put(item) {
             Ok(()) => {
-                self.front = front;
+                self.journal.append(Moment::new(0), line());
                 self.count += 1;
                 Ok(None)
             }
@@ -171,7 +156,7 @@ impl Feed<Ring> {
 
 /// The number of the record whose lines an item delivers.
 pub fn number_of(item: &Item) -> Option<u64> {
-    match &item.delivery {
+    match item.delivery() {
         Delivery::Lines { number, text } if text.as_slice() == TOLD.as_slice() => {
             Some(number.number())
         }

@@ -3,7 +3,7 @@ use Rattle.std.proofs.Common.{◌≡◌, ◌∙◌, ◌++◌, List, ap, sym, sub
 use Rattle.std.proofs.lemmas.List.{take-append-drop}
 use Rattle.channel_outbox.specs.Ring.{Waiting}
 use Rattle.deliveries.specs.declared.item.Item.{Item}
-use Rattle.outbox_trials.specs.Fed.{IsFed}
+use Rattle.outbox_trials.specs.Fed.{IsReady}
 use Rattle.outbox_trials.proofs.feeding.Feed+Ring.take.Goals as goal
 
 pub invariant_of-self : goal.invariant_of-self
@@ -11,4 +11,4 @@ invariant_of-self c =
     let b = c.self.inside.outbox in
     let same : c.take_now.new.self.taken ++ c.take_now.new.self.queue ≡ b.taken ++ b.queue =
     ap (λ (w : Waiting). w.taken ++ w.queue) c.take_now.ensures.taken ∙ append_assoc b.taken (take 1 b.queue) (drop 1 b.queue) ∙ ap (λ (l : List Item). b.taken ++ l) (take-append-drop 1 b.queue) in
-    subst (λ (l : List Item). IsFed l c.self.inside.settings.value c.self.inside.front.value.history c.self.inside.count) (sym same) c.self.invariant
+    subst (λ (l : List Item). IsReady l c.self.inside.settings c.self.inside.journal.history c.self.inside.count) (sym same) c.self.invariant

@@ -1,0 +1,142 @@
+//! What goes out of a delivery, octet by octet, also where a writer fails, takes nothing or takes little at a time.
+use chronicle::{RecordNumber, Why};
+use deliveries::{Delivery, WriteFault, write_out};
+use line_grammar::Octets;
+use std::alloc::{AllocError, Global};
+use std::io;
+use std::io::{ErrorKind, Write};
+use std::test::Fail;
+
+/// Takes `most` octets in one write and `left` in all. After those it takes none, or fails.
+#[derive(Drop)]
+struct Narrow {
+    octets: Vec<u8>,
+    most: usize,
+    left: usize,
+    fails: bool,
+}
+
+impl Narrow {
+    fn new(alloc: Global, most: usize, left: usize, fails: bool) -> Narrow {
+        Narrow {
+            octets: Vec::new(alloc),
+            most,
+            left,
+            fails,
+        }
+    }
+}
+
+impl Write for Narrow {
+    fn write(&mut self, buf: &[u8]) -> io::Result<usize> {
+        if self.left == 0 && self.fails {
+            return Err(io::Error::from(ErrorKind::BrokenPipe));
+        }
+        let count = buf.len().min(self.most).min(self.left);
+        self.octets.extend_from_slice(&buf[..count])?;
+        self.left -= count;
+        Ok(count)
+    }
+
+    fn flush(&mut self) -> io::Result<()> {
+        Ok(())
+    }
+}
+
+const JOINED: &[u8] = b":al!u@h1 JOIN :#rust\r\n:irc.example 332 al #rust :Words\r\n";
+
+/// Each reason for an end, and what is told of it to who has the host h2.
+const ENDS: [(Why, &str); 7] = [
+    (Why::Quit, "ERROR :Closing Link: h2 (Client Quit)\r\n"),
+    (
+        Why::SendQ,
+        "ERROR :Closing Link: h2 (Max SendQ exceeded)\r\n",
+    ),
+    (
+        Why::ReadEnded,
+        "ERROR :Closing Link: h2 (Connection closed)\r\n",
+    ),
+    (Why::ReadFailed, "ERROR :Closing Link: h2 (Read error)\r\n"),
+    (
+        Why::WriteFailed,
+        "ERROR :Closing Link: h2 (Write error)\r\n",
+    ),
+    (Why::Memory, "ERROR :Closing Link: h2 (Out of memory)\r\n"),
+    (
+        Why::Shutdown,
+        "ERROR :Closing Link: h2 (Server shutting down)\r\n",
+    ),
+];
+
+/// The lines of a record.
+fn lines(alloc: Global) -> Result<Delivery, AllocError> {
+    Ok(Delivery::Lines {
+        number: RecordNumber::new(1),
+        text: Octets::copied(alloc, JOINED)?,
+    })
+}
+
+/// The end of a session.
+fn last(why: Why) -> Delivery {
+    Delivery::Last {
+        number: RecordNumber::new(2),
+        why,
+    }
+}
+
+/// Whether a delivery goes out whole to a writer that takes `most` octets at a time.
+fn is_whole(alloc: Global, delivery: &Delivery, want: &[u8], most: usize) -> bool {
+    let mut out = Narrow::new(alloc, most, 99, true);
+    write_out(delivery, b"h2", &mut out) == (want.len(), Ok(())) && out.octets.as_slice() == want
+}
+
+#[test]
+fn lines_go_out_whole(rt: HostRuntime) -> Result<(), Fail> {
+    let lines = lines(rt.alloc())?;
+    for most in [1, 2, 7, 99] {
+        assert!(rt;
+            is_whole(rt.alloc(), &lines, JOINED, most),
+            "{most} at a time"
+        );
+    }
+    Ok(())
+}
+
+#[test]
+fn the_end_of_a_session_goes_out_whole(rt: HostRuntime) {
+    for (why, want) in ENDS {
+        for most in [1, 2, 7, 99] {
+            assert!(rt;
+                is_whole(rt.alloc(), &last(why), want.as_bytes(), most),
+                "{most} at a time of {want}"
+            );
+        }
+    }
+}
+
+/// Whether the front of a delivery goes out to a writer that takes `left` octets, and then fails or takes none.
+fn is_front(
+    alloc: Global,
+    delivery: &Delivery,
+    want: &[u8],
+    left: usize,
+    fault: WriteFault,
+) -> bool {
+    let mut out = Narrow::new(alloc, 5, left, fault == WriteFault::Failed);
+    write_out(delivery, b"h2", &mut out) == (left, Err(fault))
+        && want.get(..left) == Some(out.octets.as_slice())
+}
+
+#[test]
+fn a_fault_leaves_the_front(rt: HostRuntime) -> Result<(), Fail> {
+    let (why, want) = ENDS[0];
+    for left in 0..want.len() {
+        for fault in [WriteFault::Failed, WriteFault::Zero] {
+            assert!(rt;
+                is_front(rt.alloc(), &last(why), want.as_bytes(), left, fault),
+                "{left} octets"
+            );
+        }
+    }
+    Ok(())
+}
