@@ -210,7 +210,11 @@ fn number_of(item: &Item) -> RecordNumber {
 }
 
 /// All that the records of the book owe to a session, read from the first of them. Fails where there is no memory.
-pub fn slow_owed<O: Outbox>(alloc: Global, book: &Book<O>, to: SessionId) -> Result<Vec<Item>, AllocError> {
+pub fn slow_owed<O: Outbox>(
+    alloc: Global,
+    book: &Book<O>,
+    to: SessionId,
+) -> Result<Vec<Item>, AllocError> {
     let mut reader = Reader::new(alloc, to);
     reader.read_on(book)?;
     Ok(reader.owed)

@@ -166,7 +166,14 @@ fn a_plan_that_is_dropped_leaves_the_book_busy(rt: HostRuntime) -> Result<(), Fa
 }
 
 /// Compares a session's nickname, none where it is empty, and whether it is on a channel.
-fn known(rt: &impl Abort, book: &Book<Ring>, session: u64, nick: &[u8], on: bool, channel: &Octets) {
+fn known(
+    rt: &impl Abort,
+    book: &Book<Ring>,
+    session: u64,
+    nick: &[u8],
+    on: bool,
+    channel: &Octets,
+) {
     let session = SessionId::new(session);
     match book.nick_of(session) {
         Some(own) => assert!(rt; own.as_slice() == nick),
@@ -221,7 +228,12 @@ fn take_lines(rt: &impl Abort, book: &mut Book<Ring>) -> Result<(), Fail> {
 }
 
 /// Ends al, whom bo is told of, and gives it up.
-fn end_first(rt: &impl Abort, alloc: Global, book: &mut Book<Ring>, first: Baton) -> Result<(), Fail> {
+fn end_first(
+    rt: &impl Abort,
+    alloc: Global,
+    book: &mut Book<Ring>,
+    first: Baton,
+) -> Result<(), Fail> {
     let channel = copied(alloc, b"#A")?;
     known(rt, book, 1, b"al", true, &channel);
     let first = hang_and_sweep(rt, book, first)?;
@@ -318,7 +330,12 @@ fn say_all(
 }
 
 /// Fills a journal for a session and so many lines of it, and ends the session.
-fn fill_book(rt: &impl Abort, alloc: Global, book: &mut Book<Ring>, lines: usize) -> Result<(), Fail> {
+fn fill_book(
+    rt: &impl Abort,
+    alloc: Global,
+    book: &mut Book<Ring>,
+    lines: usize,
+) -> Result<(), Fail> {
     let (_, mut baton) = open(rt, alloc, book, b"h1")?;
     say_all(rt, alloc, book, &mut baton, lines)?;
     end(rt, book, baton);
