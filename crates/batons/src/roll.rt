@@ -6,10 +6,10 @@ ghost use Rattle.register.specs.Shown.{new_stub};
 ghost use Rattle.batons.specs.Turn.{new_turn, next_turn};
 
 use crate::baton::Baton;
-use channel_outbox::Outbox;
 use chronicle::{Journal, SessionId};
 use ghosts::Snapshot;
 use line_grammar::Piece;
+use outbox::Outbox;
 use register::{Naming, Register, Stub};
 use std::marker::{Model, PhantomData};
 

@@ -5,10 +5,11 @@ use Rattle.std.specs.List.{list_any}
 use Rattle.chronicle.specs.declared.record.Kind.{Kind}
 use Rattle.chronicle.specs.declared.record.Kind.TheVariants as kind
 use Rattle.chronicle.specs.History.{Rec, sessions, said_by, accepted, misses, ends, shut, leaves, gone}
-use Rattle.outbox.specs.declared.item.Item.{Item}
+use Rattle.deliveries.specs.declared.delivery.Delivery.{Delivery}
+use Rattle.deliveries.specs.declared.item.Item.{Item}
 use Rattle.deeds.specs.Deeds.{facts, text}
 use Rattle.registration.specs.declared.settings.Settings.{Settings}
-use Rattle.book.specs.Owed.{item, delivery, owed}
+use Rattle.deliveries.specs.Owed.{item, delivery, owed}
 use Rattle.book.specs.Legal.{IsKind, AreMissed, IsLegal}
 
 -- a record doesn't end or take leave of who was never opened
@@ -34,7 +35,7 @@ delivery-none g h k moment t ik before =
 pub not_owed : (g : Settings) (h : List Rec) (t : ℕ) → IsLegal g h → sessions h < t → owed g h t ≡ []
 not_owed g [] t i l = refl
 not_owed g (r ∷ h) t i l =
-    let before : sessions h < t = omega arith in let E : List Item = [] in
+    let before : sessions h < t = omega arith in let E : List Delivery = [] in
     let d = delivery-none g h r.kind r.moment t i.2 before in
     rw (not_owed g h t i.4 before) (rw d (elim (misses r t || shut h t) as (λ b. cond b E E ≡ E) [ true ↦ refl | false ↦ refl ]))
 

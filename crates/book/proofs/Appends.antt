@@ -5,11 +5,12 @@ use Rattle.roster.specs.declared.deed.Deed.TheVariants.{Ended}
 use Rattle.line_grammar.specs.declared.splitter.Piece.{Piece}
 use Rattle.chronicle.specs.declared.record.Kind.TheVariants.{Said, Hung, Gone}
 use Rattle.chronicle.specs.declared.why.Why.{Why}
-use Rattle.chronicle.specs.History.{sessions, said_by, accepted, ends, shut, gone, is_quit}
+use Rattle.chronicle.specs.History.{Rec, sessions, said_by, accepted, ends, shut, gone, is_quit}
 use Rattle.chronicle.specs.Journal.{fresh_record, Misses}
 use Rattle.chronicle.specs.Journal as journal
-use Rattle.outbox.specs.declared.item.Item.{Item}
-use Rattle.outbox.specs.declared.item.Item.TheVariants.{Last}
+use Rattle.deliveries.specs.declared.delivery.Delivery.{Delivery}
+use Rattle.deliveries.specs.declared.item.Item.{Item}
+use Rattle.deliveries.specs.declared.delivery.Delivery.TheVariants.{Last}
 use Rattle.roster.specs.declared.deed.Deed.{Deed}
 use Rattle.commands.specs.Asked.{asked_of}
 use Rattle.roster.specs.LookBack.{after, caps, opened}
@@ -23,10 +24,11 @@ use Rattle.registration.specs.declared.settings.Settings.{Settings}
 use Rattle.book.specs.declared.plan.Planned.{Planned}
 use Rattle.book.specs.declared.seat.Seat.{Seat}
 use Rattle.book.specs.Kept.{IsKept}
-use Rattle.book.specs.Seats.{no_seat, seat_at, planned_from, IsTaken}
-use Rattle.book.specs.Book.{Turn, MayBegin, MayHang, MaySweep, held, plan_of, to_sweep}
+use Rattle.book.specs.Seats.{no_seat, seat_at, planned_from, MayFollow, IsTaken}
+use Rattle.book.specs.Book.{Turn, MayBegin, MayHang, MaySweep, box_at, held, plan_of, to_sweep}
 use Rattle.book.proofs.About.{not_gone_yet}
 use Rattle.book.proofs.KeptSteps.{shown, quiet, begun_kept, delivered_kept, dropped_kept, finished_kept}
+use Rattle.book.proofs.Sound.{next_follows}
 use Rattle.book.proofs.Sweeps.{swept_is}
 use Rattle.book.proofs.Begun.{held_after, held_less, hung_less, gone_less, plan_hung}
 use Rattle.book.proofs.Begins.{plan_right}
@@ -45,6 +47,10 @@ shut_seats seats s = slice_set seats (s - 1) (record { shut = true; gone = (seat
 
 abbrev pub left_seats : List Seat → ℕ → List Seat
 left_seats seats s = slice_set seats (s - 1) (record { shut = (seat_at seats s).shut; gone = true; accepted = (seat_at seats s).accepted })
+
+-- what a session is told that is hung
+abbrev pub last_item : Settings → List Rec → ℕ → Why → ℤ → Item
+last_item g h s w moment = record { delivery = Last (length h + 1) w; session = s; front = fresh_record h moment (Hung s w) ∷ h; settings = g }
 
 -- ---- a line
 
@@ -143,7 +149,7 @@ module _ {O : Type 0} (sent : O → List Item) (j : journal.Shown) (g : Settings
       → MayHang (shown j g boxes none busy) s moment
       → k.history ≡ fresh_record j.history moment (Hung s w) ∷ j.history → k.limit ≡ j.limit → 1 ≤ k.left → k.room + 1 ≡ j.room
       → more_known ≡ Ended s w [] ∷ known
-      → IsKept sent k g more_known (slice_set seats (s - 1) (record { shut = true; gone = (seat_at seats s).gone; accepted = (seat_at seats s).accepted })) boxes (record { session = s; item = Last (length j.history + 1) w } ∷ []) true
+      → IsKept sent k g more_known (slice_set seats (s - 1) (record { shut = true; gone = (seat_at seats s).gone; accepted = (seat_at seats s).accepted })) boxes (record { session = s; delivery = Last (length j.history + 1) w } ∷ []) true
   hung_begun k more_known s w moment may eh el room free ek =
       let h = j.history in let kind = Hung s w in let r = fresh_record h moment kind in
       let from : 0 < s = may.known.from_1 in let few = may.known.opened in let to : s ≤ length seats = seated s few in
@@ -165,16 +171,27 @@ module _ {O : Type 0} (sent : O → List Item) (j : journal.Shown) (g : Settings
   idle : (s : ℕ) (moment : ℤ) → MayHang (shown j g boxes none busy) s moment → none ≡ []
   idle s moment may = i.sound.idle may.idle
 
+  -- its last item may be put
+  pub hung_follows : (k : journal.Shown) (more_known : List Deed) (s : ℕ) (w : Why) (moment : ℤ)
+      → MayHang (shown j g boxes none busy) s moment
+      → k.history ≡ fresh_record j.history moment (Hung s w) ∷ j.history → k.limit ≡ j.limit → 1 ≤ k.left → k.room + 1 ≡ j.room
+      → more_known ≡ Ended s w [] ∷ known
+      → MayFollow sent (box_at boxes s) (last_item g j.history s w moment)
+  hung_follows k more_known s w moment may eh el room free ek =
+      let p : Planned = record { session = s; delivery = Last (length j.history + 1) w } in
+      let begun_ = hung_begun k more_known s w moment may eh el room free ek in
+      subst (λ (h : List Rec). MayFollow sent (box_at boxes s) (record { delivery = Last (length j.history + 1) w; session = s; front = h; settings = g })) eh (next_follows sent (shown k g boxes (p ∷ []) true) p [] refl begun_.sound)
+
   pub hung_put : (k : journal.Shown) (more_known : List Deed) (more : List (Option O)) (s : ℕ) (w : Why) (moment : ℤ) (accepts : O → Item → O → Type 0)
       → MayHang (shown j g boxes none busy) s moment
       → k.history ≡ fresh_record j.history moment (Hung s w) ∷ j.history → k.limit ≡ j.limit → 1 ≤ k.left → k.room + 1 ≡ j.room
       → more_known ≡ Ended s w [] ∷ known
-      → IsTaken sent accepts boxes (record { session = s; item = Last (length j.history + 1) w }) more
+      → IsTaken sent accepts boxes (last_item g j.history s w moment) more
       → IsKept sent k g more_known (shut_seats seats s) more none busy
   hung_put k more_known more s w moment accepts may eh el room free ek took =
-      let p : Planned = record { session = s; item = Last (length j.history + 1) w } in
+      let p : Planned = record { session = s; delivery = Last (length j.history + 1) w } in
       let begun_ = hung_begun k more_known s w moment may eh el room free ek in
-      let put = delivered_kept sent k g more_known (shut_seats seats s) boxes more (p ∷ []) [] true p took.before took.after begun_ refl took.here took.longer took.now in
+      let put = delivered_kept sent k g more_known (shut_seats seats s) boxes more (p ∷ []) [] true p took.before took.after begun_ refl took.here (took.longer ∙ ap (λ (h : List Rec). sent took.before ++ record { delivery = Last (length j.history + 1) w; session = s; front = h; settings = g } ∷ []) (sym eh)) took.now in
       subst (λ (c : Bool). IsKept sent k g more_known (shut_seats seats s) more none c) (sym may.idle)
       (subst (λ (xs : List Planned). IsKept sent k g more_known (shut_seats seats s) more xs false) (sym (idle s moment may)) (finished_kept sent k g more_known (shut_seats seats s) more [] true put refl))
 
@@ -185,7 +202,7 @@ module _ {O : Type 0} (sent : O → List Item) (j : journal.Shown) (g : Settings
       → Misses k n s
       → IsKept sent n g more_known (slice_set seats (s - 1) (record { shut = true; gone = (seat_at seats s).gone; accepted = (seat_at seats s).accepted })) boxes none busy
   hung_missed k n more_known s w moment may eh el room free ek missed =
-      let p : Planned = record { session = s; item = Last (length j.history + 1) w } in let x = seat_at seats s in let new : Seat = record { shut = true; gone = x.gone; accepted = x.accepted } in
+      let p : Planned = record { session = s; delivery = Last (length j.history + 1) w } in let x = seat_at seats s in let new : Seat = record { shut = true; gone = x.gone; accepted = x.accepted } in
       let places = slice_set seats (s - 1) new in
       let begun_ = hung_begun k more_known s w moment may eh el room free ek in
       let few = may.known.opened in let to : s ≤ length seats = seated s few in let from : 0 < s = may.known.from_1 in let l : s - 1 < length seats = omega arith in

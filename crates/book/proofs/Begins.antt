@@ -8,8 +8,9 @@ use Rattle.chronicle.specs.declared.why.Why.TheVariants.{Quit}
 use Rattle.chronicle.specs.History.{Rec, actor, sessions, ends, shut}
 use Rattle.chronicle.specs.Journal.{fresh_record, miss}
 use Rattle.chronicle.specs.Journal as journal
-use Rattle.outbox.specs.declared.item.Item.{Item}
-use Rattle.outbox.specs.declared.item.Item.TheVariants.{Last}
+use Rattle.deliveries.specs.declared.delivery.Delivery.{Delivery}
+use Rattle.deliveries.specs.declared.item.Item.{Item}
+use Rattle.deliveries.specs.declared.delivery.Delivery.TheVariants.{Last}
 use Rattle.outbox.specs.declared.queue.PutFault.{PutFault}
 use Rattle.book.specs.declared.out.Step.{Step}
 use Rattle.book.specs.declared.out.Step.TheVariants.{Put, Missed}
@@ -17,9 +18,9 @@ use Rattle.deeds.specs.Deeds.{facts, text}
 use Rattle.registration.specs.declared.settings.Settings.{Settings}
 use Rattle.book.specs.declared.plan.Planned.{Planned}
 use Rattle.book.specs.declared.seat.Seat.{Seat}
-use Rattle.book.specs.Owed.{item, told, reason}
+use Rattle.deliveries.specs.Owed.{item, told, reason}
 use Rattle.book.specs.Seats.{IsSeat, seat_at, hears, told as tells, told_to, told_own, planned_from, IsTaken, IsNotTaken}
-use Rattle.book.specs.Book.{Shown, due, puts, others, plan_by, plan_of, begun, is_here, delivered_to, dropped, finished, IsPutNext, IsPutAll, IsDone}
+use Rattle.book.specs.Book.{Shown, item_of, due, puts, others, plan_by, plan_of, begun, is_here, delivered_to, dropped, finished, IsPutNext, IsPutAll, IsDone}
 use Rattle.book.proofs.Begun.{plan_hung}
 use Rattle.book.proofs.KeptSteps.{shown, shown_with}
 
@@ -38,7 +39,7 @@ due_own g h k moment true t known e why =
     ap (λ b. cond (shut h t) [] (cond b (Last (length h + 1) (reason k) ∷ []) (item (length h + 1) (told g h k moment t)))) e ∙ ap (λ w. cond (shut h t) [] (Last (length h + 1) w ∷ [])) why
 due_own g h k moment false t known e why = due_told g h k moment t known e
 
-pub others_same : (f g : ℕ → List Item) (s t n m : ℕ) → 0 < t → t + n ≤ m + 1 → ((u : ℕ) → 0 < u → u ≤ m → s ≢ u → f u ≡ g u) → others f s t n ≡ others g s t n
+pub others_same : (f g : ℕ → List Delivery) (s t n m : ℕ) → 0 < t → t + n ≤ m + 1 → ((u : ℕ) → 0 < u → u ≤ m → s ≢ u → f u ≡ g u) → others f s t n ≡ others g s t n
 others_same f g s t zero m from to h = refl
 others_same f g s t (suc n) m from to h =
     rw (others_same f g s (t + 1) n m (omega arith) (omega arith) h) (elim (eqb_tells t s) [
@@ -76,7 +77,7 @@ begun_is j k g boxes none plan busy kind moment eh el ep =
 
 -- a session that is hung is told so at once, or misses it
 pub hung_is : {O : Type 0} (accepts : O → Item → O → Type 0) (refuses : O → PutFault → Type 0) (m n : Shown O) (s : ℕ) (w : Why) (moment : ℤ) (step : Step) → shut m.history s ≡ false
-    → IsPutNext accepts refuses (begun m (Hung s w) moment) (record { session = s; item = Last (length m.history + 1) w } ∷ []) (Some step) n → IsDone accepts refuses m (Hung s w) moment (finished n)
+    → IsPutNext accepts refuses (begun m (Hung s w) moment) (record { session = s; delivery = Last (length m.history + 1) w } ∷ []) (Some step) n → IsDone accepts refuses m (Hung s w) moment (finished n)
 hung_is accepts refuses m n s w moment step open_ is =
     let one = plan_hung m.settings m.history s w moment (length m.outboxes) open_ in
     (n, subst (λ (ps : List Planned). IsPutAll accepts refuses (begun m (Hung s w) moment) ps n) (sym one) (n, step, is, refl), refl)
@@ -87,12 +88,12 @@ module _ {O : Type 0} (sent : O → List Item) (accepts : O → Item → O → T
   before = shown j g boxes none busy
 
   abbrev last : Planned
-  last = record { session = s; item = Last (length j.history + 1) w }
+  last = record { session = s; delivery = Last (length j.history + 1) w }
 
   abbrev began : Shown O
   began = begun before (Hung s w) moment
 
-  pub hung_put_is : (more : List (Option O)) → IsTaken sent accepts boxes last more → IsDone accepts refuses before (Hung s w) moment (shown k g more none busy)
+  pub hung_put_is : (more : List (Option O)) → IsTaken sent accepts boxes (item_of began last) more → IsDone accepts refuses before (Hung s w) moment (shown k g more none busy)
   hung_put_is more i =
       let r = fresh_record j.history moment (Hung s w) in let n : Shown O = delivered_to began last [] i.after in
       let is : shown k g more none busy ≡ finished n =
@@ -103,7 +104,7 @@ module _ {O : Type 0} (sent : O → List Item) (accepts : O → Item → O → T
       subst (IsDone accepts refuses before (Hung s w) moment) (sym is)
       (hung_is accepts refuses before n s w moment (Put s) open_ (refl, record { before = i.before; after = i.after; here = i.here; accepted = i.accepted; book = refl }))
 
-  pub hung_miss_is : (m : journal.Shown) → IsNotTaken refuses boxes last → m.history ≡ miss k.history s → m.limit ≡ k.limit → IsDone accepts refuses before (Hung s w) moment (shown m g boxes none busy)
+  pub hung_miss_is : (m : journal.Shown) → IsNotTaken refuses boxes (item_of began last) → m.history ≡ miss k.history s → m.limit ≡ k.limit → IsDone accepts refuses before (Hung s w) moment (shown m g boxes none busy)
   hung_miss_is m i em lm =
       let r = fresh_record j.history moment (Hung s w) in let h = miss (r ∷ j.history) s in let n : Shown O = dropped began last [] in
       let is : shown m g boxes none busy ≡ finished n =

@@ -7,34 +7,38 @@ use Rattle.chronicle.specs.declared.record.Kind.{Kind}
 use Rattle.chronicle.specs.declared.record.Kind.TheVariants.{Hung, Gone}
 use Rattle.chronicle.specs.History.{Rec, actor, opened_by, sessions, ends, leaves, shut, gone, last_moment, IsMomentAfter}
 use Rattle.chronicle.specs.Journal.{fresh_record}
-use Rattle.outbox.specs.declared.item.Item.{Item}
+use Rattle.deliveries.specs.declared.delivery.Delivery.{Delivery}
+use Rattle.deliveries.specs.declared.item.Item.{Item}
 use Rattle.registration.specs.declared.settings.Settings.{Settings}
 use Rattle.book.specs.declared.plan.Planned.{Planned}
-use Rattle.outbox.specs.declared.item.Item.TheVariants.{Last}
-use Rattle.book.specs.Owed.{told, item, reason, delivery}
+use Rattle.deliveries.specs.declared.delivery.Delivery.TheVariants.{Last}
+use Rattle.deliveries.specs.Owed.{told, item, reason, delivery}
 use Rattle.book.specs.Legal.{IsKind}
 use Rattle.roster.specs.LookBack.{numbers}
+use Rattle.deliveries.specs.Items.{deliveries}
+use Rattle.deliveries.proofs.Growing.{grows_by_one}
+use Rattle.book.proofs.Sent.{sent_grown}
 use Rattle.book.specs.Book.{Shown, box_at, sent_by, kept_for, held, due, puts, others, plan_by, plan_of, planned, begun, IsPlan, IsSound}
 use Rattle.book.proofs.Sound.{sum_le, kept_less}
 
-pub planned_puts : (k t : ℕ) (xs : List Item) (ps : List Planned) → planned (puts k xs ++ ps) t ≡ cond (k == t) (xs ++ planned ps t) (planned ps t)
+pub planned_puts : (k t : ℕ) (xs : List Delivery) (ps : List Planned) → planned (puts k xs ++ ps) t ≡ cond (k == t) (xs ++ planned ps t) (planned ps t)
 planned_puts k t [] ps = let P = planned ps t in elim (k == t) as (λ c. P ≡ cond c P P) [ true ↦ refl | false ↦ refl ]
 planned_puts k t (x ∷ xs) ps =
     let P = planned ps t in
     rw (planned_puts k t xs ps) (elim (k == t) as (λ c. cond c (x ∷ cond c (xs ++ P) P) (cond c (xs ++ P) P) ≡ cond c (x ∷ (xs ++ P)) P) [ true ↦ refl | false ↦ refl ])
 
 -- one session's part of the others
-others_one : (f : ℕ → List Item) (s k n t : ℕ) → planned (cond (k == s) [] (puts k (f k)) ++ others f s (k + 1) n) t ≡ cond (k == s) (planned (others f s (k + 1) n) t) (cond (k == t) (f k ++ planned (others f s (k + 1) n) t) (planned (others f s (k + 1) n) t))
+others_one : (f : ℕ → List Delivery) (s k n t : ℕ) → planned (cond (k == s) [] (puts k (f k)) ++ others f s (k + 1) n) t ≡ cond (k == s) (planned (others f s (k + 1) n) t) (cond (k == t) (f k ++ planned (others f s (k + 1) n) t) (planned (others f s (k + 1) n) t))
 others_one f s k n t = let rest = others f s (k + 1) n in
     elim (k == s) as (λ c. planned (cond c [] (puts k (f k)) ++ rest) t ≡ cond c (planned rest t) (cond (k == t) (f k ++ planned rest t) (planned rest t))) [ true ↦ refl | false ↦ planned_puts k t (f k) rest ]
 
-others_before : (f : ℕ → List Item) (s k n t : ℕ) → t < k → planned (others f s k n) t ≡ []
+others_before : (f : ℕ → List Delivery) (s k n t : ℕ) → t < k → planned (others f s k n) t ≡ []
 others_before f s k zero t h = refl
 others_before f s k (suc n) t h =
     let ne : k ≢ t = omega arith in let none = others_before f s (k + 1) n t (omega arith) in
-    others_one f s k n t ∙ rw (ne_eqb k t ne) (rw none (let E : List Item = [] in elim (k == s) as (λ c. cond c E E ≡ E) [ true ↦ refl | false ↦ refl ]))
+    others_one f s k n t ∙ rw (ne_eqb k t ne) (rw none (let E : List Delivery = [] in elim (k == s) as (λ c. cond c E E ≡ E) [ true ↦ refl | false ↦ refl ]))
 
-others_actor : (f : ℕ → List Item) (s k n : ℕ) → planned (others f s k n) s ≡ []
+others_actor : (f : ℕ → List Delivery) (s k n : ℕ) → planned (others f s k n) s ≡ []
 others_actor f s k zero = refl
 others_actor f s k (suc n) =
     let none = others_actor f s (k + 1) n in
@@ -43,7 +47,7 @@ others_actor f s k (suc n) =
       | inr other ↦ rw other.0 none
     ]
 
-others_at : (f : ℕ → List Item) (s k n t : ℕ) → t ≢ s → k ≤ t → t < k + n → planned (others f s k n) t ≡ f t
+others_at : (f : ℕ → List Delivery) (s k n t : ℕ) → t ≢ s → k ≤ t → t < k + n → planned (others f s k n) t ≡ f t
 others_at f s k zero t ne h l = absurd (omega arith)
 others_at f s k (suc n) t ne h l =
     others_one f s k n t
@@ -57,7 +61,7 @@ others_at f s k (suc n) t ne h l =
     ]
 
 -- what a plan has for a session
-pub planned_plan : (f : ℕ → List Item) (s n t : ℕ) → 0 < t → t ≤ n → planned (plan_by f s n) t ≡ f t
+pub planned_plan : (f : ℕ → List Delivery) (s n t : ℕ) → 0 < t → t ≤ n → planned (plan_by f s n) t ≡ f t
 planned_plan f s n t from to =
     planned_puts s t (f s) (others f s 1 n)
     ∙ elim (eqb_tells s t) [
@@ -67,14 +71,14 @@ planned_plan f s n t from to =
 
 -- ---- each delivery of the plan is owed
 
-due_cases : (g : Settings) (h : List Rec) (k : Kind) (moment : ℤ) (t : ℕ) → (due g h k moment t ≡ []) ⊎ ((x : Item) × (due g h k moment t ≡ x ∷ []) × (delivery g h k moment t ≡ x ∷ []) × (shut h t ≡ false))
+due_cases : (g : Settings) (h : List Rec) (k : Kind) (moment : ℤ) (t : ℕ) → (due g h k moment t ≡ []) ⊎ ((x : Delivery) × (due g h k moment t ≡ x ∷ []) × (delivery g h k moment t ≡ x ∷ []) × (shut h t ≡ false))
 due_cases g h k moment t =
     let L = Last (length h + 1) (reason k) in
-    elim (shut h t) as (λ b. (cond b [] (delivery g h k moment t) ≡ []) ⊎ ((x : Item) × (cond b [] (delivery g h k moment t) ≡ x ∷ []) × (delivery g h k moment t ≡ x ∷ []) × (b ≡ false))) [
+    elim (shut h t) as (λ b. (cond b [] (delivery g h k moment t) ≡ []) ⊎ ((x : Delivery) × (cond b [] (delivery g h k moment t) ≡ x ∷ []) × (delivery g h k moment t ≡ x ∷ []) × (b ≡ false))) [
       | true ↦ inl refl
-      | false ↦ elim (ends k t) as (λ e. (cond e (L ∷ []) (item (length h + 1) (told g h k moment t)) ≡ []) ⊎ ((x : Item) × (cond e (L ∷ []) (item (length h + 1) (told g h k moment t)) ≡ x ∷ []) × (cond e (L ∷ []) (item (length h + 1) (told g h k moment t)) ≡ x ∷ []) × (false ≡ false))) [
+      | false ↦ elim (ends k t) as (λ e. (cond e (L ∷ []) (item (length h + 1) (told g h k moment t)) ≡ []) ⊎ ((x : Delivery) × (cond e (L ∷ []) (item (length h + 1) (told g h k moment t)) ≡ x ∷ []) × (cond e (L ∷ []) (item (length h + 1) (told g h k moment t)) ≡ x ∷ []) × (false ≡ false))) [
         | true ↦ inr (_, refl, refl, refl)
-        | false ↦ elim (told g h k moment t) as (λ ls. (item (length h + 1) ls ≡ []) ⊎ ((x : Item) × (item (length h + 1) ls ≡ x ∷ []) × (item (length h + 1) ls ≡ x ∷ []) × (false ≡ false))) [
+        | false ↦ elim (told g h k moment t) as (λ ls. (item (length h + 1) ls ≡ []) ⊎ ((x : Delivery) × (item (length h + 1) ls ≡ x ∷ []) × (item (length h + 1) ls ≡ x ∷ []) × (false ≡ false))) [
           | [] ↦ inl refl
           | l ∷ ls ↦ inr (_, refl, refl, refl)
         ]
@@ -84,7 +88,7 @@ due_cases g h k moment t =
 -- the parts of a plan for one session, before a plan in which it has nothing
 puts_ok : (g : Settings) (r : Rec) (h : List Rec) (n t : ℕ) (ps : List Planned) → r.missed ≡ [] → 0 < t → t ≤ n → planned ps t ≡ [] → IsPlan g (r ∷ h) n ps → IsPlan g (r ∷ h) n (puts t (due g h r.kind r.moment t) ++ ps)
 puts_ok g r h n t ps nobody from to none i =
-    let P : List Item → Type 0 = λ xs. IsPlan g (r ∷ h) n (puts t xs ++ ps) in
+    let P : List Delivery → Type 0 = λ xs. IsPlan g (r ∷ h) n (puts t xs ++ ps) in
     elim (due_cases g h r.kind r.moment t) [
       | inl e ↦ subst P (sym e) i
       | inr some ↦ subst P (sym some.1) (from, to, none, (some.2, some.3, rw nobody refl), i)
@@ -108,13 +112,14 @@ pub begun_sound : {O : Type 0} (sent : O → List Item) (m : Shown O) (k : Kind)
     → length m.history + 1 + held (fresh_record m.history moment k ∷ m.history) ≤ m.limit → IsSound sent (begun m k moment)
 begun_sound sent m k moment i free none from to is in_time room_ =
     let h = m.history in let g = m.settings in let n = length m.outboxes in let r = fresh_record h moment k in
-    let nothing : (t : ℕ) → sent_by sent (box_at m.outboxes t) ++ planned m.plan t ≡ sent_by sent (box_at m.outboxes t) =
-    λ t. ap (λ ps. sent_by sent (box_at m.outboxes t) ++ planned ps t) (i.idle free) ∙ append-nil _ in
+    let nothing : (t : ℕ) → deliveries (sent_by sent (box_at m.outboxes t)) ++ planned m.plan t ≡ deliveries (sent_by sent (box_at m.outboxes t)) =
+    λ t. ap (λ ps. deliveries (sent_by sent (box_at m.outboxes t)) ++ planned ps t) (i.idle free) ∙ append-nil _ in
     let same : opened_by k + sessions h ≡ sessions h = ap (λ (j : ℕ). j + sessions h) none ∙ zero-add (sessions h) in
     record {
       owed = λ t above below here.
-          ap (λ xs. sent_by sent (box_at m.outboxes t) ++ xs) (planned_plan (due g h k moment) (actor k) n t above below)
+          ap (λ xs. deliveries (sent_by sent (box_at m.outboxes t)) ++ xs) (planned_plan (due g h k moment) (actor k) n t above below)
           ∙ ap (λ xs. xs ++ due g h k moment t) (sym (nothing t) ∙ i.owed t above below here);
+      items = λ t above below. sent_grown g h (r ∷ h) t (sent_by sent (box_at m.outboxes t)) (grows_by_one h r) (i.items t above below);
       reaped = λ t above below away. rw (i.reaped t above below away) (elim (leaves k t) as (λ b. (b || true) ≡ true) [ true ↦ refl | false ↦ refl ]);
       plan = plan_ok g r h n (actor k) refl from to;
       idle = λ e. absurd (let f : true ≡ false = e in cc);
@@ -160,7 +165,7 @@ gone_less h s moment es eg = rw eg (rw es (rw (eq-eqb s s refl) (lit≤ tt)))
 
 -- ---- the plan of a session that is hung
 
-others_none : (f : ℕ → List Item) (s k n : ℕ) → ((t : ℕ) → s ≢ t → f t ≡ []) → others f s k n ≡ []
+others_none : (f : ℕ → List Delivery) (s k n : ℕ) → ((t : ℕ) → s ≢ t → f t ≡ []) → others f s k n ≡ []
 others_none f s k zero none = refl
 others_none f s k (suc n) none =
     rw (others_none f s (k + 1) n none) (elim (eqb_tells k s) [
@@ -168,13 +173,13 @@ others_none f s k (suc n) none =
       | inr other ↦ rw other.0 (rw (none k (λ e. other.1 (sym e))) refl)
     ])
 
-nothing_due : (n : ℕ) (b c : Bool) → (let E : List Item = [] in cond b E (item n (let N : List ℕ = [] in cond c N N))) ≡ []
+nothing_due : (n : ℕ) (b c : Bool) → (let E : List Delivery = [] in cond b E (item n (let N : List ℕ = [] in cond c N N))) ≡ []
 nothing_due n true c = refl
 nothing_due n false true = refl
 nothing_due n false false = refl
 
-pub plan_hung : (g : Settings) (h : List Rec) (s : ℕ) (w : Why) (moment : ℤ) (n : ℕ) → shut h s ≡ false → plan_of g h (Hung s w) moment n ≡ record { session = s; item = Last (length h + 1) w } ∷ []
+pub plan_hung : (g : Settings) (h : List Rec) (s : ℕ) (w : Why) (moment : ℤ) (n : ℕ) → shut h s ≡ false → plan_of g h (Hung s w) moment n ≡ record { session = s; delivery = Last (length h + 1) w } ∷ []
 plan_hung g h s w moment n open_ =
     let mine : due g h (Hung s w) moment s ≡ Last (length h + 1) w ∷ [] = rw open_ (rw (eq-eqb s s refl) refl) in
     let rest : others (due g h (Hung s w) moment) s 1 n ≡ [] = others_none (due g h (Hung s w) moment) s 1 n (λ t ne. rw (ne_eqb s t ne) (nothing_due (length h + 1) (shut h t) (nat_le t (sessions h)))) in
-    ap (λ xs. puts s xs ++ others (due g h (Hung s w) moment) s 1 n) mine ∙ ap (λ ps. record { session = s; item = Last (length h + 1) w } ∷ ps) rest
+    ap (λ xs. puts s xs ++ others (due g h (Hung s w) moment) s 1 n) mine ∙ ap (λ ps. record { session = s; delivery = Last (length h + 1) w } ∷ ps) rest

@@ -39,9 +39,10 @@ use Rattle.message_tags.specs.ClientOnly.{client_only_data}
 use Rattle.labels_batches.specs.Rendered.{spelled_line}
 use Rattle.deeds.specs.Deeds.{facts}
 use Rattle.drafts.specs.Lines.{prefix}
-use Rattle.outbox.specs.declared.item.Item.{Item}
-use Rattle.outbox.specs.declared.item.Item.TheVariants.{Lines, Last}
-use Rattle.book.specs.Owed.{owed}
+use Rattle.deliveries.specs.declared.delivery.Delivery.{Delivery}
+use Rattle.deliveries.specs.declared.item.Item.{Item}
+use Rattle.deliveries.specs.declared.delivery.Delivery.TheVariants.{Lines, Last}
+use Rattle.deliveries.specs.Owed.{owed}
 
 -- records that nobody missed, at moment 0; the newest stands first
 abbrev records : List Kind → List Rec
@@ -57,7 +58,7 @@ abbrev server : List Account → Settings
 server accounts = record { server = codes "irc.example"; info = codes "halld"; version = codes "halld-1"; created = pos 0; motd = None; accounts = accounts; sessions = 1024 }
 
 -- what the first session is owed for lines of it
-abbrev owes : List Account → List (List ℕ) → List Item
+abbrev owes : List Account → List (List ℕ) → List Delivery
 owes accounts xs = owed (server accounts) (records (says 1 0 xs (Opened 1 (codes "h1") ∷ []))) 1
 
 abbrev crlf : List ℕ
@@ -99,7 +100,7 @@ accounts = record { name = codes "al"; salt = codes "a"; digest = sha256 (codes 
 abbrev asks : List (List ℕ)
 asks = codes "CAP REQ sasl" ∷ codes "AUTHENTICATE PLAIN" ∷ []
 
-abbrev asked : List Item
+abbrev asked : List Delivery
 asked = Lines 2 (codes ":irc.example CAP * ACK :sasl" ++ crlf) ∷ Lines 3 (codes "AUTHENTICATE +" ++ crlf) ∷ []
 
 abbrev failed : List ℕ

@@ -7,7 +7,8 @@ use Rattle.std.specs.Ordering.{nat_cmp, is_lt}
 use Rattle.std.proofs.lemmas.List.{take_more, map-append}
 use Rattle.std.proofs.lemmas.List.Elements.{filter_agree}
 use Rattle.numerics.specs.declared.outgoing.Out.{Out}
-use Rattle.outbox.specs.declared.item.Item.{Item}
+use Rattle.deliveries.specs.declared.delivery.Delivery.{Delivery}
+use Rattle.deliveries.specs.declared.item.Item.{Item}
 use Rattle.roster.specs.declared.deed.Deed.{Deed}
 use Rattle.roster.specs.LookBack.{caps}
 use Rattle.labels_batches.specs.Answers.{tagged_as}
@@ -136,7 +137,7 @@ nothing_told : (b : Bool) (number : ℕ) → told b number [] ≡ []
 nothing_told true number = refl
 nothing_told false number = refl
 
-none_put : (t s : ℕ) (xs : List Item) → xs ≡ [] → cond (t == s) [] (puts t xs) ≡ []
+none_put : (t s : ℕ) (xs : List Delivery) → xs ≡ [] → cond (t == s) [] (puts t xs) ≡ []
 none_put t s xs e = rw e (let E : List Planned = [] in elim (t == s) as (λ b. cond b E E ≡ E) [ true ↦ refl | false ↦ refl ])
 
 -- to sessions past the last nothing is delivery_of
@@ -148,7 +149,7 @@ none_after seats s number m (x ∷ xs) c deaf =
     ap (λ ps. ps ++ deliveries_of seats s number xs) none ∙ rest
 
 -- each session in turn, from number k on
-pub others_joined : (seats : List Seat) (s number k n : ℕ) (f : ℕ → List Item) (xs : List Heard) → climbs k xs → ((t : ℕ) → k ≤ t → f t ≡ told_here seats number t (text_for xs t)) → ((t : ℕ) → k + n ≤ t → hears seats t ≡ false)
+pub others_joined : (seats : List Seat) (s number k n : ℕ) (f : ℕ → List Delivery) (xs : List Heard) → climbs k xs → ((t : ℕ) → k ≤ t → f t ≡ told_here seats number t (text_for xs t)) → ((t : ℕ) → k + n ≤ t → hears seats t ≡ false)
     → others f s k n ≡ deliveries_of seats s number xs
 others_joined seats s number k zero f xs c is deaf = sym (none_after seats s number k xs c (λ t l. deaf t (omega arith)))
 others_joined seats s number k (suc n) f [] c is deaf =
@@ -175,7 +176,7 @@ others_joined seats s number k (suc n) f (x ∷ xs) c is deaf =
 pub deliveries_others : (seats : List Seat) (s number : ℕ) (text : ℕ → List ℕ) (xs : List Heard) → rises 0 xs → ((t : ℕ) → text_for xs t ≡ text t)
     → deliveries_of seats s number (joined xs) ≡ others (told_to seats number text) s 1 (length seats)
 deliveries_others seats s number text xs up is =
-    let n = length seats in let f : ℕ → List Item = λ t. told_here seats number t (text_for (joined xs) t) in
+    let n = length seats in let f : ℕ → List Delivery = λ t. told_here seats number t (text_for (joined xs) t) in
     let deaf : (t : ℕ) → 0 + suc n ≤ t → hears seats t ≡ false = λ t l. let past : nat_le t n ≡ false = grind (arith, nat_tests) in rw past (elim (nat_lt 0 t) as (λ b. (b && false && not (seat_at seats t).shut) ≡ false) [ true ↦ refl | false ↦ refl ]) in
     let all = others_joined seats s number 0 (suc n) f (joined xs) (all_joined_climbs xs up) (λ t l. refl) deaf in
     let none = none_put 0 s (f 0) refl in

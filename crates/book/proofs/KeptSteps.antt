@@ -11,7 +11,8 @@ use Rattle.roster.specs.declared.deed.Deed.{Deed}
 use Rattle.registration.specs.declared.settings.Settings.{Settings}
 use Rattle.book.specs.declared.seat.Seat.{Seat}
 use Rattle.book.specs.declared.plan.Planned.{Planned}
-use Rattle.outbox.specs.declared.item.Item.{Item}
+use Rattle.deliveries.specs.declared.delivery.Delivery.{Delivery}
+use Rattle.deliveries.specs.declared.item.Item.{Item}
 use Rattle.outbox.specs.Ring.{Waiting, with_taken, put_into}
 use Rattle.deeds.specs.Deeds.{deeds, facts}
 use Rattle.roster.specs.LookBack.{after}
@@ -21,7 +22,7 @@ use Rattle.book.specs.Legal.{IsKind, IsLegal}
 use Rattle.book.specs.Kept.{IsKept}
 use Rattle.std.specs.Option.{is_some}
 use Rattle.book.specs.Seats.{IsSeat, no_seat, away, seat_at}
-use Rattle.book.specs.Book.{Shown, MayOpen, box_at, outbox_at, is_here, held, plan_of, IsPlan, IsSound}
+use Rattle.book.specs.Book.{Shown, item_of, MayOpen, box_at, outbox_at, is_here, held, plan_of, IsPlan, IsSound}
 use Rattle.book.proofs.About.{not_shut, not_gone, not_accepted, gone_shut}
 use Rattle.book.proofs.Opened.{opened_sound, opened_held}
 use Rattle.book.proofs.Sound.{misses_same, misses_other, held_missed, box_same, box_other, was_here, delivered_sound, dropped_sound, finished_sound, taken_sound, reaped_sound}
@@ -126,7 +127,7 @@ module _ {O : Type 0} (sent : O → List Item) where
   -- ---- a delivery is put, or missed
 
   pub delivered_kept : (j : journal.Shown) (g : Settings) (known : List Deed) (seats : List Seat) (boxes more : List (Option O)) (plan qs : List Planned) (busy : Bool) (p : Planned) (a b : O)
-      → IsKept sent j g known seats boxes plan busy → plan ≡ p ∷ qs → box_at boxes p.session ≡ Some a → sent b ≡ sent a ++ p.item ∷ [] → more ≡ slice_set boxes (p.session - 1) (Some b) → IsKept sent j g known seats more qs busy
+      → IsKept sent j g known seats boxes plan busy → plan ≡ p ∷ qs → box_at boxes p.session ≡ Some a → sent b ≡ sent a ++ item_of (shown j g boxes plan busy) p ∷ [] → more ≡ slice_set boxes (p.session - 1) (Some b) → IsKept sent j g known seats more qs busy
   delivered_kept j g known seats boxes more plan qs busy p a b i e at grew em =
       let new = slice_set boxes (p.session - 1) (Some b) in
       let len : length new ≡ length boxes = simp length-set in let longer : length plan ≡ length (p ∷ qs) = ap length e in let was = i.left in
@@ -269,6 +270,7 @@ module _ {O : Type 0} (sent : O → List Item) where
       record {
         sound = record {
           owed = λ t from to here. absurd (omega arith);
+          items = λ t from to. absurd (omega arith);
           reaped = λ t from to away. absurd (omega arith);
           plan = subst (IsPlan g j.history (length boxes)) (sym ep) tt;
           idle = λ e. ep;

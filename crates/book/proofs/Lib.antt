@@ -1,5 +1,6 @@
 pub mod About
 pub mod Opened
+pub mod Sent
 pub mod Sound
 pub mod Listed
 pub mod Counted

@@ -2,22 +2,26 @@
 use Rattle.std.proofs.lemmas.List.{get_or_push, get_or_append_left}
 use Rattle.std.proofs.lemmas.List.Sums.{sum_by-cons, sum_by_push}
 use Rattle.std.proofs.lemmas.Bool.Decides.{eqb_tells}
-use Rattle.std.proofs.Common.{◌≡◌, inl, inr, ℕ, ℤ, zero, suc, ◌+◌, ◌-◌, ◌<◌, ◌≤◌, Bool, true, false, ◌||◌, ◌==◌, nat_le, cond, List, [], ◌∷◌, ◌++◌, length, sum_by, slice_index_or, Option, Some, None, arith, refl, sym, ap, ◌∙◌, append-nil, length-append, lit≤}
+use Rattle.std.proofs.Common.{◌≡◌, inl, inr, ℕ, ℤ, zero, suc, ◌+◌, ◌-◌, ◌<◌, ◌≤◌, Bool, true, false, ◌||◌, ◌==◌, nat_le, cond, List, [], ◌∷◌, ◌++◌, length, sum_by, slice_index_or, Option, Some, None, arith, refl, sym, ap, ◌∙◌, subst, append-nil, length-append, lit≤}
 use Rattle.std.specs.Option.{is_some}
 use Rattle.chronicle.specs.declared.record.Kind.TheVariants.{Opened, Said, Hung, Gone}
 use Rattle.chronicle.specs.declared.record.Kind.{Kind}
 use Rattle.chronicle.specs.History.{Rec, opened_by, sessions, accepted, said_by, misses, shut, gone}
 use Rattle.chronicle.specs.Journal.{fresh_record}
-use Rattle.outbox.specs.declared.item.Item.{Item}
+use Rattle.deliveries.specs.declared.delivery.Delivery.{Delivery}
+use Rattle.deliveries.specs.declared.item.Item.{Item}
 use Rattle.book.specs.declared.seat.Seat.{Seat}
 use Rattle.registration.specs.declared.caps.Caps.{Caps}
 use Rattle.labels_batches.specs.declared.answers.Tagged.{Tagged}
 use Rattle.labels_batches.specs.Rendered.{rendered}
 use Rattle.deeds.specs.Deeds.{facts}
-use Rattle.book.specs.Owed.{item, owed}
+use Rattle.deliveries.specs.Owed.{item, owed}
 use Rattle.book.specs.Seats.{no_seat, kept_by, IsSeat, seat_at}
 use Rattle.roster.specs.LookBack.{caps, numbers}
-use Rattle.book.specs.Book.{Shown, MayOpen, is_here, sent_by, kept_for, held, planned, opened, IsSound}
+use Rattle.deliveries.specs.Items.{deliveries}
+use Rattle.deliveries.proofs.Growing.{grows_by_one}
+use Rattle.book.proofs.Sent.{sent_none, sent_grown}
+use Rattle.book.specs.Book.{Shown, MayOpen, IsSent, box_at, is_here, sent_by, kept_for, held, planned, opened, IsSound}
 use Rattle.book.proofs.About.{not_owed}
 
 pub numbers_push : (k n : ℕ) → numbers k (suc n) ≡ numbers k n ++ (k + n) ∷ []
@@ -47,7 +51,7 @@ pub opened_sound : {O : Type 0} (sent : O → List Item) (m : Shown O) (host : L
 opened_sound sent m host moment box i may fresh =
     let h = m.history in let g = m.settings in let n = length m.outboxes in let r = fresh_record h moment (Opened (sessions h + 1) host) in
     let boxes = m.outboxes ++ Some box ∷ [] in let more : length boxes ≡ n + 1 = length-append m.outboxes (Some box ∷ []) in
-    let same : (t : ℕ) → owed g (r ∷ h) t ≡ owed g h t = λ t. let E : List Item = [] in ap (λ xs. owed g h t ++ cond (misses r t || shut h t) [] (item (length h + 1) xs)) (nothing_told (caps (facts g h) t) moment (nat_le t (sessions h)) ((sessions h + 1) == t)) ∙ ap (λ xs. owed g h t ++ xs) (elim (misses r t || shut h t) as (λ b. cond b E E ≡ E) [ true ↦ refl | false ↦ refl ]) ∙ append-nil (owed g h t) in
+    let same : (t : ℕ) → owed g (r ∷ h) t ≡ owed g h t = λ t. let E : List Delivery = [] in ap (λ xs. owed g h t ++ cond (misses r t || shut h t) [] (item (length h + 1) xs)) (nothing_told (caps (facts g h) t) moment (nat_le t (sessions h)) ((sessions h + 1) == t)) ∙ ap (λ xs. owed g h t ++ xs) (elim (misses r t || shut h t) as (λ b. cond b E E ≡ E) [ true ↦ refl | false ↦ refl ]) ∙ append-nil (owed g h t) in
     let count : sessions (r ∷ h) ≡ n + 1 = let e = i.sessions in let goal : 1 + sessions h ≡ n + 1 = omega arith in goal in
     let idle : m.plan ≡ [] = i.idle may.idle in
     let last : (t : ℕ) → t ≡ n + 1 → slice_index_or boxes (t - 1) None ≡ Some box = λ t e. let p : n ≡ t - 1 = omega arith in get_or_push m.outboxes (Some box) None (t - 1) p in
@@ -58,11 +62,19 @@ opened_sound sent m host moment box i may fresh =
           elim (eqb_tells t (n + 1)) [
             | inl end ↦
                 let none : owed g h t ≡ [] = not_owed g h t i.legal (let e = end.1 in let s = i.sessions in omega arith) in
-                let empty : sent box ++ planned m.plan t ≡ [] = rw fresh (ap (λ ps. planned ps t) idle) in
-                ap (λ o. sent_by sent o ++ planned m.plan t) (last t end.1) ∙ empty ∙ sym none ∙ sym (same t)
+                let empty : deliveries (sent box) ++ planned m.plan t ≡ [] = rw fresh (ap (λ ps. planned ps t) idle) in
+                ap (λ o. deliveries (sent_by sent o) ++ planned m.plan t) (last t end.1) ∙ empty ∙ sym none ∙ sym (same t)
             | inr other ↦
                 let below : t ≤ n = let ne = other.1 in omega arith in let is = kept t from below in
-                ap (λ o. sent_by sent o ++ planned m.plan t) is ∙ i.owed t from below (ap (λ o. is_some o) (sym is) ∙ here) ∙ sym (same t)
+                ap (λ o. deliveries (sent_by sent o) ++ planned m.plan t) is ∙ i.owed t from below (ap (λ o. is_some o) (sym is) ∙ here) ∙ sym (same t)
+          ];
+      items = λ t from to.
+          let to' : t ≤ n + 1 = omega arith in
+          elim (eqb_tells t (n + 1)) [
+            | inl end ↦ subst (λ o. IsSent g (r ∷ h) t (sent_by sent o)) (sym (last t end.1)) (subst (IsSent g (r ∷ h) t) (sym fresh) (sent_none g (r ∷ h) t))
+            | inr other ↦
+                let below : t ≤ n = let ne = other.1 in omega arith in
+                subst (λ o. IsSent g (r ∷ h) t (sent_by sent o)) (sym (kept t from below)) (sent_grown g h (r ∷ h) t (sent_by sent (box_at m.outboxes t)) (grows_by_one h r) (i.items t from below))
           ];
       reaped = λ t from to away.
           let to' : t ≤ n + 1 = omega arith in

@@ -3,14 +3,14 @@ use Rattle.std.proofs.Common.{◌≡◌, ℕ, List, ◌∷◌, Option, Some, ref
 use Rattle.chronicle.specs.History.{Rec}
 use Rattle.chronicle.specs.Journal.{miss}
 use Rattle.book.specs.declared.plan.Planned.{Planned}
-use Rattle.outbox.specs.declared.item.Item.{Item}
+use Rattle.deliveries.specs.declared.item.Item.{Item}
 use Rattle.outbox.specs.declared.queue.PutFault.{PutFault}
 use Rattle.book.specs.declared.out.Step.TheVariants.{Put, Missed}
 use Rattle.book.specs.Seats.{IsTaken, IsNotTaken}
-use Rattle.book.specs.Book.{Shown, dropped, IsPutNext}
+use Rattle.book.specs.Book.{Shown, item_of, dropped, IsPutNext}
 
 -- the delivery was put
-pub put_is : {O : Type 0} (sent : O → List Item) (accepts : O → Item → O → Type 0) (refuses : O → PutFault → Type 0) (m : Shown O) (p : Planned) (qs : List Planned) (more : List (Option O)) → m.plan ≡ p ∷ qs → IsTaken sent accepts m.outboxes p more
+pub put_is : {O : Type 0} (sent : O → List Item) (accepts : O → Item → O → Type 0) (refuses : O → PutFault → Type 0) (m : Shown O) (p : Planned) (qs : List Planned) (more : List (Option O)) → m.plan ≡ p ∷ qs → IsTaken sent accepts m.outboxes (item_of m p) more
     → IsPutNext accepts refuses m m.plan (Some (Put p.session)) (record { history = m.history; limit = m.limit; settings = m.settings; outboxes = more; plan = qs; busy = m.busy })
 put_is {O} sent accepts refuses m p qs more e i =
     let k : Shown O = record { history = m.history; limit = m.limit; settings = m.settings; outboxes = more; plan = qs; busy = m.busy } in
@@ -18,7 +18,7 @@ put_is {O} sent accepts refuses m p qs more e i =
     (refl, record { before = i.before; after = i.after; here = i.here; accepted = i.accepted; book = ap (λ (x : List (Option O)). record { history = m.history; limit = m.limit; settings = m.settings; outboxes = x; plan = qs; busy = m.busy }) i.now })
 
 -- the delivery was missed
-pub miss_is : {O : Type 0} (accepts : O → Item → O → Type 0) (refuses : O → PutFault → Type 0) (m : Shown O) (p : Planned) (qs : List Planned) (h : List Rec) (l : ℕ) (more : List (Option O)) → m.plan ≡ p ∷ qs → IsNotTaken refuses m.outboxes p → h ≡ miss m.history p.session → l ≡ m.limit → more ≡ m.outboxes
+pub miss_is : {O : Type 0} (accepts : O → Item → O → Type 0) (refuses : O → PutFault → Type 0) (m : Shown O) (p : Planned) (qs : List Planned) (h : List Rec) (l : ℕ) (more : List (Option O)) → m.plan ≡ p ∷ qs → IsNotTaken refuses m.outboxes (item_of m p) → h ≡ miss m.history p.session → l ≡ m.limit → more ≡ m.outboxes
     → IsPutNext accepts refuses m m.plan (Some (Missed p.session)) (record { history = h; limit = l; settings = m.settings; outboxes = more; plan = qs; busy = m.busy })
 miss_is {O} accepts refuses m p qs h l more e i eh el em =
     let k : Shown O = record { history = h; limit = l; settings = m.settings; outboxes = more; plan = qs; busy = m.busy } in

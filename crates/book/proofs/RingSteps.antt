@@ -6,7 +6,7 @@ use Rattle.book.specs.declared.plan.Planned.{Planned}
 use Rattle.book.specs.declared.out.Step.{Step}
 use Rattle.book.specs.declared.out.Step.TheVariants.{Put, Missed}
 use Rattle.book.specs.Told.{told_of}
-use Rattle.book.specs.Book.{Shown, box_of, outbox_at, plan_of, begun, delivered_to, delivered, dropped, finished, IsPutNext, IsPutAll, IsDone, put_next, put_all, done}
+use Rattle.book.specs.Book.{Shown, item_of, box_of, outbox_at, plan_of, begun, delivered_to, delivered, dropped, finished, IsPutNext, IsPutAll, IsDone, put_next, put_all, done}
 
 ring_next : (m k : Shown Waiting) (ps : List Planned) (step : Option Step) → IsPutNext accepts refuses m ps step k → (step ≡ told_of m ps) × (k ≡ put_next m ps)
 ring_next m k [] None i = (refl, i)
@@ -15,7 +15,7 @@ ring_next m k (p ∷ ps) None i = absurd i
 ring_next m k (p ∷ ps) (Some (Put t)) i =
     let d = i.1 in let here : outbox_at m.outboxes p.session ≡ d.before = ap box_of d.here in
     let room : has_room (outbox_at m.outboxes p.session) ≡ true = ap has_room here ∙ d.accepted.0 in
-    let after : d.after ≡ with_put (outbox_at m.outboxes p.session) p.item = d.accepted.1 ∙ ap (λ (b : Waiting). with_put b p.item) (sym here) in (
+    let after : d.after ≡ with_put (outbox_at m.outboxes p.session) (item_of m p) = d.accepted.1 ∙ ap (λ (b : Waiting). with_put b (item_of m p)) (sym here) in (
       ap (λ (u : ℕ). Some (Put u)) i.0 ∙ sym (ap (λ (c : Bool). Some (cond c (Put p.session) (Missed p.session))) room),
       d.book ∙ ap (delivered_to m p ps) after ∙ sym (ap (λ (c : Bool). cond c (delivered m p ps) (dropped m p ps)) room),
     )

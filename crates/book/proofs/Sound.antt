@@ -9,15 +9,20 @@ use Rattle.std.specs.List.{list_any}
 use Rattle.std.specs.Option.{is_some}
 use Rattle.chronicle.specs.declared.record.Kind.{Kind}
 use Rattle.chronicle.specs.History.{Rec, sessions, misses, ends, shut, gone}
-use Rattle.outbox.specs.declared.item.Item.{Item}
+use Rattle.deliveries.specs.declared.delivery.Delivery.{Delivery}
+use Rattle.deliveries.specs.declared.item.Item.{Item}
 use Rattle.registration.specs.declared.settings.Settings.{Settings}
 use Rattle.book.specs.declared.plan.Planned.{Planned}
 use Rattle.outbox.specs.Ring.{Waiting, with_taken, put_into}
-use Rattle.book.specs.Owed.{delivery, owed}
+use Rattle.deliveries.specs.Owed.{delivery, owed}
 use Rattle.book.specs.Legal.{AreMissed, IsLegal}
 use Rattle.book.proofs.About.{gone_before}
 use Rattle.roster.specs.LookBack.{numbers}
-use Rattle.book.specs.Book.{Shown, box_at, sent_by, box_of, outbox_at, is_here, held, planned, delivered_to, dropped, finished, taken, reaped, IsOwed, IsPlan, IsSound}
+use Rattle.deliveries.specs.Items.{deliveries, front}
+use Rattle.deliveries.proofs.Growing.{grows_by_a_miss}
+use Rattle.book.proofs.Sent.{sent_none, sent_grown, sent_one, delivered_one, may_continue}
+use Rattle.book.specs.Seats.{MayFollow}
+use Rattle.book.specs.Book.{Shown, IsSent, item_of, box_at, sent_by, box_of, outbox_at, is_here, held, planned, delivered_to, dropped, finished, taken, reaped, IsOwed, IsPlan, IsSound}
 
 -- ---- the newest record is missed by one more session
 
@@ -34,7 +39,7 @@ misses_other r s t ne = list_any-append (λ u. u == t) r.missed (s ∷ []) ∙ g
 apart : (q : Planned) (qs : List Planned) (s : ℕ) → planned (q ∷ qs) s ≡ [] → (s ≢ q.session) × (planned qs s ≡ [])
 apart q qs s e =
     elim (eqb_tells q.session s) [
-      | inl same ↦ absurd (let f : q.item ∷ planned qs s ≡ [] = rw same.0 at e in cc)
+      | inl same ↦ absurd (let f : q.delivery ∷ planned qs s ≡ [] = rw same.0 at e in cc)
       | inr other ↦ ((λ i. other.1 (sym i)), rw other.0 at e)
     ]
 
@@ -45,19 +50,19 @@ plan_after g r h n s (q ∷ qs) e p =
     (p.0, p.1, p.2, (p.3.0, p.3.1, misses_other r s q.session a.0 ∙ p.3.2), plan_after g r h n s qs a.1 p.4)
 
 -- the session that missed it
-owed_missed : (g : Settings) (r : Rec) (h : List Rec) (had : List Item) (p : Planned) (ps : List Planned) → planned ps p.session ≡ [] → IsOwed g (r ∷ h) p → had ++ planned (p ∷ ps) p.session ≡ owed g (r ∷ h) p.session → had ++ planned ps p.session ≡ owed g (more r p.session ∷ h) p.session
+owed_missed : (g : Settings) (r : Rec) (h : List Rec) (had : List Delivery) (p : Planned) (ps : List Planned) → planned ps p.session ≡ [] → IsOwed g (r ∷ h) p → had ++ planned (p ∷ ps) p.session ≡ owed g (r ∷ h) p.session → had ++ planned ps p.session ≡ owed g (more r p.session ∷ h) p.session
 owed_missed g r h had p ps none own k =
     let s = p.session in let d = delivery g h r.kind r.moment s in
-    let head : planned (p ∷ ps) s ≡ p.item ∷ [] = rw (eq-eqb s s refl) (ap (λ xs. p.item ∷ xs) none) in
-    let last : cond (misses r s || shut h s) [] d ≡ p.item ∷ [] = rw (own.2, own.1) own.0 in
-    let got : had ++ p.item ∷ [] ≡ owed g h s ++ p.item ∷ [] = ap (λ xs. had ++ xs) (sym head) ∙ k ∙ ap (λ xs. owed g h s ++ xs) last in
-    ap (λ xs. had ++ xs) none ∙ append-nil had ∙ append_cancel_right had (owed g h s) (p.item ∷ []) got ∙ sym (append-nil (owed g h s))
+    let head : planned (p ∷ ps) s ≡ p.delivery ∷ [] = rw (eq-eqb s s refl) (ap (λ xs. p.delivery ∷ xs) none) in
+    let last : cond (misses r s || shut h s) [] d ≡ p.delivery ∷ [] = rw (own.2, own.1) own.0 in
+    let got : had ++ p.delivery ∷ [] ≡ owed g h s ++ p.delivery ∷ [] = ap (λ xs. had ++ xs) (sym head) ∙ k ∙ ap (λ xs. owed g h s ++ xs) last in
+    ap (λ xs. had ++ xs) none ∙ append-nil had ∙ append_cancel_right had (owed g h s) (p.delivery ∷ []) got ∙ sym (append-nil (owed g h s))
     ∙ ap (λ (c : Bool). owed g h s ++ cond (c || shut h s) [] d) (sym (misses_same r s))
 
 -- another session
-owed_elsewhere : (g : Settings) (r : Rec) (h : List Rec) (had : List Item) (p : Planned) (ps : List Planned) (t : ℕ) → p.session ≢ t → had ++ planned (p ∷ ps) t ≡ owed g (r ∷ h) t → had ++ planned ps t ≡ owed g (more r p.session ∷ h) t
+owed_elsewhere : (g : Settings) (r : Rec) (h : List Rec) (had : List Delivery) (p : Planned) (ps : List Planned) (t : ℕ) → p.session ≢ t → had ++ planned (p ∷ ps) t ≡ owed g (r ∷ h) t → had ++ planned ps t ≡ owed g (more r p.session ∷ h) t
 owed_elsewhere g r h had p ps t ne k =
-    ap (λ (c : Bool). had ++ cond c (p.item ∷ planned ps t) (planned ps t)) (sym (ne_eqb p.session t ne)) ∙ k
+    ap (λ (c : Bool). had ++ cond c (p.delivery ∷ planned ps t) (planned ps t)) (sym (ne_eqb p.session t ne)) ∙ k
     ∙ ap (λ (c : Bool). owed g h t ++ cond (c || shut h t) [] (delivery g h r.kind r.moment t)) (sym (misses_other r p.session t ne))
 
 list_any-push_fresh : (t s : ℕ) (ts : List ℕ) → list_any (λ u. u == t) ts ≡ false → s ≢ t → list_any (λ u. u == t) (ts ++ s ∷ []) ≡ false
@@ -119,6 +124,11 @@ was_here boxes s t v there a b here =
       | inr other ↦ ap (λ o. is_some o) (sym (box_other boxes s t (Some v) a b other.1)) ∙ here
     ]
 
+-- an item may be put where with it all is put that the history owes
+follows_in : {O : Type 0} (sent : O → List Item) (g : Settings) (h : List Rec) (x : Item) (box : Option O) → x.settings ≡ g → front x ≡ h → IsSent g h x.session (sent_by sent box) → deliveries (sent_by sent box) ++ x.delivery ∷ [] ≡ owed g h x.session → MayFollow sent box x
+follows_in sent g h x None settings here i all = tt
+follows_in sent g h x (Some o) settings here i all = may_continue g h x (sent o) settings here i all
+
 module _ {O : Type 0} (sent : O → List Item) where
   dropped_at : (h : List Rec) (limit : ℕ) (g : Settings) (boxes : List (Option O)) (busy : Bool) (p : Planned) (ps : List Planned) → let m : Shown O = record { history = h; limit = limit; settings = g; outboxes = boxes; plan = p ∷ ps; busy = busy } in IsSound sent m → IsSound sent (dropped m p ps)
   dropped_at [] limit g boxes busy p ps i = absurd i.plan.3
@@ -126,17 +136,18 @@ module _ {O : Type 0} (sent : O → List Item) where
       let own = i.plan.3 in
       record {
         owed = λ t from to here.
-            let had = sent_by sent (box_at boxes t) in
+            let had = deliveries (sent_by sent (box_at boxes t)) in
             elim (eqb_tells p.session t) [
               | inl same ↦
-                  let k = i.owed p.session i.plan.0 i.plan.1 (ap (is_here boxes) same.1 ∙ here) in let was = sent_by sent (box_at boxes p.session) in
-                  subst (λ (u : ℕ). sent_by sent (box_at boxes u) ++ planned ps u ≡ owed g (more r p.session ∷ h) u) same.1 (owed_missed g r h was p ps i.plan.2 own k)
+                  let k = i.owed p.session i.plan.0 i.plan.1 (ap (is_here boxes) same.1 ∙ here) in let was = deliveries (sent_by sent (box_at boxes p.session)) in
+                  subst (λ (u : ℕ). deliveries (sent_by sent (box_at boxes u)) ++ planned ps u ≡ owed g (more r p.session ∷ h) u) same.1 (owed_missed g r h was p ps i.plan.2 own k)
               | inr other ↦ owed_elsewhere g r h had p ps t other.1 (i.owed t from to here)
             ];
+        items = λ t from to. sent_grown g (r ∷ h) (more r p.session ∷ h) t (sent_by sent (box_at boxes t)) (grows_by_a_miss (r ∷ h) p.session) (i.items t from to);
         reaped = λ t from to away. i.reaped t from to away;
         plan = plan_after g r h (length boxes) p.session ps i.plan.2 i.plan.4;
         idle = λ e. absurd (let f : p ∷ ps ≡ [] = i.idle e in cc);
-        legal = (i.legal.0, i.legal.1, i.legal.2, missed_more g h r.kind r.moment r.missed p.session (λ e. let f : p.item ∷ [] ≡ [] = sym own.0 ∙ e in cc) own.1 own.2 i.legal.3, i.legal.4);
+        legal = (i.legal.0, i.legal.1, i.legal.2, missed_more g h r.kind r.moment r.missed p.session (λ e. let f : p.delivery ∷ [] ≡ [] = sym own.0 ∙ e in cc) own.1 own.2 i.legal.3, i.legal.4);
         sessions = i.sessions;
         room =
             let less = held_missed r h p.session in let old : length (r ∷ h) + held (r ∷ h) ≤ limit = i.room in
@@ -154,11 +165,19 @@ module _ {O : Type 0} (sent : O → List Item) where
   pub next_here : (m : Shown O) (p : Planned) (ps : List Planned) → m.plan ≡ p ∷ ps → IsSound sent m → is_here m.outboxes p.session ≡ true
   next_here m p ps e s = next_by m p ps (is_here m.outboxes p.session) refl (subst (IsPlan m.settings m.history (length m.outboxes)) e s.plan) s
 
+  -- and its item may be put after what was
+  pub next_follows : (m : Shown O) (p : Planned) (ps : List Planned) → m.plan ≡ p ∷ ps → IsSound sent m → MayFollow sent (box_at m.outboxes p.session) (item_of m p)
+  next_follows m p ps e i =
+      let s = p.session in let g = m.settings in let h = m.history in let is : IsPlan g h (length m.outboxes) (p ∷ ps) = subst (IsPlan g h (length m.outboxes)) e i.plan in
+      let head : planned m.plan s ≡ p.delivery ∷ [] = ap (λ qs. planned qs s) e ∙ (let f : planned (p ∷ ps) s ≡ p.delivery ∷ [] = rw (eq-eqb s s refl) (ap (λ xs. p.delivery ∷ xs) is.2) in f) in
+      let all : deliveries (sent_by sent (box_at m.outboxes s)) ++ p.delivery ∷ [] ≡ owed g h s = ap (λ xs. deliveries (sent_by sent (box_at m.outboxes s)) ++ xs) (sym head) ∙ i.owed s is.0 is.1 (next_here m p ps e i) in
+      follows_in sent g h (item_of m p) (box_at m.outboxes s) refl refl (i.items s is.0 is.1) all
+
   -- ---- a delivery is put
 
-  delivered_at : (h : List Rec) (limit : ℕ) (g : Settings) (boxes : List (Option O)) (busy : Bool) (p : Planned) (ps : List Planned) (a b : O) → box_at boxes p.session ≡ Some a → sent b ≡ sent a ++ p.item ∷ []
+  delivered_at : (h : List Rec) (limit : ℕ) (g : Settings) (boxes : List (Option O)) (busy : Bool) (p : Planned) (ps : List Planned) (a b : O) (x : Item) → x.delivery ≡ p.delivery → x.session ≡ p.session → x.settings ≡ g → front x ≡ h → box_at boxes p.session ≡ Some a → sent b ≡ sent a ++ x ∷ []
       → let m : Shown O = record { history = h; limit = limit; settings = g; outboxes = boxes; plan = p ∷ ps; busy = busy } in IsSound sent m → IsSound sent (delivered_to m p ps b)
-  delivered_at h limit g boxes busy p ps a b at grew i =
+  delivered_at h limit g boxes busy p ps a b x what whose settings_ here_now at grew i =
       let s = p.session in let new = slice_set boxes (s - 1) (Some b) in
       let len : length new ≡ length boxes = simp length-set in
       let there : is_here boxes s ≡ true = ap (λ o. is_some o) at in
@@ -167,16 +186,27 @@ module _ {O : Type 0} (sent : O → List Item) where
             let to' : t ≤ length boxes = omega arith in
             elim (eqb_tells s t) [
               | inl same ↦
-                  let head : planned (p ∷ ps) s ≡ p.item ∷ planned ps s = rw (eq-eqb s s refl) refl in
-                  let k : sent b ++ planned ps s ≡ owed g h s =
-                  ap (λ xs. xs ++ planned ps s) grew ∙ append_assoc (sent a) (p.item ∷ []) (planned ps s) ∙ ap (λ xs. sent a ++ xs) (sym head)
-                  ∙ ap (λ o. sent_by sent o ++ planned (p ∷ ps) s) (sym at) ∙ i.owed s i.plan.0 i.plan.1 there in
-                  let here_ : sent_by sent (box_at new s) ++ planned ps s ≡ owed g h s = ap (λ o. sent_by sent o ++ planned ps s) (box_same boxes s (Some b) i.plan.0 i.plan.1) ∙ k in
-                  subst (λ (u : ℕ). sent_by sent (box_at new u) ++ planned ps u ≡ owed g h u) same.1 here_
+                  let head : planned (p ∷ ps) s ≡ p.delivery ∷ planned ps s = rw (eq-eqb s s refl) refl in
+                  let k : deliveries (sent b) ++ planned ps s ≡ owed g h s =
+                  ap (λ xs. deliveries xs ++ planned ps s) grew ∙ ap (λ xs. xs ++ planned ps s) (delivered_one (sent a) x) ∙ ap (λ d. (deliveries (sent a) ++ d ∷ []) ++ planned ps s) what
+                  ∙ append_assoc (deliveries (sent a)) (p.delivery ∷ []) (planned ps s) ∙ ap (λ xs. deliveries (sent a) ++ xs) (sym head)
+                  ∙ ap (λ o. deliveries (sent_by sent o) ++ planned (p ∷ ps) s) (sym at) ∙ i.owed s i.plan.0 i.plan.1 there in
+                  let here_ : deliveries (sent_by sent (box_at new s)) ++ planned ps s ≡ owed g h s = ap (λ o. deliveries (sent_by sent o) ++ planned ps s) (box_same boxes s (Some b) i.plan.0 i.plan.1) ∙ k in
+                  subst (λ (u : ℕ). deliveries (sent_by sent (box_at new u)) ++ planned ps u ≡ owed g h u) same.1 here_
               | inr other ↦
                   let is = box_other boxes s t (Some b) i.plan.0 from other.1 in
-                  ap (λ o. sent_by sent o ++ planned ps t) is
-                  ∙ ap (λ (c : Bool). sent_by sent (box_at boxes t) ++ cond c (p.item ∷ planned ps t) (planned ps t)) (sym other.0) ∙ i.owed t from to' (ap (λ o. is_some o) (sym is) ∙ here)
+                  ap (λ o. deliveries (sent_by sent o) ++ planned ps t) is
+                  ∙ ap (λ (c : Bool). deliveries (sent_by sent (box_at boxes t)) ++ cond c (p.delivery ∷ planned ps t) (planned ps t)) (sym other.0) ∙ i.owed t from to' (ap (λ o. is_some o) (sym is) ∙ here)
+            ];
+        items = λ t from to.
+            let to' : t ≤ length boxes = omega arith in
+            elim (eqb_tells s t) [
+              | inl same ↦
+                  let old : IsSent g h s (sent a) = subst (λ o. IsSent g h s (sent_by sent o)) at (i.items s i.plan.0 i.plan.1) in
+                  let one : IsSent g h s (sent a ++ x ∷ []) = subst (λ (u : ℕ). IsSent g h u (sent a ++ x ∷ [])) whose (sent_one g h x (sent a) settings_ here_now (subst (λ (u : ℕ). IsSent g h u (sent a)) (sym whose) old)) in
+                  let now : IsSent g h s (sent_by sent (box_at new s)) = subst (λ o. IsSent g h s (sent_by sent o)) (sym (box_same boxes s (Some b) i.plan.0 i.plan.1)) (subst (IsSent g h s) (sym grew) one) in
+                  subst (λ (u : ℕ). IsSent g h u (sent_by sent (box_at new u))) same.1 now
+              | inr other ↦ subst (λ o. IsSent g h t (sent_by sent o)) (sym (box_other boxes s t (Some b) i.plan.0 from other.1)) (i.items t from to')
             ];
         reaped = λ t from to away.
             let to' : t ≤ length boxes = omega arith in
@@ -191,14 +221,14 @@ module _ {O : Type 0} (sent : O → List Item) where
         room = i.room;
       }
 
-  pub delivered_sound : (m : Shown O) (p : Planned) (ps : List Planned) (a b : O) → m.plan ≡ p ∷ ps → box_at m.outboxes p.session ≡ Some a → sent b ≡ sent a ++ p.item ∷ [] → IsSound sent m → IsSound sent (delivered_to m p ps b)
+  pub delivered_sound : (m : Shown O) (p : Planned) (ps : List Planned) (a b : O) → m.plan ≡ p ∷ ps → box_at m.outboxes p.session ≡ Some a → sent b ≡ sent a ++ item_of m p ∷ [] → IsSound sent m → IsSound sent (delivered_to m p ps b)
   delivered_sound m p ps a b e at grew i =
-      delivered_at m.history m.limit m.settings m.outboxes m.busy p ps a b at grew (subst (λ qs. IsSound sent (record { history = m.history; limit = m.limit; settings = m.settings; outboxes = m.outboxes; plan = qs; busy = m.busy })) e i)
+      delivered_at m.history m.limit m.settings m.outboxes m.busy p ps a b (item_of m p) refl refl refl refl at grew (subst (λ qs. IsSound sent (record { history = m.history; limit = m.limit; settings = m.settings; outboxes = m.outboxes; plan = qs; busy = m.busy })) e i)
 
   -- ---- the plan is given back
 
   pub finished_sound : (m : Shown O) → m.plan ≡ [] → IsSound sent m → IsSound sent (finished m)
-  finished_sound m none i = record { owed = i.owed; reaped = i.reaped; plan = i.plan; idle = λ e. none; legal = i.legal; sessions = i.sessions; room = i.room }
+  finished_sound m none i = record { owed = i.owed; items = i.items; reaped = i.reaped; plan = i.plan; idle = λ e. none; legal = i.legal; sessions = i.sessions; room = i.room }
 
   -- ---- an outbox changes, but for what was put into it
 
@@ -212,13 +242,23 @@ module _ {O : Type 0} (sent : O → List Item) where
             let to' : t ≤ length boxes = omega arith in
             elim (eqb_tells s t) [
               | inl same ↦
-                  let here_ : sent_by sent (box_at new s) ++ planned m.plan s ≡ owed m.settings m.history s =
-                  ap (λ o. sent_by sent o ++ planned m.plan s) (box_same boxes s (Some b) above below) ∙ ap (λ xs. xs ++ planned m.plan s) same_sent
-                  ∙ ap (λ o. sent_by sent o ++ planned m.plan s) (sym at) ∙ i.owed s above below (ap (λ o. is_some o) at) in
-                  subst (λ (u : ℕ). sent_by sent (box_at new u) ++ planned m.plan u ≡ owed m.settings m.history u) same.1 here_
+                  let here_ : deliveries (sent_by sent (box_at new s)) ++ planned m.plan s ≡ owed m.settings m.history s =
+                  ap (λ o. deliveries (sent_by sent o) ++ planned m.plan s) (box_same boxes s (Some b) above below) ∙ ap (λ xs. deliveries xs ++ planned m.plan s) same_sent
+                  ∙ ap (λ o. deliveries (sent_by sent o) ++ planned m.plan s) (sym at) ∙ i.owed s above below (ap (λ o. is_some o) at) in
+                  subst (λ (u : ℕ). deliveries (sent_by sent (box_at new u)) ++ planned m.plan u ≡ owed m.settings m.history u) same.1 here_
               | inr other ↦
                   let is = box_other boxes s t (Some b) above from other.1 in
-                  ap (λ o. sent_by sent o ++ planned m.plan t) is ∙ i.owed t from to' (ap (λ o. is_some o) (sym is) ∙ here)
+                  ap (λ o. deliveries (sent_by sent o) ++ planned m.plan t) is ∙ i.owed t from to' (ap (λ o. is_some o) (sym is) ∙ here)
+            ];
+        items = λ t from to.
+            let to' : t ≤ length boxes = omega arith in
+            elim (eqb_tells s t) [
+              | inl same ↦
+                  let old : IsSent m.settings m.history s (sent a) = subst (λ o. IsSent m.settings m.history s (sent_by sent o)) at (i.items s above below) in
+                  let now : IsSent m.settings m.history s (sent_by sent (box_at new s)) =
+                  subst (λ o. IsSent m.settings m.history s (sent_by sent o)) (sym (box_same boxes s (Some b) above below)) (subst (IsSent m.settings m.history s) (sym same_sent) old) in
+                  subst (λ (u : ℕ). IsSent m.settings m.history u (sent_by sent (box_at new u))) same.1 now
+              | inr other ↦ subst (λ o. IsSent m.settings m.history t (sent_by sent o)) (sym (box_other boxes s t (Some b) above from other.1)) (i.items t from to')
             ];
         reaped = λ t from to away.
             let to' : t ≤ length boxes = omega arith in
@@ -246,7 +286,15 @@ module _ {O : Type 0} (sent : O → List Item) where
               | inl same ↦ absurd (let f : false ≡ true = ap (λ o. is_some o) (sym (box_same boxes s None above below)) ∙ ap (is_here new) same.1 ∙ here in cc)
               | inr other ↦
                   let is = box_other boxes s t None above from other.1 in
-                  ap (λ o. sent_by sent o ++ planned m.plan t) is ∙ i.owed t from to' (ap (λ o. is_some o) (sym is) ∙ here)
+                  ap (λ o. deliveries (sent_by sent o) ++ planned m.plan t) is ∙ i.owed t from to' (ap (λ o. is_some o) (sym is) ∙ here)
+            ];
+        items = λ t from to.
+            let to' : t ≤ length boxes = omega arith in
+            elim (eqb_tells s t) [
+              | inl same ↦
+                  let now : IsSent m.settings m.history s (sent_by sent (box_at new s)) = subst (λ o. IsSent m.settings m.history s (sent_by sent o)) (sym (box_same boxes s None above below)) (sent_none m.settings m.history s) in
+                  subst (λ (u : ℕ). IsSent m.settings m.history u (sent_by sent (box_at new u))) same.1 now
+              | inr other ↦ subst (λ o. IsSent m.settings m.history t (sent_by sent o)) (sym (box_other boxes s t None above from other.1)) (i.items t from to')
             ];
         reaped = λ t from to away.
             let to' : t ≤ length boxes = omega arith in

@@ -1,12 +1,13 @@
 -- What clauses see of a book, and its steps: this project's own promise of how deliveries reach outboxes.
-use Rattle.std.specs.Prelude.{◌≡◌, ℕ, ℤ, zero, suc, ◌+◌, ◌-◌, ◌<◌, ◌≤◌, Bool, true, false, not, ◌&&◌, ◌==◌, cond, List, [], ◌∷◌, ◌++◌, length, map, sum_by, if◌then◌else◌, slice_index_or, slice_set, Option, Some, None, IsSome}
+use Rattle.std.specs.Prelude.{◌≡◌, ℕ, ℤ, zero, suc, ◌+◌, ◌-◌, ◌<◌, ◌≤◌, Bool, true, false, not, ◌&&◌, ◌==◌, cond, List, [], ◌∷◌, ◌++◌, length, map, sum_by, if◌then◌else◌, slice_index_or, slice_set, Option, Some, None, IsSome, All}
 use Rattle.std.specs.Option.{is_some}
 use Rattle.chronicle.specs.declared.record.Kind.{Kind}
 use Rattle.chronicle.specs.declared.record.Kind.TheVariants.{Opened, Said, Hung, Gone}
 use Rattle.chronicle.specs.History.{Rec, IsMomentAfter, last_moment, sessions, actor, accepted, misses, shut, gone}
 use Rattle.chronicle.specs.Journal.{fresh_record, miss}
 use Rattle.registration.specs.declared.settings.Settings.{Settings}
-use Rattle.outbox.specs.declared.item.Item.{Item}
+use Rattle.deliveries.specs.declared.delivery.Delivery.{Delivery}
+use Rattle.deliveries.specs.declared.item.Item.{Item}
 use Rattle.book.specs.declared.plan.Planned.{Planned}
 use Rattle.book.specs.declared.refusals.OpenRefusal.{OpenRefusal}
 use Rattle.book.specs.declared.refusals.OpenRefusal.TheVariants as opening
@@ -22,7 +23,9 @@ use Rattle.book.specs.declared.out.Step.{Step}
 use Rattle.book.specs.declared.out.Step.TheVariants.{Put, Missed}
 use Rattle.outbox.specs.declared.queue.PutFault.{PutFault}
 use Rattle.outbox.specs.Ring.{Waiting, empty_ring, has_room, with_put, with_taken}
-use Rattle.book.specs.Owed.{delivery, owed}
+use Rattle.deliveries.specs.Items.{deliveries, front}
+use Rattle.deliveries.specs.Growth.{Grows}
+use Rattle.deliveries.specs.Owed.{delivery, owed}
 use Rattle.book.specs.Legal.{IsLegal}
 use Rattle.roster.specs.LookBack.{numbers}
 
@@ -74,27 +77,27 @@ held h = sum_by (kept_for h) (numbers 1 (sessions h))
 
 -- ---- the plan of a record: its deliveries, the actor's first, then by session number, to sessions that weren't shut before it
 
-abbrev pub due : Settings → List Rec → Kind → ℤ → ℕ → List Item
+abbrev pub due : Settings → List Rec → Kind → ℤ → ℕ → List Delivery
 due g h k moment t = cond (shut h t) [] (delivery g h k moment t)
 
-abbrev pub puts : ℕ → List Item → List Planned
-puts t xs = map (λ x. record { session = t; item = x }) xs
+abbrev pub puts : ℕ → List Delivery → List Planned
+puts t xs = map (λ x. record { session = t; delivery = x }) xs
 
 -- what f gives the n sessions from t on, but for s
-abbrev pub others : (ℕ → List Item) → ℕ → ℕ → ℕ → List Planned
+abbrev pub others : (ℕ → List Delivery) → ℕ → ℕ → ℕ → List Planned
 others f s t zero = []
 others f s t (suc n) = cond (t == s) [] (puts t (f t)) ++ others f s (t + 1) n
 
-abbrev pub plan_by : (ℕ → List Item) → ℕ → ℕ → List Planned
+abbrev pub plan_by : (ℕ → List Delivery) → ℕ → ℕ → List Planned
 plan_by f s n = puts s (f s) ++ others f s 1 n
 
 abbrev pub plan_of : Settings → List Rec → Kind → ℤ → ℕ → List Planned
 plan_of g h k moment n = plan_by (due g h k moment) (actor k) n
 
 -- what of a plan is for t
-abbrev pub planned : List Planned → ℕ → List Item
+abbrev pub planned : List Planned → ℕ → List Delivery
 planned [] t = []
-planned (p ∷ ps) t = cond (p.session == t) (p.item ∷ planned ps t) (planned ps t)
+planned (p ∷ ps) t = cond (p.session == t) (p.delivery ∷ planned ps t) (planned ps t)
 
 -- ---- steps
 
@@ -118,6 +121,10 @@ abbrev pub begun : {O : Type 0} → Shown O → Kind → ℤ → Shown O
 begun m k moment =
     record { history = fresh_record m.history moment k ∷ m.history; limit = m.limit; settings = m.settings; outboxes = m.outboxes; plan = plan_of m.settings m.history k moment (length m.outboxes); busy = true }
 
+-- what is put for a planned delivery: it knows the history in which it is put, and the settings of the server
+abbrev pub item_of : {O : Type 0} → Shown O → Planned → Item
+item_of m p = record { delivery = p.delivery; session = p.session; front = m.history; settings = m.settings }
+
 -- a planned delivery was put, and this is its outbox then
 abbrev pub delivered_to : {O : Type 0} → Shown O → Planned → List Planned → O → Shown O
 delivered_to m p ps box = record { history = m.history; limit = m.limit; settings = m.settings; outboxes = slice_set m.outboxes (p.session - 1) (Some box); plan = ps; busy = m.busy }
@@ -131,7 +138,7 @@ pub record IsDelivered {O : Type 0} (accepts : O → Item → O → Type 0) (m :
   pub before : O
   pub after : O
   pub here : box_at m.outboxes p.session ≡ Some before
-  pub accepted : accepts before p.item after
+  pub accepted : accepts before (item_of m p) after
   pub book : k ≡ delivered_to m p ps after
 
 -- the outbox of a planned delivery didn't take it, for a cause
@@ -179,7 +186,7 @@ pub record IsLeft {O W : Type 0} (sent : O → List Item) (taken : O → W → L
 
 -- a planned delivery was put at the end of its ring
 abbrev pub delivered : Shown Waiting → Planned → List Planned → Shown Waiting
-delivered m p ps = delivered_to m p ps (with_put (outbox_at m.outboxes p.session) p.item)
+delivered m p ps = delivered_to m p ps (with_put (outbox_at m.outboxes p.session) (item_of m p))
 
 -- the plan's first delivery was put, or missed where its ring was full
 abbrev pub put_next : Shown Waiting → List Planned → Shown Waiting
@@ -220,16 +227,23 @@ to_sweep h = first (is_to_sweep h) (numbers 1 (sessions h))
 -- p is what the newest record owes its session, which isn't shut and didn't miss it
 abbrev pub IsOwed : Settings → List Rec → Planned → Type 0
 IsOwed g [] p = ⊥
-IsOwed g (r ∷ h) p = (delivery g h r.kind r.moment p.session ≡ p.item ∷ []) × (shut h p.session ≡ false) × (misses r p.session ≡ false)
+IsOwed g (r ∷ h) p = (delivery g h r.kind r.moment p.session ≡ p.delivery ∷ []) × (shut h p.session ≡ false) × (misses r p.session ≡ false)
 
 -- each delivery of a plan is owed by the newest record, to one of n sessions, and no session has two
 abbrev pub IsPlan : Settings → List Rec → ℕ → List Planned → Type 0
 IsPlan g h n [] = Unit {0}
 IsPlan g h n (p ∷ ps) = (0 < p.session) × (p.session ≤ n) × (planned ps p.session ≡ []) × IsOwed g h p × IsPlan g h n ps
 
+-- what was put into the outbox of session t: it is of that session and of this server, and this history has grown from that of each
+pub record IsSent (g : Settings) (h : List Rec) (t : ℕ) (items : List Item) : Type 0 where
+  pub whose : All (λ (y : Item). y.session ≡ t) items
+  pub settings : All (λ (y : Item). y.settings ≡ g) items
+  pub grows : All (λ (y : Item). Grows (front y) h) items
+
 -- the promise: what was put and what is still in the plan is what the history owes
 pub record IsSound {O : Type 0} (sent : O → List Item) (m : Shown O) : Type 0 where
-  pub owed : (t : ℕ) → 0 < t → t ≤ length m.outboxes → is_here m.outboxes t ≡ true → sent_by sent (box_at m.outboxes t) ++ planned m.plan t ≡ owed m.settings m.history t
+  pub owed : (t : ℕ) → 0 < t → t ≤ length m.outboxes → is_here m.outboxes t ≡ true → deliveries (sent_by sent (box_at m.outboxes t)) ++ planned m.plan t ≡ owed m.settings m.history t
+  pub items : (t : ℕ) → 0 < t → t ≤ length m.outboxes → IsSent m.settings m.history t (sent_by sent (box_at m.outboxes t))
   pub reaped : (t : ℕ) → 0 < t → t ≤ length m.outboxes → is_here m.outboxes t ≡ false → gone m.history t ≡ true
   pub plan : IsPlan m.settings m.history (length m.outboxes) m.plan
   pub idle : m.busy ≡ false → m.plan ≡ []

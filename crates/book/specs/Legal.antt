@@ -5,7 +5,7 @@ use Rattle.chronicle.specs.declared.record.Kind.{Kind}
 use Rattle.chronicle.specs.declared.record.Kind.TheVariants.{Opened, Said, Hung, Gone}
 use Rattle.chronicle.specs.History.{Rec, IsMomentAfter, last_moment, sessions, accepted, shut, gone}
 use Rattle.registration.specs.declared.settings.Settings.{Settings}
-use Rattle.book.specs.Owed.{delivery}
+use Rattle.deliveries.specs.Owed.{delivery}
 
 -- sessions are opened as 1, 2, 3, ..; a line is of an opened session that isn't shut, and has the next index; a session is hung
 -- before it is shut, and gone once after

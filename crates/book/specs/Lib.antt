@@ -1,4 +1,3 @@
-pub mod Owed
 pub mod Legal
 pub mod Book
 pub mod Seats

@@ -1,12 +1,14 @@
 -- What a book keeps for its sessions, and how that stands for the history.
-use Rattle.std.specs.Prelude.{◌≡◌, ℕ, ℤ, ◌+◌, ◌-◌, ◌<◌, ◌≤◌, Bool, true, false, not, ◌&&◌, nat_lt, nat_le, cond, if◌then◌else◌, List, [], ◌∷◌, ◌++◌, filter, map, length, sum_by, slice_index_or, slice_set, Option, Some, None}
+use Rattle.std.specs.Prelude.{◌≡◌, ℕ, ℤ, ◌+◌, ◌-◌, ◌<◌, ◌≤◌, Bool, true, false, not, ◌&&◌, nat_lt, nat_le, cond, if◌then◌else◌, List, [], ◌∷◌, ◌++◌, filter, map, length, sum_by, slice_index_or, slice_set, Option, Some, None, IfSome}
 use Rattle.chronicle.specs.History.{Rec, accepted, shut, gone}
-use Rattle.outbox.specs.declared.item.Item.{Item}
-use Rattle.outbox.specs.declared.item.Item.TheVariants.{Last}
+use Rattle.deliveries.specs.declared.delivery.Delivery.{Delivery}
+use Rattle.deliveries.specs.declared.item.Item.{Item}
+use Rattle.deliveries.specs.declared.delivery.Delivery.TheVariants.{Last}
 use Rattle.chronicle.specs.declared.why.Why.TheVariants.{Quit}
 use Rattle.book.specs.declared.seat.Seat.{Seat}
 use Rattle.book.specs.declared.plan.Planned.{Planned}
 use Rattle.outbox.specs.declared.queue.PutFault.{PutFault}
+use Rattle.deliveries.specs.Items.{Continues}
 use Rattle.book.specs.Book.{box_at, is_here, puts, others}
 use Rattle.roster.specs.declared.deed.Deed.{Deed}
 use Rattle.roster.specs.LookBack.{caps, numbers}
@@ -14,7 +16,7 @@ use Rattle.labels_batches.specs.Answers.{tagged_as}
 use Rattle.labels_batches.specs.Rendered.{rendered}
 use Rattle.deeds.specs.declared.verdict.Shown.{Shown}
 use Rattle.drafts.specs.Effects.{heard}
-use Rattle.book.specs.Owed.{item}
+use Rattle.deliveries.specs.Owed.{item}
 
 abbrev pub no_seat : Seat
 no_seat = record { shut = false; gone = false; accepted = 0 }
@@ -59,19 +61,19 @@ pub record IsCounted (seats : List Seat) (kept : ℕ) (to_sweep : List ℕ) (mos
   pub room : kept ≤ most
 
 -- what a text tells a session, unless it is shut
-abbrev pub told : Bool → ℕ → List ℕ → List Item
+abbrev pub told : Bool → ℕ → List ℕ → List Delivery
 told is_shut number bytes = cond is_shut [] (item number bytes)
 
 -- what a text tells t, where it was opened and isn't shut
-abbrev pub told_here : List Seat → ℕ → ℕ → List ℕ → List Item
+abbrev pub told_here : List Seat → ℕ → ℕ → List ℕ → List Delivery
 told_here seats number t bytes = told (not (hears seats t)) number bytes
 
 -- what a text for each session tells t
-abbrev pub told_to : List Seat → ℕ → (ℕ → List ℕ) → ℕ → List Item
+abbrev pub told_to : List Seat → ℕ → (ℕ → List ℕ) → ℕ → List Delivery
 told_to seats number text t = told_here seats number t (text t)
 
 -- what a record tells its own session: where that quits by it, its last item
-abbrev pub told_own : Bool → ℕ → List ℕ → Bool → List Item
+abbrev pub told_own : Bool → ℕ → List ℕ → Bool → List Delivery
 told_own is_shut number bytes quits = cond quits (cond is_shut [] (Last number Quit ∷ [])) (told is_shut number bytes)
 
 -- what t hears of a line that is shown, by the capabilities that it has
@@ -109,18 +111,22 @@ pub record IsThere {O : Type 0} (boxes : List (Option O)) (t : ℕ) : Type 0 whe
   pub opened : t ≤ length boxes
   pub here : is_here boxes t ≡ true
 
--- a delivery was put into its session's outbox, which changed no other
-pub record IsTaken {O : Type 0} (sent : O → List Item) (accepts : O → Item → O → Type 0) (boxes : List (Option O)) (p : Planned) (more : List (Option O)) : Type 0 where
+-- an item may be put into its session's outbox: it continues what was put before
+abbrev pub MayFollow : {O : Type 0} → (O → List Item) → Option O → Item → Type 0
+MayFollow sent box x = IfSome box (λ o. Continues (sent o) x)
+
+-- it was put there, which changed no other
+pub record IsTaken {O : Type 0} (sent : O → List Item) (accepts : O → Item → O → Type 0) (boxes : List (Option O)) (x : Item) (more : List (Option O)) : Type 0 where
   pub before : O
   pub after : O
-  pub here : box_at boxes p.session ≡ Some before
-  pub accepted : accepts before p.item after
-  pub longer : sent after ≡ sent before ++ p.item ∷ []
-  pub now : more ≡ slice_set boxes (p.session - 1) (Some after)
+  pub here : box_at boxes x.session ≡ Some before
+  pub accepted : accepts before x after
+  pub longer : sent after ≡ sent before ++ x ∷ []
+  pub now : more ≡ slice_set boxes (x.session - 1) (Some after)
 
 -- it wasn't, for a cause
-pub record IsNotTaken {O : Type 0} (refuses : O → PutFault → Type 0) (boxes : List (Option O)) (p : Planned) : Type 0 where
+pub record IsNotTaken {O : Type 0} (refuses : O → PutFault → Type 0) (boxes : List (Option O)) (x : Item) : Type 0 where
   pub before : O
   pub cause : PutFault
-  pub here : box_at boxes p.session ≡ Some before
+  pub here : box_at boxes x.session ≡ Some before
   pub refused : refuses before cause

@@ -22,8 +22,9 @@ use crate::seat::Seat;
 use crate::seats::Seats;
 use crate::settings::is_well_set;
 use chronicle::{Journal, Kind, Moment, Record, RecordNumber, SessionId, Why};
+use deliveries::{Delivery, Item};
 use line_grammar::{Octets, Piece};
-use outbox::{Item, Outbox, Ring};
+use outbox::{Outbox, Ring};
 use registration::Settings;
 use roster::{Deed, Roster, Sessions};
 use std::alloc::{AllocError, Global};
@@ -286,7 +287,9 @@ impl<O: Outbox> Book<O> {
     {
         let put = self.plan.pop_front()?;
         let hearer = put.session;
-        if self.outboxes.offer(put) {
+        let settings = self.roster.settings();
+        let item = Item::new(put.delivery, hearer, &self.journal, settings);
+        if self.outboxes.offer(item) {
             return Some(Step::Put(hearer));
         }
         self.seats.shut(hearer);
@@ -422,8 +425,9 @@ impl<O: Outbox> Book<O> {
         let number = self.journal.append(moment, Kind::Hung { session, why });
         self.roster.end(session, why);
         self.seats.shut(session);
-        let item = Item::Last { number, why };
-        if self.outboxes.offer(Planned { session, item }) {
+        let last = Delivery::Last { number, why };
+        let item = Item::new(last, session, &self.journal, self.roster.settings());
+        if self.outboxes.offer(item) {
             return Ok(Hung {
                 number,
                 missed: false,

@@ -16,9 +16,10 @@ mod settings;
 
 pub use baton::Baton;
 pub use book::Book;
+pub use deliveries::{Delivery, Item};
 pub use laws::{rings_take_each_record, rings_take_what_fits};
 pub use out::{Done, Hung, Left, Plan, Step};
-pub use outbox::{Item, Outbox, PutFault, Ring};
+pub use outbox::{Outbox, PutFault, Ring};
 pub use refusals::{
     BookFault, HangRefusal, LineRefusal, OpenRefusal, ReapRefusal, SweepRefusal, TakeRefusal,
 };

@@ -40,7 +40,7 @@ pub struct Left {
     /// Its number.
     pub session: SessionId,
     /// How many items were left in its outbox.
-    pub count: usize,
+    pub count: u64,
 }
 
 /// The deliveries of a record that are still to be put. One plan is out at a time; it is made where a record is appended, and

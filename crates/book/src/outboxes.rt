@@ -2,11 +2,11 @@
 ghost use Rattle.std.specs.Prelude.{◌≡◌, ℕ, ◌<◌, ◌≤◌, ◌+◌, ◌-◌, ◌^◌, ◌++◌, ◌∷◌, [], true, false, length, slice_get, slice_set, Some, None, IsTrue, IfSome, OnOk, ◌↔◌};
 ghost use Rattle.outbox.specs.Ring.{with_taken};
 ghost use Rattle.book.specs.Book.{box_at, outbox_at, is_here, count_here, IsLeft};
-ghost use Rattle.book.specs.Seats.{IsThere, IsTaken, IsNotTaken};
+ghost use Rattle.book.specs.Seats.{IsThere, MayFollow, IsTaken, IsNotTaken};
 
-use crate::plan::Planned;
 use chronicle::SessionId;
-use outbox::{Item, Outbox, Ring};
+use deliveries::Item;
+use outbox::{Outbox, Ring};
 use std::alloc::{AllocError, Global};
 use std::marker::Model;
 
@@ -77,24 +77,25 @@ impl<O: Outbox> Outboxes<O> {
         self.here += 1;
     }
 
-    /// Puts a delivery into its session's outbox, and answers whether that took it. It takes no memory.
-    pub(crate) fn offer(&mut self, put: Planned) -> bool
-        requires there { IsThere self.old.boxes put.session }
-        ensures put { result ≡ true → IsTaken O.sent O.accepts self.old.boxes put self.new.boxes }
-        ensures fault { result ≡ false → IsNotTaken O.refuses self.old.boxes put }
+    /// Puts an item into its session's outbox, and answers whether that took it. It takes no memory.
+    pub(crate) fn offer(&mut self, item: Item) -> bool
+        requires there { IsThere self.old.boxes item.session }
+        requires next { MayFollow O.sent (box_at self.old.boxes item.session) item }
+        ensures put { result ≡ true → IsTaken O.sent O.accepts self.old.boxes item self.new.boxes }
+        ensures fault { result ≡ false → IsNotTaken O.refuses self.old.boxes item }
         ensures same { result ≡ false → self.new.boxes ≡ self.old.boxes }
     {
-        let Some(outbox) = &mut self.outboxes[put.session.number() as usize - 1] else {
+        let Some(outbox) = &mut self.outboxes[item.session().number() as usize - 1] else {
             unreachable!();
         };
-        match outbox.put(put.item) {
+        match outbox.put(item) {
             Ok(()) => true,
             Err(_) => false,
         }
     }
 
     /// Gives up the outbox of a session with its taker, and answers how many items were left in it.
-    pub(crate) fn give_up(&mut self, session: SessionId, taker: O::Taker) -> usize
+    pub(crate) fn give_up(&mut self, session: SessionId, taker: O::Taker) -> u64
         requires there { IsThere self.old.boxes session }
         requires own { IfSome (box_at self.old.boxes session) (λ o. O.name o ≡ O.taker_of taker) }
         ensures left { IsLeft O.sent O.taken (box_at self.old.boxes session) taker result }

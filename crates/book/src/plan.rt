@@ -21,10 +21,10 @@ use crate::seats::Seats;
 use chronicle::{Moment, RecordNumber, SessionId, Why};
 use commands::read_piece;
 use deeds::{Shown, Verdict, decide, decide_gone};
+use deliveries::Delivery;
 use labels_batches::{label_of, render, wrap};
 use line_grammar::{Octets, Piece};
 use numerics::Out;
-use outbox::Item;
 use roster::{Deed, Roster};
 use std::alloc::{AllocError, Global};
 use std::collections::VecDeque;
@@ -34,7 +34,7 @@ use std::mem::replace;
 #[derive(Drop)]
 pub(crate) struct Planned {
     pub(crate) session: SessionId,
-    pub(crate) item: Item,
+    pub(crate) delivery: Delivery,
 }
 
 /// The facts that a record establishes and its deliveries, with room for those who miss it.
@@ -81,7 +81,7 @@ fn plan_one(
     }
     plan.push_back(Planned {
         session,
-        item: Item::Lines { number, text },
+        delivery: Delivery::Lines { number, text },
     })?;
     Ok(())
 }
@@ -127,15 +127,15 @@ fn plan_own(
     if !seats.is_listening(session) || (!quits && text.is_empty()) {
         return Ok(());
     }
-    let item = if quits {
-        Item::Last {
+    let delivery = if quits {
+        Delivery::Last {
             number,
             why: Why::Quit,
         }
     } else {
-        Item::Lines { number, text }
+        Delivery::Lines { number, text }
     };
-    plan.push_front(Planned { session, item })?;
+    plan.push_front(Planned { session, delivery })?;
     Ok(())
 }
 

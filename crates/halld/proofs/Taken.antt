@@ -1,7 +1,7 @@
 -- Items of a session, one after another, and what is printed of them.
 use Rattle.std.proofs.Common.{◌≡◌, inl, ℕ, ◌+◌, true, false, List, [], ◌++◌, Option, Some, None, Ok, Err, refl, sym, ap, ◌∙◌, append-nil, append_assoc, add-one, subst}
 use Rattle.std.specs.Io.KnownBytes.{Appends}
-use Rattle.outbox.specs.declared.item.Item.{Item}
+use Rattle.deliveries.specs.declared.delivery.Delivery.{Delivery}
 use Rattle.interleave.specs.declared.event.Event.TheVariants as event
 use Rattle.interleave.specs.declared.event.Note.TheVariants as note
 use Rattle.interleave.specs.State.{State}
@@ -19,7 +19,7 @@ appends_more (Some xs) None c x y p q = absurd p
 appends_more (Some xs) (Some ys) None x y p q = absurd q
 appends_more (Some xs) (Some ys) (Some zs) x y p q = q ∙ ap (λ bs. bs ++ y) p ∙ append_assoc xs x y
 
-item_of : (a : Answer) → is_item a ≡ true → (item : Item) × (a ≡ Ok (note.Item item))
+item_of : (a : Answer) → is_item a ≡ true → (item : Delivery) × (a ≡ Ok (note.Item item))
 item_of (Ok (note.Item item)) is = (item, refl)
 item_of (Ok (note.Session s)) is = absurd (cc)
 item_of (Ok (note.Read n)) is = absurd (cc)
@@ -35,7 +35,7 @@ item_of (Ok (note.Swept n)) is = absurd (cc)
 item_of (Ok (note.Left n)) is = absurd (cc)
 item_of (Err e) is = absurd (cc)
 
-one_more : (n s : ℕ) (host : List ℕ) (m l k : State) (text : List ℕ) (item : Item) → AreTaken n s host m text l → IsStep l (event.Take s) (Ok (note.Item item)) k → AreTaken (n + 1) s host m (text ++ answer_text s host (Ok (note.Item item))) k
+one_more : (n s : ℕ) (host : List ℕ) (m l k : State) (text : List ℕ) (item : Delivery) → AreTaken n s host m text l → IsStep l (event.Take s) (Ok (note.Item item)) k → AreTaken (n + 1) s host m (text ++ answer_text s host (Ok (note.Item item))) k
 one_more n s host m l k text item taken is = rw add-one (l, item, text, taken, is, refl)
 
 -- so many items were taken and written

@@ -5,7 +5,7 @@ use Rattle.chronicle.specs.declared.names.SessionId.{SessionId}
 use Rattle.chronicle.specs.declared.names.RecordNumber.{RecordNumber}
 use Rattle.book.specs.declared.out.Done.{Done}
 use Rattle.book.specs.declared.out.Hung.{Hung}
-use Rattle.outbox.specs.Text.{item_text}
+use Rattle.deliveries.specs.Text.{delivery_text}
 use Rattle.interleave.specs.declared.event.Event.{Event}
 use Rattle.interleave.specs.declared.event.Event.TheVariants as event
 use Rattle.interleave.specs.declared.event.Note.{Note}
@@ -61,7 +61,7 @@ note_text session host (note.Put s) = numbered (codes "put") s
 note_text session host (note.Missed s) = numbered (codes "missed") s
 note_text session host (note.Done done) = numbered (codes "done") done.number
 note_text session host note.Back = worded (codes "back")
-note_text session host (note.Item item) = lines_after session [] (item_text item host)
+note_text session host (note.Item item) = lines_after session [] (delivery_text item host)
 note_text session host note.Empty = worded (codes "empty")
 note_text session host (note.Hung hung) = hung_text hung
 note_text session host (note.Swept number) = swept_text number

@@ -1,6 +1,6 @@
 -- What a step of a script asks of the play, and what it prints: this project's own promise.
 use Rattle.std.specs.Prelude.{◌≡◌, ◌⊎◌, ℕ, ℤ, zero, suc, ◌-◌, ◌^◌, Bool, false, true, List, [], ◌++◌, Some, Result, Ok, Err, codes}
-use Rattle.outbox.specs.declared.item.Item.{Item}
+use Rattle.deliveries.specs.declared.delivery.Delivery.{Delivery}
 use Rattle.interleave.specs.declared.event.Event.TheVariants as event
 use Rattle.interleave.specs.declared.event.Note.{Note}
 use Rattle.interleave.specs.declared.event.Note.TheVariants as note
@@ -58,7 +58,7 @@ IsTidying moment m a k = (sweep : Answer) × (l : State) × IsStep m (event.Swee
 abbrev pub AreTaken : ℕ → ℕ → List ℕ → State → List ℕ → State → Type 0
 AreTaken zero session host m text k = (text ≡ []) × (k ≡ m)
 AreTaken (suc n) session host m text k =
-    (l : State) × (item : Item) × (before : List ℕ) × AreTaken n session host m before l × IsStep l (event.Take session) (Ok (note.Item item)) k × (text ≡ before ++ answer_text session host (Ok (note.Item item)))
+    (l : State) × (item : Delivery) × (before : List ℕ) × AreTaken n session host m before l × IsStep l (event.Take session) (Ok (note.Item item)) k × (text ≡ before ++ answer_text session host (Ok (note.Item item)))
 
 abbrev pub is_item : Answer → Bool
 is_item (Ok (note.Item item)) = true

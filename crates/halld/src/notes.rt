@@ -1,13 +1,13 @@
 //! What a step gave, as it is written.
 ghost use Rattle.std.specs.Prelude.{◌≡◌, ◌++◌, ◌∷◌, [], List, ℕ, OnOk, IfOk};
-ghost use Rattle.outbox.specs.Text.{item_text};
+ghost use Rattle.deliveries.specs.Text.{delivery_text};
 ghost use Rattle.halld.specs.Escapes.{printed};
 ghost use Rattle.halld.specs.Notes.{worded, numbered, done_text, hung_text, swept_text, line_text, lines_after, note_text, refused_text, answer_text, whole_text};
 
 use crate::escape::print_octet;
 use crate::refusals::refusal_name;
-use interleave::{Done, Hung, Item, Note, RecordNumber, SessionId, StepRefusal};
-use outbox::write_out;
+use deliveries::write_out;
+use interleave::{Delivery, Done, Hung, Note, RecordNumber, SessionId, StepRefusal};
 use std::alloc::{AllocError, Global};
 
 /// Adds a word as a line.
@@ -143,9 +143,9 @@ fn write_item(
     out: &mut Vec<u8>,
     session: SessionId,
     host: &[u8],
-    item: &Item,
+    item: &Delivery,
 ) -> Result<(), AllocError>
-    ensures { OnOk result (out.new.items ≡ out.old.items ++ lines_after session [] (item_text item.now host.now)) }
+    ensures { OnOk result (out.new.items ≡ out.old.items ++ lines_after session [] (delivery_text item.now host.now)) }
 {
     let mut text = Vec::new(alloc);
     let (_, written) = write_out(item, host, &mut text);
@@ -178,7 +178,7 @@ fn write_note(
         Note::Empty => write_word(out, "empty"),
         Note::Hung(hung) => write_hung(alloc, out, *hung),
         Note::Swept(number) => write_swept(alloc, out, *number),
-        Note::Left(count) => write_number(alloc, out, "left", *count as u64),
+        Note::Left(count) => write_number(alloc, out, "left", *count),
     }
 }
 

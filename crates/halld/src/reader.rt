@@ -81,6 +81,18 @@ fn new_player(alloc: Global, limits: &Limits) -> Result<Player, PlayFault>
     }
 }
 
+/// A player that did what a script's first step asks for.
+fn begin<W: Write>(alloc: Global, limits: &Limits, step: Step, output: &mut W) -> Result<Player, PlayFault>
+    requires { NamesHost step }
+    ensures ok { IfOk result (λ player. are_good limits.now ≡ true) }
+    ensures performed { IfOk result (λ player. (text : List ℕ) × IsPerformed step [] (start_of limits.now) text player.hosts.items player.play × Appends (W.contents output.old) (W.contents output.new) text) }
+    ensures fault { IfErr result (IsFaultOf (told_after (Some limits.now) 1 [])) }
+{
+    let mut player = new_player(alloc, limits)?;
+    player.perform(step, output)?;
+    Ok(player)
+}
+
 impl Reader {
     /// A reader at the start of a script.
     pub(crate) fn new(alloc: Global) -> Reader
@@ -110,12 +122,9 @@ impl Reader {
         match &mut self.stage {
             Stage::Steps(player) => player.perform(step, output),
             Stage::Head(limits) => {
-                let mut player = new_player(self.alloc, limits)?;
-                let answer = player.perform(step, output);
-                if answer.is_ok() {
-                    self.stage = Stage::Steps(player);
-                }
-                answer
+                let player = begin(self.alloc, limits, step, output)?;
+                self.stage = Stage::Steps(player);
+                Ok(())
             }
         }
     }

@@ -20,9 +20,9 @@ use Rattle.roster.specs.LookBack.{caps}
 use Rattle.commands.specs.Asked.{asked_of}
 use Rattle.drafts.specs.Effects.{due}
 use Rattle.deeds.specs.Deeds.{facts, spelled, text}
-use Rattle.outbox.specs.declared.item.Item.{Item}
-use Rattle.outbox.specs.declared.item.Item.TheVariants.{Lines, Last}
-use Rattle.book.specs.Owed.{delivery, item, owed, reason, told}
+use Rattle.deliveries.specs.declared.delivery.Delivery.{Delivery}
+use Rattle.deliveries.specs.declared.delivery.Delivery.TheVariants.{Lines, Last}
+use Rattle.deliveries.specs.Owed.{delivery, item, owed, reason, told}
 use Rattle.book.specs.Legal.{IsLegal}
 use Rattle.interleave.specs.Laws.{BatchClosed, HeardOnce, IsRequest, LabelledFirst, LabelledOnce, LoneUnbatched, Request, answer_to, copies_of, effects_of, record_of, reply_to}
 use Rattle.interleave.proofs.Opened.{opened-once}
@@ -47,7 +47,7 @@ item-lines n cs moment ls l more e = let is = line-some cs moment l (rendered cs
 
 -- ---- what is owed grows
 
-grows : (g : Settings) (later h : List Rec) (t : ℕ) → (rest : List Item) × (owed g (later ++ h) t ≡ owed g h t ++ rest)
+grows : (g : Settings) (later h : List Rec) (t : ℕ) → (rest : List Delivery) × (owed g (later ++ h) t ≡ owed g h t ++ rest)
 grows g [] h t = ([], sym (append-nil (owed g h t)))
 grows g (r ∷ later) h t =
     let before = grows g later h t in let new = cond (misses r t || shut (later ++ h) t) [] (delivery g (later ++ h) r.kind r.moment t) in

@@ -8,17 +8,19 @@ use Rattle.chronicle.specs.declared.record.Kind.TheVariants as kind
 use Rattle.chronicle.specs.History.{Rec, said_by, accepted, misses, ends, shut, leaves, gone}
 use Rattle.chronicle.specs.Journal.{fresh_record, miss}
 use Rattle.registration.specs.declared.settings.Settings.{Settings}
-use Rattle.outbox.specs.declared.item.Item.{Item}
+use Rattle.deliveries.specs.declared.delivery.Delivery.{Delivery}
+use Rattle.deliveries.specs.declared.item.Item.{Item}
+use Rattle.deliveries.specs.Items.{deliveries}
 use Rattle.outbox.specs.Ring.{Waiting, has_room, with_put, put_into}
 use Rattle.book.specs.declared.plan.Planned.{Planned}
 use Rattle.book.specs.Legal.{IsKind, IsLegal}
-use Rattle.book.specs.Owed.{delivery, owed}
+use Rattle.deliveries.specs.Owed.{delivery, owed}
 use Rattle.book.specs.Book.{Shown, outbox_at, is_here, IsPlan, planned, plan_of, begun, delivered, dropped, put_next, put_all, finished, done}
 use Rattle.book.specs.Book as book
 use Rattle.interleave.specs.State.{Seen, IsBoxOf, IsSoundAt}
 
 -- an outbox keeps what was taken and how much room there is; a session without one is owed nothing more
-abbrev pub IsKeptBox : Option Waiting → Option Waiting → List Item → List Item → Type 0
+abbrev pub IsKeptBox : Option Waiting → Option Waiting → List Delivery → List Delivery → Type 0
 IsKeptBox None None x y = y ≡ x
 IsKeptBox (Some v) (Some w) x y = (w.taken ≡ v.taken) × (w.cap ≡ v.cap)
 IsKeptBox None (Some w) x y = ⊥
@@ -37,11 +39,11 @@ pub record Carries (m n : Shown Waiting) (t : ℕ) : Type 0 where
 
 -- ---- outboxes
 
-same_box : (o : Option Waiting) (x y : List Item) → (is_some o ≡ false → y ≡ x) → IsKeptBox o o x y
+same_box : (o : Option Waiting) (x y : List Delivery) → (is_some o ≡ false → y ≡ x) → IsKeptBox o o x y
 same_box None x y f = f refl
 same_box (Some v) x y f = (refl, refl)
 
-box_then : (o p q : Option Waiting) (x y z : List Item) → IsKeptBox o p x y → IsKeptBox p q y z → IsKeptBox o q x z
+box_then : (o p q : Option Waiting) (x y z : List Delivery) → IsKeptBox o p x y → IsKeptBox p q y z → IsKeptBox o q x z
 box_then None None None x y z a b = b ∙ a
 box_then None None (Some w) x y z a b = absurd b
 box_then None (Some v) q x y z a b = absurd a
@@ -49,13 +51,13 @@ box_then (Some u) None q x y z a b = absurd a
 box_then (Some u) (Some v) None x y z a b = absurd b
 box_then (Some u) (Some v) (Some w) x y z a b = (b.0 ∙ a.0, b.1 ∙ a.1)
 
-pub kept_here : (o p : Option Waiting) (x y : List Item) → IsKeptBox o p x y → is_some p ≡ is_some o
+pub kept_here : (o p : Option Waiting) (x y : List Delivery) → IsKeptBox o p x y → is_some p ≡ is_some o
 kept_here None None x y a = refl
 kept_here None (Some v) x y a = absurd a
 kept_here (Some u) None x y a = absurd a
 kept_here (Some u) (Some v) x y a = refl
 
-set_box : (boxes : List (Option Waiting)) (i j : ℕ) (w : Waiting) (x : List Item) → IsKeptBox (slice_index_or boxes i None) (Some w) x x
+set_box : (boxes : List (Option Waiting)) (i j : ℕ) (w : Waiting) (x : List Delivery) → IsKeptBox (slice_index_or boxes i None) (Some w) x x
     → IsKeptBox (slice_index_or boxes j None) (slice_index_or (slice_set boxes i (Some w)) j None) x x
 set_box [] i j w x k = refl
 set_box (b ∷ bs) zero zero w x k = k
@@ -63,15 +65,15 @@ set_box (b ∷ bs) zero (suc j) w x k = same_box (slice_index_or bs j None) x x 
 set_box (b ∷ bs) (suc i) zero w x k = same_box b x x (λ e. refl)
 set_box (b ∷ bs) (suc i) (suc j) w x k = set_box bs i j w x k
 
-put_box : (o : Option Waiting) (y : Item) (x : List Item) → has_room (book.box_of o) ≡ true → IsKeptBox o (Some (with_put (book.box_of o) y)) x x
+put_box : (o : Option Waiting) (y : Item) (x : List Delivery) → has_room (book.box_of o) ≡ true → IsKeptBox o (Some (with_put (book.box_of o) y)) x x
 put_box None y x e = absurd (let f : false ≡ true = e in cc)
 put_box (Some v) y x e = (refl, refl)
 
-carried_box : (o p : Option Waiting) (b : Seen) (sendq : ℕ) (x y : List Item) → IsKeptBox o p x y → IsBoxOf o b sendq x → IsBoxOf p b sendq y
+carried_box : (o p : Option Waiting) (b : Seen) (sendq : ℕ) (x y : List Delivery) → IsKeptBox o p x y → IsBoxOf o b sendq x → IsBoxOf p b sendq y
 carried_box None None b sendq x y k i = (i.0 ∙ sym k, i.1)
 carried_box None (Some w) b sendq x y k i = absurd k
 carried_box (Some v) None b sendq x y k i = absurd k
-carried_box (Some v) (Some w) b sendq x y k i = (k.0 ∙ i.0, k.1 ∙ i.1)
+carried_box (Some v) (Some w) b sendq x y k i = (ap deliveries k.0 ∙ i.0, k.1 ∙ i.1)
 
 pub carried : (m n : Shown Waiting) (b : Seen) (sendq t : ℕ) → Carries m n t → IsSoundAt m.settings m.history (slice_index_or m.outboxes (t - 1) None) b sendq t → IsSoundAt n.settings n.history (slice_index_or n.outboxes (t - 1) None) b sendq t
 carried m n b sendq t c i =
@@ -127,7 +129,7 @@ away_before m t i from to away = gone_before m.settings m.history t i.legal (i.r
 
 -- ---- who was shut before is owed nothing more
 
-pub owed_by : (x : List Item) (d : List Item) (b c : Bool) → c ≡ true → x ++ cond (b || c) [] d ≡ x
+pub owed_by : (x : List Delivery) (d : List Delivery) (b c : Bool) → c ≡ true → x ++ cond (b || c) [] d ≡ x
 owed_by x d true c e = append-nil x
 owed_by x d false c e = rw e (append-nil x)
 
@@ -167,7 +169,7 @@ put_carries m p ps t f =
     let here : (b : Bool) → has_room (outbox_at m.outboxes p.session) ≡ b → Carries m (cond b (delivered m p ps) (dropped m p ps)) t =
     λ b.
     elim b as (λ (b : Bool). has_room (outbox_at m.outboxes p.session) ≡ b → Carries m (cond b (delivered m p ps) (dropped m p ps)) t) [
-      | true ↦ λ e. record { accepted = refl; box = set_box m.outboxes (p.session - 1) (t - 1) (with_put (outbox_at m.outboxes p.session) p.item) (owed m.settings m.history t) (put_box o p.item (owed m.settings m.history t) e); before = λ b. b }
+      | true ↦ λ e. record { accepted = refl; box = set_box m.outboxes (p.session - 1) (t - 1) (with_put (outbox_at m.outboxes p.session) (book.item_of m p)) (owed m.settings m.history t) (put_box o (book.item_of m p) (owed m.settings m.history t) e); before = λ b. b }
       | false ↦ λ e. record { accepted = missed_accepted m.history p.session t; box = same_box (slice_index_or m.outboxes (t - 1) None) (owed m.settings m.history t) (owed m.settings (miss m.history p.session) t) (λ away. missed_owed m.settings m.history p.session t (f away)); before = missed_before m.history p.session t }
     ] in
     here (has_room (outbox_at m.outboxes p.session)) refl
@@ -213,7 +215,7 @@ shut_not_owed : (g : Settings) (h : List Rec) (p : Planned) → ShutBefore h p.s
 shut_not_owed g [] p b i = i
 shut_not_owed g (r ∷ h) p b i = let f : true ≡ false = sym b ∙ i.1 in cc
 
-none_by : (m : Shown Waiting) (p : Planned) (t : ℕ) (xs : List Item) → ShutBefore m.history t → book.IsOwed m.settings m.history p → xs ≡ [] → cond (p.session == t) (p.item ∷ xs) xs ≡ []
+none_by : (m : Shown Waiting) (p : Planned) (t : ℕ) (xs : List Delivery) → ShutBefore m.history t → book.IsOwed m.settings m.history p → xs ≡ [] → cond (p.session == t) (p.delivery ∷ xs) xs ≡ []
 none_by m p t xs b i e =
     elim (eqb_tells p.session t) [
       | inl same ↦ absurd (shut_not_owed m.settings m.history p (subst (ShutBefore m.history) (sym same.1) b) i)

@@ -9,7 +9,8 @@ use Rattle.line_grammar.specs.Lines.{lines}
 use Rattle.chronicle.specs.declared.record.Kind.TheVariants as kind
 use Rattle.chronicle.specs.declared.why.Why.{Why}
 use Rattle.chronicle.specs.History.{Rec, sessions, accepted}
-use Rattle.outbox.specs.declared.item.Item.{Item}
+use Rattle.deliveries.specs.declared.delivery.Delivery.{Delivery}
+use Rattle.deliveries.specs.Items.{deliveries}
 use Rattle.outbox.specs.Ring.{Waiting, empty_ring, with_taken as ring_taken, put_into}
 use Rattle.book.specs.Book.{Shown, Turn, Out, IsOut, is_here}
 use Rattle.book.specs.Book as book
@@ -125,7 +126,7 @@ pub record IsJob (m : Shown Waiting) (boxes : List Held) (holder : Option Holder
   pub here : is_here m.outboxes s ≡ true
   pub place : (held_at boxes s).seen.place ≡ place_with (worker_of holder) w
 
-box_there : (o : Option Waiting) (b : Seen) (sendq : ℕ) (xs : List Item) → IsBoxOf o b sendq xs → is_home b.place ≡ false → is_some o ≡ true
+box_there : (o : Option Waiting) (b : Seen) (sendq : ℕ) (xs : List Delivery) → IsBoxOf o b sendq xs → is_home b.place ≡ false → is_some o ≡ true
 box_there None b sendq xs i e = absurd (let f : true ≡ false = sym (ap is_home i.1) ∙ e in cc)
 box_there (Some w) b sendq xs i e = refl
 
@@ -345,7 +346,7 @@ line_ended_kept m k sendq boxes jobs w s p turn i a has session goes e sound =
 
 -- ---- an item is taken, and a session is given up
 
-pub took_kept : (m k : Shown Waiting) (sendq : ℕ) (boxes : List Held) (jobs : List (Option ℕ)) (holder : Option Holder) (s : ℕ) (x : Item) → IsKept m sendq boxes jobs holder → 0 < s → s ≤ length boxes → is_here m.outboxes s ≡ true
+pub took_kept : (m k : Shown Waiting) (sendq : ℕ) (boxes : List Held) (jobs : List (Option ℕ)) (holder : Option Holder) (s : ℕ) (x : Delivery) → IsKept m sendq boxes jobs holder → 0 < s → s ≤ length boxes → is_here m.outboxes s ≡ true
     → slice_get (queue_of (state_of m sendq boxes jobs holder) s) 0 ≡ Some x → k ≡ book.taken m s → book.IsSound put_into k
     → (state_of k sendq (with_held boxes s (with_seen (held_at boxes s) (with_taken (held_at boxes s).seen x))) jobs holder ≡ took (state_of m sendq boxes jobs holder) s x)
     × IsKept k sendq (with_held boxes s (with_seen (held_at boxes s) (with_taken (held_at boxes s).seen x))) jobs holder
@@ -423,12 +424,12 @@ connected_kept m k sendq boxes jobs holder c host moment i free is e sound =
           (record { sound = subst IsSound (sym state) (connected_sound st host moment i.sound (subst (book.IsSound put_into) e sound)); turns = turns; holding = free_holding g jobs holder free }),
     )
 
-queue_in : (o : Option Waiting) (left : List Item) → is_some o ≡ true → waits o left ≡ (book.box_of o).queue
+queue_in : (o : Option Waiting) (left : List Delivery) → is_some o ≡ true → waits o left ≡ deliveries (book.box_of o).queue
 queue_in None left e = absurd (let f : false ≡ true = e in cc)
 queue_in (Some w) left e = refl
 
 -- what waits for a session that is here
-pub queue_here : (m : Shown Waiting) (sendq : ℕ) (boxes : List Held) (jobs : List (Option ℕ)) (holder : Option Holder) (s : ℕ) → is_here m.outboxes s ≡ true → queue_of (state_of m sendq boxes jobs holder) s ≡ (book.outbox_at m.outboxes s).queue
+pub queue_here : (m : Shown Waiting) (sendq : ℕ) (boxes : List Held) (jobs : List (Option ℕ)) (holder : Option Holder) (s : ℕ) → is_here m.outboxes s ≡ true → queue_of (state_of m sendq boxes jobs holder) s ≡ deliveries (book.outbox_at m.outboxes s).queue
 queue_here m sendq boxes jobs holder s here = queue_in (slice_index_or m.outboxes (s - 1) None) (inbox_at (state_of m sendq boxes jobs holder) s).left here
 
 pub fed_lines : (m : Shown Waiting) (sendq : ℕ) (boxes : List Held) (jobs : List (Option ℕ)) (holder : Option Holder) (s : ℕ) (octets : List ℕ) (n : ℕ) (c : Held) → (a : IsRead (held_at boxes s) octets n c)

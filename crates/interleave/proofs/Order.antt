@@ -4,9 +4,12 @@ use Rattle.std.specs.Option.{is_some}
 use Rattle.chronicle.specs.declared.why.Why.{Why}
 use Rattle.chronicle.specs.History.{Rec, misses, ends, shut}
 use Rattle.registration.specs.declared.settings.Settings.{Settings}
-use Rattle.outbox.specs.declared.item.Item.{Item}
-use Rattle.outbox.specs.declared.item.Item.TheVariants.{Lines, Last}
-use Rattle.book.specs.Owed.{item, told, reason, delivery, owed}
+use Rattle.std.proofs.lemmas.List.{map-append}
+use Rattle.deliveries.specs.declared.delivery.Delivery.{Delivery}
+use Rattle.deliveries.specs.declared.item.Item.{Item}
+use Rattle.deliveries.specs.Items.{deliveries}
+use Rattle.deliveries.specs.declared.delivery.Delivery.TheVariants.{Lines, Last}
+use Rattle.deliveries.specs.Owed.{item, told, reason, delivery, owed}
 use Rattle.line_grammar.specs.declared.splitter.Piece.{Piece}
 use Rattle.line_grammar.specs.Lines.{lines}
 use Rattle.chronicle.specs.History.{accepted}
@@ -20,40 +23,40 @@ use Rattle.interleave.specs.Order.{IsPrefix, number_of, AreAfter, IsRising}
 use Rattle.interleave.specs.Laws.{OnceInOrder, TakenInOrder, AcceptedIsPrefixOfSent, ErrorAtMostAfterTheClose, IsErrorAtMost}
 
 -- each number is at most n
-abbrev AtMost : ℕ → List Item → Type 0
+abbrev AtMost : ℕ → List Delivery → Type 0
 AtMost n [] = Unit {0}
 AtMost n (x ∷ xs) = (number_of x ≤ n) × AtMost n xs
 
-after_push : (n : ℕ) (y : Item) (xs : List Item) → AreAfter n xs → n < number_of y → AreAfter n (xs ++ y ∷ [])
+after_push : (n : ℕ) (y : Delivery) (xs : List Delivery) → AreAfter n xs → n < number_of y → AreAfter n (xs ++ y ∷ [])
 after_push n y [] a l = (l, tt)
 after_push n y (z ∷ zs) a l = (a.0, after_push n y zs a.1 l)
 
-rising_push : (n : ℕ) (y : Item) (xs : List Item) → IsRising xs → AtMost n xs → n < number_of y → IsRising (xs ++ y ∷ [])
+rising_push : (n : ℕ) (y : Delivery) (xs : List Delivery) → IsRising xs → AtMost n xs → n < number_of y → IsRising (xs ++ y ∷ [])
 rising_push n y [] r m l = (tt, tt)
 rising_push n y (x ∷ xs) r m l = let here = m.0 in (after_push (number_of x) y xs r.0 (omega arith), rising_push n y xs r.1 m.1 l)
 
-most_push : (n k : ℕ) (y : Item) (xs : List Item) → n ≤ k → AtMost n xs → number_of y ≤ k → AtMost k (xs ++ y ∷ [])
+most_push : (n k : ℕ) (y : Delivery) (xs : List Delivery) → n ≤ k → AtMost n xs → number_of y ≤ k → AtMost k (xs ++ y ∷ [])
 most_push n k y [] l m o = (o, tt)
 most_push n k y (x ∷ xs) l m o = let here = m.0 in (omega arith, most_push n k y xs l m.1 o)
 
-most_more : (n k : ℕ) (xs : List Item) → n ≤ k → AtMost n xs → AtMost k xs
+most_more : (n k : ℕ) (xs : List Delivery) → n ≤ k → AtMost n xs → AtMost k xs
 most_more n k [] l m = tt
 most_more n k (x ∷ xs) l m = let here = m.0 in (omega arith, most_more n k xs l m.1)
 
 -- so many records owe items that rise up to their count
-record IsUpTo (n : ℕ) (xs : List Item) : Type 0 where
+record IsUpTo (n : ℕ) (xs : List Delivery) : Type 0 where
   pub rises : IsRising xs
   pub most : AtMost n xs
 
-last_up : (n : ℕ) (xs : List Item) (why : Why) → IsUpTo n xs → IsUpTo (n + 1) (xs ++ Last (n + 1) why ∷ [])
+last_up : (n : ℕ) (xs : List Delivery) (why : Why) → IsUpTo n xs → IsUpTo (n + 1) (xs ++ Last (n + 1) why ∷ [])
 last_up n xs why u =
-    let y : Item = Last (n + 1) why in
+    let y : Delivery = Last (n + 1) why in
     record { rises = rising_push n y xs u.rises u.most (omega arith); most = most_push n (n + 1) y xs (omega arith) u.most (omega arith) }
 
-item_up : (n : ℕ) (xs : List Item) (bs : List ℕ) → IsUpTo n xs → IsUpTo (n + 1) (xs ++ item (n + 1) bs)
+item_up : (n : ℕ) (xs : List Delivery) (bs : List ℕ) → IsUpTo n xs → IsUpTo (n + 1) (xs ++ item (n + 1) bs)
 item_up n xs [] u = subst (IsUpTo (n + 1)) (sym (append-nil xs)) (record { rises = u.rises; most = most_more n (n + 1) xs (omega arith) u.most })
 item_up n xs (b ∷ bs) u =
-    let y : Item = Lines (n + 1) (b ∷ bs) in
+    let y : Delivery = Lines (n + 1) (b ∷ bs) in
     record { rises = rising_push n y xs u.rises u.most (omega arith); most = most_push n (n + 1) y xs (omega arith) u.most (omega arith) }
 
 owed_up : (g : Settings) (h : List Rec) (t : ℕ) → IsUpTo (length h) (owed g h t)
@@ -75,22 +78,22 @@ once_in_order g h t = (owed_up g h t).rises
 
 -- ---- prefixes
 
-after_front : (n : ℕ) (xs ys : List Item) → AreAfter n (xs ++ ys) → AreAfter n xs
+after_front : (n : ℕ) (xs ys : List Delivery) → AreAfter n (xs ++ ys) → AreAfter n xs
 after_front n [] ys a = tt
 after_front n (z ∷ zs) ys a = (a.0, after_front n zs ys a.1)
 
-rising_front : (xs ys : List Item) → IsRising (xs ++ ys) → IsRising xs
+rising_front : (xs ys : List Delivery) → IsRising (xs ++ ys) → IsRising xs
 rising_front [] ys r = tt
 rising_front (x ∷ xs) ys r = (after_front (number_of x) xs ys r.0, rising_front xs ys r.1)
 
 -- the first items of what is owed rise
-pub prefix_rises : (g : Settings) (h : List Rec) (t : ℕ) (xs : List Item) → IsPrefix xs (owed g h t) → IsRising xs
+pub prefix_rises : (g : Settings) (h : List Rec) (t : ℕ) (xs : List Delivery) → IsPrefix xs (owed g h t) → IsRising xs
 prefix_rises g h t xs p = rising_front xs p.0 (subst IsRising (sym p.1) (once_in_order g h t))
 
 -- what was taken, what waits and what a plan still has is owed
-owed_by : (o : Option Waiting) (b : Seen) (sendq : ℕ) (ps xs : List Item) → IsBoxOf o b sendq xs → (is_some o ≡ false → ps ≡ []) → (is_some o ≡ true → sent_by put_into o ++ ps ≡ xs) → b.taken ++ waits o b.left ++ ps ≡ xs
+owed_by : (o : Option Waiting) (b : Seen) (sendq : ℕ) (ps xs : List Delivery) → IsBoxOf o b sendq xs → (is_some o ≡ false → ps ≡ []) → (is_some o ≡ true → deliveries (sent_by put_into o) ++ ps ≡ xs) → b.taken ++ waits o b.left ++ ps ≡ xs
 owed_by None b sendq ps xs i none here = ap (λ qs. b.taken ++ b.left ++ qs) (none refl) ∙ append-nil (b.taken ++ b.left) ∙ i.0
-owed_by (Some w) b sendq ps xs i none here = ap (λ qs. qs ++ w.queue ++ ps) (sym i.0) ∙ here refl
+owed_by (Some w) b sendq ps xs i none here = ap (λ qs. qs ++ deliveries w.queue ++ ps) (sym i.0) ∙ ap (λ qs. qs ++ ps) (sym (map-append (λ (x : Item). x.delivery) w.taken w.queue)) ∙ here refl
 
 pub sound_owed : (m : State) → IsSound m → ForEach m (λ t. taken_of m t ++ queue_of m t ++ planned_for m t ≡ owed m.book.settings m.book.history t)
 sound_owed m i t from to =
@@ -129,7 +132,7 @@ shut_stays g (r ∷ later) h t e =
     )
 
 -- what the record owes that shuts a session
-closing : (g : Settings) (r : Rec) (h : List Rec) (t : ℕ) (b c d : Bool) → ends r.kind t ≡ c → (b || c || d) ≡ true → (end : List Item) × IsErrorAtMost end × (owed g h t ++ cond (b || d) [] (cond c (Last (length h + 1) (reason r.kind) ∷ []) (item (length h + 1) (told g h r.kind r.moment t))) ≡ owed g h t ++ end)
+closing : (g : Settings) (r : Rec) (h : List Rec) (t : ℕ) (b c d : Bool) → ends r.kind t ≡ c → (b || c || d) ≡ true → (end : List Delivery) × IsErrorAtMost end × (owed g h t ++ cond (b || d) [] (cond c (Last (length h + 1) (reason r.kind) ∷ []) (item (length h + 1) (told g h r.kind r.moment t))) ≡ owed g h t ++ end)
 closing g r h t true c d is e = ([], tt, refl)
 closing g r h t false true true is e = ([], tt, refl)
 closing g r h t false true false is e = (Last (length h + 1) (reason r.kind) ∷ [], tt, refl)

@@ -7,8 +7,8 @@ use Rattle.std.proofs.Common.{◌≡◌, ◌≢◌, inl, inr, ℕ, ℤ, zero, su
 use Rattle.line_grammar.specs.declared.splitter.Piece.{Piece}
 use Rattle.line_grammar.specs.Lines.{lines}
 use Rattle.chronicle.specs.History.{accepted}
-use Rattle.outbox.specs.declared.item.Item.{Item}
-use Rattle.book.specs.Owed.{owed}
+use Rattle.deliveries.specs.declared.delivery.Delivery.{Delivery}
+use Rattle.deliveries.specs.Owed.{owed}
 use Rattle.book.specs.Book.{to_sweep}
 use Rattle.interleave.specs.declared.worker.Place.TheVariants.{Home, Hand}
 use Rattle.interleave.specs.declared.event.Event.{Event}
@@ -23,7 +23,7 @@ use Rattle.interleave.proofs.Order.{sound_owed, sound_accepted}
 use Rattle.interleave.proofs.Free.{session_in}
 
 -- session t was fed these octets and these items were taken of it
-pub record Gains (m k : State) (t : ℕ) (octets : List ℕ) (items : List Item) : Type 0 where
+pub record Gains (m k : State) (t : ℕ) (octets : List ℕ) (items : List Delivery) : Type 0 where
   pub fed : (inbox_at k t).fed ≡ (inbox_at m t).fed ++ octets
   pub taken : taken_of k t ≡ taken_of m t ++ items
 
@@ -88,7 +88,7 @@ feed_gains m s t octets added above from l =
       taken = set_alike (λ (c : Seen). c.taken) m.inboxes (s - 1) (t - 1) (with_fed (inbox_at m s) octets added) nothing_fed refl ∙ sym (append-nil _);
     }
 
-take_gains : (m : State) (s t : ℕ) (x : Item) → 0 < s → 0 < t → s ≤ length m.inboxes → Gains m (took_one m s x) t [] (cond (s == t) (x ∷ []) [])
+take_gains : (m : State) (s t : ℕ) (x : Delivery) → 0 < s → 0 < t → s ≤ length m.inboxes → Gains m (took_one m s x) t [] (cond (s == t) (x ∷ []) [])
 take_gains m s t x above from l =
     record {
       fed = set_alike (λ (c : Seen). c.fed) m.inboxes (s - 1) (t - 1) (with_taken (inbox_at m s) x) nothing_fed refl ∙ sym (append-nil _);
@@ -98,7 +98,7 @@ take_gains m s t x above from l =
 inboxes_of : (k m : State) → k ≡ m → k.inboxes ≡ m.inboxes
 inboxes_of k m e = ap (λ (n : State). n.inboxes) e
 
-either_way : (b : Bool) (xs : List Item) → cond b xs xs ≡ xs
+either_way : (b : Bool) (xs : List Delivery) → cond b xs xs ≡ xs
 either_way true xs = refl
 either_way false xs = refl
 
@@ -118,9 +118,9 @@ sweep_gains : (m k : State) (w t : ℕ) (o : Option ℕ) (moment : ℤ) (n : Not
 sweep_gains m k w t None moment n h = untouched m k t (inboxes_of _ _ h.1)
 sweep_gains m k w t (Some s) moment n h = untouched m k t (inboxes_of _ _ h.1)
 
-took_gains : (m k : State) (s t : ℕ) (o : Option Item) (n : Note) → 0 < s → 0 < t → s ≤ length m.inboxes → IsTake m s o n k → Gains m k t [] (cond (s == t) (item_of n) [])
+took_gains : (m k : State) (s t : ℕ) (o : Option Delivery) (n : Note) → 0 < s → 0 < t → s ≤ length m.inboxes → IsTake m s o n k → Gains m k t [] (cond (s == t) (item_of n) [])
 took_gains m k s t None n above from l h =
-    subst (λ (v : Note). Gains m k t [] (cond (s == t) (item_of v) [])) (sym h.0) (subst (λ (xs : List Item). Gains m k t [] xs) (sym (either_way (s == t) [])) (same m k t h.1))
+    subst (λ (v : Note). Gains m k t [] (cond (s == t) (item_of v) [])) (sym h.0) (subst (λ (xs : List Delivery). Gains m k t [] xs) (sym (either_way (s == t) [])) (same m k t h.1))
 took_gains m k s t (Some x) n above from l h =
     subst (λ (v : Note). Gains m k t [] (cond (s == t) (item_of v) [])) (sym h.0) (subst (λ (j : State). Gains m j t [] (cond (s == t) (x ∷ []) [])) (sym h.1) (take_gains m s t x above from l))
 

@@ -9,9 +9,12 @@ use Rattle.chronicle.specs.declared.record.Kind.TheVariants as kind
 use Rattle.chronicle.specs.declared.why.Why.{Why}
 use Rattle.chronicle.specs.History.{Rec, sessions, accepted}
 use Rattle.registration.specs.declared.settings.Settings.{Settings}
-use Rattle.outbox.specs.declared.item.Item.{Item}
+use Rattle.std.proofs.lemmas.List.{map-append}
+use Rattle.deliveries.specs.declared.delivery.Delivery.{Delivery}
+use Rattle.deliveries.specs.declared.item.Item.{Item}
+use Rattle.deliveries.specs.Items.{deliveries}
 use Rattle.outbox.specs.Ring.{Waiting, empty_ring, with_taken as ring_taken, put_into}
-use Rattle.book.specs.Owed.{owed}
+use Rattle.deliveries.specs.Owed.{owed}
 use Rattle.book.specs.Book.{Shown, is_here, box_of, sent_by}
 use Rattle.book.specs.Book as book
 use Rattle.interleave.specs.declared.worker.Place.{Place}
@@ -194,11 +197,11 @@ one_sound m n s b jobs holder i sound above below lock len c here batons who =
 
 -- ---- what is said of a session's outbox where its inbox changes
 
-box_like : (o : Option Waiting) (b c : Seen) (sendq : ℕ) (x : List Item) → c.taken ≡ b.taken → c.left ≡ b.left → c.place ≡ b.place → IsBoxOf o b sendq x → IsBoxOf o c sendq x
+box_like : (o : Option Waiting) (b c : Seen) (sendq : ℕ) (x : List Delivery) → c.taken ≡ b.taken → c.left ≡ b.left → c.place ≡ b.place → IsBoxOf o b sendq x → IsBoxOf o c sendq x
 box_like None b c sendq x taken left place i = (ap (λ xs. xs ++ c.left) taken ∙ ap (λ xs. b.taken ++ xs) left ∙ i.0, place ∙ i.1)
 box_like (Some w) b c sendq x taken left place i = (i.0 ∙ sym taken, i.1)
 
-box_here : (o : Option Waiting) (b c : Seen) (sendq : ℕ) (x y : List Item) → is_some o ≡ true → c.taken ≡ b.taken → IsBoxOf o b sendq x → IsBoxOf o c sendq y
+box_here : (o : Option Waiting) (b c : Seen) (sendq : ℕ) (x y : List Delivery) → is_some o ≡ true → c.taken ≡ b.taken → IsBoxOf o b sendq x → IsBoxOf o c sendq y
 box_here None b c sendq x y here taken i = absurd (let f : false ≡ true = here in cc)
 box_here (Some w) b c sendq x y here taken i = (i.0 ∙ sym taken, i.1)
 
@@ -306,15 +309,20 @@ other_carries m s t o n a b ne settings history boxes =
       before = subst (λ (h : List Rec). ShutBefore m.history t → ShutBefore h t) (sym history) (λ x. x);
     }
 
-front : (xs : List Item) (x : Item) → slice_get xs 0 ≡ Some x → take 1 xs ≡ x ∷ []
+front : (xs : List Delivery) (x : Delivery) → slice_get xs 0 ≡ Some x → take 1 xs ≡ x ∷ []
 front [] x e = absurd (let f : None ≡ Some x = e in cc)
-front (y ∷ ys) x e = let f : Some y ≡ Some x = e in let yx : y ≡ x = cc in ap (λ (z : Item). z ∷ []) yx
+front (y ∷ ys) x e = let f : Some y ≡ Some x = e in let yx : y ≡ x = cc in ap (λ (z : Delivery). z ∷ []) yx
 
-took_box : (o : Option Waiting) (b : Seen) (sendq : ℕ) (left xs ys : List Item) (x : Item) → is_some o ≡ true → slice_get (waits o left) 0 ≡ Some x → IsBoxOf o b sendq xs → IsBoxOf (Some (ring_taken (box_of o))) (with_taken b x) sendq ys
+take_first : (q : List Item) → deliveries (take 1 q) ≡ take 1 (deliveries q)
+take_first [] = refl
+take_first (y ∷ q) = refl
+
+took_box : (o : Option Waiting) (b : Seen) (sendq : ℕ) (left xs ys : List Delivery) (x : Delivery) → is_some o ≡ true → slice_get (waits o left) 0 ≡ Some x → IsBoxOf o b sendq xs → IsBoxOf (Some (ring_taken (box_of o))) (with_taken b x) sendq ys
 took_box None b sendq left xs ys x here e i = absurd (let f : false ≡ true = here in cc)
-took_box (Some w) b sendq left xs ys x here e i = (ap (λ zs. zs ++ take 1 w.queue) i.0 ∙ ap (λ zs. b.taken ++ zs) (front w.queue x e), i.1)
+took_box (Some w) b sendq left xs ys x here e i =
+    (map-append (λ (y : Item). y.delivery) w.taken (take 1 w.queue) ∙ ap (λ zs. zs ++ deliveries (take 1 w.queue)) i.0 ∙ ap (λ zs. b.taken ++ zs) (take_first w.queue ∙ front (deliveries w.queue) x e), i.1)
 
-pub took_sound : (m : State) (s : ℕ) (x : Item) → IsSound m → 0 < s → s ≤ length m.inboxes → is_here m.book.outboxes s ≡ true → slice_get (queue_of m s) 0 ≡ Some x → book.IsSound put_into (took m s x).book → IsSound (took m s x)
+pub took_sound : (m : State) (s : ℕ) (x : Delivery) → IsSound m → 0 < s → s ≤ length m.inboxes → is_here m.book.outboxes s ≡ true → slice_get (queue_of m s) 0 ≡ Some x → book.IsSound put_into (took m s x).book → IsSound (took m s x)
 took_sound m s x i above below here e sound =
     let b = inbox_at m s in let was = i.each s above below in
     let same = i.inboxes in
@@ -350,9 +358,10 @@ is_at_home Home e = refl
 is_at_home (Hand w) e = absurd (let f : false ≡ true = e in cc)
 is_at_home (Begun w) e = absurd (let f : false ≡ true = e in cc)
 
-reaped_box : (o : Option Waiting) (b : Seen) (sendq : ℕ) (xs : List Item) → is_some o ≡ true → IsBoxOf o b sendq xs → sent_by put_into o ++ [] ≡ xs → b.place ≡ Home → IsBoxOf None (with_left b (waits o b.left)) sendq xs
+reaped_box : (o : Option Waiting) (b : Seen) (sendq : ℕ) (xs : List Delivery) → is_some o ≡ true → IsBoxOf o b sendq xs → deliveries (sent_by put_into o) ++ [] ≡ xs → b.place ≡ Home → IsBoxOf None (with_left b (waits o b.left)) sendq xs
 reaped_box None b sendq xs here i e home = absurd (let f : false ≡ true = here in cc)
-reaped_box (Some w) b sendq xs here i e home = (ap (λ ys. ys ++ w.queue) (sym i.0) ∙ sym (append-nil (w.taken ++ w.queue)) ∙ e, home)
+reaped_box (Some w) b sendq xs here i e home =
+    (ap (λ ys. ys ++ deliveries w.queue) (sym i.0) ∙ sym (map-append (λ (x : Item). x.delivery) w.taken w.queue) ∙ sym (append-nil (deliveries (w.taken ++ w.queue))) ∙ e, home)
 
 pub reaped_sound : (m : State) (s : ℕ) → IsSound m → m.holder ≡ None → 0 < s → s ≤ length m.inboxes → is_here m.book.outboxes s ≡ true → is_home (inbox_at m s).place ≡ true → book.IsSound put_into (reaped m s).book → IsSound (reaped m s)
 reaped_sound m s i free above below here home sound =
@@ -363,8 +372,8 @@ reaped_sound m s i free above below here home sound =
     let n : Shown Waiting = (reaped m s).book in
     let idle : m.book.plan ≡ [] = i.book.idle (i.lock ∙ ap is_some free) in
     let new : slice_index_or n.outboxes (s - 1) None ≡ None = get_or-set_same m.book.outboxes (s - 1) None None within in
-    let all : sent_by put_into (box_at m s) ++ [] ≡ owed m.book.settings m.book.history s =
-    ap (λ ps. sent_by put_into (box_at m s) ++ book.planned ps s) (sym idle) ∙ i.book.owed s above below_too here in
+    let all : deliveries (sent_by put_into (box_at m s)) ++ [] ≡ owed m.book.settings m.book.history s =
+    ap (λ ps. deliveries (sent_by put_into (box_at m s)) ++ book.planned ps s) (sym idle) ∙ i.book.owed s above below_too here in
     one_sound m n s (with_left b (queue_of m s)) m.jobs m.holder i sound above below i.lock (set_length m.book.outboxes (s - 1) None)
     (λ t ne from to. other_carries m.book s t None n above from ne refl refl refl)
     (record {

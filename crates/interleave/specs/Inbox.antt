@@ -3,7 +3,7 @@ use Rattle.std.specs.Prelude.{◌≡◌, ℕ, ℤ, ◌+◌, ◌-◌, List, ◌�
 use Rattle.line_grammar.specs.declared.splitter.Piece.{Piece}
 use Rattle.line_grammar.specs.Lines.{lines}
 use Rattle.chronicle.specs.declared.record.Kind.TheVariants.{Said}
-use Rattle.outbox.specs.declared.item.Item.{Item}
+use Rattle.deliveries.specs.declared.delivery.Delivery.{Delivery}
 use Rattle.interleave.specs.declared.worker.Place.{Place}
 use Rattle.interleave.specs.declared.worker.Place.TheVariants.{Home}
 use Rattle.outbox.specs.Ring.{Waiting}
@@ -28,7 +28,7 @@ abbrev pub ended_at : Held → Turn → Held
 ended_at b turn = record { seen = moved b.seen Home; turn = Some (record { session = turn.session; next = turn.next + 1 }) }
 
 -- the session was given up with its baton, and so much was left
-abbrev pub reaped_at : Held → List Item → Held
+abbrev pub reaped_at : Held → List Delivery → Held
 reaped_at b items = record { seen = with_left b.seen items; turn = None }
 
 abbrev pub no_inbox : Held

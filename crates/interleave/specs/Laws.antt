@@ -7,8 +7,8 @@ use Rattle.chronicle.specs.declared.record.Kind.TheVariants.{Said}
 use Rattle.chronicle.specs.History.{Rec, accepted, is_quit, misses, shut}
 use Rattle.numerics.specs.declared.outgoing.Out.{Out}
 use Rattle.registration.specs.declared.settings.Settings.{Settings}
-use Rattle.outbox.specs.declared.item.Item.{Item}
-use Rattle.outbox.specs.declared.item.Item.TheVariants.{Lines, Last}
+use Rattle.deliveries.specs.declared.delivery.Delivery.{Delivery}
+use Rattle.deliveries.specs.declared.delivery.Delivery.TheVariants.{Lines, Last}
 use Rattle.labels_batches.specs.declared.answers.Tagged.{Tagged}
 use Rattle.labels_batches.specs.Labels.{label_of}
 use Rattle.labels_batches.specs.Rendered.{rendered}
@@ -21,7 +21,7 @@ use Rattle.drafts.specs.Effects.{copies, reply}
 use Rattle.deeds.specs.Rows.{of_asked}
 use Rattle.deeds.specs.Deeds.{effects, facts}
 use Rattle.record_laws.specs.Laws.{AllShowOnce}
-use Rattle.book.specs.Owed.{owed}
+use Rattle.deliveries.specs.Owed.{owed}
 use Rattle.book.specs.Legal.{IsLegal}
 use Rattle.interleave.specs.State.{State, IsSound, ForEach, inbox_at, taken_of}
 use Rattle.interleave.specs.Order.{IsPrefix, IsRising}
@@ -39,14 +39,14 @@ abbrev pub AcceptedIsPrefixOfSent : Type 0
 AcceptedIsPrefixOfSent = (m : State) → IsSound m → ForEach m (λ t. IsPrefix (accepted m.book.history t) (lines (inbox_at m t).fed))
 
 -- the ERROR line, or nothing
-abbrev pub IsErrorAtMost : List Item → Type 0
+abbrev pub IsErrorAtMost : List Delivery → Type 0
 IsErrorAtMost [] = Unit {0}
 IsErrorAtMost (Last n why ∷ []) = Unit {0}
 IsErrorAtMost xs = ⊥
 
 -- a record after which a session is shut owes it the ERROR line at most, beside what it was owed before, and later records nothing
 abbrev pub ErrorAtMostAfterTheClose : Type 0
-ErrorAtMostAfterTheClose = (g : Settings) (later : List Rec) (r : Rec) (h : List Rec) (t : ℕ) → shut (r ∷ h) t ≡ true → (end : List Item) × IsErrorAtMost end × (owed g (later ++ r ∷ h) t ≡ owed g h t ++ end)
+ErrorAtMostAfterTheClose = (g : Settings) (later : List Rec) (r : Rec) (h : List Rec) (t : ℕ) → shut (r ∷ h) t ≡ true → (end : List Delivery) × IsErrorAtMost end × (owed g (later ++ r ∷ h) t ≡ owed g h t ++ end)
 
 -- ---- lines with a label
 
@@ -92,7 +92,7 @@ answer_to g q = answered g.server (Some q.label) (length q.before + 1) (reply_to
 abbrev pub IsAnsweredOnce : Settings → List Rec → Type 0
 IsAnsweredOnce g history =
     (q : Request) → IsRequest g history q
-    → (rest : List Item) × (owed g history q.session ≡ owed g q.before q.session ++ Lines (length q.before + 1) (rendered (caps (facts g q.before) q.session) q.moment (answer_to g q)) ∷ rest)
+    → (rest : List Delivery) × (owed g history q.session ≡ owed g q.before q.session ++ Lines (length q.before + 1) (rendered (caps (facts g q.before) q.session) q.moment (answer_to g q)) ∷ rest)
 
 -- the first of those lines has the label, and no other
 abbrev pub IsLabelledFirst : Settings → List Rec → Type 0

@@ -1,22 +1,22 @@
 -- Prefixes, and the order of deliveries: this project's own promise.
 use Rattle.std.specs.Prelude.{◌≡◌, ℕ, ◌<◌, List, [], ◌∷◌, ◌++◌}
-use Rattle.outbox.specs.declared.item.Item.{Item}
-use Rattle.outbox.specs.declared.item.Item.TheVariants.{Lines, Last}
+use Rattle.deliveries.specs.declared.delivery.Delivery.{Delivery}
+use Rattle.deliveries.specs.declared.delivery.Delivery.TheVariants.{Lines, Last}
 
 abbrev pub IsPrefix : {X : Type 0} → List X → List X → Type 0
 IsPrefix {X} xs ys = (rest : List X) × (xs ++ rest ≡ ys)
 
 -- the record that an item is of
-abbrev pub number_of : Item → ℕ
+abbrev pub number_of : Delivery → ℕ
 number_of (Lines number text) = number
 number_of (Last number why) = number
 
 -- each is of a record after number n
-abbrev pub AreAfter : ℕ → List Item → Type 0
+abbrev pub AreAfter : ℕ → List Delivery → Type 0
 AreAfter n [] = Unit {0}
 AreAfter n (x ∷ xs) = (n < number_of x) × AreAfter n xs
 
 -- the record numbers rise strictly, so that each record stands at most once
-abbrev pub IsRising : List Item → Type 0
+abbrev pub IsRising : List Delivery → Type 0
 IsRising [] = Unit {0}
 IsRising (x ∷ xs) = AreAfter (number_of x) xs × IsRising xs

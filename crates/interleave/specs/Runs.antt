@@ -1,6 +1,6 @@
 -- Runs of a play, and what is read off events and answers: this project's own promise.
 use Rattle.std.specs.Prelude.{◌≡◌, ℕ, ◌==◌, cond, List, [], ◌∷◌, ◌++◌, Result, Ok, Err}
-use Rattle.outbox.specs.declared.item.Item.{Item}
+use Rattle.deliveries.specs.declared.delivery.Delivery.{Delivery}
 use Rattle.interleave.specs.declared.event.Event.{Event}
 use Rattle.interleave.specs.declared.event.Event.TheVariants.{Feed, Take}
 use Rattle.interleave.specs.declared.event.Note.{Note}
@@ -31,20 +31,20 @@ sent t (e ∷ es) (r ∷ rs) = sent_by t e r ++ sent t es rs
 sent t es rs = []
 
 -- the item that an answer hands out
-abbrev pub item_of : Note → List Item
+abbrev pub item_of : Note → List Delivery
 item_of (note.Item x) = x ∷ []
 item_of n = []
 
 -- where the event takes it of session t
-abbrev pub handed_by : ℕ → Event → Note → List Item
+abbrev pub handed_by : ℕ → Event → Note → List Delivery
 handed_by t (Take s) n = cond (s == t) (item_of n) []
 handed_by t e n = []
 
-abbrev pub took_by : ℕ → Event → Result Note StepRefusal → List Item
+abbrev pub took_by : ℕ → Event → Result Note StepRefusal → List Delivery
 took_by t e (Err r) = []
 took_by t e (Ok n) = handed_by t e n
 
 -- in order
-abbrev pub took : ℕ → List Event → List (Result Note StepRefusal) → List Item
+abbrev pub took : ℕ → List Event → List (Result Note StepRefusal) → List Delivery
 took t (e ∷ es) (r ∷ rs) = took_by t e r ++ took t es rs
 took t es rs = []

@@ -5,23 +5,24 @@ use Rattle.line_grammar.specs.declared.splitter.Piece.{Piece}
 use Rattle.line_grammar.specs.Lines.{lines}
 use Rattle.chronicle.specs.History.{Rec, accepted}
 use Rattle.registration.specs.declared.settings.Settings.{Settings}
-use Rattle.outbox.specs.declared.item.Item.{Item}
+use Rattle.deliveries.specs.declared.delivery.Delivery.{Delivery}
 use Rattle.outbox.specs.Ring.{Waiting, put_into}
-use Rattle.book.specs.Owed.{owed}
+use Rattle.deliveries.specs.Owed.{owed}
+use Rattle.deliveries.specs.Items.{deliveries}
 use Rattle.book.specs.Book.{is_here, planned}
 use Rattle.book.specs.Book as book
 use Rattle.interleave.specs.declared.worker.Place.{Place}
 use Rattle.interleave.specs.declared.worker.Place.TheVariants.{Home, Hand, Begun}
 
--- of a session that was ever opened: all octets that were fed to it, and all items that were taken of it, which the program
+-- of a session that was ever opened: all octets that were fed to it, and all deliveries that were taken of it, which the program
 -- doesn't keep; the lines of the octets that no worker has begun; where its baton is; and what was left in its outbox when the
 -- session was given up
 pub record Seen : Type 0 where
   pub fed : List ℕ
   pub pending : List Piece
   pub place : Place
-  pub taken : List Item
-  pub left : List Item
+  pub taken : List Delivery
+  pub left : List Delivery
 
 -- the book, how many items an outbox has room for, what is seen of each session, the session whose line each worker has, and
 -- the worker who holds the lock
@@ -67,20 +68,20 @@ abbrev pub unread : State → ℕ → List Piece
 unread m t = behind (inbox_at m t).place (inbox_at m t).pending
 
 -- what was ever taken of session t
-abbrev pub taken_of : State → ℕ → List Item
+abbrev pub taken_of : State → ℕ → List Delivery
 taken_of m t = (inbox_at m t).taken
 
 -- what waits in an outbox, or what was left where there is none
-abbrev pub waits : Option Waiting → List Item → List Item
+abbrev pub waits : Option Waiting → List Delivery → List Delivery
 waits None left = left
-waits (Some b) left = b.queue
+waits (Some b) left = deliveries b.queue
 
 -- what waits for session t, or was left for it
-abbrev pub queue_of : State → ℕ → List Item
+abbrev pub queue_of : State → ℕ → List Delivery
 queue_of m t = waits (box_at m t) (inbox_at m t).left
 
 -- what the plan that is out still has for session t
-abbrev pub planned_for : State → ℕ → List Item
+abbrev pub planned_for : State → ℕ → List Delivery
 planned_for m t = planned m.book.plan t
 
 -- ---- workers
@@ -113,9 +114,9 @@ empty_state limit settings sendq workers = record { book = book.empty_book limit
 
 -- an outbox has room for sendq items, and what was taken of the session was taken of it; where it was given up, what was taken
 -- and what was left is what the history owes, and no worker has the baton
-abbrev pub IsBoxOf : Option Waiting → Seen → ℕ → List Item → Type 0
+abbrev pub IsBoxOf : Option Waiting → Seen → ℕ → List Delivery → Type 0
 IsBoxOf None b sendq owes = (b.taken ++ b.left ≡ owes) × (b.place ≡ Home)
-IsBoxOf (Some w) b sendq owes = (w.taken ≡ b.taken) × (w.cap ≡ sendq)
+IsBoxOf (Some w) b sendq owes = (deliveries w.taken ≡ b.taken) × (w.cap ≡ sendq)
 
 -- of session t with this outbox: the accepted lines and those that no worker has begun are the lines of what was fed
 pub record IsSoundAt (g : Settings) (h : List Rec) (o : Option Waiting) (b : Seen) (sendq t : ℕ) : Type 0 where

@@ -7,7 +7,7 @@ use Rattle.casemapping.specs.Names.{host_shape}
 use Rattle.chronicle.specs.declared.record.Kind.TheVariants as kind
 use Rattle.chronicle.specs.declared.why.Why.{Why}
 use Rattle.chronicle.specs.History.{sessions, accepted, shut}
-use Rattle.outbox.specs.declared.item.Item.{Item}
+use Rattle.deliveries.specs.declared.delivery.Delivery.{Delivery}
 use Rattle.outbox.specs.Ring.{empty_ring}
 use Rattle.book.specs.declared.out.Done.{Done}
 use Rattle.book.specs.declared.out.Hung.{Hung}
@@ -53,11 +53,11 @@ abbrev pub moved : Seen → Place → Seen
 moved b place = record { fed = b.fed; pending = b.pending; place = place; taken = b.taken; left = b.left }
 
 -- one more item was taken of a session
-abbrev pub with_taken : Seen → Item → Seen
+abbrev pub with_taken : Seen → Delivery → Seen
 with_taken b x = record { fed = b.fed; pending = b.pending; place = b.place; taken = b.taken ++ x ∷ []; left = b.left }
 
 -- what waited for it was set aside
-abbrev pub with_left : Seen → List Item → Seen
+abbrev pub with_left : Seen → List Delivery → Seen
 with_left b xs = record { fed = b.fed; pending = b.pending; place = b.place; taken = b.taken; left = xs }
 
 -- a worker began its first line
@@ -105,7 +105,7 @@ abbrev pub back : State → ℕ → ℕ → State
 back m w s = record { book = m.book; sendq = m.sendq; inboxes = with_inbox m s (moved (inbox_at m s) Home); jobs = with_job m w None; holder = m.holder }
 
 -- what waited longest for a session was taken
-abbrev pub took : State → ℕ → Item → State
+abbrev pub took : State → ℕ → Delivery → State
 took m s x = record { book = book.taken m.book s; sendq = m.sendq; inboxes = with_inbox m s (with_taken (inbox_at m s) x); jobs = m.jobs; holder = m.holder }
 
 -- a session was ended, and its last item was put or missed at once
@@ -148,7 +148,7 @@ IsBack m w None n k = ⊥
 IsBack m w (Some s) n k = (n ≡ note.Back) × (k ≡ back m w s)
 
 -- of what waits longest
-abbrev pub IsTake : State → ℕ → Option Item → Note → State → Type 0
+abbrev pub IsTake : State → ℕ → Option Delivery → Note → State → Type 0
 IsTake m s None n k = (n ≡ note.Empty) × (k ≡ m)
 IsTake m s (Some x) n k = (n ≡ note.Item x) × (k ≡ took m s x)
 

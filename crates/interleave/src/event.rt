@@ -6,7 +6,7 @@ ghost use Rattle.interleave.specs.Steps.{noted};
 
 use crate::worker::WorkerId;
 use book::{
-    Done, HangRefusal, Hung, Item, LineRefusal, OpenRefusal, ReapRefusal, Step, SweepRefusal,
+    Delivery, Done, HangRefusal, Hung, LineRefusal, OpenRefusal, ReapRefusal, Step, SweepRefusal,
 };
 use chronicle::{Moment, RecordNumber, SessionId, Why};
 use line_grammar::Octets;
@@ -88,8 +88,8 @@ pub enum Note {
     Done(Done),
     /// The line and the baton are back.
     Back,
-    /// The item that was taken.
-    Item(Item),
+    /// What the item delivers that was taken.
+    Item(Delivery),
     /// Nothing waits for the session.
     Empty,
     /// What became of the session that was hung.
@@ -97,7 +97,7 @@ pub enum Note {
     /// The number of the record that says that a session is gone, or that there was none to sweep.
     Swept(Option<RecordNumber>),
     /// How many items were left for the session.
-    Left(usize),
+    Left(u64),
 }
 
 /// Why the book refused a step, want of memory apart.

@@ -2,6 +2,7 @@
 ghost use Rattle.std.specs.Prelude.{◌≡◌, ◌≢◌, ◌+◌, ◌<◌, ◌≤◌, ◌++◌, [], length, Some, None, IfOk, IfErr, IfSome, IsSome, OnErr, OnOk};
 ghost use Rattle.std.specs.Option.{is_some};
 ghost use Rattle.chronicle.specs.History.{shut};
+ghost use Rattle.deliveries.specs.Items.{deliveries};
 ghost use Rattle.book.specs.Book.{IsOut, MayReap, IsReapRefusal, finished, newest_missed, outbox_at, reaped};
 ghost use Rattle.interleave.specs.Refusals.{IsLineRefused};
 ghost use Rattle.interleave.specs.Steps.{with_taken};
@@ -9,7 +10,7 @@ ghost use Rattle.interleave.specs.Inbox.{Held, IsRead, IsBegun, held_at, with_he
 
 use crate::event::{StepRefusal, of_line};
 use crate::worker::{Place, WorkerId};
-use book::{Baton, Book, Done, Item, Plan, ReapRefusal, Ring};
+use book::{Baton, Book, Delivery, Done, Plan, ReapRefusal, Ring};
 use chronicle::{Moment, SessionId};
 use ghosts::{Change, Snapshot, append, append_all, apply, blank, copied};
 use line_grammar::{Piece, Splitter};
@@ -30,8 +31,8 @@ pub(crate) struct Inbox {
     place: Place,
     baton: Option<Baton>,
     fed: Snapshot<LinkedList<u8>>,
-    taken: Snapshot<LinkedList<Item>>,
-    left: Snapshot<LinkedList<Item>>,
+    taken: Snapshot<LinkedList<Delivery>>,
+    left: Snapshot<LinkedList<Delivery>>,
 }
 
 impl Model for Inbox {
@@ -59,10 +60,10 @@ fn move_up(alloc: Global, next: &mut VecDeque<Piece>, arrived: &mut Vec<Piece>)
 // What waits in the outbox of a session.
 struct LeftIn;
 
-impl<'a> Change<LinkedList<Item>, (&'a Book<Ring>, SessionId)> for LeftIn {
+impl<'a> Change<LinkedList<Delivery>, (&'a Book<Ring>, SessionId)> for LeftIn {
     ghost use Rattle.book.specs.Book.{outbox_at};
 
-    ghost changed = { λ xs by. (outbox_at by.0.now.outboxes by.1).queue };
+    ghost changed = { λ xs by. deliveries (outbox_at by.0.now.outboxes by.1).queue };
 }
 
 impl Inbox {
@@ -125,11 +126,11 @@ impl Inbox {
         self.place = place;
     }
 
-    /// Tells clauses of an item that was taken of the session.
-    pub(crate) fn tell_taken(&mut self, item: &Item)
-        ensures { self.new ≡ with_seen self.old (with_taken self.old.seen item.now) }
+    /// Tells clauses of a delivery that was taken of the session.
+    pub(crate) fn tell_taken(&mut self, delivery: &Delivery)
+        ensures { self.new ≡ with_seen self.old (with_taken self.old.seen delivery.now) }
     {
-        append(&mut self.taken, item);
+        append(&mut self.taken, delivery);
     }
 
     /// Has the book begin the line in a worker's hand.
@@ -183,9 +184,9 @@ impl Inbox {
     }
 
     /// Gives the session up, and tells clauses of what was left for it. It answers how many items that were.
-    pub(crate) fn reap(&mut self, book: &mut Book<Ring>) -> Result<usize, ReapRefusal>
+    pub(crate) fn reap(&mut self, book: &mut Book<Ring>) -> Result<u64, ReapRefusal>
         requires baton { IsSome self.old.turn }
-        ensures ok { IfSome self.old.turn (λ turn. OnOk result (self.new ≡ reaped_at self.old (outbox_at book.old.outboxes turn.session).queue)) }
+        ensures ok { IfSome self.old.turn (λ turn. OnOk result (self.new ≡ reaped_at self.old (deliveries (outbox_at book.old.outboxes turn.session).queue))) }
         ensures book { IfSome self.old.turn (λ turn. OnOk result (book.new ≡ reaped book.old turn.session)) }
         ensures left { IfSome self.old.turn (λ turn. IfOk result (λ n. n ≡ length (outbox_at book.old.outboxes turn.session).queue)) }
         ensures may { IfSome self.old.turn (λ turn. OnOk result (MayReap book.old turn.session)) }
@@ -197,7 +198,10 @@ impl Inbox {
         };
         let mut left = copied(&self.left);
         let session = baton.session();
-        apply::<LeftIn, LinkedList<Item>, (&Book<Ring>, SessionId)>(&mut left, &(&*book, session));
+        apply::<LeftIn, LinkedList<Delivery>, (&Book<Ring>, SessionId)>(
+            &mut left,
+            &(&*book, session),
+        );
         match book.reap_ring(baton) {
             Ok(given_up) => {
                 self.left = left;
@@ -236,13 +240,13 @@ pub(crate) fn move_to(inboxes: &mut Vec<Inbox>, session: SessionId, place: Place
     inboxes[session.number() as usize - 1].move_to(place);
 }
 
-/// Tells clauses of an item that was taken of a session.
-pub(crate) fn tell_taken(inboxes: &mut Vec<Inbox>, session: SessionId, item: &Item)
+/// Tells clauses of a delivery that was taken of a session.
+pub(crate) fn tell_taken(inboxes: &mut Vec<Inbox>, session: SessionId, delivery: &Delivery)
     requires from_1 { 0 < session }
     requires opened { session ≤ length inboxes.old.items }
-    ensures { inboxes.new.items ≡ with_held inboxes.old.items session (with_seen (held_at inboxes.old.items session) (with_taken (held_at inboxes.old.items session).seen item.now)) }
+    ensures { inboxes.new.items ≡ with_held inboxes.old.items session (with_seen (held_at inboxes.old.items session) (with_taken (held_at inboxes.old.items session).seen delivery.now)) }
 {
-    inboxes[session.number() as usize - 1].tell_taken(item);
+    inboxes[session.number() as usize - 1].tell_taken(delivery);
 }
 
 /// Has the book begin the line of a session that is in a worker's hand.
@@ -292,11 +296,11 @@ pub(crate) fn reap(
     inboxes: &mut Vec<Inbox>,
     book: &mut Book<Ring>,
     session: SessionId,
-) -> Result<usize, ReapRefusal>
+) -> Result<u64, ReapRefusal>
     requires from_1 { 0 < session }
     requires opened { session ≤ length inboxes.old.items }
     requires baton { IsSome (held_at inboxes.old.items session).turn }
-    ensures ok { IfSome (held_at inboxes.old.items session).turn (λ turn. OnOk result (inboxes.new.items ≡ with_held inboxes.old.items session (reaped_at (held_at inboxes.old.items session) (outbox_at book.old.outboxes turn.session).queue))) }
+    ensures ok { IfSome (held_at inboxes.old.items session).turn (λ turn. OnOk result (inboxes.new.items ≡ with_held inboxes.old.items session (reaped_at (held_at inboxes.old.items session) (deliveries (outbox_at book.old.outboxes turn.session).queue)))) }
     ensures book { IfSome (held_at inboxes.old.items session).turn (λ turn. OnOk result (book.new ≡ reaped book.old turn.session)) }
     ensures left { IfSome (held_at inboxes.old.items session).turn (λ turn. IfOk result (λ n. n ≡ length (outbox_at book.old.outboxes turn.session).queue)) }
     ensures may { IfSome (held_at inboxes.old.items session).turn (λ turn. OnOk result (MayReap book.old turn.session)) }

@@ -8,8 +8,8 @@ mod play;
 mod worker;
 
 pub use book::{
-    Book, Done, HangRefusal, Hung, Item, LineRefusal, OpenRefusal, ReapRefusal, Sessions, Settings,
-    SweepRefusal,
+    Book, Delivery, Done, HangRefusal, Hung, LineRefusal, OpenRefusal, ReapRefusal, Sessions,
+    Settings, SweepRefusal,
 };
 pub use chronicle::{Moment, RecordNumber, SessionId, Why};
 pub use event::{BookRefusal, Event, Note, PlayRefusal, StepRefusal};

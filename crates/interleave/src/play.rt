@@ -4,7 +4,7 @@ ghost use Rattle.std.specs.Option.{is_some};
 ghost use Rattle.chronicle.specs.History.{accepted};
 ghost use Rattle.line_grammar.specs.Lines.{lines};
 ghost use Rattle.book.specs.Legal.{IsLegal};
-ghost use Rattle.book.specs.Owed.{owed};
+ghost use Rattle.deliveries.specs.Owed.{owed};
 ghost use Rattle.casemapping.specs.Names.{host_shape};
 ghost use Rattle.interleave.specs.Limits.{IsWellSet};
 
@@ -445,8 +445,8 @@ impl Play {
         self.book.sound();
         match taken {
             Ok(item) => {
-                tell_taken(&mut self.inboxes, session, &item);
-                Ok(Note::Item(item))
+                tell_taken(&mut self.inboxes, session, item.delivery());
+                Ok(Note::Item(item.into_delivery()))
             }
             Err(TakeRefusal::Empty) => Ok(Note::Empty),
             Err(TakeRefusal::NoSession) => Err(StepRefusal::NoSession),

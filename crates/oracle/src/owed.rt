@@ -4,10 +4,9 @@ use crate::obeying::{end, is_quit, obey};
 use crate::rendering::{Style, label_of, text_of};
 use crate::replies::TOO_LONG;
 use crate::world::{World, new_client};
-use book::{Book, Outbox};
+use book::{Book, Delivery, Outbox};
 use chronicle::{Kind, Record, RecordNumber, SessionId, Why};
 use line_grammar::{LineFault, Message, Octets, Piece, parse};
-use outbox::Item;
 use std::alloc::{AllocError, Global};
 
 /// The nickname of a session after some records: the last that it took, until it is gone.
@@ -89,7 +88,7 @@ fn replay(world: &mut World, record: &Record) -> Vec<u8> {
 }
 
 /// What a record tells the session that is watched.
-fn told_by(world: &mut World, record: &Record) -> Option<Item> {
+fn told_by(world: &mut World, record: &Record) -> Option<Delivery> {
     let number = record.number;
     let style = Style {
         capabilities: world.client(world.watched).capabilities,
@@ -98,14 +97,14 @@ fn told_by(world: &mut World, record: &Record) -> Option<Item> {
     };
     let label = replay(world, record);
     if let Some(why) = end_of(world, record) {
-        return Some(Item::Last { number, why });
+        return Some(Delivery::Last { number, why });
     }
     let text = text_of(world, &style, &label);
     if text.is_empty() {
         return None;
     }
     let text = Octets::from_vec(text);
-    Some(Item::Lines { number, text })
+    Some(Delivery::Lines { number, text })
 }
 
 /// Why a record ends the session that is watched, by what it says.
@@ -127,7 +126,7 @@ fn end_of(world: &World, record: &Record) -> Option<Why> {
 pub struct Reader {
     world: World,
     next: usize,
-    owed: Vec<Item>,
+    owed: Vec<Delivery>,
     is_shut: bool,
 }
 
@@ -188,7 +187,7 @@ impl Reader {
     }
 
     /// All that the records owe to the session, in their order, but for each record that it missed and each after it was shut.
-    pub fn owed(&self) -> &[Item] {
+    pub fn owed(&self) -> &[Delivery] {
         &self.owed
     }
 
@@ -203,9 +202,9 @@ impl Reader {
     }
 }
 
-fn number_of(item: &Item) -> RecordNumber {
+fn number_of(item: &Delivery) -> RecordNumber {
     match item {
-        Item::Lines { number, .. } | Item::Last { number, .. } => *number,
+        Delivery::Lines { number, .. } | Delivery::Last { number, .. } => *number,
     }
 }
 
@@ -214,7 +213,7 @@ pub fn slow_owed<O: Outbox>(
     alloc: Global,
     book: &Book<O>,
     to: SessionId,
-) -> Result<Vec<Item>, AllocError> {
+) -> Result<Vec<Delivery>, AllocError> {
     let mut reader = Reader::new(alloc, to);
     reader.read_on(book)?;
     Ok(reader.owed)

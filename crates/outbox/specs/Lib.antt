@@ -1,2 +1,3 @@
 pub mod Ring
-pub mod Text
+pub mod Rule
+pub mod Ends

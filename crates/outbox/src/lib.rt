@@ -1,12 +1,13 @@
-//! Outboxes, the items that stand in them, and how an item is written.
+//! Outboxes: a ring for one thread, and a channel under a rule for two.
 #![tactic(auto)]
 
-mod item;
+mod bell;
+mod ends;
 mod queue;
 mod ring;
-mod writing;
+mod rule;
 
-pub use item::Item;
+pub use bell::Bell;
+pub use ends::{Closed, Empty, Sender, Writer, pair};
 pub use queue::{Outbox, PutFault};
 pub use ring::Ring;
-pub use writing::{WriteFault, write_out};

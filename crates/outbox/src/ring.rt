@@ -1,15 +1,15 @@
 //! A session's outbox as a ring of items.
 ghost use Rattle.std.specs.Prelude.{◌≡◌, IfOk, length, slice_get};
 
-use crate::item::Item;
 use crate::queue::{Outbox, PutFault};
 use circular_buffer::HeapCircularBuffer;
+use deliveries::Item;
 use ghosts::{Snapshot, append, blank};
 use std::alloc::{AllocError, Global};
 use std::collections::LinkedList;
 use std::marker::Model;
 
-/// An outbox for a bounded number of items. A clause sees the items that wait, how many may, and all that were ever taken.
+/// An outbox of one thread, for a bounded number of items. A clause sees the items that wait, how many may, and all that were ever taken.
 #[derive(Drop)]
 pub struct Ring {
     items: HeapCircularBuffer<Item>,
@@ -56,7 +56,9 @@ impl Ring {
 }
 
 impl Outbox for Ring {
-    ghost use Rattle.outbox.specs.Ring.{put_into, accepts, refuses};
+    ghost use Rattle.std.specs.Prelude.{◌≡◌, ◌<◌, ◌↔◌, ◌++◌, false, length, IsOk, OnOk, IfErr};
+    ghost use Rattle.outbox.specs.Ring.{with_put, put_into, accepts, refuses};
+    ghost use Rattle.outbox.specs.declared.queue.PutFault.TheVariants.{Full};
 
     type Taker = ();
 
@@ -64,24 +66,34 @@ impl Outbox for Ring {
 
     ghost sent = { put_into };
 
+    ghost room = { λ b. b.cap };
+
     ghost name = { λ b. tt };
 
     ghost taker_of = { λ w. tt };
 
     ghost taken = { λ b w. b.taken };
 
+    ghost may_be_cut = { false };
+
     ghost accepts = { accepts };
 
     ghost refuses = { refuses };
 
-    fn put(&mut self, item: Item) -> Result<(), (PutFault, Item)> {
+    fn put(&mut self, item: Item) -> Result<(), (PutFault, Item)>
+        ensures room { IsOk result ↔ (length self.old.queue < self.old.cap) }
+        ensures ok { OnOk result (self.new ≡ with_put self.old item) }
+        ensures err { IfErr result (λ e. (e.0 ≡ Full) × (e.1 ≡ item) × (self.new ≡ self.old)) }
+    {
         match self.items.try_push_back(item) {
             Ok(()) => Ok(()),
             Err(item) => Err((PutFault::Full, item)),
         }
     }
 
-    fn close(self, _taker: ()) -> usize {
-        self.items.len()
+    fn close(self, _taker: ()) -> u64
+        ensures { result ≡ length self.queue }
+    {
+        self.items.len() as u64
     }
 }

@@ -1,7 +1,7 @@
 //! The bell beside a channel. No clause says that a ring ends a rest; a test that rests too long fails for its time.
 use crate::Feed;
 use crate::one_thread::{channel, put};
-use channel_outbox::{PutFault, Sender, Writer};
+use outbox::{PutFault, Sender, Writer};
 use std::alloc::Global;
 use std::sync::Wait;
 use std::sync::atomic::{AtomicU64, Ordering};

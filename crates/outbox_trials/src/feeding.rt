@@ -1,13 +1,13 @@
 //! A history whose deliveries are put into an outbox one after another.
 ghost use Rattle.std.specs.Prelude.{◌≡◌, ◌+◌, [], ◌∷◌, None, pos, IfOk, IfSome, OnErr, slice_get};
-ghost use Rattle.channel_outbox.specs.Ring.{with_taken};
+ghost use Rattle.outbox.specs.Ring.{with_taken};
 ghost use Rattle.chronicle.specs.Journal.{fresh_record};
 ghost use Rattle.outbox_trials.specs.Fed.{opens, says, next, server_name};
 
-use channel_outbox::{Outbox, PutFault, Ring};
 use chronicle::{Journal, Kind, Moment, RecordNumber, SessionId};
 use deliveries::{Delivery, Item};
 use line_grammar::{Octets, Piece};
+use outbox::{Outbox, PutFault, Ring};
 use registration::{Accounts, Settings};
 use std::alloc::{AllocError, Global};
 use std::marker::Model;

@@ -2,8 +2,8 @@
 ghost use Rattle.std.specs.Prelude.{◌≡◌, ◌<◌};
 
 use crate::{Feed, number_of};
-use channel_outbox::{Closed, Empty, Outbox, PutFault, Ring, Sender, Writer, pair};
 use deliveries::Item;
+use outbox::{Closed, Empty, Outbox, PutFault, Ring, Sender, Writer, pair};
 use std::alloc::Global;
 use std::process::Abort;
 use std::sync::Wait;

@@ -1,7 +1,7 @@
 //! One thread puts, another takes.
 use crate::one_thread::channel;
 use crate::{Feed, number_of};
-use channel_outbox::{Sender, Writer};
+use outbox::{Sender, Writer};
 use std::alloc::Global;
 use std::sync::Wait;
 use std::thread;

@@ -5,7 +5,7 @@ ghost use Rattle.interleave.specs.Steps.{IsWellShaped};
 use crate::again::copied;
 use casemapping::is_host;
 use interleave::{
-    Done, Event, Item, Moment, Note, Play, PlayRefusal, SessionId, Settings, StepRefusal, Why,
+    Delivery, Done, Event, Moment, Note, Play, PlayRefusal, SessionId, Settings, StepRefusal, Why,
     WorkerId,
 };
 use registration::Accounts;
@@ -44,7 +44,7 @@ pub(crate) enum Told {
     Empty,
     Hung(u64),
     Swept(Option<u64>),
-    Left(usize),
+    Left(u64),
     Refused(StepRefusal),
 }
 
@@ -195,10 +195,10 @@ pub(crate) fn take_step(
 }
 
 /// The number of an item's record.
-pub(crate) fn number_of(item: &Item) -> u64 {
+pub(crate) fn number_of(item: &Delivery) -> u64 {
     match item {
-        Item::Lines { number, text: _ } => number.number(),
-        Item::Last { number, why: _ } => number.number(),
+        Delivery::Lines { number, text: _ } => number.number(),
+        Delivery::Last { number, why: _ } => number.number(),
     }
 }
 

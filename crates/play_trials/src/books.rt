@@ -2,7 +2,7 @@
 use crate::acts::settings;
 use crate::again::copied;
 use book::{
-    Baton, Book, Done, HangRefusal, Item, LineRefusal, OpenRefusal, ReapRefusal, Ring, Step,
+    Baton, Book, Delivery, Done, HangRefusal, LineRefusal, OpenRefusal, ReapRefusal, Ring, Step,
 };
 use casemapping::is_host;
 use chronicle::{Moment, SessionId, Why};
@@ -219,9 +219,10 @@ CHANTYPES=#& KICKLEN=200 MAXLIST=b:60 MODES=4 NICKLEN=30 PREFIX=(ov)@+ TOPICLEN=
 
 fn take_lines(rt: &impl Abort, book: &mut Book<Ring>) -> Result<(), Fail> {
     for want in &LINES {
-        match book.take(SessionId::new(2)) {
-            Ok(Item::Lines { text, .. }) => assert_eq!(rt; text.as_slice(), want.as_bytes()),
-            _ => return Err("a line".into()),
+        let item = book.take(SessionId::new(2)).ok().ok_or("an item")?;
+        match item.delivery() {
+            Delivery::Lines { text, .. } => assert_eq!(rt; text.as_slice(), want.as_bytes()),
+            Delivery::Last { .. } => return Err("a line".into()),
         }
     }
     Ok(())
@@ -275,7 +276,8 @@ fn quit(rt: &impl Abort, alloc: Global, book: &mut Book<Ring>) -> Result<(), Fai
 fn compare_sweep(rt: &impl Abort, book: &mut Book<Ring>) -> Result<(), Fail> {
     let al = SessionId::new(1);
     assert!(rt; !book.is_open(al));
-    assert!(rt; matches!(book.take(al), Ok(Item::Last { why: Why::Quit, .. })));
+    let last = book.take(al).ok().ok_or("an item")?;
+    assert!(rt; matches!(last.delivery(), Delivery::Last { why: Why::Quit, .. }));
     let done = swept_in_steps(book).ok_or("no delivery")?;
     assert_eq!(rt; (done.number.number(), done.shut), (3, true));
     let nobody = book.begin_sweep(Moment::new(NOON));

@@ -3,7 +3,7 @@ ghost use Rattle.interleave.specs.Steps.{IsWellShaped};
 
 use crate::acts::{Act, Told, brief, compare, play};
 use crate::again::copied;
-use interleave::{Event, Item, Moment, Note, Play, SessionId, StepRefusal, WorkerId};
+use interleave::{Delivery, Event, Moment, Note, Play, SessionId, StepRefusal, WorkerId};
 use std::alloc::{AllocError, Global};
 use std::process::Abort;
 use std::test::Fail;
@@ -131,7 +131,7 @@ fn begin(rt: &impl Abort, play: &mut Play) {
 fn takes(play: &mut Play, session: u64, want: &str) -> bool {
     let session = SessionId::new(session);
     match play.step(&Event::Take { session }) {
-        Ok(Note::Item(Item::Lines { number: _, text })) => text.as_slice() == want.as_bytes(),
+        Ok(Note::Item(Delivery::Lines { number: _, text })) => text.as_slice() == want.as_bytes(),
         _ => false,
     }
 }

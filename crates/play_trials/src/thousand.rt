@@ -2,7 +2,9 @@
 use crate::acts::{Act, Told, brief, play, take_step};
 use crate::again::copied;
 use crate::texts::{FIRST, MET, MORE};
-use interleave::{BookRefusal, Item, LineRefusal, Note, Octets, Play, SessionId, StepRefusal, Why};
+use interleave::{
+    BookRefusal, Delivery, LineRefusal, Note, Octets, Play, SessionId, StepRefusal, Why,
+};
 use oracle::{Reader, World, slow_nick, slow_on, slow_owed};
 use std::alloc::{AllocError, Global};
 use std::process::Abort;
@@ -171,8 +173,8 @@ fn kind_of(told: Told) -> usize {
 /// what the records say.
 #[derive(Drop)]
 struct Watched {
-    taken: Vec<Item>,
-    rest: Vec<Item>,
+    taken: Vec<Delivery>,
+    rest: Vec<Delivery>,
     is_reaped: bool,
     reader: Reader,
     is_fed: bool,
@@ -331,7 +333,7 @@ fn act_of(number: u64, seen: &Seen) -> Act {
 }
 
 /// Keeps an item, and asks for room again where a growth was refused.
-fn keep(items: &mut Vec<Item>, item: Item) -> Result<(), AllocError> {
+fn keep(items: &mut Vec<Delivery>, item: Delivery) -> Result<(), AllocError> {
     match items.reserve(1) {
         Ok(()) => {}
         Err(_) => items.reserve(1)?,
@@ -400,7 +402,7 @@ fn take_all(
     alloc: Global,
     play: &mut Play,
     session: u64,
-    items: &mut Vec<Item>,
+    items: &mut Vec<Delivery>,
 ) -> Result<(), AllocError> {
     for _ in 0..MOST_TAKEN {
         if let Ok(Note::Item(item)) = take_step(rt, alloc, play, Act::Take(session), 0)? {
@@ -490,7 +492,7 @@ fn is_told(watched: &Watched, is_looked_at: bool) -> bool {
 }
 
 /// All that is owed, once more where a growth was refused.
-fn owed(alloc: Global, play: &Play, session: SessionId) -> Result<Vec<Item>, AllocError> {
+fn owed(alloc: Global, play: &Play, session: SessionId) -> Result<Vec<Delivery>, AllocError> {
     match slow_owed(alloc, play.book(), session) {
         Ok(items) => Ok(items),
         Err(_) => slow_owed(alloc, play.book(), session),
@@ -651,9 +653,9 @@ fn holds(text: &[u8], wanted: &[u8]) -> bool {
 }
 
 /// Counts in how many items of these something to be met stands.
-fn count_met(items: &[Item], wanted: &[&str], met: &mut [u64]) {
+fn count_met(items: &[Delivery], wanted: &[&str], met: &mut [u64]) {
     for item in items {
-        if let Item::Lines { text, .. } = item {
+        if let Delivery::Lines { text, .. } = item {
             for (count, wanted) in met.iter_mut().zip(wanted.iter()) {
                 if holds(text.as_slice(), wanted.as_bytes()) {
                     *count = count.saturating_add(1);

@@ -9,9 +9,9 @@ use crate::rule::{
     Admits, Advances, Blank, Clears, Done, GivesStub, LetsIn, Looks, OfSessions, TakesIn,
 };
 use atomic_table::{Seat, Shared};
-use channel_outbox::Outbox;
 use chronicle::SessionId;
 use line_grammar::Piece;
+use outbox::Outbox;
 
 pub(crate) type Sheet<N> = Shared<(), Known<N>, (), OfSessions>;
 

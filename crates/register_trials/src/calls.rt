@@ -3,9 +3,9 @@ ghost use Rattle.std.specs.Prelude.{◌≡◌, ◌≢◌, ◌++◌, ◌<◌, ◌
 ghost use Rattle.deliveries.specs.declared.item.Item.{Item};
 ghost use Rattle.register.specs.Rows.{outbox_at, pieces_at};
 
-use channel_outbox::Outbox;
 use chronicle::SessionId;
 use line_grammar::Piece;
+use outbox::Outbox;
 use register::{Mark, Naming, Register, Stub};
 
 /// Takes a session's tokens back, or hands them back where they aren't of one session.

@@ -2,9 +2,9 @@
 ghost use Rattle.std.specs.Prelude.{◌≡◌, []};
 
 use crate::calls::close_up;
-use channel_outbox::{Outbox, Ring, pair};
 use chronicle::SessionId;
 use line_grammar::Piece;
+use outbox::{Outbox, Ring, pair};
 use register::{Naming, Register};
 use std::marker::Brand;
 use std::process::Abort;

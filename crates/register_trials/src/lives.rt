@@ -2,9 +2,9 @@
 ghost use Rattle.std.specs.Prelude.{◌≡◌, [], IfOk};
 
 use crate::calls::{do_all, reap, serve};
-use channel_outbox::Ring;
 use chronicle::SessionId;
 use line_grammar::Piece;
+use outbox::Ring;
 use register::{Naming, Register};
 use std::alloc::{AllocError, Global};
 use std::marker::Brand;

@@ -8,9 +8,9 @@ ghost use Rattle.batons.specs.Turn.{new_turn, next_turn};
 ghost use Rattle.batons.specs.Standing.{StandsFor};
 
 use batons::{Baton, Naming, Roll, Stub};
-use channel_outbox::Outbox;
 use chronicle::{Journal, Kind, Moment, SessionId};
 use line_grammar::{Octets, Piece};
+use outbox::Outbox;
 
 /// Opens a session by a record, in room that was made for it.
 pub fn enter<L: Naming, O: Outbox>(

@@ -2,9 +2,9 @@
 ghost use Rattle.std.specs.Prelude.{◌≡◌, []};
 
 use crate::desk::Desk;
-use channel_outbox::Ring;
 use chronicle::SessionId;
 use line_grammar::Piece;
+use outbox::Ring;
 use register::{Mark, Naming, Register};
 use std::alloc::{AllocError, Global};
 use std::marker::Brand;

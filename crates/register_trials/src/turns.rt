@@ -3,9 +3,9 @@ ghost use Rattle.std.specs.Prelude.{◌≡◌, []};
 
 use crate::rolls::{enter, leave, say};
 use batons::{Naming, Register, Roll};
-use channel_outbox::Ring;
 use chronicle::{Journal, SessionId};
 use line_grammar::Octets;
+use outbox::Ring;
 use std::alloc::Global;
 use std::marker::Brand;
 use std::process::Abort;

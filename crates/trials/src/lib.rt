@@ -15,6 +15,4 @@ mod moments;
 #[cfg(test)]
 mod names;
 #[cfg(test)]
-mod outboxes;
-#[cfg(test)]
 mod tags;

@@ -1,15 +1,18 @@
 use Rattle.std.proofs.Common.{arith, ◌≡◌, ◌+◌, ◌≤◌, ◌∷◌, [], true, false, length, ℕ, List, refl, ap, sym, ◌∙◌, subst}
 use Rattle.chronicle.specs.declared.record.Kind.TheVariants.{Hung}
-use Rattle.outbox.specs.declared.item.Item.TheVariants.{Last}
+use Rattle.deliveries.specs.declared.delivery.Delivery.TheVariants.{Last}
 use Rattle.registration.specs.declared.settings.Settings.{Settings}
 use Rattle.roster.specs.declared.deed.Deed.TheVariants.{Ended}
 use Rattle.book.specs.declared.seat.Seat.{Seat}
 use Rattle.book.specs.Kept.{IsKept}
-use Rattle.book.specs.Seats.{IsTaken, IsNotTaken}
-use Rattle.book.specs.Book.{MayHang, IsDone}
+use Rattle.deliveries.specs.declared.item.Item.{Item}
+use Rattle.chronicle.specs.Journal.{fresh_record}
+use Rattle.book.specs.Seats.{IsThere, MayFollow, IsTaken, IsNotTaken}
+use Rattle.book.specs.Book.{MayHang, IsDone, box_at}
 use Rattle.book.proofs.KeptSteps.{shown}
 use Rattle.book.proofs.Begins.{hung_put_is, hung_miss_is}
-use Rattle.book.proofs.Appends.{shut_seats, hang_room, hung_put, hung_missed}
+use Rattle.book.proofs.Appends.{shut_seats, hang_room, hung_follows, hung_put, hung_missed}
+use Rattle.book.proofs.Sent.{item_is}
 use Rattle.book.proofs.book.Book.hang.Goals as goal
 
 pub append-number-requires : goal.append-number-requires
@@ -24,8 +27,10 @@ invariant_of-self over c =
     let app = c.append-number.ensures.appended in
     let left : 1 ≤ c.append-number.new.self.left = c.append-number.ensures.one in
     let known : c.end.new.self.facts ≡ Ended s w [] ∷ a.roster.facts = c.end.ensures.facts in
-    let took : IsTaken over.O.Outbox.sent over.O.Outbox.accepts a.outboxes.boxes (record { session = s; item = Last (length a.journal.history + 1) w }) c.offer.new.self.boxes =
-    subst (λ (n : ℕ). IsTaken over.O.Outbox.sent over.O.Outbox.accepts a.outboxes.boxes (record { session = s; item = Last n w }) c.offer.new.self.boxes) c.append-number.ensures.number (c.offer.ensures.put c.if-offer.true) in
+    let it = c.new-item.ensures in
+    let item = item_is c.new-item.result (Last (length a.journal.history + 1) c.args.why) c.args.session (fresh_record a.journal.history c.args.moment (Hung c.args.session c.args.why) ∷ a.journal.history) a.roster.settings
+    (it.delivery ∙ ap (λ (n : ℕ). Last n c.args.why) c.append-number.ensures.number) it.session (it.front ∙ c.append-number.ensures.appended.history) (it.settings ∙ c.settings.ensures.value ∙ c.end.ensures.settings) in
+    let took = subst (λ (x : Item). IsTaken over.O.Outbox.sent over.O.Outbox.accepts a.outboxes.boxes x c.offer.new.self.boxes) item (c.offer.ensures.put c.if-offer.true) in
     subst (λ (g : Settings). IsKept over.O.Outbox.sent c.append-number.new.self g c.end.new.self.facts c.shut.new.self c.offer.new.self.boxes a.plan.items a.busy) (sym c.end.ensures.settings)
     (subst (λ (xs : List Seat). IsKept over.O.Outbox.sent c.append-number.new.self a.roster.settings c.end.new.self.facts xs c.offer.new.self.boxes a.plan.items a.busy) (sym c.shut.ensures)
     (hung_put over.O.Outbox.sent a.journal a.roster.settings a.roster.facts a.seats a.outboxes.boxes a.plan.items a.busy c.self.invariant c.append-number.new.self c.end.new.self.facts
@@ -36,8 +41,10 @@ returns-then-offer-clause-ok over c =
     let a = c.self.inside in let s = c.args.session in let w = c.args.why in
     let may : MayHang (shown a.journal a.roster.settings a.outboxes.boxes a.plan.items a.busy) s c.args.moment = subst (λ m. MayHang m s c.args.moment) (sym c.self.view_is) c.in_ok-check_hang.ensures.ok in
     let app = c.append-number.ensures.appended in
-    let took : IsTaken over.O.Outbox.sent over.O.Outbox.accepts a.outboxes.boxes (record { session = s; item = Last (length a.journal.history + 1) w }) c.offer.new.self.boxes =
-    subst (λ (n : ℕ). IsTaken over.O.Outbox.sent over.O.Outbox.accepts a.outboxes.boxes (record { session = s; item = Last n w }) c.offer.new.self.boxes) c.append-number.ensures.number (c.offer.ensures.put c.if-offer.true) in
+    let it = c.new-item.ensures in
+    let item = item_is c.new-item.result (Last (length a.journal.history + 1) c.args.why) c.args.session (fresh_record a.journal.history c.args.moment (Hung c.args.session c.args.why) ∷ a.journal.history) a.roster.settings
+    (it.delivery ∙ ap (λ (n : ℕ). Last n c.args.why) c.append-number.ensures.number) it.session (it.front ∙ c.append-number.ensures.appended.history) (it.settings ∙ c.settings.ensures.value ∙ c.end.ensures.settings) in
+    let took = subst (λ (x : Item). IsTaken over.O.Outbox.sent over.O.Outbox.accepts a.outboxes.boxes x c.offer.new.self.boxes) item (c.offer.ensures.put c.if-offer.true) in
     subst (λ m. IsDone over.O.Outbox.accepts over.O.Outbox.refuses m (Hung s w) c.args.moment (shown c.append-number.new.self c.end.new.self.settings c.offer.new.self.boxes a.plan.items a.busy)) c.self.view_is
     (subst (λ (g : Settings). IsDone over.O.Outbox.accepts over.O.Outbox.refuses (shown a.journal a.roster.settings a.outboxes.boxes a.plan.items a.busy) (Hung s w) c.args.moment (shown c.append-number.new.self g c.offer.new.self.boxes a.plan.items a.busy)) (sym c.end.ensures.settings)
     (hung_put_is over.O.Outbox.sent over.O.Outbox.accepts over.O.Outbox.refuses a.journal c.append-number.new.self a.roster.settings a.outboxes.boxes a.plan.items a.busy s w c.args.moment (c.self.invariant.sound.idle may.idle) may.idle may.not_shut app.history app.limit c.offer.new.self.boxes took))
@@ -60,8 +67,10 @@ returns-clause-ok over c =
     let a = c.self.inside in let s = c.args.session in let w = c.args.why in
     let may : MayHang (shown a.journal a.roster.settings a.outboxes.boxes a.plan.items a.busy) s c.args.moment = subst (λ m. MayHang m s c.args.moment) (sym c.self.view_is) c.in_ok-check_hang.ensures.ok in
     let app = c.append-number.ensures.appended in
-    let missed : IsNotTaken over.O.Outbox.refuses a.outboxes.boxes (record { session = s; item = Last (length a.journal.history + 1) w }) =
-    subst (λ (n : ℕ). IsNotTaken over.O.Outbox.refuses a.outboxes.boxes (record { session = s; item = Last n w })) c.append-number.ensures.number (c.offer.ensures.fault c.if-offer.false) in
+    let it = c.new-item.ensures in
+    let item = item_is c.new-item.result (Last (length a.journal.history + 1) c.args.why) c.args.session (fresh_record a.journal.history c.args.moment (Hung c.args.session c.args.why) ∷ a.journal.history) a.roster.settings
+    (it.delivery ∙ ap (λ (n : ℕ). Last n c.args.why) c.append-number.ensures.number) it.session (it.front ∙ c.append-number.ensures.appended.history) (it.settings ∙ c.settings.ensures.value ∙ c.end.ensures.settings) in
+    let missed = subst (λ (x : Item). IsNotTaken over.O.Outbox.refuses a.outboxes.boxes x) item (c.offer.ensures.fault c.if-offer.false) in
     subst (λ m. IsDone over.O.Outbox.accepts over.O.Outbox.refuses m (Hung s w) c.args.moment (shown c.miss.new.self c.end.new.self.settings c.offer.new.self.boxes a.plan.items a.busy)) c.self.view_is
     (subst (λ (g : Settings). IsDone over.O.Outbox.accepts over.O.Outbox.refuses (shown a.journal a.roster.settings a.outboxes.boxes a.plan.items a.busy) (Hung s w) c.args.moment (shown c.miss.new.self g c.offer.new.self.boxes a.plan.items a.busy)) (sym c.end.ensures.settings)
     (subst (λ xs. IsDone over.O.Outbox.accepts over.O.Outbox.refuses (shown a.journal a.roster.settings a.outboxes.boxes a.plan.items a.busy) (Hung s w) c.args.moment (shown c.miss.new.self a.roster.settings xs a.plan.items a.busy)) (sym (c.offer.ensures.same c.if-offer.false))
@@ -76,7 +85,20 @@ shut-requires-clause-opened over c =
     let may = subst (λ m. MayHang m c.args.session c.args.moment) (sym c.self.view_is) c.in_ok-check_hang.ensures.ok in
     let few = may.known.opened in let many = c.self.invariant.sound.sessions in let places = c.self.invariant.places in omega arith
 
-pub offer-requires : goal.offer-requires
-offer-requires over c =
-    let may = subst (λ m. MayHang m c.args.session c.args.moment) (sym c.self.view_is) c.in_ok-check_hang.ensures.ok in
-    let few = may.known.opened in let many = c.self.invariant.sound.sessions in record { there = record { from_1 = may.known.from_1; opened = (omega arith); here = may.known.here } }
+pub offer-requires-clause-there : goal.offer-requires-clause-there
+offer-requires-clause-there over c =
+    let a = c.self.inside in let may = subst (λ m. MayHang m c.args.session c.args.moment) (sym c.self.view_is) c.in_ok-check_hang.ensures.ok in
+    let few = may.known.opened in let many = c.self.invariant.sound.sessions in
+    let there : IsThere a.outboxes.boxes c.args.session = record { from_1 = may.known.from_1; opened = (omega arith); here = may.known.here } in
+    subst (IsThere a.outboxes.boxes) (sym c.new-item.ensures.session) there
+
+pub offer-requires-clause-next : goal.offer-requires-clause-next
+offer-requires-clause-next over c =
+    let a = c.self.inside in let may : MayHang (shown a.journal a.roster.settings a.outboxes.boxes a.plan.items a.busy) c.args.session c.args.moment = subst (λ m. MayHang m c.args.session c.args.moment) (sym c.self.view_is) c.in_ok-check_hang.ensures.ok in
+    let app = c.append-number.ensures.appended in let left : 1 ≤ c.append-number.new.self.left = c.append-number.ensures.one in
+    let known : c.end.new.self.facts ≡ Ended c.args.session c.args.why [] ∷ a.roster.facts = c.end.ensures.facts in
+    let it = c.new-item.ensures in
+    let item = item_is c.new-item.result (Last (length a.journal.history + 1) c.args.why) c.args.session (fresh_record a.journal.history c.args.moment (Hung c.args.session c.args.why) ∷ a.journal.history) a.roster.settings
+    (it.delivery ∙ ap (λ (n : ℕ). Last n c.args.why) c.append-number.ensures.number) it.session (it.front ∙ c.append-number.ensures.appended.history) (it.settings ∙ c.settings.ensures.value ∙ c.end.ensures.settings) in
+    subst (λ (x : Item). MayFollow over.O.Outbox.sent (box_at a.outboxes.boxes x.session) x) (sym item)
+    (hung_follows over.O.Outbox.sent a.journal a.roster.settings a.roster.facts a.seats a.outboxes.boxes a.plan.items a.busy c.self.invariant c.append-number.new.self c.end.new.self.facts c.args.session c.args.why c.args.moment may app.history app.limit left app.room known)

@@ -1,31 +1,53 @@
-use Rattle.std.proofs.Common.{arith, ◌≡◌, ◌∷◌, ◌≤◌, length, true, sym, ◌∙◌, subst, refl, ap}
+use Rattle.std.proofs.Common.{arith, ◌≡◌, ◌∷◌, ◌≤◌, length, true, List, Option, Some, sym, ◌∙◌, subst, refl, ap}
 use Rattle.std.proofs.lemmas.Grind.{common_steps}
-use Rattle.book.specs.declared.seat.Seat.{Seat}
+use Rattle.deliveries.specs.declared.item.Item.{Item}
+use Rattle.book.specs.declared.out.Step.TheVariants.{Put, Missed}
 use Rattle.book.specs.Kept.{IsKept}
-use Rattle.book.specs.Book.{IsPlan}
+use Rattle.book.specs.Seats.{IsThere, MayFollow, IsTaken, IsNotTaken}
+use Rattle.book.specs.Book.{IsPlan, IsPutNext, box_at}
 use Rattle.book.proofs.KeptSteps.{shown, delivered_kept, dropped_kept}
-use Rattle.book.proofs.Sound.{next_here}
+use Rattle.book.proofs.Sound.{next_here, next_follows}
+use Rattle.book.proofs.Sent.{item_is}
+use Rattle.book.proofs.Puts.{put_is, miss_is}
 use Rattle.book.proofs.book.Book.put_next.Goals as goal
 
-pub offer-requires : goal.offer-requires
-offer-requires over c =
+pub offer-requires-clause-there : goal.offer-requires-clause-there
+offer-requires-clause-there over c =
     let a = c.self.inside in let p = c.in_ok-put.put in let qs = c.pop_front.new.self.items in
     let plan : a.plan.items ≡ p ∷ qs = grind (arith, common_steps) in
     let is = subst (IsPlan a.roster.settings a.journal.history (length a.outboxes.boxes)) plan c.self.invariant.sound.plan in
-    record {
-      there = record {
-        from_1 = is.0;
-        opened = is.1;
-        here = next_here over.O.Outbox.sent (shown a.journal a.roster.settings a.outboxes.boxes a.plan.items a.busy) p qs plan c.self.invariant.sound;
-      };
-    }
+    let there : IsThere a.outboxes.boxes p.session = record {
+      from_1 = is.0;
+      opened = is.1;
+      here = next_here over.O.Outbox.sent (shown a.journal a.roster.settings a.outboxes.boxes a.plan.items a.busy) p qs plan c.self.invariant.sound;
+    } in
+    subst (IsThere a.outboxes.boxes) (sym c.new-item.ensures.session) there
+
+pub offer-requires-clause-next : goal.offer-requires-clause-next
+offer-requires-clause-next over c =
+    let a = c.self.inside in let p = c.in_ok-put.put in let qs = c.pop_front.new.self.items in
+    let plan : a.plan.items ≡ p ∷ qs = grind (arith, common_steps) in
+    let it = c.new-item.ensures in let item = item_is c.new-item.result p.delivery p.session a.journal.history a.roster.settings it.delivery it.session it.front (it.settings ∙ c.settings-settings.ensures.value) in
+    subst (λ (x : Item). MayFollow over.O.Outbox.sent (box_at a.outboxes.boxes x.session) x) (sym item)
+    (next_follows over.O.Outbox.sent (shown a.journal a.roster.settings a.outboxes.boxes a.plan.items a.busy) p qs plan c.self.invariant.sound)
 
 pub invariant_of-self-then-offer : goal.invariant_of-self-then-offer
 invariant_of-self-then-offer over c =
     let a = c.self.inside in let p = c.in_ok-put.put in let qs = c.pop_front.new.self.items in
     let plan : a.plan.items ≡ p ∷ qs = grind (arith, common_steps) in
-    let took = c.offer.ensures.put c.if-offer.true in
+    let it = c.new-item.ensures in let item = item_is c.new-item.result p.delivery p.session a.journal.history a.roster.settings it.delivery it.session it.front (it.settings ∙ c.settings-settings.ensures.value) in
+    let took = subst (λ (x : Item). IsTaken over.O.Outbox.sent over.O.Outbox.accepts a.outboxes.boxes x c.offer.new.self.boxes) item (c.offer.ensures.put c.if-offer.true) in
     delivered_kept over.O.Outbox.sent a.journal a.roster.settings a.roster.facts a.seats a.outboxes.boxes _ a.plan.items qs a.busy p took.before took.after c.self.invariant plan took.here took.longer took.now
+
+pub returns-then-offer-clause-put : goal.returns-then-offer-clause-put
+returns-then-offer-clause-put over c =
+    let a = c.self.inside in let p = c.in_ok-put.put in let qs = c.pop_front.new.self.items in
+    let plan : a.plan.items ≡ p ∷ qs = grind (arith, common_steps) in
+    let it = c.new-item.ensures in let item = item_is c.new-item.result p.delivery p.session a.journal.history a.roster.settings it.delivery it.session it.front (it.settings ∙ c.settings-settings.ensures.value) in
+    let took = subst (λ (x : Item). IsTaken over.O.Outbox.sent over.O.Outbox.accepts a.outboxes.boxes x c.offer.new.self.boxes) item (c.offer.ensures.put c.if-offer.true) in
+    let m = shown a.journal a.roster.settings a.outboxes.boxes a.plan.items a.busy in
+    subst (λ k. IsPutNext over.O.Outbox.accepts over.O.Outbox.refuses k k.plan (Some (Put p.session)) (shown a.journal a.roster.settings c.offer.new.self.boxes qs a.busy)) c.self.view_is
+    (put_is over.O.Outbox.sent over.O.Outbox.accepts over.O.Outbox.refuses m p qs c.offer.new.self.boxes plan took)
 
 pub invariant_of-self-2 : goal.invariant_of-self-2
 invariant_of-self-2 over c =
@@ -33,3 +55,13 @@ invariant_of-self-2 over c =
     let plan : a.plan.items ≡ p ∷ qs = grind (arith, common_steps) in
     subst (λ xs. IsKept over.O.Outbox.sent c.miss.new.self a.roster.settings a.roster.facts c.shut.new.self xs qs a.busy) (sym (c.offer.ensures.same c.if-offer.false))
     (dropped_kept over.O.Outbox.sent a.journal c.miss.new.self a.roster.settings a.roster.facts a.seats _ a.outboxes.boxes a.plan.items qs a.busy p c.self.invariant plan c.shut.ensures c.miss.ensures)
+
+pub returns-clause-put : goal.returns-clause-put
+returns-clause-put over c =
+    let a = c.self.inside in let p = c.in_ok-put.put in let qs = c.pop_front.new.self.items in
+    let plan : a.plan.items ≡ p ∷ qs = grind (arith, common_steps) in
+    let it = c.new-item.ensures in let item = item_is c.new-item.result p.delivery p.session a.journal.history a.roster.settings it.delivery it.session it.front (it.settings ∙ c.settings-settings.ensures.value) in
+    let missed = subst (λ (x : Item). IsNotTaken over.O.Outbox.refuses a.outboxes.boxes x) item (c.offer.ensures.fault c.if-offer.false) in
+    let m = shown a.journal a.roster.settings a.outboxes.boxes a.plan.items a.busy in
+    subst (λ k. IsPutNext over.O.Outbox.accepts over.O.Outbox.refuses k k.plan (Some (Missed p.session)) (shown c.miss.new.self a.roster.settings c.offer.new.self.boxes qs a.busy)) c.self.view_is
+    (miss_is over.O.Outbox.accepts over.O.Outbox.refuses m p qs c.miss.new.self.history c.miss.new.self.limit c.offer.new.self.boxes plan missed c.miss.ensures.history c.miss.ensures.limit (c.offer.ensures.same c.if-offer.false))

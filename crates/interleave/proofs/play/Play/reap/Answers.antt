@@ -6,7 +6,10 @@ use Rattle.interleave.specs.Inbox.{Held, held_at, with_held, reaped_at}
 use Rattle.interleave.specs.Kept.{state_of, IsKept}
 use Rattle.interleave.specs.State.{State}
 use Rattle.std.specs.Prelude.{OnOk, IfOk, IfErr}
-use Rattle.outbox.specs.declared.item.Item.{Item}
+use Rattle.std.proofs.lemmas.List.{length-map}
+use Rattle.deliveries.specs.declared.delivery.Delivery.{Delivery}
+use Rattle.deliveries.specs.declared.item.Item.{Item}
+use Rattle.deliveries.specs.Items.{deliveries}
 use Rattle.book.specs.Book.{MayReap, IsReapRefusal, outbox_at, reaped}
 use Rattle.interleave.specs.declared.event.Note.TheVariants as note
 use Rattle.interleave.specs.State.{queue_of}
@@ -29,14 +32,14 @@ invariant_of-self c =
     let may = may_give_up m a.sendq boxes jobs a.holder s c.self.invariant free in
     let in_ = may.session in
     let held = turn_here m boxes s (held_at boxes s).seen.place c.self.invariant.turns in_.above in_.below in_.here refl in
-    let waits : queue_of st s ≡ (outbox_at m.outboxes s).queue = queue_here m a.sendq boxes jobs a.holder s in_.here in
-    let ok : OnOk c.reap-reaped.result (c.reap-reaped.new.inboxes.items ≡ with_held boxes s (reaped_at (held_at boxes s) (outbox_at m.outboxes s).queue)) = rw held at c.reap-reaped.ensures.ok in
+    let waits : queue_of st s ≡ deliveries (outbox_at m.outboxes s).queue = queue_here m a.sendq boxes jobs a.holder s in_.here in
+    let ok : OnOk c.reap-reaped.result (c.reap-reaped.new.inboxes.items ≡ with_held boxes s (reaped_at (held_at boxes s) (deliveries (outbox_at m.outboxes s).queue))) = rw held at c.reap-reaped.ensures.ok in
     let given : OnOk c.reap-reaped.result (k ≡ reaped m s) = rw held at c.reap-reaped.ensures.book in
     elim c.match-reaped.branch [
       | in-Ok x ↦
-          let new : c.reap-reaped.new.inboxes.items ≡ with_held boxes s (reaped_at (held_at boxes s) (outbox_at m.outboxes s).queue) = grind (arith, common_steps) in
+          let new : c.reap-reaped.new.inboxes.items ≡ with_held boxes s (reaped_at (held_at boxes s) (deliveries (outbox_at m.outboxes s).queue)) = grind (arith, common_steps) in
           let gone : k ≡ reaped m s = grind (arith, common_steps) in
-          subst (λ (bs : List Held). IsKept k a.sendq bs jobs a.holder) (sym (new ∙ ap (λ (xs : List Item). with_held boxes s (reaped_at (held_at boxes s) xs)) (sym waits))) (may.gives k gone c.sound.ensures).1
+          subst (λ (bs : List Held). IsKept k a.sendq bs jobs a.holder) (sym (new ∙ ap (λ (xs : List Delivery). with_held boxes s (reaped_at (held_at boxes s) xs)) (sym waits))) (may.gives k gone c.sound.ensures).1
       | in-Err x ↦
           let same : k ≡ m = grind (arith, common_steps) in
           let old : c.reap-reaped.new.inboxes.items ≡ boxes = grind (arith, common_steps) in
@@ -51,8 +54,8 @@ returns c =
     let may = may_give_up m a.sendq boxes jobs a.holder s c.self.invariant free in
     let in_ = may.session in
     let held = turn_here m boxes s (held_at boxes s).seen.place c.self.invariant.turns in_.above in_.below in_.here refl in
-    let waits : queue_of st s ≡ (outbox_at m.outboxes s).queue = queue_here m a.sendq boxes jobs a.holder s in_.here in
-    let ok : OnOk c.reap-reaped.result (c.reap-reaped.new.inboxes.items ≡ with_held boxes s (reaped_at (held_at boxes s) (outbox_at m.outboxes s).queue)) = rw held at c.reap-reaped.ensures.ok in
+    let waits : queue_of st s ≡ deliveries (outbox_at m.outboxes s).queue = queue_here m a.sendq boxes jobs a.holder s in_.here in
+    let ok : OnOk c.reap-reaped.result (c.reap-reaped.new.inboxes.items ≡ with_held boxes s (reaped_at (held_at boxes s) (deliveries (outbox_at m.outboxes s).queue))) = rw held at c.reap-reaped.ensures.ok in
     let given : OnOk c.reap-reaped.result (k ≡ reaped m s) = rw held at c.reap-reaped.ensures.book in
     let now = c.args.self.now in
     let count : IfOk c.reap-reaped.result (λ n. n ≡ length (outbox_at m.outboxes s).queue) = rw held at c.reap-reaped.ensures.left in
@@ -61,17 +64,17 @@ returns c =
     elim c.match-reaped.branch [
       | in-Ok x ↦
           let n = x.in-Ok.count in
-          let new : c.reap-reaped.new.inboxes.items ≡ with_held boxes s (reaped_at (held_at boxes s) (outbox_at m.outboxes s).queue) = grind (arith, common_steps) in
+          let new : c.reap-reaped.new.inboxes.items ≡ with_held boxes s (reaped_at (held_at boxes s) (deliveries (outbox_at m.outboxes s).queue)) = grind (arith, common_steps) in
           let gone : k ≡ reaped m s = grind (arith, common_steps) in
           let number : n ≡ length (outbox_at m.outboxes s).queue = grind (arith, common_steps) in
           let can : MayReap m s = grind (arith, common_steps) in
           let all = may.gives k gone c.sound.ensures in
           let state : state_of k a.sendq c.reap-reaped.new.inboxes.items jobs a.holder ≡ steps.reaped st s =
-          ap (λ (bs : List Held). state_of k a.sendq bs jobs a.holder) (new ∙ ap (λ (xs : List Item). with_held boxes s (reaped_at (held_at boxes s) xs)) (sym waits)) ∙ all.0 in
+          ap (λ (bs : List Held). state_of k a.sendq bs jobs a.holder) (new ∙ ap (λ (xs : List Delivery). with_held boxes s (reaped_at (held_at boxes s) xs)) (sym waits)) ∙ all.0 in
           subst (λ r. IsStep now (event.Reap s) r (state_of k a.sendq c.reap-reaped.new.inboxes.items jobs a.holder)) (sym x.result-is) (
             c.requires.free,
             subst (λ (y : State). IsDone y (event.Reap s) (note.Left n) (state_of k a.sendq c.reap-reaped.new.inboxes.items jobs a.holder)) c.self.view_is
-                (can, ap (λ (j : ℕ). note.Left j) (number ∙ ap length (sym waits)), state),
+                (can, ap (λ (j : ℕ). note.Left j) (number ∙ sym (length-map (outbox_at m.outboxes s).queue (λ (y : Item). y.delivery)) ∙ ap length (sym waits)), state),
           )
       | in-Err x ↦
           let e = x.in-Err.refusal in

@@ -1,7 +1,7 @@
 -- A take changes nothing of what was put.
 use Rattle.std.proofs.Common.{◌≡◌, ◌∙◌, ◌++◌, List, ap, sym, subst, take, drop, append_assoc}
 use Rattle.std.proofs.lemmas.List.{take-append-drop}
-use Rattle.channel_outbox.specs.Ring.{Waiting}
+use Rattle.outbox.specs.Ring.{Waiting}
 use Rattle.deliveries.specs.declared.item.Item.{Item}
 use Rattle.outbox_trials.specs.Fed.{IsReady}
 use Rattle.outbox_trials.proofs.feeding.Feed+Ring.take.Goals as goal

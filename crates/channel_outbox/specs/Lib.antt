@@ -1,3 +1,0 @@
-pub mod Ring
-pub mod Rule
-pub mod Ends

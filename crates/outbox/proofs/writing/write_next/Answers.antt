@@ -1,6 +1,0 @@
-use Rattle.std.proofs.Common.{rules}
-use Rattle.outbox.proofs.Written.{then_next}
-use Rattle.outbox.proofs.writing.write_next.Goals as goal
-
-pub returns-clause-front : goal.returns-clause-front
-returns-clause-front g c = λ start text before. then_next start _ _ text _ _ _ (search rules) before c.write_all_of-more.ensures

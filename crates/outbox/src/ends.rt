@@ -1,0 +1,204 @@
+//! The two ends of an outbox between two threads.
+ghost use Rattle.std.specs.Prelude.{◌≡◌, ◌<◌, [], All, IfOk, OnErr};
+ghost use Rattle.deliveries.specs.declared.item.Item.{Item as Delivered};
+ghost use Rattle.deliveries.specs.Items.{deliveries, front, owed_by_front};
+ghost use Rattle.deliveries.specs.Growth.{Grows};
+ghost use Rattle.outbox.specs.Ends.{with_item};
+
+mod draining;
+
+use crate::bell::Bell;
+use crate::queue::{Outbox, PutFault};
+use crate::rule::{Ends, InOrder, Log, Put, Take};
+use crossbeam_channel::{Pass, RecvError, RuledReceiver, RuledSender, TrySendError, bounded_with};
+use deliveries::Item;
+use draining::drain;
+use std::alloc::{AllocError, Global};
+use std::marker::Model;
+use std::sync::Wait;
+use std::time::Duration;
+
+/// There was no item.
+#[derive(Clone, Copy, Debug, PartialEq)]
+pub struct Empty;
+
+/// There is no item, and none will come.
+#[derive(Clone, Copy, Debug, PartialEq)]
+pub struct Closed;
+
+/// The end that puts. A clause sees all items that were ever put, how many may wait, and which channel it is.
+#[derive(Drop)]
+pub struct Sender<R: Wait + Drop> {
+    rt: R,
+    sender: RuledSender<Item, Log, InOrder>,
+    pass: Pass<Item, Log>,
+    bell: Bell,
+}
+
+impl<R: Wait + Drop> Model for Sender<R> {
+    ghost use Rattle.std.specs.Prelude.{◌≡◌, true};
+    ghost use Rattle.crossbeam_channel.specs.Claims.{IsSeatAt};
+    ghost use Rattle.crossbeam_channel.specs.Ends.{sends_on, ruled_capacity};
+    ghost use Rattle.outbox.specs.Ends.{Puttings, channel_of, known};
+
+    ghost Value = { Puttings };
+
+    ghost view = { λ a. record { sent = (known a.pass).sent; cap = ruled_capacity (sends_on a.sender); channel = channel_of a.pass } };
+
+    ghost invariant = { λ a. IsSeatAt (sends_on a.sender) a.pass × ((known a.pass).sends ≡ true) };
+}
+
+/// The end that takes. A clause sees all items that were ever taken, and which channel it is.
+#[derive(Drop)]
+pub struct Writer {
+    receiver: RuledReceiver<Item, Log, InOrder>,
+    pass: Pass<Item, Log>,
+    bell: Bell,
+}
+
+impl Model for Writer {
+    ghost use Rattle.std.specs.Prelude.{◌≡◌, true};
+    ghost use Rattle.crossbeam_channel.specs.Claims.{IsSeatAt};
+    ghost use Rattle.crossbeam_channel.specs.Ends.{receives_on};
+    ghost use Rattle.outbox.specs.Ends.{Takings, channel_of, known};
+
+    ghost Value = { Takings };
+
+    ghost view = { λ a. record { taken = (known a.pass).got; channel = channel_of a.pass } };
+
+    ghost invariant = { λ a. IsSeatAt (receives_on a.receiver) a.pass × ((known a.pass).takes ≡ true) };
+}
+
+/// A new outbox for at most `cap` items, by its two ends.
+pub fn pair<R: Wait + Drop>(
+    rt: R,
+    alloc: Global,
+    cap: usize,
+) -> Result<(Sender<R>, Writer), AllocError>
+    requires { 0 < cap }
+    ensures sent { IfOk result (λ p. p.0.sent ≡ []) }
+    ensures cap { IfOk result (λ p. p.0.cap ≡ cap) }
+    ensures taken { IfOk result (λ p. p.1.taken ≡ []) }
+    ensures channel { IfOk result (λ p. p.0.channel ≡ p.1.channel) }
+{
+    let bell = Bell::new(alloc)?;
+    let heard = bell.again()?;
+    let (sender, receiver, mut pass) = bounded_with::<Item, Log, InOrder, Global>(alloc, cap)?;
+    let other = sender.another::<Ends>(&mut pass);
+    Ok((
+        Sender {
+            rt,
+            sender,
+            pass,
+            bell,
+        },
+        Writer {
+            receiver,
+            pass: other,
+            bell: heard,
+        },
+    ))
+}
+
+impl<R: Wait + Drop> Sender<R> {
+    /// The bell that ends a rest of the other end. A put doesn't ring it.
+    pub fn bell(&self) -> &Bell {
+        &self.bell
+    }
+}
+
+impl<R: Wait + Drop> Outbox for Sender<R> {
+    ghost use Rattle.std.specs.Prelude.{true};
+    ghost use Rattle.outbox.specs.Ends.{accepts, refuses};
+
+    type Taker = Writer;
+
+    type Name = Pass<Item, Log>;
+
+    ghost sent = { λ a. a.sent };
+
+    ghost room = { λ a. a.cap };
+
+    ghost name = { λ a. a.channel };
+
+    ghost taker_of = { λ w. w.channel };
+
+    ghost taken = { λ a w. w.taken };
+
+    ghost may_be_cut = { true };
+
+    ghost accepts = { accepts };
+
+    ghost refuses = { refuses };
+
+    fn put(&mut self, item: Item) -> Result<(), (PutFault, Item)> {
+        match self
+            .sender
+            .try_send_as::<Put, R>(&self.rt, &mut self.pass, item)
+        {
+            Ok(()) => Ok(()),
+            Err(TrySendError::Full(item)) => Err((PutFault::Full, item)),
+            Err(e) => Err((PutFault::Cut, e.into_inner())),
+        }
+    }
+
+    fn close(self, taker: Writer) -> u64 {
+        let Sender {
+            rt,
+            sender,
+            mut pass,
+            bell: _,
+        } = self;
+        let Writer {
+            receiver,
+            pass: other,
+            bell: _,
+        } = taker;
+        sender.absorb::<Ends>(&mut pass, other);
+        drain(&rt, &receiver, pass)
+    }
+}
+
+impl Writer {
+    /// Takes the item that waits longest, and waits for one where there is none.
+    pub fn take<R: Wait>(&mut self, rt: &R) -> Result<Item, Closed>
+        ensures took { IfOk result (λ x. self.new ≡ with_item self.old x) }
+        ensures owed { IfOk result (λ x. deliveries self.new.taken ≡ owed_by_front x) }
+        ensures whose { IfOk result (λ x. All (λ (y : Delivered). y.session ≡ x.session) self.old.taken) }
+        ensures settings { IfOk result (λ x. All (λ (y : Delivered). y.settings ≡ x.settings) self.old.taken) }
+        ensures grows { IfOk result (λ x. All (λ (y : Delivered). Grows (front y) (front x)) self.old.taken) }
+        ensures none { OnErr result (self.new ≡ self.old) }
+    {
+        match self.receiver.recv_as::<Take, R>(rt, &mut self.pass) {
+            Ok(item) => Ok(item),
+            Err(RecvError) => Err(Closed),
+        }
+    }
+
+    /// Takes the item that waits longest. It waits for none, and takes no memory.
+    pub fn take_now<R: Wait>(&mut self, rt: &R) -> Result<Item, Empty>
+        ensures took { IfOk result (λ x. self.new ≡ with_item self.old x) }
+        ensures owed { IfOk result (λ x. deliveries self.new.taken ≡ owed_by_front x) }
+        ensures whose { IfOk result (λ x. All (λ (y : Delivered). y.session ≡ x.session) self.old.taken) }
+        ensures settings { IfOk result (λ x. All (λ (y : Delivered). y.settings ≡ x.settings) self.old.taken) }
+        ensures grows { IfOk result (λ x. All (λ (y : Delivered). Grows (front y) (front x)) self.old.taken) }
+        ensures none { OnErr result (self.new ≡ self.old) }
+    {
+        match self.receiver.try_recv_as::<Take, R>(rt, &mut self.pass) {
+            Ok(item) => Ok(item),
+            Err(_) => Err(Empty),
+        }
+    }
+
+    /// The bell that ends a rest.
+    pub fn bell(&self) -> &Bell {
+        &self.bell
+    }
+
+    /// Rests until the bell is rung, or for so long at most. There may be no item after it, so take again and rest again.
+    pub fn rest<R: Wait>(&mut self, rt: &R, most: Duration)
+        ensures { self.new ≡ self.old }
+    {
+        self.bell.rest(rt, most);
+    }
+}
