@@ -82,7 +82,12 @@ fn new_player(alloc: Global, limits: &Limits) -> Result<Player, PlayFault>
 }
 
 /// A player that did what a script's first step asks for.
-fn begin<W: Write>(alloc: Global, limits: &Limits, step: Step, output: &mut W) -> Result<Player, PlayFault>
+fn begin<W: Write>(
+    alloc: Global,
+    limits: &Limits,
+    step: Step,
+    output: &mut W,
+) -> Result<Player, PlayFault>
     requires { NamesHost step }
     ensures ok { IfOk result (λ player. are_good limits.now ≡ true) }
     ensures performed { IfOk result (λ player. (text : List ℕ) × IsPerformed step [] (start_of limits.now) text player.hosts.items player.play × Appends (W.contents output.old) (W.contents output.new) text) }

@@ -578,7 +578,7 @@ fn note(
         }
         (Act::Reap(session), Ok(Note::Left(count))) => {
             if let Some(watched) = seen_of(&mut seen.sessions, session) {
-                assert_eq!(rt; watched.rest.len(), count);
+                assert_eq!(rt; watched.rest.len() as u64, count);
                 watched.is_reaped = true;
             }
         }
