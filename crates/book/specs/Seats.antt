@@ -1,5 +1,6 @@
 -- What a book keeps for its sessions, and how that stands for the history.
-use Rattle.std.specs.Prelude.{◌≡◌, ℕ, ℤ, ◌+◌, ◌-◌, ◌<◌, ◌≤◌, Bool, true, false, not, ◌&&◌, nat_lt, nat_le, cond, if◌then◌else◌, List, [], ◌∷◌, ◌++◌, filter, map, length, sum_by, slice_index_or, slice_set, Option, Some, None, IfSome}
+use Rattle.std.specs.Map.{lookup}
+use Rattle.std.specs.Prelude.{nat_eq, ◌≡◌, ℕ, ℤ, ◌+◌, ◌-◌, ◌<◌, ◌≤◌, Bool, true, false, not, ◌&&◌, nat_lt, nat_le, cond, if◌then◌else◌, List, [], ◌∷◌, ◌++◌, filter, map, length, sum_by, slice_index_or, slice_set, Option, Some, None, IfSome}
 use Rattle.chronicle.specs.History.{Rec, accepted, shut, gone}
 use Rattle.deliveries.specs.declared.delivery.Delivery.{Delivery}
 use Rattle.deliveries.specs.declared.item.Item.{Item}
@@ -104,6 +105,10 @@ pub record IsSeat (seat : Seat) (here : Bool) (h : List Rec) (t : ℕ) : Type 0 
 pub record Boxes (O : Type 0) : Type 0 where
   pub boxes : List (Option O)
   pub room : ℕ
+
+-- the outboxes of the first n sessions, of those that are kept by their numbers
+abbrev pub boxes_of : {O : Type 0} → List (ℕ × O) → ℕ → List (Option O)
+boxes_of kept n = map (λ t. lookup (nat_eq t) kept) (numbers 1 n)
 
 -- session t was opened and isn't reaped
 pub record IsThere {O : Type 0} (boxes : List (Option O)) (t : ℕ) : Type 0 where

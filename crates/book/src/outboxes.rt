@@ -6,27 +6,31 @@ ghost use Rattle.book.specs.Seats.{IsThere, MayFollow, IsTaken, IsNotTaken};
 
 use chronicle::SessionId;
 use deliveries::Item;
+use indexmap::IndexMap;
 use outbox::{Outbox, Ring};
 use std::alloc::{AllocError, Global};
 use std::marker::Model;
 
-/// The outboxes of the sessions by their numbers, but for those that were reaped. How many there are stands ready.
+/// The outboxes of the sessions by their numbers, but for those that were reaped: what went takes no memory. How many there are
+/// stands ready.
 #[derive(Drop)]
 pub(crate) struct Outboxes<O: Outbox> {
-    outboxes: Vec<Option<O>>,
+    outboxes: IndexMap<u64, O>,
+    opened: u64,
     here: usize,
 }
 
 impl<O: Outbox> Model for Outboxes<O> {
-    ghost use Rattle.std.specs.Prelude.{◌≡◌, vec_capacity};
+    ghost use Rattle.std.specs.Prelude.{◌≡◌};
+    ghost use Rattle.indexmap.specs.IndexMap.{spare};
     ghost use Rattle.book.specs.Book.{count_here};
-    ghost use Rattle.book.specs.Seats.{Boxes};
+    ghost use Rattle.book.specs.Seats.{Boxes, boxes_of};
 
     ghost Value = { Boxes O };
 
-    ghost view = { λ a. record { boxes = a.outboxes.items; room = vec_capacity a.outboxes } };
+    ghost view = { λ a. record { boxes = boxes_of a.outboxes.entries a.opened; room = spare a.outboxes } };
 
-    ghost invariant = { λ a. a.here ≡ count_here a.outboxes.items };
+    ghost invariant = { λ a. a.here ≡ count_here (boxes_of a.outboxes.entries a.opened) };
 }
 
 impl<O: Outbox> Outboxes<O> {
@@ -35,7 +39,8 @@ impl<O: Outbox> Outboxes<O> {
         ensures { result.boxes ≡ [] }
     {
         Outboxes {
-            outboxes: Vec::new(alloc),
+            outboxes: IndexMap::new(alloc),
+            opened: 0,
             here: 0,
         }
     }
@@ -53,27 +58,28 @@ impl<O: Outbox> Outboxes<O> {
         ensures no { result ≡ false → IsThere self.now.boxes session → ⊥ }
     {
         let number = session.number();
-        if number == 0 || self.outboxes.len() < number as usize {
+        if number == 0 || self.opened < number {
             return false;
         }
-        self.outboxes[number as usize - 1].is_some()
+        self.outboxes.contains_key(&number)
     }
 
     /// Makes room for one more.
     pub(crate) fn make_room(&mut self) -> Result<(), AllocError>
         ensures same { self.new.boxes ≡ self.old.boxes }
-        ensures ok { OnOk result (length self.new.boxes < self.new.room) }
+        ensures ok { OnOk result (0 < self.new.room) }
     {
         self.outboxes.reserve(1)
     }
 
     /// Adds the outbox of the next session. There has to be room for it.
     pub(crate) fn open(&mut self, outbox: O)
-        requires room { length self.old.boxes < self.old.room }
-        requires few { count_here self.old.boxes + 1 < 2 ^ 64 }
+        requires room { 0 < self.old.room }
+        requires few { length self.old.boxes + 1 < 2 ^ 64 }
         ensures { self.new.boxes ≡ self.old.boxes ++ Some outbox ∷ [] }
     {
-        self.outboxes.push_reserved(Some(outbox));
+        self.opened += 1;
+        let _ = self.outboxes.insert(self.opened, outbox).unwrap();
         self.here += 1;
     }
 
@@ -85,7 +91,7 @@ impl<O: Outbox> Outboxes<O> {
         ensures fault { result ≡ false → IsNotTaken O.refuses self.old.boxes item }
         ensures same { result ≡ false → self.new.boxes ≡ self.old.boxes }
     {
-        let Some(outbox) = &mut self.outboxes[item.session().number() as usize - 1] else {
+        let Some(outbox) = self.outboxes.get_mut(&item.session().number()) else {
             unreachable!();
         };
         match outbox.put(item) {
@@ -101,7 +107,7 @@ impl<O: Outbox> Outboxes<O> {
         ensures left { IsLeft O.sent O.taken (box_at self.old.boxes session) taker result }
         ensures given { self.new.boxes ≡ slice_set self.old.boxes (session - 1) None }
     {
-        let Some(outbox) = self.outboxes[session.number() as usize - 1].take() else {
+        let Some(outbox) = self.outboxes.swap_remove(&session.number()) else {
             unreachable!();
         };
         self.here -= 1;
@@ -117,7 +123,7 @@ impl Outboxes<Ring> {
         ensures none { result ≡ None → self.new.boxes ≡ self.old.boxes }
         ensures taken { self.new.boxes ≡ slice_set self.old.boxes (session - 1) (Some (with_taken (outbox_at self.old.boxes session))) }
     {
-        match &mut self.outboxes[session.number() as usize - 1] {
+        match self.outboxes.get_mut(&session.number()) {
             Some(outbox) => outbox.take_now(),
             None => None,
         }
