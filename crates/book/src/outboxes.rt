@@ -1,7 +1,7 @@
 //! The outboxes of all sessions, and how many there are.
-ghost use Rattle.std.specs.Prelude.{◌≡◌, ℕ, ◌<◌, ◌≤◌, ◌+◌, ◌-◌, ◌^◌, ◌++◌, ◌∷◌, [], true, false, length, slice_get, slice_set, Some, None, IsTrue, IfSome, OnOk, ◌↔◌};
+ghost use Rattle.std.specs.Prelude.{◌≡◌, ◌<◌, ◌+◌, ◌-◌, ◌++◌, ◌∷◌, [], true, false, length, slice_get, slice_set, Some, None, IfSome, OnOk};
 ghost use Rattle.outbox.specs.Ring.{with_taken};
-ghost use Rattle.book.specs.Book.{box_at, outbox_at, is_here, count_here, IsLeft};
+ghost use Rattle.book.specs.Book.{box_at, outbox_at, count_here, IsLeft};
 ghost use Rattle.book.specs.Seats.{IsThere, MayFollow, IsTaken, IsNotTaken};
 
 use chronicle::SessionId;
@@ -11,26 +11,23 @@ use outbox::{Outbox, Ring};
 use std::alloc::{AllocError, Global};
 use std::marker::Model;
 
-/// The outboxes of the sessions by their numbers, but for those that were reaped: what went takes no memory. How many there are
-/// stands ready.
+/// The outboxes of the sessions that aren't reaped.
 #[derive(Drop)]
 pub(crate) struct Outboxes<O: Outbox> {
+    /// By the numbers of their sessions.
     outboxes: IndexMap<u64, O>,
     opened: u64,
-    here: usize,
 }
 
 impl<O: Outbox> Model for Outboxes<O> {
-    ghost use Rattle.std.specs.Prelude.{◌≡◌};
     ghost use Rattle.indexmap.specs.IndexMap.{spare};
-    ghost use Rattle.book.specs.Book.{count_here};
-    ghost use Rattle.book.specs.Seats.{Boxes, boxes_of};
+    ghost use Rattle.book.specs.Seats.{Boxes, AreBoxes, boxes_of};
 
     ghost Value = { Boxes O };
 
     ghost view = { λ a. record { boxes = boxes_of a.outboxes.entries a.opened; room = spare a.outboxes } };
 
-    ghost invariant = { λ a. a.here ≡ count_here (boxes_of a.outboxes.entries a.opened) };
+    ghost invariant = { λ a. AreBoxes a.outboxes.entries a.opened };
 }
 
 impl<O: Outbox> Outboxes<O> {
@@ -41,7 +38,6 @@ impl<O: Outbox> Outboxes<O> {
         Outboxes {
             outboxes: IndexMap::new(alloc),
             opened: 0,
-            here: 0,
         }
     }
 
@@ -49,7 +45,7 @@ impl<O: Outbox> Outboxes<O> {
     pub(crate) fn here(&self) -> usize
         ensures { result ≡ count_here self.now.boxes }
     {
-        self.here
+        self.outboxes.len()
     }
 
     /// Whether a session was opened and isn't reaped.
@@ -57,11 +53,7 @@ impl<O: Outbox> Outboxes<O> {
         ensures yes { result ≡ true → IsThere self.now.boxes session }
         ensures no { result ≡ false → IsThere self.now.boxes session → ⊥ }
     {
-        let number = session.number();
-        if number == 0 || self.opened < number {
-            return false;
-        }
-        self.outboxes.contains_key(&number)
+        self.outboxes.contains_key(&session.number())
     }
 
     /// Makes room for one more.
@@ -73,14 +65,14 @@ impl<O: Outbox> Outboxes<O> {
     }
 
     /// Adds the outbox of the next session. There has to be room for it.
-    pub(crate) fn open(&mut self, outbox: O)
+    pub(crate) fn open(&mut self, session: SessionId, outbox: O)
+        requires next { session ≡ length self.old.boxes + 1 }
         requires room { 0 < self.old.room }
-        requires few { length self.old.boxes + 1 < 2 ^ 64 }
         ensures { self.new.boxes ≡ self.old.boxes ++ Some outbox ∷ [] }
     {
-        self.opened += 1;
-        let _ = self.outboxes.insert(self.opened, outbox).unwrap();
-        self.here += 1;
+        let number = session.number();
+        let _ = self.outboxes.insert(number, outbox).unwrap();
+        self.opened = number;
     }
 
     /// Puts an item into its session's outbox, and answers whether that took it. It takes no memory.
@@ -94,10 +86,7 @@ impl<O: Outbox> Outboxes<O> {
         let Some(outbox) = self.outboxes.get_mut(&item.session().number()) else {
             unreachable!();
         };
-        match outbox.put(item) {
-            Ok(()) => true,
-            Err(_) => false,
-        }
+        outbox.put(item).is_ok()
     }
 
     /// Gives up the outbox of a session with its taker, and answers how many items were left in it.
@@ -110,7 +99,6 @@ impl<O: Outbox> Outboxes<O> {
         let Some(outbox) = self.outboxes.swap_remove(&session.number()) else {
             unreachable!();
         };
-        self.here -= 1;
         outbox.close(taker)
     }
 }
@@ -123,9 +111,9 @@ impl Outboxes<Ring> {
         ensures none { result ≡ None → self.new.boxes ≡ self.old.boxes }
         ensures taken { self.new.boxes ≡ slice_set self.old.boxes (session - 1) (Some (with_taken (outbox_at self.old.boxes session))) }
     {
-        match self.outboxes.get_mut(&session.number()) {
-            Some(outbox) => outbox.take_now(),
-            None => None,
-        }
+        let Some(outbox) = self.outboxes.get_mut(&session.number()) else {
+            unreachable!();
+        };
+        outbox.take_now()
     }
 }
