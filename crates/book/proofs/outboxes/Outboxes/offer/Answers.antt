@@ -31,15 +31,15 @@ returns-clause-put over c =
       before = c.in-Some.outbox.now;
       after = v;
       here = box_found a.outboxes.entries a.opened c.args.self.now.boxes view c.number.result t c.in-Some.outbox.now (c.number.ensures ∙ c.session.ensures) c.requires.there c.in-Some.ensures.value;
-      accepted = on_ok _ c.put.result (sym c.is_ok.ensures ∙ took) c.put.ensures.accepted;
-      longer = on_ok _ c.put.result (sym c.is_ok.ensures ∙ took) c.put.ensures.ok;
+      accepted = on_ok _ c.put.result (sym c.is_ok.ensures.value ∙ took) c.put.ensures.accepted;
+      longer = on_ok _ c.put.result (sym c.is_ok.ensures.value ∙ took) c.put.ensures.ok;
       now = boxes_set a.outboxes.entries a.opened c.args.self.now.boxes view now t (Some v) written c.requires.there;
     }
 
 pub returns-clause-fault : goal.returns-clause-fault
 returns-clause-fault over c =
     let a = c.self.inside in let t = c.args.item.session in
-    λ no. let e = if_err _ c.put.result (sym c.is_ok.ensures ∙ no) c.put.ensures.refused in
+    λ no. let e = if_err _ c.put.result (sym c.is_ok.ensures.value ∙ no) c.put.ensures.refused in
     record {
       before = c.in-Some.outbox.now;
       cause = e.0.0;
