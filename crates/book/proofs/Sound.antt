@@ -124,6 +124,16 @@ was_here boxes s t v there a b here =
       | inr other ↦ ap (λ o. is_some o) (sym (box_other boxes s t (Some v) a b other.1)) ∙ here
     ]
 
+-- who has an outbox is the same then
+pub here_same : {X : Type 0} (boxes : List (Option X)) (s t : ℕ) (v : X) → is_here boxes s ≡ true → 0 < s → s ≤ length boxes → 0 < t → is_here boxes t ≡ is_here (slice_set boxes (s - 1) (Some v)) t
+here_same boxes s t v there from to above =
+    elim (eqb_tells s t) [
+      | inl same ↦
+          let here : is_here boxes s ≡ is_here (slice_set boxes (s - 1) (Some v)) s = there ∙ ap (λ o. is_some o) (sym (box_same boxes s (Some v) from to)) in
+          subst (λ (u : ℕ). is_here boxes u ≡ is_here (slice_set boxes (s - 1) (Some v)) u) same.1 here
+      | inr other ↦ ap (λ o. is_some o) (sym (box_other boxes s t (Some v) from above other.1))
+    ]
+
 -- an item may be put where with it all is put that the history owes
 follows_in : {O : Type 0} (sent : O → List Item) (g : Settings) (h : List Rec) (x : Item) (box : Option O) → x.settings ≡ g → front x ≡ h → IsSent g h x.session (sent_by sent box) → deliveries (sent_by sent box) ++ x.delivery ∷ [] ≡ owed g h x.session → MayFollow sent box x
 follows_in sent g h x None settings here i all = tt
