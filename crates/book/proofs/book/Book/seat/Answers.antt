@@ -1,4 +1,4 @@
-use Rattle.std.proofs.Common.{arith, ◌≡◌, true, false, sym, ap, ◌∙◌, subst}
+use Rattle.std.proofs.Common.{arith, refl, ◌≡◌, true, false, sym, ap, ◌∙◌, subst}
 use Rattle.book.specs.declared.seat.Seat.{Seat}
 use Rattle.book.specs.Book.{is_here, IsKnown}
 use Rattle.book.specs.Seats.{stands, IsSeat, IsSeated, seat_at}
@@ -20,4 +20,4 @@ returns-in_err-seat-clause-unknown over c =
     λ none known.
     let is : IsKnown (shown a.journal a.roster.settings a.outboxes.boxes a.plan.items a.busy) s = subst (λ m. IsKnown m s) (sym c.self.view_is) known in
     let to = is.opened in let many = i.sound.sessions in let places = i.places in let seated : IsSeated a.seats s = record { from_1 = is.from_1; opened = (omega arith) } in
-    let f : false ≡ true = ap stands (sym (c.in_err-seat.ensures.none seated)) ∙ (i.each_seat s seated.from_1 seated.opened).kept ∙ is.here in cc
+    let f : false ≡ true = ap stands (sym (c.in_err-seat.ensures.none refl seated)) ∙ (i.each_seat s seated.from_1 seated.opened).kept ∙ is.here in cc
