@@ -3,8 +3,7 @@ use Rattle.std.proofs.lemmas.List.{length-set, get_or-set_same, get_or-set_other
 use Rattle.std.proofs.lemmas.List.Elements.{filter-append}
 use Rattle.std.proofs.lemmas.List.Sums.{sum_by_push, sum_by-set, get_or-le-sum_by}
 use Rattle.std.proofs.lemmas.Bool.Decides.{eqb_tells}
-use Rattle.std.proofs.Common.{◌≡◌, ◌≢◌, inl, inr, ℕ, ◌+◌, ◌-◌, ◌<◌, ◌≤◌, Bool, true, false, not, ◌&&◌, if◌then◌else◌, cond, suc, List, [], ◌∷◌, ◌++◌, filter, length, drop, slice_set, slice_index_or, Option, Some, None, arith, refl, sym, ap, ◌∙◌, subst, append-nil, length-append}
-use Rattle.std.specs.List.{sum_by}
+use Rattle.std.proofs.Common.{◌≡◌, ◌≢◌, inl, inr, ℕ, ◌+◌, ◌-◌, ◌<◌, ◌≤◌, Bool, true, false, not, ◌&&◌, if◌then◌else◌, cond, suc, List, [], ◌∷◌, ◌++◌, filter, length, drop, slice_set, slice_index_or, Option, Some, None, arith, refl, sym, ap, ◌∙◌, append-nil, length-append}
 use Rattle.std.specs.Option.{is_some}
 use Rattle.roster.specs.LookBack.{numbers}
 use Rattle.book.specs.declared.seat.Seat.{Seat}

@@ -11,7 +11,6 @@ use Rattle.roster.specs.declared.deed.Deed.{Deed}
 use Rattle.registration.specs.declared.settings.Settings.{Settings}
 use Rattle.book.specs.declared.seat.Seat.{Seat}
 use Rattle.book.specs.declared.plan.Planned.{Planned}
-use Rattle.deliveries.specs.declared.delivery.Delivery.{Delivery}
 use Rattle.deliveries.specs.declared.item.Item.{Item}
 use Rattle.outbox.specs.Ring.{Waiting, with_taken, put_into}
 use Rattle.deeds.specs.Deeds.{deeds, facts}

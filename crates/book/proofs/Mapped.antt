@@ -7,7 +7,7 @@ use Rattle.std.specs.Prelude.{OnOk, IfOk, IfErr}
 use Rattle.std.specs.Map.{lookup}
 use Rattle.roster.specs.LookBack.{numbers}
 use Rattle.book.specs.declared.seat.Seat.{Seat}
-use Rattle.book.specs.Book.{box_at, is_here, count_here}
+use Rattle.book.specs.Book.{box_at, count_here}
 use Rattle.book.specs.Seats.{no_seat, away, or_away, stands, seat_at, hears, IsSeated, IsCounted, AreOpened, AreSeats, seats_of, AreBoxes, boxes_of, IsThere}
 use Rattle.book.proofs.Opened.{numbers_push}
 use Rattle.book.proofs.Counted.{count_same, count_more, count_less}

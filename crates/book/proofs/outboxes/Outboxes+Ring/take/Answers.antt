@@ -1,7 +1,7 @@
-use Rattle.std.proofs.Common.{◌≡◌, ℕ, ◌-◌, List, Some, slice_get, slice_set, is_some, ap, sym, ◌∙◌}
+use Rattle.std.proofs.Common.{◌-◌, Some, slice_get, slice_set, is_some, ap, sym, ◌∙◌}
 use Rattle.outbox.specs.Ring.{Waiting, with_taken}
 use Rattle.book.specs.Book.{box_of}
-use Rattle.book.proofs.Mapped.{IsChanged, changed_at, box_missed, box_found, box_put, boxes_set}
+use Rattle.book.proofs.Mapped.{changed_at, box_missed, box_found, box_put, boxes_set}
 use Rattle.book.proofs.outboxes.Outboxes+Ring.take.Goals as goal
 
 pub unreachable-requires : goal.unreachable-requires

@@ -1,4 +1,4 @@
-use Rattle.std.proofs.Common.{◌≡◌, ℕ, List, Some, None, ap, sym, ◌∙◌, subst}
+use Rattle.std.proofs.Common.{◌≡◌, None, ap, subst}
 use Rattle.std.specs.Prelude.{IfSome}
 use Rattle.book.proofs.Mapped.{changed_at, box_missed, box_found, box_gone, boxes_set}
 use Rattle.book.proofs.outboxes.Outboxes.give_up.Goals as goal

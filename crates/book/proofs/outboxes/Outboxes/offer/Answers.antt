@@ -1,8 +1,6 @@
-use Rattle.std.proofs.Common.{◌≡◌, ℕ, List, Some, is_some, ap, sym, ◌∙◌, subst}
-use Rattle.std.specs.Prelude.{IfSome}
-use Rattle.deliveries.specs.Items.{Continues}
+use Rattle.std.proofs.Common.{Some, is_some, ap, sym, ◌∙◌, subst}
 use Rattle.book.specs.Seats.{MayFollow}
-use Rattle.book.proofs.Mapped.{IsChanged, changed_at, on_ok, if_err, box_missed, box_found, box_put, boxes_set}
+use Rattle.book.proofs.Mapped.{changed_at, on_ok, if_err, box_missed, box_found, box_put, boxes_set}
 use Rattle.book.proofs.outboxes.Outboxes.offer.Goals as goal
 
 pub unreachable-requires : goal.unreachable-requires

@@ -1,4 +1,4 @@
-use Rattle.std.proofs.Common.{◌≡◌, ℕ, ◌+◌, length, Some, None, is_some, is_ok, if◌then◌else◌, ap, ◌∙◌}
+use Rattle.std.proofs.Common.{◌≡◌, ◌+◌, length, Some, is_some, is_ok, if◌then◌else◌, ap, ◌∙◌}
 use Rattle.book.proofs.Mapped.{on_ok, if_ok, box_none, box_came, boxes_more}
 use Rattle.book.proofs.outboxes.Outboxes.open.Goals as goal
 

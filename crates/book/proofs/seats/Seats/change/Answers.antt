@@ -1,4 +1,4 @@
-use Rattle.std.proofs.Common.{◌≡◌, ℕ, ◌-◌, Some, length, slice_set, is_some, ap, sym, ◌∙◌}
+use Rattle.std.proofs.Common.{ℕ, ◌-◌, Some, length, slice_set, is_some, ap, sym, ◌∙◌}
 use Rattle.std.specs.VecDeque.{deque_capacity}
 use Rattle.book.specs.declared.seat.Seat.{Seat}
 use Rattle.book.specs.Seats.{placed}

@@ -1,4 +1,4 @@
-use Rattle.std.proofs.Common.{◌≡◌, ℕ, ◌-◌, true, Some, slice_set, is_some, refl, ap, sym, ◌∙◌, subst}
+use Rattle.std.proofs.Common.{ℕ, ◌-◌, true, Some, slice_set, is_some, refl, ap, sym, ◌∙◌, subst}
 use Rattle.std.specs.VecDeque.{deque_capacity}
 use Rattle.book.specs.declared.seat.Seat.{Seat}
 use Rattle.book.specs.Seats.{IsSeated, AreSeats}

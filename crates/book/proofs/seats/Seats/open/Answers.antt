@@ -1,4 +1,4 @@
-use Rattle.std.proofs.Common.{arith, ◌≡◌, ℕ, ◌+◌, ◌≤◌, List, Some, cond, nat_eq, is_ok, ap, sym, ◌∙◌, subst}
+use Rattle.std.proofs.Common.{arith, ℕ, ◌+◌, ◌≤◌, List, Some, cond, nat_eq, is_ok, ap, sym, ◌∙◌, subst}
 use Rattle.std.proofs.lemmas.Grind.{common_steps}
 use Rattle.std.specs.Map.{lookup}
 use Rattle.std.specs.VecDeque.{deque_capacity}

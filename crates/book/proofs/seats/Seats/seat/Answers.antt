@@ -1,4 +1,4 @@
-use Rattle.std.proofs.Common.{true, sym, ap, ◌∙◌}
+use Rattle.std.proofs.Common.{ap, ◌∙◌}
 use Rattle.book.specs.Seats.{stands}
 use Rattle.book.proofs.Mapped.{seat_found, seat_missed}
 use Rattle.book.proofs.seats.Seats.seat.Goals as goal
