@@ -1,6 +1,7 @@
 -- All that a book keeps stands for its history where a record is appended.
-use Rattle.std.proofs.Common.{◌≡◌, ℕ, ℤ, ◌+◌, ◌-◌, ◌<◌, ◌≤◌, Bool, true, false, ◌&&◌, ◌||◌, ◌==◌, List, [], ◌∷◌, ◌++◌, length, slice_set, Option, Some, None, arith, refl, sym, ap, ◌∙◌, subst, length-append, append-nil, eq-eqb}
+use Rattle.std.proofs.Common.{◌≡◌, ℕ, ℤ, ◌+◌, ◌-◌, ◌<◌, ◌≤◌, Bool, true, false, ◌&&◌, ◌||◌, ◌==◌, nat_lt, List, [], ◌∷◌, ◌++◌, length, slice_set, Option, Some, None, arith, refl, sym, ap, ◌∙◌, subst, length-append, append-nil, eq-eqb}
 use Rattle.std.proofs.lemmas.List.{get_or-set_same, set-get_or}
+use Rattle.std.proofs.lemmas.Bool.Decides.{nat_tests}
 use Rattle.roster.specs.declared.deed.Deed.TheVariants.{Ended}
 use Rattle.line_grammar.specs.declared.splitter.Piece.{Piece}
 use Rattle.chronicle.specs.declared.record.Kind.TheVariants.{Said, Hung, Gone}
@@ -8,7 +9,6 @@ use Rattle.chronicle.specs.declared.why.Why.{Why}
 use Rattle.chronicle.specs.History.{Rec, sessions, said_by, accepted, ends, shut, gone, is_quit}
 use Rattle.chronicle.specs.Journal.{fresh_record, Misses}
 use Rattle.chronicle.specs.Journal as journal
-use Rattle.deliveries.specs.declared.delivery.Delivery.{Delivery}
 use Rattle.deliveries.specs.declared.item.Item.{Item}
 use Rattle.deliveries.specs.declared.delivery.Delivery.TheVariants.{Last}
 use Rattle.roster.specs.declared.deed.Deed.{Deed}
@@ -32,6 +32,7 @@ use Rattle.book.proofs.Sound.{next_follows}
 use Rattle.book.proofs.Sweeps.{swept_is}
 use Rattle.book.proofs.Begun.{held_after, held_less, hung_less, gone_less, plan_hung}
 use Rattle.book.proofs.Begins.{plan_right}
+use Rattle.book.proofs.Opened.{accepted_le}
 
 or-false : (b c : Bool) → c ≡ false → b ≡ (b || c)
 or-false true c e = refl
@@ -63,6 +64,12 @@ module _ {O : Type 0} (sent : O → List Item) (j : journal.Shown) (g : Settings
   pub known_opened : (s : ℕ) → 0 < s → s ≤ sessions j.history → IsOpened known s
   known_opened s from to = (from, (let a = i.sound.sessions in let b = i.opened in omega arith))
 
+  -- one line more can be counted
+  pub few_lines : (b : Turn) (moment : ℤ) → MayBegin (shown j g boxes none busy) b moment → j.limit < 18446744073709551616 → (seat_at seats b.session).accepted + 1 < 18446744073709551616
+  few_lines b moment may limit =
+      let s = b.session in let to = seated s may.turn.opened in let room = may.room in
+      let count = (i.each_seat s may.turn.from_1 to).accepted may.turn.here in let few = accepted_le j.history s in omega arith
+
   pub said_plan : (b : Turn) (piece : Piece) (moment : ℤ) (number : ℕ) (quits : Bool) (plan : List Planned)
       → MayBegin (shown j g boxes none busy) b moment → number ≡ length j.history + 1 → quits ≡ is_quit piece
       → plan ≡ planned_from seats b.session number (spelled g known b.session (label_of (caps known b.session) piece) (of_asked g known b.session (asked_of piece)) moment number) quits
@@ -75,12 +82,12 @@ module _ {O : Type 0} (sent : O → List Item) (j : journal.Shown) (g : Settings
       ∙ plan_right g h seats boxes k moment quits number (length boxes) i.each_seat en i.places (i.places ∙ sym i.sound.sessions) from to own refl (λ t ne. (quiet k t refl ne).0)
 
   pub said_kept : (k : journal.Shown) (more_known : List Deed) (plan : List Planned) (b : Turn) (piece : Piece) (moment : ℤ) (quits : Bool)
-      → MayBegin (shown j g boxes none busy) b moment → quits ≡ is_quit piece
+      → MayBegin (shown j g boxes none busy) b moment → quits ≡ is_quit piece → (seat_at seats b.session).accepted + 1 < 18446744073709551616
       → plan ≡ plan_of g j.history (Said b.session b.next piece) moment (length boxes)
       → k.history ≡ fresh_record j.history moment (Said b.session b.next piece) ∷ j.history → k.limit ≡ j.limit → length plan ≤ k.left → held j.history ≤ k.room
       → more_known ≡ after known (deeds_of (of_asked g known b.session (asked_of piece))) → opened more_known ≡ opened known
       → IsKept sent k g more_known (slice_set seats (b.session - 1) (record { shut = quits; gone = (seat_at seats b.session).gone; accepted = (seat_at seats b.session).accepted + 1 })) boxes plan true
-  said_kept k more_known plan b piece moment quits may eq eplan eh el room free ek same_opened =
+  said_kept k more_known plan b piece moment quits may eq few eplan eh el room free ek same_opened =
       let h = j.history in let s = b.session in let kind = Said s b.next piece in let r = fresh_record h moment kind in
       let from : 0 < s = may.turn.from_1 in let to : s ≤ length seats = seated s may.turn.opened in
       let x = seat_at seats s in let was = i.each_seat s from to in
@@ -96,6 +103,7 @@ module _ {O : Type 0} (sent : O → List Item) (j : journal.Shown) (g : Settings
         shut = own ∙ or-false (ends kind s) (shut h s) may.not_shut;
         gone = was.gone;
         accepted = λ here. ap (λ (n : ℕ). n + 1) (was.accepted here) ∙ sym (ap (λ xs. length (accepted h s ++ xs)) same ∙ length-append (accepted h s) (piece ∷ []));
+        kept = (let is : nat_lt (x.accepted + 1) 18446744073709551616 ≡ true = grind (arith, nat_tests) in is) ∙ sym may.turn.here;
       })
       eplan
 
@@ -140,6 +148,7 @@ module _ {O : Type 0} (sent : O → List Item) (j : journal.Shown) (g : Settings
         shut = was.shut;
         gone = sym (ap (λ c. c || gone h s) yes);
         accepted = λ here. was.accepted here ∙ sym (ap length (append-nil (accepted h s)));
+        kept = was.kept;
       })
       eplan
 
@@ -165,6 +174,7 @@ module _ {O : Type 0} (sent : O → List Item) (j : journal.Shown) (g : Settings
         shut = sym (ap (λ c. c || shut h s) yes);
         gone = was.gone;
         accepted = λ here. was.accepted here ∙ sym (ap length (append-nil (accepted h s)));
+        kept = was.kept;
       })
       (sym (plan_hung g h s w moment (length boxes) may.not_shut))
 

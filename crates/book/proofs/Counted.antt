@@ -1,10 +1,9 @@
 -- What stands ready is what the seats say.
-use Rattle.std.proofs.lemmas.List.{length-set, get_or-set_same, get_or-set_other, get_or_append_left, get_or_push, get_or_default}
+use Rattle.std.proofs.lemmas.List.{length-set, get_or-set_same, get_or-set_other, get_or_append_left, get_or_push}
 use Rattle.std.proofs.lemmas.List.Elements.{filter-append}
-use Rattle.std.proofs.lemmas.List.Sums.{sum_by-cons, sum_by_push, sum_by-set, get_or-le-sum_by}
+use Rattle.std.proofs.lemmas.List.Sums.{sum_by_push, sum_by-set, get_or-le-sum_by}
 use Rattle.std.proofs.lemmas.Bool.Decides.{eqb_tells}
-use Rattle.std.proofs.Common.{◌≡◌, ◌≢◌, inl, inr, ℕ, ◌+◌, ◌-◌, ◌<◌, ◌≤◌, Bool, true, false, not, ◌&&◌, if◌then◌else◌, cond, suc, List, [], ◌∷◌, ◌++◌, filter, length, drop, slice_set, slice_index_or, Option, Some, None, arith, refl, sym, ap, ◌∙◌, subst, append-nil, length-append, lit≤}
-use Rattle.std.specs.List.{sum_by}
+use Rattle.std.proofs.Common.{◌≡◌, ◌≢◌, inl, inr, ℕ, ◌+◌, ◌-◌, ◌<◌, ◌≤◌, Bool, true, false, not, ◌&&◌, if◌then◌else◌, cond, suc, List, [], ◌∷◌, ◌++◌, filter, length, drop, slice_set, slice_index_or, Option, Some, None, arith, refl, sym, ap, ◌∙◌, append-nil, length-append}
 use Rattle.std.specs.Option.{is_some}
 use Rattle.roster.specs.LookBack.{numbers}
 use Rattle.book.specs.declared.seat.Seat.{Seat}
@@ -20,10 +19,6 @@ sweeps_same seats s v from to = let l : s - 1 < length seats = omega arith in ap
 
 sweeps_other : (seats : List Seat) (s t : ℕ) (v : Seat) → 0 < s → 0 < t → t ≢ s → sweeps (slice_set seats (s - 1) v) t ≡ sweeps seats t
 sweeps_other seats s t v from above ne = let apart : t - 1 ≢ s - 1 = λ e. ne (omega arith) in ap (λ (x : Seat). x.shut && not x.gone) (get_or-set_other seats (s - 1) (t - 1) v no_seat apart)
-
--- the seat of a number
-pub seat_of : (seats : List Seat) (n : ℕ) (x : Seat) → n - 1 < length seats → x ≡ slice_index_or seats (n - 1) x → x ≡ seat_at seats n
-seat_of seats n x l is = is ∙ get_or_default seats (n - 1) x no_seat l
 
 both : (a b : Bool) → (a && not b) ≡ true → (a ≡ true) × (b ≡ false)
 both true true e = absurd (let f : false ≡ true = e in cc)
@@ -170,36 +165,18 @@ module _ (seats : List Seat) (held : ℕ) (to_sweep : List ℕ) (room : ℕ) (i 
 
 -- ---- a session is given up that is gone
 
-pub given_counted : (seats rows : List Seat) (held : ℕ) (to_sweep : List ℕ) (room : ℕ) → IsCounted seats held to_sweep room → (n s : ℕ) → n ≡ s → seats ≡ rows → IsSeated rows s → (seat_at rows s).gone ≡ true
-    → IsCounted (slice_set seats (n - 1) away) held to_sweep room
-given_counted seats rows held to_sweep room i n s en view seated gone =
-    let it : IsSeated seats n = subst (λ (r : List Seat). IsSeated r n) (sym view) (subst (IsSeated rows) (sym en) seated) in
-    let off : (seat_at seats n).gone ≡ true = ap (λ (r : List Seat). (seat_at r n).gone) view ∙ ap (λ (k : ℕ). (seat_at rows k).gone) en ∙ gone in
-    let x = seat_at seats n in
+pub given_counted : (seats : List Seat) (held : ℕ) (to_sweep : List ℕ) (room : ℕ) → IsCounted seats held to_sweep room → (s : ℕ) → IsSeated seats s → (seat_at seats s).gone ≡ true
+    → IsCounted (slice_set seats (s - 1) away) held to_sweep room
+given_counted seats held to_sweep room i s seated off =
+    let x = seat_at seats s in
     let kept : 0 ≡ kept_by x = sym (ap (λ b. if b then 0 else (if x.shut then 1 else 2)) off) in
     let open_ : 0 ≡ open_by x = sym (ap (λ b. if b then 0 else (if x.shut then 0 else 2)) off) in
     let swept : false ≡ (x.shut && not x.gone) = sym (ap (λ b. x.shut && not b) off ∙ elim x.shut as (λ b. (b && false) ≡ false) [ true ↦ refl | false ↦ refl ]) in
-    unchanged seats held to_sweep room i n x away it.from_1 it.opened refl kept open_ swept
-
--- who is next by what is seen is next by what is kept
-pub next_here : (seats rows : List Seat) (n s : ℕ) → n ≡ s → seats ≡ rows → first (sweeps rows) (numbers 1 (length rows)) ≡ Some s → first (sweeps seats) (numbers 1 (length seats)) ≡ Some n
-next_here seats rows n s en view next = ap (λ (r : List Seat). first (sweeps r) (numbers 1 (length r))) view ∙ next ∙ ap (λ (k : ℕ). Some k) (sym en)
-
-pub kept_at : (seats rows : List Seat) (n s : ℕ) → n ≡ s → seats ≡ rows → 0 < s → s ≤ length rows → (0 < n) × (n ≤ length seats)
-kept_at seats rows n s en view from to = let len : length seats ≡ length rows = ap length view in ((omega arith), (omega arith))
+    unchanged seats held to_sweep room i s x away seated.from_1 seated.opened refl kept open_ swept
 
 -- ---- how many sessions aren't reaped
 
 module _ {O : Type 0} where
-  one_each : (o : Option O) → here_by o ≤ 1
-  one_each None = lit≤ tt
-  one_each (Some b) = lit≤ tt
-
-  -- there are no more of them than were opened
-  pub count_small : (boxes : List (Option O)) → count_here boxes ≤ length boxes
-  count_small [] = lit≤ tt
-  count_small (o ∷ boxes) = let a = one_each o in let b = count_small boxes in rw (sum_by-cons here_by o boxes) (let goal : here_by o + sum_by here_by boxes ≤ length (o ∷ boxes) = omega arith in goal)
-
   -- one more
   pub count_more : (boxes : List (Option O)) (box : O) → count_here (boxes ++ Some box ∷ []) ≡ count_here boxes + 1
   count_more boxes box = sum_by_push here_by boxes (Some box)

@@ -40,7 +40,6 @@ use Rattle.labels_batches.specs.Rendered.{spelled_line}
 use Rattle.deeds.specs.Deeds.{facts}
 use Rattle.drafts.specs.Lines.{prefix}
 use Rattle.deliveries.specs.declared.delivery.Delivery.{Delivery}
-use Rattle.deliveries.specs.declared.item.Item.{Item}
 use Rattle.deliveries.specs.declared.delivery.Delivery.TheVariants.{Lines, Last}
 use Rattle.deliveries.specs.Owed.{owed}
 

@@ -8,7 +8,6 @@ use Rattle.std.proofs.lemmas.List.{take_more, map-append}
 use Rattle.std.proofs.lemmas.List.Elements.{filter_agree}
 use Rattle.numerics.specs.declared.outgoing.Out.{Out}
 use Rattle.deliveries.specs.declared.delivery.Delivery.{Delivery}
-use Rattle.deliveries.specs.declared.item.Item.{Item}
 use Rattle.roster.specs.declared.deed.Deed.{Deed}
 use Rattle.roster.specs.LookBack.{caps}
 use Rattle.labels_batches.specs.Answers.{tagged_as}

@@ -11,7 +11,6 @@ use Rattle.roster.specs.declared.deed.Deed.{Deed}
 use Rattle.registration.specs.declared.settings.Settings.{Settings}
 use Rattle.book.specs.declared.seat.Seat.{Seat}
 use Rattle.book.specs.declared.plan.Planned.{Planned}
-use Rattle.deliveries.specs.declared.delivery.Delivery.{Delivery}
 use Rattle.deliveries.specs.declared.item.Item.{Item}
 use Rattle.outbox.specs.Ring.{Waiting, with_taken, put_into}
 use Rattle.deeds.specs.Deeds.{deeds, facts}
@@ -25,7 +24,7 @@ use Rattle.book.specs.Seats.{IsSeat, no_seat, away, seat_at}
 use Rattle.book.specs.Book.{Shown, item_of, MayOpen, box_at, outbox_at, is_here, held, plan_of, IsPlan, IsSound}
 use Rattle.book.proofs.About.{not_shut, not_gone, not_accepted, gone_shut}
 use Rattle.book.proofs.Opened.{opened_sound, opened_held}
-use Rattle.book.proofs.Sound.{misses_same, misses_other, held_missed, box_same, box_other, was_here, delivered_sound, dropped_sound, finished_sound, taken_sound, reaped_sound}
+use Rattle.book.proofs.Sound.{misses_same, misses_other, held_missed, box_same, box_other, here_same, delivered_sound, dropped_sound, finished_sound, taken_sound, reaped_sound}
 use Rattle.book.proofs.Begun.{begun_sound}
 
 abbrev pub shown : {O : Type 0} → journal.Shown → Settings → List (Option O) → List Planned → Bool → Shown O
@@ -90,16 +89,21 @@ module _ {O : Type 0} (sent : O → List Item) where
       elim (eqb_tells t n) [
         | inl last ↦
             let p : length seats ≡ t - 1 = let e = last.1 in let a = i.sound.sessions in let b = i.places in omega arith in
-            let past : sessions h < t = let e = last.1 in omega arith in
+            let past : sessions h < t = let e = last.1 in omega arith in let q : length boxes ≡ t - 1 = let b = i.places in omega arith in
             subst (λ (s : Seat). IsSeat s (is_here all t) (r ∷ h) t) (sym (get_or_push seats no_seat no_seat (t - 1) p))
-            (record { shut = sym (not_shut g h t i.sound.legal past); gone = sym (not_gone g h t i.sound.legal past); accepted = λ here. sym (ap length (append-nil (accepted h t) ∙ not_accepted g h t i.sound.legal past)) })
+            (record {
+              shut = sym (not_shut g h t i.sound.legal past);
+              gone = sym (not_gone g h t i.sound.legal past);
+              accepted = λ here. sym (ap length (append-nil (accepted h t) ∙ not_accepted g h t i.sound.legal past));
+              kept = sym (ap (λ o. is_some o) (get_or_push boxes (Some box) None (t - 1) q));
+            })
         | inr other ↦
             let l : t - 1 < length seats = let ne = other.1 in let a = i.sound.sessions in let b = i.places in omega arith in
             let below : t ≤ length seats = let ne = other.1 in let a = i.sound.sessions in let b = i.places in omega arith in
             let was = i.each_seat t from below in let few : t - 1 < length boxes = let p = i.places in omega arith in
-            let kept = get_or_append_left boxes (Some box ∷ []) None (t - 1) few in
+            let same : is_here boxes t ≡ is_here all t = ap (λ o. is_some o) (sym (get_or_append_left boxes (Some box ∷ []) None (t - 1) few)) in
             subst (λ (s : Seat). IsSeat s (is_here all t) (r ∷ h) t) (sym (get_or_append_left seats (no_seat ∷ []) no_seat (t - 1) l))
-            (record { shut = was.shut; gone = was.gone; accepted = λ here. was.accepted (ap (λ o. is_some o) (sym kept) ∙ here) ∙ sym (ap length (append-nil (accepted h t))) })
+            (record { shut = was.shut; gone = was.gone; accepted = λ here. was.accepted (same ∙ here) ∙ sym (ap length (append-nil (accepted h t))); kept = was.kept ∙ same })
       ] in
       record {
         sound = new;
@@ -136,8 +140,9 @@ module _ {O : Type 0} (sent : O → List Item) where
         sound = delivered_sound sent (shown j g boxes plan busy) p qs a b e at grew i.sound;
         facts = i.facts;
         each_seat = λ t above below.
-            let was = i.each_seat t above below in let from : 0 < p.session = (subst (IsPlan g j.history (length boxes)) e i.sound.plan).0 in
-            record { shut = was.shut; gone = was.gone; accepted = λ here. was.accepted (was_here boxes p.session t b (ap (λ o. is_some o) at) from above here) };
+            let was = i.each_seat t above below in let is = subst (IsPlan g j.history (length boxes)) e i.sound.plan in
+            let same = here_same boxes p.session t b (ap (λ o. is_some o) at) is.0 is.1 above in
+            record { shut = was.shut; gone = was.gone; accepted = λ here. was.accepted (same ∙ here); kept = was.kept ∙ same };
         opened = i.opened ∙ sym len;
         places = i.places ∙ sym len;
         left = omega arith;
@@ -160,12 +165,12 @@ module _ {O : Type 0} (sent : O → List Item) where
             let l : s - 1 < length seats = omega arith in let was = i.each_seat s from to in
             let here : IsSeat (seat_at (slice_set seats (s - 1) v) s) (is_here boxes s) (miss h s) s =
             subst (λ (x : Seat). IsSeat x (is_here boxes s) (miss h s) s) (sym (get_or-set_same seats (s - 1) v no_seat l))
-            (record { shut = sym (shut-miss_same g h s (length boxes) p qs planned_ refl); gone = was.gone ∙ sym (gone-miss h s s); accepted = λ there. was.accepted there ∙ ap length (sym (accepted-miss h s s)) }) in
+            (record { shut = sym (shut-miss_same g h s (length boxes) p qs planned_ refl); gone = was.gone ∙ sym (gone-miss h s s); accepted = λ there. was.accepted there ∙ ap length (sym (accepted-miss h s s)); kept = was.kept }) in
             subst (λ (u : ℕ). IsSeat (seat_at (slice_set seats (s - 1) v) u) (is_here boxes u) (miss h s) u) same.1 here
         | inr other ↦
             let apart : t - 1 ≢ s - 1 = λ x. other.1 (omega arith) in let was = i.each_seat t above below in
             subst (λ (x : Seat). IsSeat x (is_here boxes t) (miss h s) t) (sym (get_or-set_other seats (s - 1) (t - 1) v no_seat apart))
-            (record { shut = was.shut ∙ sym (shut-miss_other h s t other.1); gone = was.gone ∙ sym (gone-miss h s t); accepted = λ there. was.accepted there ∙ ap length (sym (accepted-miss h s t)) })
+            (record { shut = was.shut ∙ sym (shut-miss_other h s t other.1); gone = was.gone ∙ sym (gone-miss h s t); accepted = λ there. was.accepted there ∙ ap length (sym (accepted-miss h s t)); kept = was.kept })
       ] in
       subst (λ (x : List Seat). IsKept sent k g known x boxes qs busy) (sym ep)
       (record {
@@ -198,12 +203,18 @@ module _ {O : Type 0} (sent : O → List Item) where
             let l : s - 1 < length seats = let p = i.places in omega arith in
             let here : IsSeat (seat_at rows s) (is_here new s) h s =
             subst (λ (x : Seat). IsSeat x (is_here new s) h s) (sym (get_or-set_same seats (s - 1) away no_seat l))
-            (record { shut = sym (gone_shut g h s i.sound.legal left_); gone = sym left_; accepted = λ there. absurd (let f : false ≡ true = ap (λ o. is_some o) (sym (box_same boxes s None from to)) ∙ there in cc) }) in
+            (record {
+              shut = sym (gone_shut g h s i.sound.legal left_);
+              gone = sym left_;
+              accepted = λ there. absurd (let f : false ≡ true = ap (λ o. is_some o) (sym (box_same boxes s None from to)) ∙ there in cc);
+              kept = sym (ap (λ o. is_some o) (box_same boxes s None from to));
+            }) in
             subst (λ (u : ℕ). IsSeat (seat_at rows u) (is_here new u) h u) same.1 here
         | inr other ↦
             let apart : t - 1 ≢ s - 1 = λ x. other.1 (omega arith) in let was = i.each_seat t above below in
+            let same : is_here boxes t ≡ is_here new t = ap (λ o. is_some o) (sym (box_other boxes s t None from above other.1)) in
             subst (λ (x : Seat). IsSeat x (is_here new t) h t) (sym (get_or-set_other seats (s - 1) (t - 1) away no_seat apart))
-            (record { shut = was.shut; gone = was.gone; accepted = λ there. was.accepted (ap (λ o. is_some o) (sym (box_other boxes s t None from above other.1)) ∙ there) })
+            (record { shut = was.shut; gone = was.gone; accepted = λ there. was.accepted (same ∙ there); kept = was.kept ∙ same })
       ] in
       subst (λ (x : List Seat). IsKept sent j g known x more plan busy) (sym ep)
       (subst (λ (x : List (Option O)). IsKept sent j g known rows x plan busy) (sym em)
@@ -247,6 +258,7 @@ module _ {O : Type 0} (sent : O → List Item) where
               shut = was.shut ∙ ap (λ b. b || shut h t) (sym q.0);
               gone = was.gone ∙ ap (λ b. b || gone h t) (sym q.1);
               accepted = λ there. was.accepted there ∙ sym (ap (λ xs. length (accepted h t ++ xs)) q.2 ∙ ap length (append-nil (accepted h t)));
+              kept = was.kept;
             })
       ] in
       subst (λ (x : List Seat). IsKept sent k g more_known x boxes plan true) (sym ep)
@@ -315,8 +327,8 @@ taken_kept j g known seats boxes more plan busy s i from to here em =
       sound = taken_sound (shown j g boxes plan busy) s from to here i.sound;
       facts = i.facts;
       each_seat = λ t above below.
-          let was = i.each_seat t above below in
-          record { shut = was.shut; gone = was.gone; accepted = λ there. was.accepted (was_here boxes s t (with_taken (outbox_at boxes s)) here from above there) };
+          let was = i.each_seat t above below in let same = here_same boxes s t (with_taken (outbox_at boxes s)) here from to above in
+          record { shut = was.shut; gone = was.gone; accepted = λ there. was.accepted (same ∙ there); kept = was.kept ∙ same };
       opened = i.opened ∙ sym len;
       places = i.places ∙ sym len;
       left = i.left;

@@ -4,6 +4,7 @@ pub mod Sent
 pub mod Sound
 pub mod Listed
 pub mod Counted
+pub mod Mapped
 pub mod Begun
 pub mod Heards
 pub mod Plans

@@ -2,7 +2,6 @@
 use Rattle.std.proofs.Common.{◌≡◌, ℕ, ◌+◌, ◌<◌, ◌≤◌, List, [], ◌∷◌, ◌++◌, length, Option, Some, None, arith, refl, sym, ap, ◌∙◌, subst}
 use Rattle.chronicle.specs.History.{Rec, sessions}
 use Rattle.chronicle.specs.Journal.{miss}
-use Rattle.deliveries.specs.declared.delivery.Delivery.{Delivery}
 use Rattle.deliveries.specs.declared.item.Item.{Item}
 use Rattle.outbox.specs.declared.queue.PutFault.{PutFault}
 use Rattle.book.specs.declared.plan.Planned.{Planned}

@@ -116,12 +116,14 @@ box_same boxes s v from to = let l : s - 1 < length boxes = omega arith in get_o
 pub box_other : {X : Type 0} (boxes : List (Option X)) (s t : ℕ) (v : Option X) → 0 < s → 0 < t → s ≢ t → slice_index_or (slice_set boxes (s - 1) v) (t - 1) None ≡ slice_index_or boxes (t - 1) None
 box_other boxes s t v a b ne = get_or-set_other boxes (s - 1) (t - 1) v None (λ e. ne (omega arith))
 
--- who has an outbox after another is put in a place had one before
-pub was_here : {X : Type 0} (boxes : List (Option X)) (s t : ℕ) (v : X) → is_here boxes s ≡ true → 0 < s → 0 < t → is_here (slice_set boxes (s - 1) (Some v)) t ≡ true → is_here boxes t ≡ true
-was_here boxes s t v there a b here =
+-- who has an outbox has one after another is put in a place, and nobody else
+pub here_same : {X : Type 0} (boxes : List (Option X)) (s t : ℕ) (v : X) → is_here boxes s ≡ true → 0 < s → s ≤ length boxes → 0 < t → is_here boxes t ≡ is_here (slice_set boxes (s - 1) (Some v)) t
+here_same boxes s t v there from to above =
     elim (eqb_tells s t) [
-      | inl same ↦ ap (is_here boxes) (sym same.1) ∙ there
-      | inr other ↦ ap (λ o. is_some o) (sym (box_other boxes s t (Some v) a b other.1)) ∙ here
+      | inl same ↦
+          let here : is_here boxes s ≡ is_here (slice_set boxes (s - 1) (Some v)) s = there ∙ ap (λ o. is_some o) (sym (box_same boxes s (Some v) from to)) in
+          subst (λ (u : ℕ). is_here boxes u ≡ is_here (slice_set boxes (s - 1) (Some v)) u) same.1 here
+      | inr other ↦ ap (λ o. is_some o) (sym (box_other boxes s t (Some v) from above other.1))
     ]
 
 -- an item may be put where with it all is put that the history owes

@@ -1,5 +1,6 @@
 -- What a book keeps for its sessions, and how that stands for the history.
-use Rattle.std.specs.Prelude.{◌≡◌, ℕ, ℤ, ◌+◌, ◌-◌, ◌<◌, ◌≤◌, Bool, true, false, not, ◌&&◌, nat_lt, nat_le, cond, if◌then◌else◌, List, [], ◌∷◌, ◌++◌, filter, map, length, sum_by, slice_index_or, slice_set, Option, Some, None, IfSome}
+use Rattle.std.specs.Prelude.{◌≡◌, ℕ, ℤ, ◌+◌, ◌-◌, ◌^◌, ◌<◌, ◌≤◌, Bool, true, false, not, ◌&&◌, nat_eq, nat_lt, nat_le, cond, if◌then◌else◌, List, [], ◌∷◌, ◌++◌, filter, map, length, sum_by, slice_index_or, slice_set, Option, Some, None, IsSome, IfSome}
+use Rattle.std.specs.Map.{lookup}
 use Rattle.chronicle.specs.History.{Rec, accepted, shut, gone}
 use Rattle.deliveries.specs.declared.delivery.Delivery.{Delivery}
 use Rattle.deliveries.specs.declared.item.Item.{Item}
@@ -9,7 +10,7 @@ use Rattle.book.specs.declared.seat.Seat.{Seat}
 use Rattle.book.specs.declared.plan.Planned.{Planned}
 use Rattle.outbox.specs.declared.queue.PutFault.{PutFault}
 use Rattle.deliveries.specs.Items.{Continues}
-use Rattle.book.specs.Book.{box_at, is_here, puts, others}
+use Rattle.book.specs.Book.{box_at, is_here, count_here, puts, others}
 use Rattle.roster.specs.declared.deed.Deed.{Deed}
 use Rattle.roster.specs.LookBack.{caps, numbers}
 use Rattle.labels_batches.specs.Answers.{tagged_as}
@@ -24,9 +25,17 @@ no_seat = record { shut = false; gone = false; accepted = 0 }
 abbrev pub seat_at : List Seat → ℕ → Seat
 seat_at seats t = slice_index_or seats (t - 1) no_seat
 
--- how a session stands that was reaped
+-- how a session stands that has no seat any more, since it was reaped: no seat has so many accepted lines
 abbrev pub away : Seat
-away = record { shut = true; gone = true; accepted = 0 }
+away = record { shut = true; gone = true; accepted = 2 ^ 64 }
+
+abbrev pub or_away : Option Seat → Seat
+or_away None = away
+or_away (Some seat) = seat
+
+-- whether a session has a seat
+abbrev pub stands : Seat → Bool
+stands seat = nat_lt seat.accepted (2 ^ 64)
 
 -- session t was opened
 pub record IsSeated (seats : List Seat) (t : ℕ) : Type 0 where
@@ -60,6 +69,21 @@ pub record IsCounted (seats : List Seat) (kept : ℕ) (to_sweep : List ℕ) (mos
   pub open_ : kept ≡ length to_sweep + sum_by open_by seats
   pub room : kept ≤ most
 
+-- ---- seats and outboxes in maps, by the numbers of their sessions
+
+-- each that is kept is of one of the first n sessions
+abbrev pub AreOpened : {X : Type 0} → List (ℕ × X) → ℕ → Type 0
+AreOpened kept n = (t : ℕ) → IsSome (lookup (nat_eq t) kept) → (0 < t) × (t ≤ n)
+
+-- the seats of the first n sessions
+abbrev pub seats_of : List (ℕ × Seat) → ℕ → List Seat
+seats_of kept n = map (λ t. or_away (lookup (nat_eq t) kept)) (numbers 1 n)
+
+-- what is kept of seats, and what stands ready
+pub record AreSeats (kept : List (ℕ × Seat)) (n held : ℕ) (to_sweep : List ℕ) (most : ℕ) : Type 0 where
+  pub opened : AreOpened kept n
+  pub counted : IsCounted (seats_of kept n) held to_sweep most
+
 -- what a text tells a session, unless it is shut
 abbrev pub told : Bool → ℕ → List ℕ → List Delivery
 told is_shut number bytes = cond is_shut [] (item number bytes)
@@ -92,11 +116,12 @@ planned_with seats s number own text quits = puts s (told_own (not (hears seats 
 abbrev pub planned_from : List Seat → ℕ → ℕ → (ℕ → List ℕ) → Bool → List Planned
 planned_from seats s number text quits = planned_with seats s number (text s) text quits
 
--- a seat stands for what the history says of its session, of which lines count no more when it is reaped
+-- a seat stands for what the history says of its session, which has one until it is reaped
 pub record IsSeat (seat : Seat) (here : Bool) (h : List Rec) (t : ℕ) : Type 0 where
   pub shut : seat.shut ≡ shut h t
   pub gone : seat.gone ≡ gone h t
   pub accepted : here ≡ true → seat.accepted ≡ length (accepted h t)
+  pub kept : stands seat ≡ here
 
 -- ---- the outboxes
 
@@ -104,6 +129,15 @@ pub record IsSeat (seat : Seat) (here : Bool) (h : List Rec) (t : ℕ) : Type 0 
 pub record Boxes (O : Type 0) : Type 0 where
   pub boxes : List (Option O)
   pub room : ℕ
+
+-- the outboxes of the first n sessions
+abbrev pub boxes_of : {O : Type 0} → List (ℕ × O) → ℕ → List (Option O)
+boxes_of kept n = map (λ t. lookup (nat_eq t) kept) (numbers 1 n)
+
+-- what is kept of outboxes: no more than there are
+pub record AreBoxes {O : Type 0} (kept : List (ℕ × O)) (n : ℕ) : Type 0 where
+  pub opened : AreOpened kept n
+  pub counted : length kept ≡ count_here (boxes_of kept n)
 
 -- session t was opened and isn't reaped
 pub record IsThere {O : Type 0} (boxes : List (Option O)) (t : ℕ) : Type 0 where

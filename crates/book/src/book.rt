@@ -109,9 +109,6 @@ impl<O: Outbox> Book<O> {
         ensures known { IfSome result (λ seat. IsKnown self.now session × IsSeat seat true self.now.history session) }
         ensures unknown { result ≡ None → IsKnown self.now session → ⊥ }
     {
-        if !self.outboxes.is_here(session) {
-            return None;
-        }
         let seat = self.seats.seat(session)?;
         Some(seat)
     }
@@ -171,16 +168,16 @@ impl<O: Outbox> Book<O> {
             return Err((OpenRefusal::Memory, outbox));
         };
         let room = self.held() + 3;
-        let session = SessionId::new(self.seats.opened() as u64 + 1);
+        let session = SessionId::new(self.seats.opened() + 1);
         let deed = Deed::Opened { session, host };
         if self.roster.prepare(slice::from_ref(&deed)).is_err()
             || reserve(&mut self.journal, room, 0).is_err()
             || self.outboxes.make_room().is_err()
-            || self.seats.open().is_err()
+            || self.seats.open(session).is_err()
         {
             return Err((OpenRefusal::Memory, outbox));
         }
-        self.outboxes.open(outbox);
+        self.outboxes.open(session, outbox);
         self.journal.append(
             moment,
             Kind::Opened {

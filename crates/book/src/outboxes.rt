@@ -1,32 +1,33 @@
 //! The outboxes of all sessions, and how many there are.
-ghost use Rattle.std.specs.Prelude.{◌≡◌, ℕ, ◌<◌, ◌≤◌, ◌+◌, ◌-◌, ◌^◌, ◌++◌, ◌∷◌, [], true, false, length, slice_get, slice_set, Some, None, IsTrue, IfSome, OnOk, ◌↔◌};
+ghost use Rattle.std.specs.Prelude.{◌≡◌, ◌<◌, ◌+◌, ◌-◌, ◌++◌, ◌∷◌, [], true, false, length, slice_get, slice_set, Some, None, IfSome, OnOk};
 ghost use Rattle.outbox.specs.Ring.{with_taken};
-ghost use Rattle.book.specs.Book.{box_at, outbox_at, is_here, count_here, IsLeft};
+ghost use Rattle.book.specs.Book.{box_at, outbox_at, count_here, IsLeft};
 ghost use Rattle.book.specs.Seats.{IsThere, MayFollow, IsTaken, IsNotTaken};
 
 use chronicle::SessionId;
 use deliveries::Item;
+use indexmap::IndexMap;
 use outbox::{Outbox, Ring};
 use std::alloc::{AllocError, Global};
 use std::marker::Model;
 
-/// The outboxes of the sessions by their numbers, but for those that were reaped. How many there are stands ready.
+/// The outboxes of the sessions that aren't reaped.
 #[derive(Drop)]
 pub(crate) struct Outboxes<O: Outbox> {
-    outboxes: Vec<Option<O>>,
-    here: usize,
+    /// By the numbers of their sessions.
+    outboxes: IndexMap<u64, O>,
+    opened: u64,
 }
 
 impl<O: Outbox> Model for Outboxes<O> {
-    ghost use Rattle.std.specs.Prelude.{◌≡◌, vec_capacity};
-    ghost use Rattle.book.specs.Book.{count_here};
-    ghost use Rattle.book.specs.Seats.{Boxes};
+    ghost use Rattle.indexmap.specs.IndexMap.{spare};
+    ghost use Rattle.book.specs.Seats.{Boxes, AreBoxes, boxes_of};
 
     ghost Value = { Boxes O };
 
-    ghost view = { λ a. record { boxes = a.outboxes.items; room = vec_capacity a.outboxes } };
+    ghost view = { λ a. record { boxes = boxes_of a.outboxes.entries a.opened; room = spare a.outboxes } };
 
-    ghost invariant = { λ a. a.here ≡ count_here a.outboxes.items };
+    ghost invariant = { λ a. AreBoxes a.outboxes.entries a.opened };
 }
 
 impl<O: Outbox> Outboxes<O> {
@@ -35,8 +36,8 @@ impl<O: Outbox> Outboxes<O> {
         ensures { result.boxes ≡ [] }
     {
         Outboxes {
-            outboxes: Vec::new(alloc),
-            here: 0,
+            outboxes: IndexMap::new(alloc),
+            opened: 0,
         }
     }
 
@@ -44,7 +45,7 @@ impl<O: Outbox> Outboxes<O> {
     pub(crate) fn here(&self) -> usize
         ensures { result ≡ count_here self.now.boxes }
     {
-        self.here
+        self.outboxes.len()
     }
 
     /// Whether a session was opened and isn't reaped.
@@ -52,29 +53,26 @@ impl<O: Outbox> Outboxes<O> {
         ensures yes { result ≡ true → IsThere self.now.boxes session }
         ensures no { result ≡ false → IsThere self.now.boxes session → ⊥ }
     {
-        let number = session.number();
-        if number == 0 || self.outboxes.len() < number as usize {
-            return false;
-        }
-        self.outboxes[number as usize - 1].is_some()
+        self.outboxes.contains_key(&session.number())
     }
 
     /// Makes room for one more.
     pub(crate) fn make_room(&mut self) -> Result<(), AllocError>
         ensures same { self.new.boxes ≡ self.old.boxes }
-        ensures ok { OnOk result (length self.new.boxes < self.new.room) }
+        ensures ok { OnOk result (0 < self.new.room) }
     {
         self.outboxes.reserve(1)
     }
 
     /// Adds the outbox of the next session. There has to be room for it.
-    pub(crate) fn open(&mut self, outbox: O)
-        requires room { length self.old.boxes < self.old.room }
-        requires few { count_here self.old.boxes + 1 < 2 ^ 64 }
+    pub(crate) fn open(&mut self, session: SessionId, outbox: O)
+        requires next { session ≡ length self.old.boxes + 1 }
+        requires room { 0 < self.old.room }
         ensures { self.new.boxes ≡ self.old.boxes ++ Some outbox ∷ [] }
     {
-        self.outboxes.push_reserved(Some(outbox));
-        self.here += 1;
+        let number = session.number();
+        let _ = self.outboxes.insert(number, outbox).unwrap();
+        self.opened = number;
     }
 
     /// Puts an item into its session's outbox, and answers whether that took it. It takes no memory.
@@ -85,13 +83,10 @@ impl<O: Outbox> Outboxes<O> {
         ensures fault { result ≡ false → IsNotTaken O.refuses self.old.boxes item }
         ensures same { result ≡ false → self.new.boxes ≡ self.old.boxes }
     {
-        let Some(outbox) = &mut self.outboxes[item.session().number() as usize - 1] else {
+        let Some(outbox) = self.outboxes.get_mut(&item.session().number()) else {
             unreachable!();
         };
-        match outbox.put(item) {
-            Ok(()) => true,
-            Err(_) => false,
-        }
+        outbox.put(item).is_ok()
     }
 
     /// Gives up the outbox of a session with its taker, and answers how many items were left in it.
@@ -101,10 +96,9 @@ impl<O: Outbox> Outboxes<O> {
         ensures left { IsLeft O.sent O.taken (box_at self.old.boxes session) taker result }
         ensures given { self.new.boxes ≡ slice_set self.old.boxes (session - 1) None }
     {
-        let Some(outbox) = self.outboxes[session.number() as usize - 1].take() else {
+        let Some(outbox) = self.outboxes.swap_remove(&session.number()) else {
             unreachable!();
         };
-        self.here -= 1;
         outbox.close(taker)
     }
 }
@@ -117,9 +111,9 @@ impl Outboxes<Ring> {
         ensures none { result ≡ None → self.new.boxes ≡ self.old.boxes }
         ensures taken { self.new.boxes ≡ slice_set self.old.boxes (session - 1) (Some (with_taken (outbox_at self.old.boxes session))) }
     {
-        match &mut self.outboxes[session.number() as usize - 1] {
-            Some(outbox) => outbox.take_now(),
-            None => None,
-        }
+        let Some(outbox) = self.outboxes.get_mut(&session.number()) else {
+            unreachable!();
+        };
+        outbox.take_now()
     }
 }

@@ -1,20 +1,24 @@
+//! The seats of all sessions, and what is counted over them.
 ghost use Rattle.std.specs.Prelude.{◌≡◌, ◌≢◌, ℕ, ◌<◌, ◌≤◌, ◌+◌, ◌-◌, ◌^◌, ◌++◌, ◌∷◌, [], ◌&&◌, true, false, not, sum_by, length, slice_index_or, slice_set, Some, None, IfSome, OnOk, OnErr};
 ghost use Rattle.std.specs.VecDeque.{deque_capacity};
 ghost use Rattle.roster.specs.LookBack.{numbers};
 ghost use Rattle.book.specs.Book.{first};
-ghost use Rattle.book.specs.Seats.{no_seat, away, seat_at, kept_by, hears, sweeps, placed, IsSeated};
+ghost use Rattle.book.specs.Seats.{no_seat, away, stands, seat_at, kept_by, hears, sweeps, placed, IsSeated};
 
 use crate::seat::Seat;
 use chronicle::SessionId;
+use indexmap::IndexMap;
 use std::alloc::{AllocError, Global};
 use std::collections::VecDeque;
 use std::marker::Model;
 
-/// What a book keeps for its sessions beside their outboxes. How many records are kept free for them and who is to be swept stand
-/// ready.
+/// What a book keeps for its sessions beside their outboxes, until they are reaped. How many records are kept free for them and
+/// who is to be swept stand ready.
 #[derive(Drop)]
 pub(crate) struct Seats {
-    seats: Vec<Seat>,
+    /// By the numbers of their sessions.
+    seats: IndexMap<u64, Seat>,
+    opened: u64,
     held: usize,
     /// The numbers of those that are shut and aren't gone, in their order.
     to_sweep: VecDeque<u64>,
@@ -24,13 +28,13 @@ impl Model for Seats {
     ghost use Rattle.std.specs.Prelude.{List};
     ghost use Rattle.std.specs.VecDeque.{deque_capacity};
     ghost use Rattle.book.specs.declared.seat.Seat.{Seat};
-    ghost use Rattle.book.specs.Seats.{IsCounted};
+    ghost use Rattle.book.specs.Seats.{seats_of, AreSeats};
 
     ghost Value = { List Seat };
 
-    ghost view = { λ a. a.seats.items };
+    ghost view = { λ a. seats_of a.seats.entries a.opened };
 
-    ghost invariant = { λ a. IsCounted a.seats.items a.held a.to_sweep.items (deque_capacity a.to_sweep) };
+    ghost invariant = { λ a. AreSeats a.seats.entries a.opened a.held a.to_sweep.items (deque_capacity a.to_sweep) };
 }
 
 /// Puts a number at its place among numbers in their order, of which it isn't one yet. There has to be room for it.
@@ -57,23 +61,32 @@ fn ends(was: &Seat, shut: bool) -> bool
     shut && (!was.shut && !was.gone)
 }
 
+/// A seat as it is. That it stands holds of each: no number is 2 ^ 64.
+fn standing(seat: Seat) -> Seat
+    ensures same { result ≡ seat }
+    ensures stands { stands seat ≡ true }
+{
+    seat
+}
+
 impl Seats {
     /// No seat.
     pub(crate) fn new(alloc: Global) -> Seats
         ensures { result ≡ [] }
     {
         Seats {
-            seats: Vec::new(alloc),
+            seats: IndexMap::new(alloc),
+            opened: 0,
             held: 0,
             to_sweep: VecDeque::new(alloc),
         }
     }
 
     /// How many sessions were opened.
-    pub(crate) fn opened(&self) -> usize
+    pub(crate) fn opened(&self) -> u64
         ensures { result ≡ length self.now }
     {
-        self.seats.len()
+        self.opened
     }
 
     /// How many records are kept free.
@@ -83,69 +96,66 @@ impl Seats {
         self.held
     }
 
-    /// The seat of a session that was opened.
+    /// The seat of a session that was opened and isn't reaped.
     pub(crate) fn seat(&self, session: SessionId) -> Option<Seat>
         ensures some { IfSome result (λ seat. IsSeated self.now session × (seat ≡ seat_at self.now session)) }
-        ensures none { result ≡ None → IsSeated self.now session → ⊥ }
+        ensures stands { IfSome result (λ seat. stands seat ≡ true) }
+        ensures none { result ≡ None → IsSeated self.now session → seat_at self.now session ≡ away }
     {
-        let number = session.number();
-        if number == 0 || self.seats.len() < number as usize {
-            return None;
-        }
-        Some(self.seats[number as usize - 1])
+        let seat = self.seats.get(&session.number())?;
+        Some(standing(*seat))
     }
 
     /// Whether a session was opened and isn't shut.
     pub(crate) fn is_listening(&self, session: SessionId) -> bool
         ensures { result ≡ hears self.now session }
     {
-        let number = session.number();
-        if number == 0 || self.seats.len() < number as usize {
+        let Some(seat) = self.seats.get(&session.number()) else {
             return false;
-        }
-        let seat = self.seats[number as usize - 1];
+        };
         !seat.shut
     }
 
     /// Adds the seat of the next session. A refusal changes nothing.
-    pub(crate) fn open(&mut self) -> Result<(), AllocError>
+    pub(crate) fn open(&mut self, session: SessionId) -> Result<(), AllocError>
+        requires next { session ≡ length self.old + 1 }
         requires held { sum_by kept_by self.old + 2 < 2 ^ 64 }
         ensures ok { OnOk result (self.new ≡ self.old ++ no_seat ∷ []) }
         ensures err { OnErr result (self.new ≡ self.old) }
     {
         self.seats.reserve(1)?;
         self.to_sweep.reserve(self.held + 2)?;
-        self.seats.push_reserved(Seat {
+        let number = session.number();
+        let seat = Seat {
             shut: false,
             gone: false,
             accepted: 0,
-        });
+        };
+        let _ = self.seats.insert(number, seat).unwrap();
+        self.opened = number;
         self.held += 2;
         Ok(())
     }
 
-    /// Notes how a session stands, which isn't opened again, and how many of its lines were accepted.
+    /// Notes how a session stands that has a seat and isn't opened again, and how many of its lines were accepted.
     fn change(&mut self, session: SessionId, shut: bool, accepted: u64)
-        requires from_1 { 0 < session }
-        requires opened { session ≤ length self.old }
+        requires seated { IsSeated self.old session }
+        requires stands { stands (seat_at self.old session) ≡ true }
         requires stays { (seat_at self.old session).shut ≡ true → shut ≡ true }
         ensures { self.new ≡ slice_set self.old (session - 1) (record { shut = shut; gone = (seat_at self.old session).gone; accepted = accepted }) }
     {
         let number = session.number();
-        let place = number as usize - 1;
-        let was = self.seats[place];
-        let seat = Seat {
-            shut,
-            gone: was.gone,
-            accepted,
+        let Some(seat) = self.seats.get_mut(&number) else {
+            unreachable!();
         };
-        if ends(&was, shut) {
-            self.held -= 1;
-            add_in_order(&mut self.to_sweep, number);
-            self.seats[place] = seat;
+        let is_end = ends(seat, shut);
+        seat.shut = shut;
+        seat.accepted = accepted;
+        if !is_end {
             return;
         }
-        self.seats[place] = seat;
+        self.held -= 1;
+        add_in_order(&mut self.to_sweep, number);
     }
 
     /// Notes a line of a session that isn't shut, and whether it quits by it.
@@ -155,17 +165,21 @@ impl Seats {
         requires not_shut { (seat_at self.old session).shut ≡ false }
         ensures { self.new ≡ slice_set self.old (session - 1) (record { shut = quits; gone = (seat_at self.old session).gone; accepted = (seat_at self.old session).accepted + 1 }) }
     {
-        let was = self.seats[session.number() as usize - 1];
+        let Some(was) = self.seat(session) else {
+            unreachable!();
+        };
         self.change(session, quits, was.accepted + 1);
     }
 
-    /// Notes that a session is shut.
+    /// Notes that a session is shut. One that was reaped is so already.
     pub(crate) fn shut(&mut self, session: SessionId)
         requires from_1 { 0 < session }
         requires opened { session ≤ length self.old }
         ensures { self.new ≡ slice_set self.old (session - 1) (record { shut = true; gone = (seat_at self.old session).gone; accepted = (seat_at self.old session).accepted }) }
     {
-        let was = self.seats[session.number() as usize - 1];
+        let Some(was) = self.seat(session) else {
+            return;
+        };
         self.change(session, true, was.accepted);
     }
 
@@ -174,28 +188,21 @@ impl Seats {
         requires next { first (sweeps self.old) (numbers 1 (length self.old)) ≡ Some session }
         ensures { self.new ≡ slice_set self.old (session - 1) (record { shut = (seat_at self.old session).shut; gone = true; accepted = (seat_at self.old session).accepted }) }
     {
-        let place = session.number() as usize - 1;
-        let was = self.seats[place];
+        let Some(seat) = self.seats.get_mut(&session.number()) else {
+            unreachable!();
+        };
+        seat.gone = true;
         self.held -= 1;
         let _ = self.to_sweep.pop_front();
-        self.seats[place] = Seat {
-            shut: was.shut,
-            gone: true,
-            accepted: was.accepted,
-        };
     }
 
-    /// Gives up the seat of a session that is gone.
+    /// Takes out the seat of a session that is gone.
     pub(crate) fn give_up(&mut self, session: SessionId)
         requires seated { IsSeated self.old session }
         requires gone { (seat_at self.old session).gone ≡ true }
         ensures { self.new ≡ slice_set self.old (session - 1) away }
     {
-        self.seats[session.number() as usize - 1] = Seat {
-            shut: true,
-            gone: true,
-            accepted: 0,
-        };
+        let _ = self.seats.swap_remove(&session.number());
     }
 
     /// The shut session of the lowest number that isn't gone.

@@ -1,6 +1,4 @@
-use Rattle.std.proofs.Common.{arith, ◌≡◌, ◌≤◌, length, sym, ◌∙◌, subst}
-use Rattle.book.specs.Book.{IsKnown}
-use Rattle.book.proofs.KeptSteps.{shown, taken_kept}
+use Rattle.book.proofs.KeptSteps.{taken_kept}
 use Rattle.book.proofs.book.Book+Ring.take.Goals as goal
 
 pub invariant_of-self : goal.invariant_of-self

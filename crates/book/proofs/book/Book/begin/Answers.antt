@@ -20,7 +20,7 @@ use Rattle.book.specs.Book.{Turn, MayBegin, plan_of, begun, held}
 use Rattle.book.proofs.KeptSteps.{shown}
 use Rattle.book.proofs.Opened.{accepted_le}
 use Rattle.book.proofs.Begins.{begun_is}
-use Rattle.book.proofs.Appends.{said_seats, known_opened, said_plan, said_kept}
+use Rattle.book.proofs.Appends.{said_seats, known_opened, few_lines, said_plan, said_kept}
 use Rattle.book.proofs.book.Book.begin.Given as given
 use Rattle.book.proofs.book.Book.begin.Goals as goal
 
@@ -74,12 +74,14 @@ invariant_of-self-3 over c =
     let known : c.commit.new.roster.facts ≡ after a.roster.facts (deeds_of (of_asked a.roster.settings a.roster.facts s asked)) =
     more ∙ ap (after a.roster.facts) (c.in_ok-prepared.ensures.deeds ∙ ap (λ (t : ℕ). deeds_of (of_asked a.roster.settings a.roster.facts t asked)) (session over c)) in
     let same : opened c.commit.new.roster.facts ≡ opened a.roster.facts = ap opened more ∙ c.in_ok-prepared.ensures.opened in
+    let limit_ : a.journal.limit < 18446744073709551616 = subst (λ m. m.limit < 18446744073709551616) (sym c.self.view_is) c.in_ok-check_line.ensures.fits in
+    let few = few_lines over.O.Outbox.sent a.journal a.roster.settings a.roster.facts a.seats a.outboxes.boxes a.plan.items a.busy c.self.invariant c.args.baton.now c.args.moment (may over c) limit_ in
     let rows : c.say.new.self ≡ said_seats a.seats s c.in_ok-prepared.quits = c.say.ensures ∙ ap (λ (t : ℕ). said_seats a.seats t c.in_ok-prepared.quits) (session over c) in
     subst (λ (g : Settings). IsKept over.O.Outbox.sent c.append.new.self g c.commit.new.roster.facts c.say.new.self a.outboxes.boxes c.in_ok-prepared.prepared.plan.items true) (sym (settings over c))
     (subst (λ (xs : List Seat). IsKept over.O.Outbox.sent c.append.new.self a.roster.settings c.commit.new.roster.facts xs a.outboxes.boxes c.in_ok-prepared.prepared.plan.items true) (sym rows)
     (said_kept over.O.Outbox.sent a.journal a.roster.settings a.roster.facts a.seats a.outboxes.boxes a.plan.items a.busy c.self.invariant c.append.new.self c.commit.new.roster.facts
     c.in_ok-prepared.prepared.plan.items c.args.baton.now c.args.piece.now c.args.moment c.in_ok-prepared.quits
-    (may over c) c.in_ok-prepared.ensures.quits (plan over c) (history over c) (limit over c) room free known same))
+    (may over c) c.in_ok-prepared.ensures.quits few (plan over c) (history over c) (limit over c) room free known same))
 
 pub returns-clause-ok : goal.returns-clause-ok
 returns-clause-ok over c =
@@ -105,13 +107,11 @@ say-requires-clause-seated over c =
 
 pub say-requires-clause-few : goal.say-requires-clause-few
 say-requires-clause-few over c =
-    let a = c.self.inside in let s = c.args.baton.now.session in
+    let a = c.self.inside in
     let may : MayBegin (shown c.self.inside.journal c.self.inside.roster.settings c.self.inside.outboxes.boxes c.self.inside.plan.items c.self.inside.busy) c.args.baton.now c.args.moment = subst (λ m. MayBegin m c.args.baton.now c.args.moment) (sym c.self.view_is) c.in_ok-check_line.ensures.ok in
-    let few = may.turn.opened in let many = c.self.invariant.sound.sessions in let places = c.self.invariant.places in let room = may.room in let to : s ≤ length a.seats = omega arith in
     let limit : a.journal.limit < 18446744073709551616 = subst (λ m. m.limit < 18446744073709551616) (sym c.self.view_is) c.in_ok-check_line.ensures.fits in
-    let count = (c.self.invariant.each_seat s may.turn.from_1 to).accepted may.turn.here in let few_lines = accepted_le a.journal.history s in
-    let goal : (seat_at a.seats s).accepted + 1 < 18446744073709551616 = omega arith in
-    subst (λ (t : ℕ). (seat_at a.seats t).accepted + 1 < 18446744073709551616) (sym (ap (λ (b : Turn). b.session) c.baton.view_is)) goal
+    subst (λ (t : ℕ). (seat_at a.seats t).accepted + 1 < 18446744073709551616) (sym (ap (λ (b : Turn). b.session) c.baton.view_is))
+    (few_lines over.O.Outbox.sent a.journal a.roster.settings a.roster.facts a.seats a.outboxes.boxes a.plan.items a.busy c.self.invariant c.args.baton.now c.args.moment may limit)
 
 pub say-requires-clause-not_shut : goal.say-requires-clause-not_shut
 say-requires-clause-not_shut over c =

@@ -1,4 +1,4 @@
-use Rattle.std.proofs.Common.{arith, ◌≡◌, ◌+◌, ◌≤◌, ◌∷◌, [], true, false, length, ℕ, List, refl, ap, sym, ◌∙◌, subst}
+use Rattle.std.proofs.Common.{arith, ◌≡◌, ◌+◌, ◌≤◌, ◌∷◌, [], length, ℕ, List, ap, sym, ◌∙◌, subst}
 use Rattle.chronicle.specs.declared.record.Kind.TheVariants.{Hung}
 use Rattle.deliveries.specs.declared.delivery.Delivery.TheVariants.{Last}
 use Rattle.registration.specs.declared.settings.Settings.{Settings}

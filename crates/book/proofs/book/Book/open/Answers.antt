@@ -7,8 +7,7 @@ use Rattle.roster.specs.declared.deed.Deed.{Deed}
 use Rattle.roster.specs.declared.deed.Deed.TheVariants as deed
 use Rattle.book.specs.Seats.{no_seat}
 use Rattle.book.specs.Kept.{IsKept}
-use Rattle.book.specs.Book.{MayOpen, count_here, held}
-use Rattle.book.proofs.Counted.{count_small}
+use Rattle.book.specs.Book.{MayOpen, held}
 use Rattle.book.proofs.Opened.{sessions_le, seats_held}
 use Rattle.book.proofs.KeptSteps.{shown, opened_kept}
 use Rattle.book.proofs.book.Book.open.Goals as goal
@@ -40,14 +39,16 @@ overflow_add-opened over c =
     let may : MayOpen (shown a.journal a.roster.settings a.outboxes.boxes a.plan.items a.busy) c.args.moment = subst (λ m. MayOpen m c.args.moment) (sym c.self.view_is) (c.in-Ok.ensures.ok) in
     let more = may.room in let is = c.opened.ensures in omega arith
 
-pub open-requires : goal.open-requires
-open-requires over c =
+pub open-requires-clause-next : goal.open-requires-clause-next
+open-requires-clause-next over c = let session : c.new-session.result ≡ length c.self.inside.seats + 1 = grind (arith, common_steps) in session
+
+pub open-requires-clause-held : goal.open-requires-clause-held
+open-requires-clause-held over c =
     let a = c.self.inside in let i = c.self.invariant in let limit : a.journal.limit < 18446744073709551616 = subst (λ m. m.limit < 18446744073709551616) (sym c.self.view_is) c.in-Ok.ensures.fits in
     let may : MayOpen (shown a.journal a.roster.settings a.outboxes.boxes a.plan.items a.busy) c.args.moment = subst (λ m. MayOpen m c.args.moment) (sym c.self.view_is) (c.in-Ok.ensures.ok) in
     let more = may.room in let all = seats_held a.journal.history a.seats a.outboxes.boxes i.each_seat (i.sound.sessions ∙ sym i.places) in omega arith
 
-pub open-requires-2-clause-few : goal.open-requires-2-clause-few
-open-requires-2-clause-few over c =
-    let a = c.self.inside in let limit : a.journal.limit < 18446744073709551616 = subst (λ m. m.limit < 18446744073709551616) (sym c.self.view_is) c.in-Ok.ensures.fits in
-    let may : MayOpen (shown a.journal a.roster.settings a.outboxes.boxes a.plan.items a.busy) c.args.moment = subst (λ m. MayOpen m c.args.moment) (sym c.self.view_is) (c.in-Ok.ensures.ok) in
-    let more = may.room in let few = sessions_le a.journal.history in let many = c.self.invariant.sound.sessions in let small = count_small a.outboxes.boxes in let goal : count_here a.outboxes.boxes + 1 < 18446744073709551616 = omega arith in subst (λ xs. count_here xs + 1 < 18446744073709551616) (sym c.make_room.ensures.same) goal
+pub open-requires-2-clause-next : goal.open-requires-2-clause-next
+open-requires-2-clause-next over c =
+    let a = c.self.inside in let session : c.new-session.result ≡ length a.seats + 1 = grind (arith, common_steps) in
+    let places = c.self.invariant.places in let same : length c.make_room.new.self.boxes ≡ length a.outboxes.boxes = ap length c.make_room.ensures.same in omega arith

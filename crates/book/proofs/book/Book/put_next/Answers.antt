@@ -1,4 +1,4 @@
-use Rattle.std.proofs.Common.{arith, ◌≡◌, ◌∷◌, ◌≤◌, length, true, List, Option, Some, sym, ◌∙◌, subst, refl, ap}
+use Rattle.std.proofs.Common.{arith, ◌≡◌, ◌∷◌, length, Some, sym, ◌∙◌, subst}
 use Rattle.std.proofs.lemmas.Grind.{common_steps}
 use Rattle.deliveries.specs.declared.item.Item.{Item}
 use Rattle.book.specs.declared.out.Step.TheVariants.{Put, Missed}

@@ -1,4 +1,4 @@
-use Rattle.std.proofs.Common.{arith, ◌≡◌, ◌≤◌, true, length, sym, ◌∙◌, subst}
+use Rattle.std.proofs.Common.{arith, ◌≤◌, length, sym, ◌∙◌, subst}
 use Rattle.book.specs.Book.{MayReap}
 use Rattle.book.proofs.KeptSteps.{shown, reaped_kept}
 use Rattle.book.proofs.book.Book.reap.Goals as goal

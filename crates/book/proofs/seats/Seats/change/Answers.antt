@@ -1,38 +1,83 @@
-use Rattle.std.proofs.Common.{arith, ◌≡◌, ℕ, List, length, ap, sym, ◌∙◌}
+use Rattle.std.proofs.Common.{ℕ, ◌-◌, Some, length, slice_set, is_some, ap, sym, ◌∙◌}
 use Rattle.std.specs.VecDeque.{deque_capacity}
 use Rattle.book.specs.declared.seat.Seat.{Seat}
-use Rattle.book.specs.Seats.{seat_at}
-use Rattle.book.proofs.Counted.{seat_of, kept_at, ends_says, ends_not, unchanged, shut_counted, list_up, list_absent}
+use Rattle.book.specs.Seats.{placed}
+use Rattle.book.proofs.Counted.{ends_says, ends_not, unchanged, shut_kept, shut_room, shut_counted, list_up, list_absent}
 use Rattle.book.proofs.Listed.{placed_more}
+use Rattle.book.proofs.Mapped.{IsChanged, changed_at, seat_found, seat_stands, seats_counted, seats_set, kept_set}
 use Rattle.book.proofs.seats.Seats.change.Goals as goal
 
+pub unreachable-requires : goal.unreachable-requires
+unreachable-requires c =
+    let a = c.self.inside in
+    seat_stands a.seats.entries a.opened c.args.self.now c.self.view_is c.number-number.result c.args.session c.number-number.ensures c.requires.seated c.requires.stands c.in_default.ensures.value
+
+pub overflow_sub-self : goal.overflow_sub-self
+overflow_sub-self c =
+    let a = c.self.inside in let s = c.args.session in let x = c.in-Some.seat.now in let rows = c.args.self.now in let most = deque_capacity a.to_sweep in
+    let is = seat_found a.seats.entries a.opened rows c.self.view_is c.number-number.result s x c.number-number.ensures c.self.invariant.opened c.in-Some.ensures.value in
+    let e = ends_says c.args.shut x.shut x.gone (sym c.ends-is_end.ensures ∙ c.if-not-is_end.false) in
+    shut_kept rows a.held a.to_sweep.items most (seats_counted a.seats.entries a.opened rows c.self.view_is a.held a.to_sweep.items most c.self.invariant) s x is.0.from_1 is.0.opened is.1 e.1 e.2
+
 pub add_in_order-requires-clause-order : goal.add_in_order-requires-clause-order
-add_in_order-requires-clause-order c = let a = c.self.inside in list_up a.seats.items a.held a.to_sweep.items (deque_capacity a.to_sweep) c.self.invariant
+add_in_order-requires-clause-order c =
+    let a = c.self.inside in let rows = c.args.self.now in let most = deque_capacity a.to_sweep in
+    list_up rows a.held a.to_sweep.items most (seats_counted a.seats.entries a.opened rows c.self.view_is a.held a.to_sweep.items most c.self.invariant)
 
 pub add_in_order-requires-clause-absent : goal.add_in_order-requires-clause-absent
 add_in_order-requires-clause-absent c =
-    let a = c.self.inside in let n = c.number-number.result in let x = c.index.result.now in
-    let p = kept_at a.seats.items c.args.self.now n c.args.session c.number-number.ensures c.self.view_is c.requires.from_1 c.requires.opened in let from = p.0 in let to = p.1 in
-    let is = seat_of a.seats.items n x (omega arith) c.index.ensures in
-    let e = ends_says c.args.shut x.shut x.gone (sym c.ends.ensures ∙ c.if-ends.true) in
-    list_absent a.seats.items a.held a.to_sweep.items (deque_capacity a.to_sweep) c.self.invariant n x is e.1 e.2
+    let a = c.self.inside in let s = c.args.session in let x = c.in-Some.seat.now in let rows = c.args.self.now in let most = deque_capacity a.to_sweep in
+    let is = seat_found a.seats.entries a.opened rows c.self.view_is c.number-number.result s x c.number-number.ensures c.self.invariant.opened c.in-Some.ensures.value in
+    let e = ends_says c.args.shut x.shut x.gone (sym c.ends-is_end.ensures ∙ c.if-not-is_end.false) in
+    λ i l at. list_absent rows a.held a.to_sweep.items most (seats_counted a.seats.entries a.opened rows c.self.view_is a.held a.to_sweep.items most c.self.invariant) s x is.1 e.1 e.2 i l (at ∙ c.number-number.ensures)
+
+pub add_in_order-requires-clause-room : goal.add_in_order-requires-clause-room
+add_in_order-requires-clause-room c =
+    let a = c.self.inside in let s = c.args.session in let x = c.in-Some.seat.now in let rows = c.args.self.now in let most = deque_capacity a.to_sweep in
+    let is = seat_found a.seats.entries a.opened rows c.self.view_is c.number-number.result s x c.number-number.ensures c.self.invariant.opened c.in-Some.ensures.value in
+    let e = ends_says c.args.shut x.shut x.gone (sym c.ends-is_end.ensures ∙ c.if-not-is_end.false) in
+    shut_room rows a.held a.to_sweep.items most (seats_counted a.seats.entries a.opened rows c.self.view_is a.held a.to_sweep.items most c.self.invariant) s x is.0.from_1 is.0.opened is.1 e.1 e.2
 
 pub invariant_of-self : goal.invariant_of-self
 invariant_of-self c =
-    let a = c.self.inside in let n = c.number-number.result in let x = c.index.result.now in
-    let p = kept_at a.seats.items c.args.self.now n c.args.session c.number-number.ensures c.self.view_is c.requires.from_1 c.requires.opened in let from = p.0 in let to = p.1 in
-    let is = seat_of a.seats.items n x (omega arith) c.index.ensures in
-    let e = ends_says c.args.shut x.shut x.gone (sym c.ends.ensures ∙ c.if-ends.true) in
-    let added = c.add_in_order.ensures.added in let v : Seat = record { shut = c.args.shut; gone = x.gone; accepted = c.args.accepted } in
-    shut_counted a.seats.items a.held a.to_sweep.items (deque_capacity a.to_sweep) c.self.invariant n (deque_capacity c.add_in_order.new.numbers) x v c.add_in_order.new.numbers.items
-    from to is e.1 e.2 e.0 e.2 added (ap length added ∙ placed_more n a.to_sweep.items) c.add_in_order.ensures.room
+    let a = c.self.inside in let s = c.args.session in let x = c.in-Some.seat.now in let rows = c.args.self.now in let most = deque_capacity a.to_sweep in
+    let w : Seat = record { shut = c.args.shut; gone = x.gone; accepted = c.args.accepted } in let now = (c.get_mut.follows.lender w).entries in
+    let is = seat_found a.seats.entries a.opened rows c.self.view_is c.number-number.result s x c.number-number.ensures c.self.invariant.opened c.in-Some.ensures.value in
+    let written : IsChanged a.seats.entries now s (Some w) =
+    changed_at a.seats.entries now c.number-number.result s (Some w) c.number-number.ensures ((c.get_mut.follows.holds w).3 (ap is_some (sym c.in-Some.ensures.value))).0 in
+    let same = ends_not c.args.shut x.shut x.gone (sym c.ends-is_end.ensures ∙ c.if-not-is_end.true) (λ e. c.requires.stays (ap (λ (y : Seat). y.shut) (sym is.1) ∙ e)) in
+    kept_set a.seats.entries a.opened rows c.self.view_is now s (Some w) written a.held a.to_sweep.items most c.self.invariant.opened is.0
+    (unchanged rows a.held a.to_sweep.items most (seats_counted a.seats.entries a.opened rows c.self.view_is a.held a.to_sweep.items most c.self.invariant) s x w is.0.from_1 is.0.opened is.1 same.0 same.1 same.2)
+
+pub returns-then-not-is_end : goal.returns-then-not-is_end
+returns-then-not-is_end c =
+    let a = c.self.inside in let s = c.args.session in let x = c.in-Some.seat.now in let rows = c.args.self.now in
+    let w : Seat = record { shut = c.args.shut; gone = x.gone; accepted = c.args.accepted } in let now = (c.get_mut.follows.lender w).entries in
+    let is = seat_found a.seats.entries a.opened rows c.self.view_is c.number-number.result s x c.number-number.ensures c.self.invariant.opened c.in-Some.ensures.value in
+    let written : IsChanged a.seats.entries now s (Some w) =
+    changed_at a.seats.entries now c.number-number.result s (Some w) c.number-number.ensures ((c.get_mut.follows.holds w).3 (ap is_some (sym c.in-Some.ensures.value))).0 in
+    seats_set a.seats.entries a.opened rows c.self.view_is now s (Some w) written is.0
+    ∙ ap (λ (y : Seat). slice_set rows (s - 1) (record { shut = c.args.shut; gone = y.gone; accepted = c.args.accepted })) is.1
 
 pub invariant_of-self-2 : goal.invariant_of-self-2
 invariant_of-self-2 c =
-    let a = c.self.inside in let n = c.number-number.result in let x = c.index.result.now in
-    let p = kept_at a.seats.items c.args.self.now n c.args.session c.number-number.ensures c.self.view_is c.requires.from_1 c.requires.opened in let from = p.0 in let to = p.1 in
-    let is = seat_of a.seats.items n x (omega arith) c.index.ensures in
-    let v : Seat = record { shut = c.args.shut; gone = x.gone; accepted = c.args.accepted } in
-    let here : x ≡ seat_at c.args.self.now c.args.session = is ∙ ap (λ (k : ℕ). seat_at a.seats.items k) c.number-number.ensures ∙ ap (λ (r : List Seat). seat_at r c.args.session) c.self.view_is in
-    let same = ends_not c.args.shut x.shut x.gone (sym c.ends.ensures ∙ c.if-ends.false) (λ e. c.requires.stays (ap (λ (s : Seat). s.shut) (sym here) ∙ e)) in
-    unchanged a.seats.items a.held a.to_sweep.items (deque_capacity a.to_sweep) c.self.invariant n x v from to is same.0 same.1 same.2
+    let a = c.self.inside in let s = c.args.session in let x = c.in-Some.seat.now in let rows = c.args.self.now in let most = deque_capacity a.to_sweep in
+    let w : Seat = record { shut = c.args.shut; gone = x.gone; accepted = c.args.accepted } in let now = (c.get_mut.follows.lender w).entries in
+    let is = seat_found a.seats.entries a.opened rows c.self.view_is c.number-number.result s x c.number-number.ensures c.self.invariant.opened c.in-Some.ensures.value in
+    let written : IsChanged a.seats.entries now s (Some w) =
+    changed_at a.seats.entries now c.number-number.result s (Some w) c.number-number.ensures ((c.get_mut.follows.holds w).3 (ap is_some (sym c.in-Some.ensures.value))).0 in
+    let e = ends_says c.args.shut x.shut x.gone (sym c.ends-is_end.ensures ∙ c.if-not-is_end.false) in
+    let added = c.add_in_order.ensures.added ∙ ap (λ (k : ℕ). placed k a.to_sweep.items) c.number-number.ensures in
+    kept_set a.seats.entries a.opened rows c.self.view_is now s (Some w) written (a.held - 1) c.add_in_order.new.numbers.items (deque_capacity c.add_in_order.new.numbers) c.self.invariant.opened is.0
+    (shut_counted rows a.held a.to_sweep.items most (seats_counted a.seats.entries a.opened rows c.self.view_is a.held a.to_sweep.items most c.self.invariant) s (deque_capacity c.add_in_order.new.numbers) x w c.add_in_order.new.numbers.items
+    is.0.from_1 is.0.opened is.1 e.1 e.2 e.0 e.2 added (ap length added ∙ placed_more s a.to_sweep.items) c.add_in_order.ensures.room)
+
+pub returns : goal.returns
+returns c =
+    let a = c.self.inside in let s = c.args.session in let x = c.in-Some.seat.now in let rows = c.args.self.now in
+    let w : Seat = record { shut = c.args.shut; gone = x.gone; accepted = c.args.accepted } in let now = (c.get_mut.follows.lender w).entries in
+    let is = seat_found a.seats.entries a.opened rows c.self.view_is c.number-number.result s x c.number-number.ensures c.self.invariant.opened c.in-Some.ensures.value in
+    let written : IsChanged a.seats.entries now s (Some w) =
+    changed_at a.seats.entries now c.number-number.result s (Some w) c.number-number.ensures ((c.get_mut.follows.holds w).3 (ap is_some (sym c.in-Some.ensures.value))).0 in
+    seats_set a.seats.entries a.opened rows c.self.view_is now s (Some w) written is.0
+    ∙ ap (λ (y : Seat). slice_set rows (s - 1) (record { shut = c.args.shut; gone = y.gone; accepted = c.args.accepted })) is.1

@@ -1,0 +1,46 @@
+use Rattle.std.proofs.Common.{Some, is_some, ap, sym, ◌∙◌, subst}
+use Rattle.book.specs.Seats.{MayFollow}
+use Rattle.book.proofs.Mapped.{changed_at, on_ok, if_err, box_missed, box_found, box_put, boxes_set}
+use Rattle.book.proofs.outboxes.Outboxes.offer.Goals as goal
+
+pub unreachable-requires : goal.unreachable-requires
+unreachable-requires over c =
+    let a = c.self.inside in
+    box_missed a.outboxes.entries a.opened c.args.self.now.boxes (ap (λ m. m.boxes) c.self.view_is) c.number.result c.args.item.session (c.number.ensures ∙ c.session.ensures) c.requires.there c.in_default.ensures.value
+
+pub put-requires : goal.put-requires
+put-requires over c =
+    let a = c.self.inside in
+    let at = box_found a.outboxes.entries a.opened c.args.self.now.boxes (ap (λ m. m.boxes) c.self.view_is) c.number.result c.args.item.session c.in-Some.outbox.now (c.number.ensures ∙ c.session.ensures) c.requires.there c.in-Some.ensures.value in
+    record { next = subst (λ r. MayFollow over.O.Outbox.sent r c.args.item) at c.requires.next }
+
+pub invariant_of-self : goal.invariant_of-self
+invariant_of-self over c =
+    let a = c.self.inside in let t = c.args.item.session in let v = c.put.new.self in let now = (c.get_mut.follows.lender v).entries in let holds = c.get_mut.follows.holds v in
+    let written = changed_at a.outboxes.entries now c.number.result t (Some v) (c.number.ensures ∙ c.session.ensures) (holds.3 (ap (λ o. is_some o) (sym c.in-Some.ensures.value))).0 in
+    box_put a.outboxes.entries a.opened c.args.self.now.boxes (ap (λ m. m.boxes) c.self.view_is) now t v c.self.invariant c.requires.there written holds.2
+
+pub returns-clause-put : goal.returns-clause-put
+returns-clause-put over c =
+    let a = c.self.inside in let t = c.args.item.session in let v = c.put.new.self in let now = (c.get_mut.follows.lender v).entries in let holds = c.get_mut.follows.holds v in
+    let view = ap (λ m. m.boxes) c.self.view_is in
+    let written = changed_at a.outboxes.entries now c.number.result t (Some v) (c.number.ensures ∙ c.session.ensures) (holds.3 (ap (λ o. is_some o) (sym c.in-Some.ensures.value))).0 in
+    λ took. record {
+      before = c.in-Some.outbox.now;
+      after = v;
+      here = box_found a.outboxes.entries a.opened c.args.self.now.boxes view c.number.result t c.in-Some.outbox.now (c.number.ensures ∙ c.session.ensures) c.requires.there c.in-Some.ensures.value;
+      accepted = on_ok _ c.put.result (sym c.is_ok.ensures.value ∙ took) c.put.ensures.accepted;
+      longer = on_ok _ c.put.result (sym c.is_ok.ensures.value ∙ took) c.put.ensures.ok;
+      now = boxes_set a.outboxes.entries a.opened c.args.self.now.boxes view now t (Some v) written c.requires.there;
+    }
+
+pub returns-clause-fault : goal.returns-clause-fault
+returns-clause-fault over c =
+    let a = c.self.inside in let t = c.args.item.session in
+    λ no. let e = if_err _ c.put.result (sym c.is_ok.ensures.value ∙ no) c.put.ensures.refused in
+    record {
+      before = c.in-Some.outbox.now;
+      cause = e.0.0;
+      here = box_found a.outboxes.entries a.opened c.args.self.now.boxes (ap (λ m. m.boxes) c.self.view_is) c.number.result t c.in-Some.outbox.now (c.number.ensures ∙ c.session.ensures) c.requires.there c.in-Some.ensures.value;
+      refused = e.1;
+    }
