@@ -1,5 +1,5 @@
 //! The steps of a story, each with what it is answered, as small values.
-use book::LineRefusal;
+use book::{LineRefusal, Step};
 use chronicle::Why;
 
 /// What becomes of a delivery, by the number of its session.
@@ -7,6 +7,31 @@ use chronicle::Why;
 pub(crate) enum Fate {
     Put(u64),
     Missed(u64),
+}
+
+impl Fate {
+    /// Whether a step is so.
+    pub(crate) fn is_of(self, step: Step) -> bool {
+        match step {
+            Step::Put(session) => self.is_put(session.number()),
+            Step::Missed(session) => self.is_missed(session.number()),
+        }
+    }
+
+    fn is_put(self, session: u64) -> bool {
+        match self {
+            Fate::Put(own) => own == session,
+            Fate::Missed(_) => false,
+        }
+    }
+
+    /// Whether a session misses the record.
+    pub(crate) fn is_missed(self, session: u64) -> bool {
+        match self {
+            Fate::Put(_) => false,
+            Fate::Missed(own) => own == session,
+        }
+    }
 }
 
 /// A step. Where it has numbers, the first is that of the session; the second, where it makes or takes an item of a record, is that of
@@ -43,6 +68,8 @@ pub(crate) enum Act {
     NotGone(u64),
     /// The session is reaped, and so many items are left.
     Reap(u64, u64),
+    /// The session was reaped: it has no nickname, is shut and can't be hung.
+    IsAway(u64),
     /// What takes the session's items is let go.
     Leave(u64),
     /// There are so many records.

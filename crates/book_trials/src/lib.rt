@@ -10,6 +10,8 @@ mod again;
 #[cfg(test)]
 mod comparing;
 #[cfg(test)]
+mod hall;
+#[cfg(test)]
 mod meeting;
 #[cfg(test)]
 mod over_both;
@@ -17,3 +19,5 @@ mod over_both;
 mod stories;
 #[cfg(test)]
 mod texts;
+#[cfg(test)]
+mod told;

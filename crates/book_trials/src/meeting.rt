@@ -1,20 +1,18 @@
-//! A book in which a few sessions meet, with what is held of each. A call that finds no memory is made once more.
-ghost use Rattle.std.specs.Prelude.{◌≡◌, ◌+◌, ◌-◌, ◌⊎◌, ◌++◌, ◌∷◌, [], Some, None, length, slice_get, slice_set, IfOk, IfSome, OnErr};
+//! A hall in which a few sessions meet, with what is held of each. A call that finds no memory is made once more.
+ghost use Rattle.std.specs.Prelude.{◌≡◌, ◌+◌, ◌-◌, ◌<◌, ◌⊎◌, Some, None, true, IfSome, vec_len, vec_capacity, slice_get, slice_set};
 ghost use Rattle.book_trials.specs.Meet.{KeepsName};
 
-use crate::acting::{is_answered, is_line, moment};
+use crate::acting::{is_answered, is_line, open};
 use crate::acts::Act;
 use crate::again::copied;
 use crate::comparing::{host, is_item};
-use crate::over_both::Told;
-use book::{Baton, Book, BookFault, Item, OpenRefusal, Outbox, ReapRefusal};
-use casemapping::is_host;
-use chronicle::Moment;
+use crate::hall::Hall;
+use crate::told::{Told, made};
+use book::{Baton, Book, BookFault, Item, Outbox, ReapRefusal};
+use chronicle::{Moment, SessionId};
 use registration::{Accounts, Settings};
 use std::alloc::{AllocError, Global};
 use std::marker::Model;
-use std::process::Abort;
-use std::test::Fail;
 
 const SESSIONS: usize = 3;
 
@@ -25,23 +23,24 @@ struct Guest<T> {
     taker: T,
 }
 
-/// The book and its guests, the first that of session 1. What takes a guest's items is that of its session's outbox.
+/// The hall and its guests, the first that of session 1. What takes a guest's items is that of its session's outbox. A clause sees
+/// how many came.
 #[derive(Drop)]
 pub(crate) struct Meeting<O: Outbox<Taker = T>, T: Drop> {
     alloc: Global,
-    book: Book<O>,
+    hall: Hall<O>,
     guests: Vec<Option<Guest<T>>>,
 }
 
 impl<O: Outbox<Taker = T>, T: Drop> Model for Meeting<O, T> {
-    ghost use Rattle.book.specs.Book.{Shown};
-    ghost use Rattle.book_trials.specs.Meet.{KeepsName, AreFit};
+    ghost use Rattle.std.specs.Prelude.{ℕ, length};
+    ghost use Rattle.book_trials.specs.Meet.{AreFit, names};
 
-    ghost Value = { Shown O };
+    ghost Value = { ℕ };
 
-    ghost view = { λ a. a.book };
+    ghost view = { λ a. length a.guests.items };
 
-    ghost invariant = { λ a. KeepsName O.accepts O.name × AreFit O.name a.book.outboxes (λ g. g.baton.session) (λ g. O.taker_of g.taker) a.guests.items };
+    ghost invariant = { λ a. AreFit (names O.name a.hall) (λ g. g.baton.session) (λ g. O.taker_of g.taker) a.guests.items };
 }
 
 /// The settings of a server for three sessions.
@@ -58,41 +57,25 @@ fn settings(alloc: Global) -> Result<Settings, AllocError> {
 }
 
 /// An empty book for so many records.
-fn book<O: Outbox>(alloc: Global, limit: usize) -> Result<Book<O>, Fail> {
-    let first = settings(alloc)?;
-    let again = settings(alloc)?;
+fn book<O: Outbox>(alloc: Global, limit: usize) -> Option<Book<O>> {
+    let first = settings(alloc).ok()?;
+    let again = settings(alloc).ok()?;
     let book = match Book::new(alloc, first, limit) {
         Err(BookFault::Memory) => Book::new(alloc, again, limit),
         answer => answer,
     };
-    Ok(book.ok().ok_or("a book")?)
+    book.ok()
 }
 
-/// Opens the next session of a book.
-fn open<O: Outbox>(
-    rt: &impl Abort,
-    alloc: Global,
-    book: &mut Book<O>,
-    host: &[u8],
-    outbox: O,
-) -> Result<Option<Baton>, AllocError>
-    requires fresh { O.sent outbox ≡ [] }
-    ensures opened { IfOk result (λ o. IfSome o (λ b. (b.session ≡ length book.old.outboxes + 1) × (book.new.outboxes ≡ book.old.outboxes ++ Some outbox ∷ []))) }
-    ensures none { IfOk result (λ o. o ≡ None → book.new ≡ book.old) }
-    ensures err { OnErr result (book.new ≡ book.old) }
+/// Makes room for one more guest, and answers whether there is some.
+fn make_room<T>(guests: &mut Vec<Option<Guest<T>>>) -> bool
+    ensures same { guests.new.items ≡ guests.old.items }
+    ensures room { result ≡ true → vec_len guests.new < vec_capacity guests.new }
 {
-    book.sound();
-    let first = copied(alloc, host)?;
-    let again = copied(alloc, host)?;
-    assert!(rt; is_host(first.as_slice()) && is_host(again.as_slice()));
-    let opened = match book.open(first, moment(), outbox) {
-        Err((OpenRefusal::Memory, outbox)) => book.open(again, moment(), outbox),
-        answer => answer,
-    };
-    match opened {
-        Ok((_, baton)) => Ok(Some(baton)),
-        Err(_) => Ok(None),
+    if guests.reserve(1).is_ok() {
+        return true;
     }
+    guests.reserve(1).is_ok()
 }
 
 /// Lets go of what is held of a session, and answers it.
@@ -118,37 +101,35 @@ fn stay<T: Drop>(guests: &mut Vec<Option<Guest<T>>>, session: u64, guest: Guest<
 
 impl<O: Outbox<Taker = T>, T: Drop> Meeting<O, T> {
     /// An empty book for so many records, and no guest.
-    pub(crate) fn new(alloc: Global, limit: usize) -> Result<Meeting<O, T>, Fail>
-        requires keeps { KeepsName O.accepts O.name }
+    pub(crate) fn new(alloc: Global, limit: usize) -> Option<Meeting<O, T>>
+        requires { KeepsName O.accepts O.name }
     {
-        Ok(Meeting {
+        let book = book(alloc, limit)?;
+        Some(Meeting {
             alloc,
-            book: book(alloc, limit)?,
+            hall: Hall::new(book),
             guests: Vec::new(alloc),
         })
     }
 
-    /// Whether the next session is opened with this outbox and its taker, and has this number.
-    pub(crate) fn opens(
-        &mut self,
-        rt: &impl Abort,
-        session: u64,
-        outbox: O,
-        taker: T,
-    ) -> Result<bool, AllocError>
-        requires fresh { O.sent outbox ≡ [] }
-        requires own { O.name outbox ≡ O.taker_of taker }
+    /// Whether the next session is opened, has an outbox for so many items, and has this number.
+    pub(crate) fn opens<R>(&mut self, rt: &R, session: u64, cap: usize) -> bool
+    where
+        O: Told<R, T>,
+        requires { 0 < cap }
     {
-        if self.guests.reserve(1).is_err() {
-            self.guests.reserve(1)?;
+        if !make_room(&mut self.guests) {
+            return false;
         }
-        let opened = open(rt, self.alloc, &mut self.book, host(session), outbox)?;
-        let Some(baton) = opened else {
-            return Ok(false);
+        let Some((outbox, taker)) = made(rt, self.alloc, cap) else {
+            return false;
+        };
+        let Some(baton) = open(self.alloc, &mut self.hall, host(session), outbox) else {
+            return false;
         };
         let is_next = baton.session().number() == session;
         self.guests.push_reserved(Some(Guest { baton, taker }));
-        Ok(is_next)
+        is_next
     }
 
     /// Whether a line of a session is answered so.
@@ -156,7 +137,7 @@ impl<O: Outbox<Taker = T>, T: Drop> Meeting<O, T> {
         let Some(mut guest) = leave(&mut self.guests, session) else {
             return false;
         };
-        let is_right = is_line(self.alloc, &mut self.book, &mut guest.baton, act);
+        let is_right = is_line(self.alloc, &mut self.hall, &mut guest.baton, act);
         stay(&mut self.guests, session, guest);
         is_right
     }
@@ -167,7 +148,7 @@ impl<O: Outbox<Taker = T>, T: Drop> Meeting<O, T> {
             return false;
         };
         let Guest { baton, taker } = guest;
-        let Err((refusal, baton, taker)) = self.book.reap(baton, taker) else {
+        let Err((refusal, baton, taker)) = self.hall.reap(baton, taker) else {
             return false;
         };
         let is_own = baton.session().number() == session;
@@ -181,7 +162,7 @@ impl<O: Outbox<Taker = T>, T: Drop> Meeting<O, T> {
             return false;
         };
         let Guest { baton, taker } = guest;
-        let Ok(left) = self.book.reap(baton, taker) else {
+        let Ok(left) = self.hall.reap(baton, taker) else {
             return false;
         };
         left.session.number() == session && left.count == count
@@ -196,22 +177,38 @@ impl<O: Outbox<Taker = T>, T: Drop> Meeting<O, T> {
             Act::NotGone(session) => self.keeps(session),
             Act::Reap(session, count) => self.reaps(session, count),
             Act::Leave(session) => leave(&mut self.guests, session).is_some(),
-            _ => is_answered(&mut self.book, act),
+            _ => is_answered(&mut self.hall, act),
         }
     }
 
-    /// Takes an item of a session, the first or another.
-    fn taken<R>(&mut self, rt: &R, session: u64, is_first: bool) -> Option<Item>
+    /// Takes the first item of a session.
+    fn taken_first<R>(&mut self, rt: &R, session: u64) -> Option<Item>
     where
         O: Told<R, T>,
     {
         let mut guest = leave(&mut self.guests, session)?;
-        let number = guest.baton.session();
-        let item = if is_first {
-            O::take_first(rt, &mut self.book, number, &mut guest.taker)
-        } else {
-            O::take(rt, &mut self.book, number, &mut guest.taker)
-        };
+        let item = O::take_first(
+            rt,
+            &mut self.hall,
+            SessionId::new(session),
+            &mut guest.taker,
+        );
+        stay(&mut self.guests, session, guest);
+        item
+    }
+
+    /// Takes another.
+    fn taken<R>(&mut self, rt: &R, session: u64) -> Option<Item>
+    where
+        O: Told<R, T>,
+    {
+        let mut guest = leave(&mut self.guests, session)?;
+        let item = O::take(
+            rt,
+            &mut self.hall,
+            SessionId::new(session),
+            &mut guest.taker,
+        );
         stay(&mut self.guests, session, guest);
         item
     }
@@ -222,15 +219,15 @@ impl<O: Outbox<Taker = T>, T: Drop> Meeting<O, T> {
         O: Told<R, T>,
     {
         match act {
-            Act::TakeFirst(session, number, text) => match self.taken(rt, session, true) {
+            Act::TakeFirst(session, number, text) => match self.taken_first(rt, session) {
                 Some(item) => is_item(&item, session, number, text),
                 None => false,
             },
-            Act::Take(session, number, text) => match self.taken(rt, session, false) {
+            Act::Take(session, number, text) => match self.taken(rt, session) {
                 Some(item) => is_item(&item, session, number, text),
                 None => false,
             },
-            Act::Nothing(session) => self.taken(rt, session, false).is_none(),
+            Act::Nothing(session) => self.taken(rt, session).is_none(),
             _ => false,
         }
     }
