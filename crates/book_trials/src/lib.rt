@@ -10,6 +10,8 @@ mod again;
 #[cfg(test)]
 mod comparing;
 #[cfg(test)]
+mod crowd;
+#[cfg(test)]
 mod hall;
 #[cfg(test)]
 mod meeting;

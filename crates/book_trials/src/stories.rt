@@ -250,6 +250,34 @@ const CUT: [Act; 14] = [
     Act::Records(13),
 ];
 
+/// Al and bo meet on a channel, and bo quits: all deliveries are put one by one. Each takes what it was sent at the end.
+const IN_STEPS: [Act; 24] = [
+    Act::Open(1),
+    Act::InSteps(1, 2, "NICK al", &[]),
+    Act::InSteps(1, 3, "USER a 0 * :Al", &[Fate::Put(1)]),
+    Act::Open(2),
+    Act::InSteps(2, 5, "NICK bo", &[]),
+    Act::InSteps(2, 6, "USER b 0 * :Bo", &[Fate::Put(2)]),
+    Act::InSteps(1, 7, "JOIN #a", &[Fate::Put(1)]),
+    Act::InSteps(2, 8, "JOIN #a", &[Fate::Put(2), Fate::Put(1)]),
+    Act::InSteps(2, 9, "QUIT :bye", &[Fate::Put(2)]),
+    Act::SweepInSteps(2, 10, &[Fate::Put(1)]),
+    Act::NobodyToSweep,
+    Act::TakeFirst(1, 3, WELCOME_AL),
+    Act::Take(1, 7, AL_ON_A),
+    Act::Take(1, 8, ":bo!b@h2 JOIN #a\r\n"),
+    Act::Take(1, 10, ":bo!b@h2 QUIT :bye\r\n"),
+    Act::Nothing(1),
+    Act::TakeFirst(2, 6, WELCOME_BO),
+    Act::Take(2, 8, BO_ON_A),
+    Act::Take(2, 9, "ERROR :Closing Link: h2 (Client Quit)\r\n"),
+    Act::Nothing(2),
+    Act::Reap(2, 0),
+    Act::IsAway(2),
+    Act::IsOpen(1),
+    Act::Records(10),
+];
+
 /// Tells a story over both outboxes.
 fn tell<R: Wait + Abort + Drop + Copy>(rt: &R, alloc: Global, story: &Story) {
     tell_over_rings(rt, alloc, story);
@@ -276,11 +304,11 @@ fn of_three(cap: usize, then: &'static [Act]) -> Story {
     }
 }
 
-/// A story of somebody who comes alone to a journal for four records.
-fn of_one(then: &'static [Act]) -> Story {
+/// A story of who comes to an empty book, for so many records and items.
+fn of_nobody(limit: usize, cap: usize, then: &'static [Act]) -> Story {
     Story {
-        limit: 4,
-        cap: 2,
+        limit,
+        cap,
         meet: &NOBODY,
         then,
     }
@@ -314,12 +342,19 @@ fn a_quit_is_told_once(rt: HostRuntime) {
 
 #[test]
 fn a_full_journal_has_room_for_the_ends(rt: HostRuntime) {
-    tell(&rt, rt.alloc(), &of_one(&FOUR_RECORDS));
-    tell(&rt, rt.alloc(), &of_one(&FOUR_RECORDS_LEFT));
+    tell(&rt, rt.alloc(), &of_nobody(4, 2, &FOUR_RECORDS));
+    tell(&rt, rt.alloc(), &of_nobody(4, 2, &FOUR_RECORDS_LEFT));
     tell(&rt, rt.alloc(), &of_two(12, 2, &TWELVE_RECORDS));
 }
 
 #[test]
 fn who_is_cut_off_is_shut(rt: HostRuntime) {
     tell_over_channels(&rt, rt.alloc(), &of_two(40, 8, &CUT));
+}
+
+/// Where a growth is refused in making an outbox, in opening a session, in beginning a line or a sweep, that answers that there is no
+/// memory, hands an outbox back and changes nothing, and does it when it is asked once more.
+#[test]
+fn a_growth_that_is_refused_changes_nothing(rt: HostRuntime) {
+    tell(&rt, rt.alloc(), &of_nobody(40, 8, &IN_STEPS));
 }
