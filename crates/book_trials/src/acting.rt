@@ -49,12 +49,10 @@ fn open_again<O: Outbox>(hall: &mut Hall<O>, before: Seen, host: Octets, outbox:
     ensures session { IfSome result (λ b. b.session ≡ length (names O.name hall.old) + 1) }
     ensures none { result ≡ None → names O.name hall.new ≡ names O.name hall.old }
 {
-    if look(hall.book()) != before {
-        return None;
-    }
-    match hall.open(host, outbox) {
-        Ok(baton) => Some(baton),
-        Err(_) => None,
+    if look(hall.book()) == before {
+        hall.open(host, outbox).ok()
+    } else {
+        None
     }
 }
 

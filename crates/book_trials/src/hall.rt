@@ -68,10 +68,7 @@ impl<O: Outbox> Hall<O> {
         ensures names { names O.name self.new ≡ names O.name self.old }
         ensures session { baton.new.session ≡ baton.old.session }
     {
-        match self.book.line(baton, piece, moment()) {
-            Ok(done) => Ok(done),
-            Err(refusal) => Err(refusal),
-        }
+        self.book.line(baton, piece, moment())
     }
 
     /// Begins a line.
@@ -80,10 +77,7 @@ impl<O: Outbox> Hall<O> {
         ensures out { IfOk result (λ p. IsOut self.new p) }
         ensures line { IfOk result (λ p. (p.session ≡ baton.now.session) × (p.next ≡ Some (baton.now.next + 1))) }
     {
-        match self.book.begin(baton, piece, moment()) {
-            Ok(plan) => Ok(plan),
-            Err(refusal) => Err(refusal),
-        }
+        self.book.begin(baton, piece, moment())
     }
 
     /// Puts or misses the next delivery, if one is left.
@@ -147,21 +141,14 @@ impl<O: Outbox> Hall<O> {
     pub(crate) fn hang(&mut self, session: SessionId, why: Why) -> Result<Hung, HangRefusal>
         ensures names { names O.name self.new ≡ names O.name self.old }
     {
-        match self.book.hang(session, why, moment()) {
-            Ok(hung) => Ok(hung),
-            Err(refusal) => Err(refusal),
-        }
+        self.book.hang(session, why, moment())
     }
 
     /// Sweeps a session at once, if there is one to sweep.
     pub(crate) fn sweep(&mut self) -> Result<Option<Done>, SweepRefusal>
         ensures names { names O.name self.new ≡ names O.name self.old }
     {
-        match self.book.sweep(moment()) {
-            Ok(Some(done)) => Ok(Some(done)),
-            Ok(None) => Ok(None),
-            Err(refusal) => Err(refusal),
-        }
+        self.book.sweep(moment())
     }
 
     /// Begins to sweep a session, if there is one to sweep.
@@ -169,11 +156,7 @@ impl<O: Outbox> Hall<O> {
         ensures names { names O.name self.new ≡ names O.name self.old }
         ensures out { IfOk result (λ o. IfSome o (λ p. IsOut self.new p × (p.next ≡ None))) }
     {
-        match self.book.begin_sweep(moment()) {
-            Ok(Some(plan)) => Ok(Some(plan)),
-            Ok(None) => Ok(None),
-            Err(refusal) => Err(refusal),
-        }
+        self.book.begin_sweep(moment())
     }
 
     /// Gives back the plan of a sweep.
@@ -196,10 +179,7 @@ impl<O: Outbox> Hall<O> {
         ensures reaped { OnOk result (names O.name self.new ≡ slice_set (names O.name self.old) (baton.session - 1) None) }
         ensures same { IfErr result (λ e. (names O.name self.new ≡ names O.name self.old) × (e.1 ≡ baton) × (e.2 ≡ taker)) }
     {
-        match self.book.reap(baton, taker) {
-            Ok(left) => Ok(left),
-            Err((refusal, baton, taker)) => Err((refusal, baton, taker)),
-        }
+        self.book.reap(baton, taker)
     }
 }
 
