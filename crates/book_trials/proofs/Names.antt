@@ -58,7 +58,7 @@ named_line {O = O} Rest accepts refuses name keeps m k kind moment (Err e) ok er
 -- a sweep also finds nobody
 pub named_sweep : {O N E : Type 0} (accepts : O → Item → O → Type 0) (refuses : O → PutFault → Type 0) (name : O → N) → KeepsName accepts name → (m k : Shown O) (moment : ℤ) (r : Result (Option Done) E)
     → IfOk r
-        (λ o. IfSome o (λ d. (s : ℕ) × (to_sweep m.history ≡ Some s) × IsDone accepts refuses m (Gone s) moment k × (d.number ≡ length m.history + 1) × (d.missed ≡ newest_missed k.history) × (d.shut ≡ shut k.history s)))
+    (λ o. IfSome o (λ d. (s : ℕ) × (to_sweep m.history ≡ Some s) × IsDone accepts refuses m (Gone s) moment k × (d.number ≡ length m.history + 1) × (d.missed ≡ newest_missed k.history) × (d.shut ≡ shut k.history s)))
     → IfOk r (λ o. o ≡ None → (to_sweep m.history ≡ None) × (k ≡ m)) → OnErr r (k ≡ m) → names name k ≡ names name m
 named_sweep accepts refuses name keeps m k moment (Ok (Some d)) some none err = named_done accepts refuses name keeps m k (Gone some.0) moment some.2
 named_sweep {O = O} accepts refuses name keeps m k moment (Ok None) some none err = ap (λ (q : Shown O). names name q) (none refl).1

@@ -10,4 +10,4 @@ pub returns-clause-reaped : goal.returns-clause-reaped
 returns-clause-reaped g c =
     let A = g.O.Outbox in
     subst (λ (m : Shown g.row.O.Denot). OnOk c.reap.result (names A.name c.reap.new.self ≡ slice_set (names A.name m) (c.args.baton.session - 1) None)) c.self.view_is
-      (named_reaped A.name c.self.inside.book c.reap.new.self c.args.baton.session c.reap.result c.reap.ensures.ok)
+    (named_reaped A.name c.self.inside.book c.reap.new.self c.args.baton.session c.reap.result c.reap.ensures.ok)
