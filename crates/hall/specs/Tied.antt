@@ -32,7 +32,7 @@ pub record IsTied {O N : Type 0} (name : O → N) (m : Shown O) (rows : List (Ro
 
 -- whether a session is gone, where it was opened and isn't reaped
 abbrev pub place_of : {O : Type 0} → Shown O → ℕ → Option Bool
-place_of m t = cond (nat_lt 0 t && is_here m.outboxes t) (Some (gone m.history t)) None
+place_of m t = cond (is_here m.outboxes t && nat_lt 0 t) (Some (gone m.history t)) None
 
 -- a table tells this of each session
 abbrev pub IsPresent : {O : Type 0} → (ℕ → Option Bool) → Shown O → Type 0

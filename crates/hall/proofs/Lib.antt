@@ -1,0 +1,4 @@
+pub mod Boxes
+pub mod Unopened
+pub mod Ties
+pub mod Places
