@@ -16,7 +16,7 @@ use Rattle.outbox.specs.declared.queue.PutFault.{PutFault}
 use Rattle.book.specs.declared.plan.Planned.{Planned}
 use Rattle.book.specs.declared.out.Step.{Step}
 use Rattle.book.specs.declared.out.Step.TheVariants.{Put, Missed}
-use Rattle.book.specs.Book.{Shown, is_here, opened, begun, reaped, IsKnown, IsPutNext, IsPutAll, IsDone}
+use Rattle.book.specs.Book.{Shown, is_here, plan_of, opened, begun, reaped, IsKnown, IsPutNext, IsPutAll, IsDone}
 use Rattle.hall.specs.Tied.{place_of, IsPresent}
 use Rattle.hall.proofs.Boxes.{push_else, still_there}
 
@@ -145,4 +145,4 @@ module _ {O : Type 0} where
     put_all_places m k (q ∷ qs) t p = put_all_places p.0 k qs t p.3 ∙ put_places m p.0 (q ∷ qs) (Some p.1) t p.2
 
     pub done_places : (m k : Shown O) (kind : Kind) (moment : ℤ) (t : ℕ) → IsDone accepts refuses m kind moment k → place_of k t ≡ place_of (begun m kind moment) t
-    done_places m k kind moment t d = ap (λ n. place_of n t) d.2 ∙ put_all_places (begun m kind moment) d.0 _ t d.1
+    done_places m k kind moment t d = ap (λ n. place_of n t) d.2 ∙ put_all_places (begun m kind moment) d.0 (plan_of m.settings m.history kind moment (length m.outboxes)) t d.1

@@ -17,14 +17,18 @@ use Rattle.register.specs.declared.claims.Row.{Row}
 use Rattle.register.specs.Rows.{new_row, with_piece, outbox_at, pieces_at}
 use Rattle.register.proofs.Rows.{cond_is, first_outbox, rest_outbox, piece_outbox, piece_here}
 use Rattle.batons.specs.Standing.{Begun, begun_by, StandsFor}
-use Rattle.batons.proofs.Standing.{nothing, opens, passes, begins, finishes, misses, missed_sessions, known}
+use Rattle.batons.proofs.Standing.{nothing, opens, passes, begins, finishes, misses, known}
 use Rattle.book.specs.declared.plan.Planned.{Planned}
 use Rattle.book.specs.declared.out.Step.{Step}
 use Rattle.book.specs.declared.out.Step.TheVariants.{Put, Missed}
-use Rattle.book.specs.Book.{Shown, box_at, empty_book, opened, begun, finished, reaped, dropped, IsPutNext, IsPutAll, IsDone, newest_actor, next_of, newest_next}
+use Rattle.book.specs.Book.{Shown, box_at, plan_of, empty_book, opened, begun, finished, reaped, dropped, IsPutNext, IsPutAll, IsDone, newest_actor, next_of, newest_next}
 use Rattle.hall.specs.Reaping.{newest_said}
 use Rattle.hall.specs.Tied.{line_of, newest_line, begun_of, IsTied}
 use Rattle.hall.proofs.Boxes.{push_else, replaced, taken_out}
+
+sessions_missed : (h : List Rec) (u : ℕ) → sessions (miss h u) ≡ sessions h
+sessions_missed [] u = refl
+sessions_missed (r ∷ h) u = refl
 
 -- who misses the newest record changes nothing of its line
 line_missed : (h : List Rec) (u : ℕ) → newest_line (miss h u) ≡ newest_line h
@@ -63,7 +67,7 @@ module _ {O : Type 0} (accepts : O → Item → O → Type 0) (refuses : O → P
   put_line m k (q ∷ qs) (Some (Put t)) p = (ap begun_of p.1.book, ap (λ n. sessions n.history) p.1.book)
   put_line m k (q ∷ qs) (Some (Missed t)) p = (
     ap begun_of p.1.book ∙ ap (λ l. cond m.busy l None) (line_missed m.history q.session),
-    ap (λ n. sessions n.history) p.1.book ∙ missed_sessions m.history q.session,
+    ap (λ n. sessions n.history) p.1.book ∙ sessions_missed m.history q.session,
   )
 
   put_all_line : (m k : Shown O) (ps : List Planned) → IsPutAll accepts refuses m ps k → (begun_of k ≡ begun_of m) × (sessions k.history ≡ sessions m.history)
@@ -74,7 +78,7 @@ module _ {O : Type 0} (accepts : O → Item → O → Type 0) (refuses : O → P
   -- a record that opens no session opens none
   pub done_sessions : (m k : Shown O) (kind : Kind) (moment : ℤ) → opened_by kind ≡ 0 → IsDone accepts refuses m kind moment k → sessions k.history ≡ sessions m.history
   done_sessions m k kind moment none d =
-      ap (λ n. sessions n.history) d.2 ∙ (put_all_line (begun m kind moment) d.0 _ d.1).1 ∙ ap (λ (n : ℕ). n + sessions m.history) none ∙ (let e : 0 + sessions m.history ≡ sessions m.history = omega arith in e)
+      ap (λ n. sessions n.history) d.2 ∙ (put_all_line (begun m kind moment) d.0 (plan_of m.settings m.history kind moment (length m.outboxes)) d.1).1 ∙ ap (λ (n : ℕ). n + sessions m.history) none ∙ (let e : 0 + sessions m.history ≡ sessions m.history = omega arith in e)
 
   pub done_idle : (m k : Shown O) (kind : Kind) (moment : ℤ) → IsDone accepts refuses m kind moment k → k.busy ≡ false
   done_idle m k kind moment d = ap (λ n. n.busy) d.2
@@ -179,8 +183,8 @@ module _ {O N : Type 0} (name : O → N) where
       → (m k : Shown O) (s i : ℕ) (p : Piece) (moment : ℤ) (rows : List (Row N)) → m.busy ≡ false → IsDone accepts refuses m (Said s i p) moment k → IsTied name m rows → IsTied name k (with_piece rows s p)
   done_ties accepts refuses stays m k s i p moment rows idle d tied =
       let n = d.0 in
-      let begun_ = put_all_ties accepts refuses name stays (begun m (Said s i p) moment) n _ rows d.1 (said_ties m s i p moment rows idle tied) in
-      let line : begun_of n ≡ Some (s, p) = (put_all_line accepts refuses (begun m (Said s i p) moment) n _ d.1).0 in
+      let begun_ = put_all_ties accepts refuses name stays (begun m (Said s i p) moment) n (plan_of m.settings m.history (Said s i p) moment (length m.outboxes)) rows d.1 (said_ties m s i p moment rows idle tied) in
+      let line : begun_of n ≡ Some (s, p) = (put_all_line accepts refuses (begun m (Said s i p) moment) n (plan_of m.settings m.history (Said s i p) moment (length m.outboxes)) d.1).0 in
       subst (λ b. IsTied name b (with_piece rows s p)) (sym d.2) (line_ties n s p rows line begun_)
 
   -- and so is the end of a session
@@ -188,6 +192,6 @@ module _ {O N : Type 0} (name : O → N) where
       → (m k : Shown O) (s : ℕ) (why : Why) (moment : ℤ) (rows : List (Row N)) → m.busy ≡ false → IsDone accepts refuses m (Hung s why) moment k → IsTied name m rows → IsTied name k rows
   hung_done_ties accepts refuses stays m k s why moment rows idle d tied =
       let n = d.0 in
-      let begun_ = put_all_ties accepts refuses name stays (begun m (Hung s why) moment) n _ rows d.1 (hung_ties m s why moment rows idle tied) in
-      let line : begun_of n ≡ None = (put_all_line accepts refuses (begun m (Hung s why) moment) n _ d.1).0 in
+      let begun_ = put_all_ties accepts refuses name stays (begun m (Hung s why) moment) n (plan_of m.settings m.history (Hung s why) moment (length m.outboxes)) rows d.1 (hung_ties m s why moment rows idle tied) in
+      let line : begun_of n ≡ None = (put_all_line accepts refuses (begun m (Hung s why) moment) n (plan_of m.settings m.history (Hung s why) moment (length m.outboxes)) d.1).0 in
       subst (λ b. IsTied name b rows) (sym d.2) (sweep_ties n rows line begun_)

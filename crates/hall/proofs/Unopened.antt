@@ -5,6 +5,7 @@ use Rattle.chronicle.specs.declared.record.Kind.{Kind}
 use Rattle.chronicle.specs.declared.record.Kind.TheVariants.{Opened, Said, Hung, Gone}
 use Rattle.chronicle.specs.History.{Rec, opened_by, sessions, said_by, accepted, leaves, shut, gone}
 use Rattle.registration.specs.declared.settings.Settings.{Settings}
+use Rattle.roster.specs.LookBack.{numbers}
 use Rattle.book.specs.Legal.{IsKind, IsLegal}
 use Rattle.book.specs.Book.{first, is_to_sweep, to_sweep}
 
@@ -31,11 +32,11 @@ not_gone g (r ∷ h) t i late = let before : sessions h < t = omega arith in rw 
 -- the first of a list that a test holds of
 first_holds : (f : ℕ → Bool) (ts : List ℕ) (t : ℕ) → first f ts ≡ Some t → f t ≡ true
 first_holds f [] t e = absurd (none-some t e)
-first_holds f (u ∷ ts) t e = at (f u) refl e
+first_holds f (u ∷ ts) t e = at (f u) refl e (first_holds f ts t)
   where
-    at : (b : Bool) → f u ≡ b → cond b (Some u) (first f ts) ≡ Some t → f t ≡ true
-    at true is e' = ap f (sym (same_Some u t e')) ∙ is
-    at false is e' = first_holds f ts t e'
+    at : (b : Bool) → f u ≡ b → cond b (Some u) (first f ts) ≡ Some t → (first f ts ≡ Some t → f t ≡ true) → f t ≡ true
+    at true is here later = ap f (sym (same_Some u t here)) ∙ is
+    at false is here later = later here
 
 second_not : (a b : Bool) → (a && not b) ≡ true → b ≡ false
 second_not true true e = absurd (let f : false ≡ true = e in cc)
@@ -43,4 +44,4 @@ second_not true false e = refl
 second_not false b e = absurd (let f : false ≡ true = e in cc)
 
 pub swept_not_gone : (h : List Rec) (s : ℕ) → to_sweep h ≡ Some s → gone h s ≡ false
-swept_not_gone h s e = second_not (shut h s) (gone h s) (first_holds (is_to_sweep h) _ s e)
+swept_not_gone h s e = second_not (shut h s) (gone h s) (first_holds (is_to_sweep h) (numbers 1 (sessions h)) s e)
