@@ -1,3 +1,4 @@
+pub mod Outcomes
 pub mod Boxes
 pub mod Unopened
 pub mod Ties

@@ -127,6 +127,7 @@ impl<L: Naming, O: Lasting> Book<L, O> {
         ensures refusal { IfErr result (λ e. IsOpenRefusal self.old moment e.0) }
         ensures err { IfErr result (λ e. (self.new ≡ self.old) × (e.1 ≡ outbox)) }
     {
+        self.book.sound();
         if let Err(refusal) = self.book.may_open(moment) {
             return Err((refusal, outbox));
         }
@@ -261,6 +262,7 @@ impl<L: Naming, O: Lasting> Book<L, O> {
         ensures refusal { IfErr result (λ e. IsSweepRefusal self.old moment e) }
         ensures err { OnErr result (self.new ≡ self.old) }
     {
+        self.book.sound();
         let Some(plan) = self.book.begin_sweep(moment)? else {
             return Ok(None);
         };
@@ -364,6 +366,7 @@ impl<L: Naming, O: Lasting> Book<L, O> {
         ensures left { IsAllOwed O.sent O.taken self.old baton.session taker result.count }
         ensures pieces { baton.pieces ≡ accepted self.old.history baton.session }
     {
+        self.book.sound();
         let Baton { turn, mark, .. } = baton;
         let session = turn.session();
         self.register.retire(mark, stub);

@@ -1,0 +1,7 @@
+-- What follows from either outcome of a call.
+use Rattle.std.proofs.Common.{Result, Ok, Err}
+use Rattle.std.specs.Prelude.{OnOk, OnErr}
+
+pub by_result : {A E : Type 0} (r : Result A E) (P R Q : Type 0) {G : Type 0} → OnOk r P → OnOk r R → OnErr r Q → (P → R → G) → (Q → G) → G
+by_result (Ok x) P R Q p r q f g = f p r
+by_result (Err e) P R Q p r q f g = g q
