@@ -16,7 +16,7 @@ use Rattle.outbox.specs.declared.queue.PutFault.{PutFault}
 use Rattle.book.specs.declared.plan.Planned.{Planned}
 use Rattle.book.specs.declared.out.Step.{Step}
 use Rattle.book.specs.declared.out.Step.TheVariants.{Put, Missed}
-use Rattle.book.specs.Book.{Shown, is_here, plan_of, opened, begun, reaped, IsKnown, IsSound, to_sweep, IsPutNext, IsPutAll, IsDone}
+use Rattle.book.specs.Book.{Shown, is_here, plan_of, opened, begun, reaped, IsKnown, IsSound, Out, IsOut, to_sweep, IsPutNext, IsPutAll, IsDone}
 use Rattle.hall.specs.Tied.{place_of, IsPresent}
 use Rattle.hall.proofs.Boxes.{push_else, still_there}
 use Rattle.hall.proofs.Unopened.{swept_not_gone}
@@ -70,12 +70,18 @@ module _ {O : Type 0} where
   not_there m s e i = none-some (gone m.history s) (sym e ∙ known_there m s i)
 
   -- who is to be swept is there
-  pub swept_known : (sent : O → List Item) (m : Shown O) (s : ℕ) → IsSound sent m → to_sweep m.history ≡ Some s → 0 < s → s ≤ sessions m.history → IsKnown m s
+  swept_known : (sent : O → List Item) (m : Shown O) (s : ℕ) → IsSound sent m → to_sweep m.history ≡ Some s → 0 < s → s ≤ sessions m.history → IsKnown m s
   swept_known sent m s i e from to = at (is_here m.outboxes s) refl
     where
       at : (b : Bool) → is_here m.outboxes s ≡ b → IsKnown m s
       at true here = record { from_1 = from; opened = to; here = here }
       at false away = absurd (let many = i.sessions in let f : true ≡ false = sym (i.reaped s from (omega arith) away) ∙ swept_not_gone m.history s e in cc)
+
+  pub swept_there : (sent : O → List Item) (m k : Shown O) (p : Out) (moment : ℤ) → IsSound sent m → to_sweep m.history ≡ Some p.session → k ≡ begun m (Gone p.session) moment → IsOut k p → IsKnown m p.session
+  swept_there sent m k p moment i next is out =
+      let same : sessions k.history ≡ 0 + sessions m.history = ap (λ n. sessions n.history) is in
+      let to = out.opened in
+      swept_known sent m p.session i next out.from_1 (omega arith)
 
   -- ---- over the steps
 

@@ -21,7 +21,7 @@ use Rattle.batons.proofs.Standing.{nothing, opens, passes, begins, finishes, mis
 use Rattle.book.specs.declared.plan.Planned.{Planned}
 use Rattle.book.specs.declared.out.Step.{Step}
 use Rattle.book.specs.declared.out.Step.TheVariants.{Put, Missed}
-use Rattle.book.specs.Book.{Shown, box_at, plan_of, empty_book, opened, begun, finished, reaped, dropped, IsPutNext, IsPutAll, IsDone, newest_actor, next_of, newest_next}
+use Rattle.book.specs.Book.{Shown, box_at, plan_of, empty_book, opened, begun, finished, reaped, dropped, IsPutNext, IsPutAll, IsDone, newest_actor, next_of, newest_next, Out, IsOut}
 use Rattle.hall.specs.Reaping.{newest_said}
 use Rattle.hall.specs.Tied.{line_of, newest_line, begun_of, IsTied}
 use Rattle.hall.proofs.Boxes.{push_else, replaced, taken_out}
@@ -56,6 +56,18 @@ no_line (Gone s) e = refl
 pub newest_is_none : (h : List Rec) → newest_next h ≡ None → newest_line h ≡ None
 newest_is_none [] e = refl
 newest_is_none (r ∷ h) e = no_line r.kind e
+
+-- the line whose plan is out
+pub out_line : {O : Type 0} (m : Shown O) (p : Out) (s n : ℕ) → IsOut m p → p.session ≡ s → p.next ≡ Some n → (x : Piece) × (begun_of m ≡ Some (s, x)) × (newest_line m.history ≡ Some (s, x)) × (newest_said m.history s ≡ x ∷ [])
+out_line m p s n out whose next =
+    let l = newest_is m.history n (sym out.next ∙ next) in
+    let is : newest_actor m.history ≡ s = sym out.session ∙ whose in
+    let line : newest_line m.history ≡ Some (s, l.0) = l.1 ∙ ap (λ (t : ℕ). Some (t, l.0)) is in
+    (l.0, ap (λ (b : Bool). cond b (newest_line m.history) None) out.busy ∙ line, line, subst (λ (t : ℕ). newest_said m.history t ≡ l.0 ∷ []) is l.2)
+
+-- and none, where it is that of no line
+pub out_no_line : {O : Type 0} (m : Shown O) (p : Out) → IsOut m p → p.next ≡ None → begun_of m ≡ None
+out_no_line m p out next = ap (λ (b : Bool). cond b (newest_line m.history) None) out.busy ∙ newest_is_none m.history (sym out.next ∙ next)
 
 module _ {O : Type 0} (accepts : O → Item → O → Type 0) (refuses : O → PutFault → Type 0) where
   -- ---- a delivery is put or missed, which changes neither the line that is begun nor the sessions
