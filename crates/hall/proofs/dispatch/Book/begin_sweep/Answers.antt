@@ -1,4 +1,4 @@
-use Rattle.std.proofs.Common.{◌≡◌, ℕ, Bool, true, cond, nat_eq, Option, Some, None, sym, ap, ◌∙◌, subst}
+use Rattle.std.proofs.Common.{◌≡◌, ℕ, Bool, true, cond, nat_eq, Option, Some, None, refl, sym, ap, ◌∙◌, subst}
 use Rattle.std.specs.Prelude.{IsSome}
 use Rattle.std.specs.HashMap.{get}
 use Rattle.chronicle.specs.declared.record.Kind.TheVariants.{Gone}
@@ -15,7 +15,7 @@ leave-requires g c =
     let k = c.begin_sweep.new.self in
     let some : (to_sweep a.book.history ≡ Some p.session) × (k ≡ begun a.book (Gone p.session) c.args.moment) × IsOut k p × (p.next ≡ None) = rw c.in-Some.is at c.in_ok-plan.ensures.some in
     let known = swept_there g.O.Outbox.sent a.book k p c.args.moment c.sound.ensures some.0 some.1 some.2 in
-    record { there = subst IsSome (sym (ap (get nat_eq a.presence.sessions) c.session.ensures ∙ c.self.invariant.2 p.session ∙ known_there a.book p.session known)) tt }
+    record { there = subst IsSome (sym (ap (get nat_eq a.presence.sessions) c.session.ensures ∙ c.self.invariant.2 p.session ∙ known_there a.book p.session known)) refl }
 
 pub invariant_of-self-2 : goal.invariant_of-self-2
 invariant_of-self-2 g c =
