@@ -8,8 +8,6 @@ mod lasting;
 mod left;
 mod namesake;
 mod presence;
-#[cfg(test)]
-mod tests;
 
 pub use baton::Baton;
 pub use book::{
