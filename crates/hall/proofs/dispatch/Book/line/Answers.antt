@@ -4,6 +4,7 @@ use Rattle.chronicle.specs.History.{sessions, accepted}
 use Rattle.register.specs.declared.claims.Row.{Row}
 use Rattle.register.specs.Rows.{with_piece, pieces_at}
 use Rattle.batons.specs.Turn.{Turn}
+use Rattle.book.specs.Book.{IsDone}
 use Rattle.hall.specs.Tied.{IsTied}
 use Rattle.hall.proofs.Ties.{done_ties, done_sessions, done_idle, done_accepts}
 use Rattle.hall.proofs.Places.{done_places}
@@ -60,3 +61,11 @@ invariant_of-baton-2 g c =
 
 pub returns-clause-accepted : goal.returns-clause-accepted
 returns-clause-accepted g c = pieces g c ∙ ap (accepted c.line.new.self.history) (ap (λ (t : Turn). t.session) c.baton.view_is)
+
+pub returns-clause-ok : goal.returns-clause-ok
+returns-clause-ok g c =
+    let k = c.line.new.self in
+    let b = c.baton.inside.turn in
+    let p = c.args.piece.now in
+    subst (λ (t : Turn). IsDone g.O.Outbox.accepts g.O.Outbox.refuses c.args.self.now (Said t.session t.next p) c.args.moment k) c.baton.view_is
+    (subst (λ m. IsDone g.O.Outbox.accepts g.O.Outbox.refuses m (Said b.session b.next p) c.args.moment k) c.self.view_is c.in_ok-done.ensures.ok)
