@@ -1,0 +1,5 @@
+pub mod Outcomes
+pub mod Boxes
+pub mod Unopened
+pub mod Ties
+pub mod Places

@@ -1,0 +1,11 @@
+-- What follows from either outcome of a call.
+use Rattle.std.proofs.Common.{◌≡◌, Result, Ok, Err, Option, Some, subst}
+use Rattle.std.specs.Prelude.{OnOk, OnErr, IfSome}
+
+pub by_result : {A E : Type 0} (r : Result A E) (P R Q : Type 0) {G : Type 0} → OnOk r P → OnOk r R → OnErr r Q → (P → R → G) → (Q → G) → G
+by_result (Ok x) P R Q p r q f g = f p r
+by_result (Err e) P R Q p r q f g = g q
+
+-- what holds of the value of an option whose value is known
+pub at_some : {A : Type 0} (o : Option A) (x : A) (P : A → Type 0) → o ≡ Some x → IfSome o P → P x
+at_some {A} o x P is p = subst (λ (q : Option A). IfSome q P) is p

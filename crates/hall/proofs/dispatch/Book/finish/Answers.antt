@@ -1,0 +1,86 @@
+use Rattle.std.proofs.Common.{◌≡◌, ◌<◌, ◌≤◌, ◌+◌, ℕ, List, [], ◌∷◌, ◌++◌, length, Some, length-append, refl, sym, ap, ◌∙◌, subst, arith}
+use Rattle.line_grammar.specs.declared.splitter.Piece.{Piece}
+use Rattle.chronicle.specs.History.{sessions, accepted}
+use Rattle.register.specs.declared.claims.Row.{Row}
+use Rattle.register.specs.Rows.{with_piece, pieces_at}
+use Rattle.register.specs.Shown.{with_done, longer_mark}
+use Rattle.batons.specs.Turn.{Turn}
+use Rattle.book.specs.Book.{IsOut, finished}
+use Rattle.hall.specs.Tied.{newest_line, begun_of, IsTied, place_of}
+use Rattle.hall.proofs.Outcomes.{at_some}
+use Rattle.hall.proofs.Ties.{out_line, line_ties, done_accepts}
+use Rattle.hall.proofs.dispatch.Book.finish.Given as given
+use Rattle.hall.proofs.dispatch.Book.finish.Goals as goal
+
+-- the plan is the one that is out
+out : (g : given.Over) (c : goal.After-drop-baton-inside g) → IsOut c.self.inside.book c.args.plan
+out g c = subst (λ m. IsOut m c.args.plan) (sym c.self.view_is) c.requires.out
+
+-- what the line that is done said, and what that makes of the register and of the mark
+record Turned (g : given.Over) (c : goal.After-drop-baton-inside g) : Type 0 where
+  said : Piece
+  line : begun_of c.self.inside.book ≡ Some (c.baton.inside.turn.session, said)
+  register : c.advance.new.register ≡ with_done c.self.inside.register c.baton.inside.mark.session said
+  mark : c.advance.new.mark ≡ longer_mark c.baton.inside.mark said
+
+turned : (g : given.Over) (c : goal.After-drop-baton-inside g) → Turned g c
+turned g c =
+    let a = c.self.inside in
+    let k = c.finish-done.new.self in
+    let s = c.baton.inside.turn.session in
+    let mark = c.baton.inside.mark in
+    let whose = c.requires.line.0 ∙ sym (ap (λ (t : Turn). t.session) c.baton.view_is) in
+    let l = out_line a.book c.args.plan s (c.args.baton.now.next + 1) (out g c) whose c.requires.line.1 in
+    let newest : newest_line k.history ≡ Some (s, l.0) = ap (λ m. newest_line m.history) c.finish-done.ensures.book ∙ l.2 in
+    record {
+      said = l.0;
+      line = l.1;
+      register = at_some (newest_line k.history) (s, l.0) (λ (q : ℕ × Piece). c.advance.new.register ≡ with_done a.register mark.session q.1) newest c.advance.ensures.register;
+      mark = at_some (newest_line k.history) (s, l.0) (λ (q : ℕ × Piece). c.advance.new.mark ≡ longer_mark mark q.1) newest c.advance.ensures.mark;
+    }
+
+tied : (g : given.Over) (c : goal.After-drop-baton-inside g) → IsTied g.O.Outbox.name (finished c.self.inside.book) (with_piece c.self.inside.register.rows c.baton.inside.turn.session (turned g c).said)
+tied g c = line_ties g.O.Outbox.name c.self.inside.book c.baton.inside.turn.session (turned g c).said c.self.inside.register.rows (turned g c).line c.self.invariant.1
+
+-- the pieces done, with this one, are those that the history accepts then
+pieces : (g : given.Over) (c : goal.After-drop-baton-inside g) → c.advance.new.mark.pieces ≡ accepted c.self.inside.book.history c.baton.inside.turn.session
+pieces g c =
+    let a = c.self.inside in
+    let turn = c.baton.inside.turn in
+    let mark = c.baton.inside.mark in
+    let whose : c.args.plan.session ≡ turn.session = c.requires.line.0 ∙ sym (ap (λ (t : Turn). t.session) c.baton.view_is) in
+    let o = out g c in
+    let from = subst (λ (s : ℕ). 0 < s) whose o.from_1 in
+    let to = subst (λ (s : ℕ). s ≤ sessions a.book.history) whose o.opened in
+    let knew = ap (pieces_at a.register.rows) (sym c.baton.invariant.0) ∙ c.advance.ensures.knew in
+    ap (λ m. m.pieces) (turned g c).mark ∙ done_accepts g.O.Outbox.name (finished a.book) turn.session (turned g c).said mark.pieces a.register.rows refl (tied g c) from to knew
+
+pub invariant_of-self : goal.invariant_of-self
+invariant_of-self g c =
+    let a = c.self.inside in
+    let i = c.self.invariant in
+    let t = turned g c in
+    let is = c.finish-done.ensures.book in
+    let rows = ap (λ r. r.rows) t.register ∙ ap (λ (s : ℕ). with_piece a.register.rows s t.said) c.baton.invariant.0 in (
+      ap (λ r. r.table) t.register ∙ i.0,
+      subst (λ m. IsTied g.O.Outbox.name m c.advance.new.register.rows) (sym is) (subst (λ (xs : List (Row g.row.O-Name.Denot)). IsTied g.O.Outbox.name (finished a.book) xs) (sym rows) (tied g c)),
+      λ u. i.2 u ∙ sym (ap (λ m. place_of m u) is),
+    )
+
+pub invariant_of-baton : goal.invariant_of-baton
+invariant_of-baton g c =
+    let turn = c.baton.inside.turn in
+    let mark = c.baton.inside.mark in
+    let now = c.finish-done.new.baton in
+    let goes_on = c.finish-done.ensures.baton in
+    let t = turned g c in
+    let whose : now.session ≡ turn.session = ap (λ b. b.session) goes_on in
+    let longer : length c.advance.new.mark.pieces ≡ length mark.pieces + 1 = ap (λ m. length m.pieces) t.mark ∙ length-append mark.pieces (t.said ∷ []) in
+    let more : now.next ≡ turn.next + 1 = ap (λ b. b.next) goes_on in
+    let counted = c.baton.invariant.1.next in (
+      ap (λ m. m.session) t.mark ∙ c.baton.invariant.0 ∙ sym whose,
+      record { next = omega arith; pieces = pieces g c ∙ ap (accepted c.self.inside.book.history) (sym whose) ∙ ap (λ b. accepted b.history now.session) (sym (c.of.ensures ∙ c.finish-done.ensures.book)) },
+    )
+
+pub returns-clause-accepted : goal.returns-clause-accepted
+returns-clause-accepted g c = pieces g c ∙ ap (accepted c.self.inside.book.history) (ap (λ (t : Turn). t.session) c.baton.view_is) ∙ ap (λ b. accepted b.history c.args.baton.now.session) (sym c.finish-done.ensures.book)

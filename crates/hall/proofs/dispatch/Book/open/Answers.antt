@@ -1,0 +1,53 @@
+use Rattle.std.proofs.Common.{◌≡◌, ◌+◌, ◌<◌, ℕ, Bool, false, cond, nat_eq, List, [], ◌∷◌, length, Option, Some, sym, ap, ◌∙◌, subst, append-nil, arith}
+use Rattle.std.specs.HashMap.{get}
+use Rattle.chronicle.specs.History.{Rec, sessions, accepted}
+use Rattle.register.specs.declared.claims.Row.{Row}
+use Rattle.register.specs.Rows.{new_row}
+use Rattle.book.specs.Book.{Shown, opened}
+use Rattle.hall.specs.Tied.{IsTied, place_of}
+use Rattle.hall.proofs.Unopened.{silent, not_gone}
+use Rattle.hall.proofs.Ties.{opened_ties}
+use Rattle.hall.proofs.Places.{opened_places}
+use Rattle.hall.proofs.dispatch.Book.open.Goals as goal
+
+pub invariant_of-result : goal.invariant_of-result
+invariant_of-result g c =
+    let m = c.self.inside.book in
+    let n = sessions m.history + 1 in
+    let ok = c.in_ok-session.ensures.ok in
+    let session = c.in_ok-session.ensures.session in
+    let mark = c.admit-mark.ensures.mark in
+    let turn = c.in_ok-session.turn in
+    let late : sessions m.history < n = omega arith in
+    let none : accepted m.history n ≡ [] = silent m.settings m.history n c.sound.ensures.legal late in
+    let whose : turn.session ≡ n = ap (λ b. b.session) session.1 in
+    let front : accepted c.of-front.result.value.history turn.session ≡ [] =
+    ap (λ (b : Shown g.row.O.Denot). accepted b.history turn.session) (c.of-front.ensures ∙ ok) ∙ ap (accepted (opened m c.args.host c.args.moment c.args.outbox).history) whose ∙ append-nil (accepted m.history n) ∙ none in (
+      ap (λ b. b.session) mark ∙ session.0 ∙ sym whose,
+      record { next = ap (λ b. b.next) session.1 ∙ sym (ap (λ b. length b.pieces) mark); pieces = ap (λ b. b.pieces) mark ∙ sym front },
+    )
+
+pub invariant_of-self-2 : goal.invariant_of-self-2
+invariant_of-self-2 g c =
+    let a = c.self.inside in
+    let i = c.self.invariant in
+    let m = a.book in
+    let k = c.open.new.self in
+    let n = sessions m.history + 1 in
+    let name = g.O.Outbox.name in
+    let ok = c.in_ok-session.ensures.ok in
+    let session = c.in_ok-session.ensures.session.0 in
+    let may = c.in_ok-session.ensures.may in
+    let late : sessions m.history < n = omega arith in
+    let none : accepted m.history n ≡ [] = silent m.settings m.history n c.sound.ensures.legal late in
+    let rows : c.admit-mark.new.self.rows ≡ new_row n (name c.args.outbox) ∷ a.register.rows =
+    ap (λ r. r.rows) c.admit-mark.ensures.register ∙ ap (λ (s : ℕ). new_row s (name c.of-namesake.result.of.value) ∷ a.register.rows) session
+    ∙ ap (λ (o : g.row.O.Denot). new_row n (name o) ∷ a.register.rows) c.of-namesake.ensures in
+    let tied = opened_ties name m c.args.host c.args.moment c.args.outbox a.register.rows may.idle c.sound.ensures.sessions none i.1 in (
+      ap (λ r. r.table) c.admit-mark.ensures.register ∙ i.0,
+      subst (λ b. IsTied name b c.admit-mark.new.self.rows) (sym ok) (subst (λ (xs : List (Row g.row.O-Name.Denot)). IsTied name (opened m c.args.host c.args.moment c.args.outbox) xs) (sym rows) tied),
+      λ t.
+          c.enter.ensures t ∙ ap (λ (s : ℕ). cond (nat_eq s t) (Some false) (get nat_eq c.make_room.new.self.sessions t)) session
+          ∙ ap (λ (o : Option Bool). cond (nat_eq n t) (Some false) o) (c.make_room.ensures.same t ∙ i.2 t)
+          ∙ sym (opened_places m c.args.host c.args.moment c.args.outbox t c.sound.ensures.sessions (not_gone m.settings m.history n c.sound.ensures.legal late)) ∙ sym (ap (λ b. place_of b t) ok),
+    )

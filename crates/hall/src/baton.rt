@@ -1,0 +1,45 @@
+//! Whose line is next.
+ghost use Rattle.std.specs.Prelude.{◌≡◌};
+ghost use Rattle.batons.specs.Turn.{IsInTurn};
+
+use chronicle::SessionId;
+use ghosts::Snapshot;
+use outbox::Outbox;
+use register::{Mark, Naming};
+use std::marker::Model;
+
+/// Whose line is next: a session has one baton, made by `Book::open` alone. A clause sees which of its lines that is, the pieces
+/// done with it, and the history when the newest of them was done, or when the session was opened.
+#[derive(Drop)]
+pub struct Baton<L: Naming, O: Outbox> {
+    pub(crate) turn: book::Baton,
+    pub(crate) mark: Mark<L, O::Name>,
+    pub(crate) front: Snapshot<book::Book<O>>,
+}
+
+impl<L: Naming, O: Outbox> Model for Baton<L, O> {
+    ghost use Rattle.std.specs.Prelude.{◌≡◌};
+    ghost use Rattle.batons.specs.Turn.{Turn, IsInTurn};
+
+    ghost Value = { Turn };
+
+    ghost view = { λ b. record { session = b.turn.session; next = b.turn.next; pieces = b.mark.pieces; front = b.front.value.history } };
+
+    ghost invariant = { λ b. (b.mark.session ≡ b.turn.session) × IsInTurn (record { session = b.turn.session; next = b.turn.next; pieces = b.mark.pieces; front = b.front.value.history }) };
+}
+
+impl<L: Naming, O: Outbox> Baton<L, O> {
+    /// Its session.
+    pub fn session(&self) -> SessionId
+        ensures { result ≡ self.now.session }
+    {
+        self.turn.session()
+    }
+
+    /// What holds of every baton: the pieces done with it are those that its history accepts, and are counted.
+    pub fn in_turn(&self)
+        ensures { IsInTurn self.now }
+    {
+        let _ = &self.turn;
+    }
+}

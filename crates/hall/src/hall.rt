@@ -1,0 +1,204 @@
+//! What stands in a lock.
+ghost use Rattle.std.specs.Prelude.{◌≡◌, ◌≢◌, ◌<◌, ◌≤◌, ◌+◌, ◌↔◌, ◌==◌, [], ℕ, Some, None, true, false, length, IsTrue, IfOk, IfErr, IfSome, OnOk, OnErr};
+ghost use Rattle.std.specs.List.{list_any};
+ghost use Rattle.casemapping.specs.Names.{host_shape};
+ghost use Rattle.chronicle.specs.declared.record.Kind.TheVariants as kind;
+ghost use Rattle.chronicle.specs.History.{sessions, last_moment, accepted, shut};
+ghost use Rattle.chronicle.specs.Journal.{numbered, record_at};
+ghost use Rattle.register.specs.Shown.{new_stub};
+ghost use Rattle.batons.specs.Turn.{new_turn, next_turn};
+ghost use Rattle.book.specs.Settings.{IsWellSet};
+ghost use Rattle.hall.specs.Reaping.{turn_of, MayReap, IsReapRefusal, IsAllOwed};
+
+use crate::baton::Baton;
+use crate::dispatch::Book;
+use crate::lasting::Lasting;
+use crate::left::Left;
+use book::{
+    BookFault, Done, HangRefusal, Hung, LineRefusal, OpenRefusal, ReapRefusal, SweepRefusal,
+};
+use chronicle::{Moment, Record, RecordNumber, SessionId, Why};
+use line_grammar::{Octets, Piece};
+use outbox::Outbox;
+use register::{Naming, Register, Stub};
+use registration::Settings;
+use std::alloc::Global;
+use std::marker::Model;
+
+/// A book with no plan out, which is what stands in a lock. Whenever nobody has it, its history is legal, what was put into each
+/// session's outbox is what the history owes the session, and the register has each session's outbox and accepted pieces. A clause
+/// sees the book.
+#[derive(Drop)]
+pub struct Hall<L: Naming, O: Outbox> {
+    book: Book<L, O>,
+}
+
+impl<L: Naming, O: Outbox> Model for Hall<L, O> {
+    ghost use Rattle.std.specs.Prelude.{◌≡◌, false};
+    ghost use Rattle.book.specs.Book.{Shown};
+
+    ghost Value = { Shown O };
+
+    ghost view = { λ a. a.book };
+
+    ghost invariant = { λ a. a.book.busy ≡ false };
+}
+
+impl<L: Naming, O: Lasting> Hall<L, O> {
+    ghost use Rattle.book.specs.Book.{empty_book, opened, reaped, IsDone, IsSound, to_sweep, MayOpen, MayBegin, MayHang, MaySweep, IsOpenRefusal, IsLineRefusal, IsHangRefusal, IsSweepRefusal, newest_missed};
+
+    /// An empty hall for at most `limit` records, whose tokens a register has that is named by `L` and has no session yet.
+    pub fn new(
+        alloc: Global,
+        register: Register<O::Name>,
+        settings: Settings,
+        limit: usize,
+    ) -> Result<Hall<L, O>, BookFault>
+        requires named { register.table ≡ L.table }
+        requires empty { register.rows ≡ [] }
+        ensures ok { IfOk result (λ b. (b ≡ empty_book limit settings) × IsWellSet settings limit) }
+        ensures bad { IfErr result (λ e. e ≡ BookFault.BadSettings → IsWellSet settings limit → ⊥) }
+        ensures memory { IfErr result (λ e. e ≡ BookFault.Memory → IsWellSet settings limit) }
+    {
+        let book = Book::new(alloc, register, settings, limit)?;
+        Ok(Hall { book })
+    }
+
+    /// Opens a session whose host has the shape of one, and gives its baton and its stub. A refusal gives the outbox back, and
+    /// changes nothing.
+    pub fn open(
+        &mut self,
+        host: Octets,
+        moment: Moment,
+        outbox: O,
+    ) -> Result<(SessionId, Baton<L, O>, Stub<L, O::Name>), (OpenRefusal, O)>
+        requires host { host_shape host ≡ true }
+        requires fresh { O.sent outbox ≡ [] }
+        ensures ok { OnOk result (self.new ≡ opened self.old host moment outbox) }
+        ensures may { OnOk result (MayOpen self.old moment) }
+        ensures session { IfOk result (λ r. r.0 ≡ sessions self.old.history + 1) }
+        ensures baton { IfOk result (λ r. r.1 ≡ new_turn r.0 self.new.history) }
+        ensures stub { IfOk result (λ r. r.2 ≡ new_stub r.0 (O.name outbox)) }
+        ensures refusal { IfErr result (λ e. IsOpenRefusal self.old moment e.0) }
+        ensures not_busy { IfErr result (λ e. e.0 ≢ OpenRefusal.Busy) }
+        ensures err { IfErr result (λ e. (self.new ≡ self.old) × (e.1 ≡ outbox)) }
+    {
+        self.book.open(host, moment, outbox)
+    }
+
+    /// Accepts the next line of the baton's session: its record is appended, all that it owes is put or missed, and the line is
+    /// done. A refusal changes nothing.
+    pub fn line(
+        &mut self,
+        baton: &mut Baton<L, O>,
+        piece: &Piece,
+        moment: Moment,
+    ) -> Result<Done, LineRefusal>
+        ensures ok { OnOk result (IsDone O.accepts O.refuses self.old (kind.Said baton.old.session baton.old.next piece.now) moment self.new) }
+        ensures baton { OnOk result (baton.new ≡ next_turn baton.old piece.now self.new.history) }
+        ensures accepted { OnOk result (baton.new.pieces ≡ accepted self.new.history baton.old.session) }
+        ensures may { OnOk result (MayBegin self.old (turn_of baton.old) moment) }
+        ensures number { IfOk result (λ d. d.number ≡ length self.old.history + 1) }
+        ensures missed { IfOk result (λ d. d.missed ≡ newest_missed self.new.history) }
+        ensures shut { IfOk result (λ d. d.shut ≡ shut self.new.history baton.old.session) }
+        ensures refusal { IfErr result (λ e. IsLineRefusal self.old (turn_of baton.old) moment e) }
+        ensures not_busy { IfErr result (λ e. e ≢ LineRefusal.Busy) }
+        ensures err { OnErr result ((self.new ≡ self.old) × (baton.new ≡ baton.old)) }
+    {
+        self.book.line(baton, piece, moment)
+    }
+
+    /// Ends a session: one record is appended, and its last item is put, or missed where its outbox doesn't take it. It takes no
+    /// memory; a refusal changes nothing.
+    pub fn hang(
+        &mut self,
+        session: SessionId,
+        why: Why,
+        moment: Moment,
+    ) -> Result<Hung, HangRefusal>
+        ensures ok { OnOk result (IsDone O.accepts O.refuses self.old (kind.Hung session why) moment self.new) }
+        ensures may { OnOk result (MayHang self.old session moment) }
+        ensures number { IfOk result (λ d. d.number ≡ length self.old.history + 1) }
+        ensures missed { IfOk result (λ d. d.missed ≡ list_any (λ u. u == session) (newest_missed self.new.history)) }
+        ensures refusal { IfErr result (λ e. IsHangRefusal self.old session moment e) }
+        ensures not_busy { IfErr result (λ e. e ≢ HangRefusal.Busy) }
+        ensures err { OnErr result (self.new ≡ self.old) }
+    {
+        self.book.hang(session, why, moment)
+    }
+
+    /// Sweeps up to one session: the shut one of the lowest number that isn't gone. Its record is appended, and all that it owes is
+    /// put or missed. It answers `None` where there is no such session. A refusal changes nothing.
+    pub fn sweep(&mut self, moment: Moment) -> Result<Option<Done>, SweepRefusal>
+        ensures some { IfOk result (λ o. IfSome o (λ d. (s : ℕ) × (to_sweep self.old.history ≡ Some s) × IsDone O.accepts O.refuses self.old (kind.Gone s) moment self.new × (d.number ≡ length self.old.history + 1) × (d.missed ≡ newest_missed self.new.history) × (d.shut ≡ shut self.new.history s))) }
+        ensures none { IfOk result (λ o. o ≡ None → (to_sweep self.old.history ≡ None) × (self.new ≡ self.old)) }
+        ensures may { OnOk result (MaySweep self.old moment) }
+        ensures refusal { IfErr result (λ e. IsSweepRefusal self.old moment e) }
+        ensures not_busy { IfErr result (λ e. e ≢ SweepRefusal.Busy) }
+        ensures err { OnErr result (self.new ≡ self.old) }
+    {
+        self.book.sweep(moment)
+    }
+
+    /// Gives up a session that is gone, with its tokens and with what is left in its outbox, whose taker is given up with it. The
+    /// taker is that of the outbox for which the stub was given. It takes no memory; a refusal gives all three back, and changes
+    /// nothing.
+    pub fn reap(
+        &mut self,
+        baton: Baton<L, O>,
+        stub: Stub<L, O::Name>,
+        taker: O::Taker,
+    ) -> Result<Left<L>, (ReapRefusal, Baton<L, O>, Stub<L, O::Name>, O::Taker)>
+    where
+        O::Taker: Drop,
+        requires own { stub.outbox ≡ Some (O.taker_of taker) }
+        ensures ok { OnOk result (self.new ≡ reaped self.old baton.session) }
+        ensures session { IfOk result (λ l. l.session ≡ baton.session) }
+        ensures left { IfOk result (λ l. IsAllOwed O.sent O.taken self.old baton.session taker l.count) }
+        ensures pieces { OnOk result (baton.pieces ≡ accepted self.old.history baton.session) }
+        ensures may { OnOk result (MayReap self.old baton.session stub.session) }
+        ensures refusal { IfErr result (λ e. IsReapRefusal self.old baton.session stub.session e.0) }
+        ensures not_busy { IfErr result (λ e. e.0 ≢ ReapRefusal.Busy) }
+        ensures same { OnErr result (self.new ≡ self.old) }
+        ensures back { IfErr result (λ e. (e.1 ≡ baton) × (e.2 ≡ stub) × (e.3 ≡ taker)) }
+    {
+        self.book.reap(baton, stub, taker)
+    }
+
+    /// The record of this number, if there is one.
+    pub fn record(&self, number: RecordNumber) -> Option<&Record>
+        ensures { record_at result ≡ numbered self.now.history number }
+    {
+        self.book.book().record(number)
+    }
+
+    /// How many records there are.
+    pub fn len(&self) -> usize
+        ensures { result ≡ length self.now.history }
+    {
+        self.book.book().len()
+    }
+
+    /// The moment of the newest record, 0 before the first.
+    pub fn last_moment(&self) -> Moment
+        ensures { result ≡ last_moment self.now.history }
+    {
+        self.book.book().last_moment()
+    }
+
+    /// Whether a session was opened and isn't shut.
+    pub fn is_open(&self, session: SessionId) -> bool
+        ensures { IsTrue result ↔ ((0 < session) × (session ≤ sessions self.now.history) × (shut self.now.history session ≡ false)) }
+    {
+        self.book.book().is_open(session)
+    }
+
+    /// What holds of every hall: its history is legal, what was put into each session's outbox is what the history owes it, and no
+    /// plan is out.
+    pub fn sound(&self)
+        ensures sound { IsSound O.sent self.now }
+        ensures idle { self.now.busy ≡ false }
+    {
+        self.book.book().sound();
+    }
+}

@@ -1,0 +1,24 @@
+//! Outboxes that keep their names.
+use outbox::{Outbox, Ring, Sender};
+use std::sync::Wait;
+
+/// An outbox that keeps its name, whatever is put into it. It has nothing to do but to say so.
+pub trait Lasting: Outbox {
+    ghost use Rattle.std.specs.Prelude.{◌≡◌};
+    ghost use Rattle.deliveries.specs.declared.item.Item.{Item};
+
+    ghost stays: { (a : Self) (x : Item) (b : Self) → Self.accepts a x b → Self.name b ≡ Self.name a };
+}
+
+impl Lasting for Ring {
+    ghost use Rattle.std.specs.Prelude.{refl};
+
+    ghost stays = { λ a x b e. refl };
+}
+
+impl<R: Wait + Drop> Lasting for Sender<R> {
+    ghost use Rattle.std.proofs.Common.{ap};
+    ghost use Rattle.outbox.specs.Ends.{Puttings};
+
+    ghost stays = { λ a x b e. ap (λ (s : Puttings). s.channel) e };
+}

@@ -1,0 +1,21 @@
+//! A book whose sessions have tokens, which come together when a session is reaped; and what of it stands in a lock.
+#![tactic(auto)]
+
+mod baton;
+mod dispatch;
+mod hall;
+mod lasting;
+mod left;
+mod namesake;
+mod presence;
+
+pub use baton::Baton;
+pub use book::{
+    BookFault, Done, HangRefusal, Hung, LineRefusal, OpenRefusal, Outbox, Plan, PutFault,
+    ReapRefusal, Ring, Settings, Step, SweepRefusal, TakeRefusal,
+};
+pub use dispatch::Book;
+pub use hall::Hall;
+pub use lasting::Lasting;
+pub use left::Left;
+pub use register::{Naming, Register, Stub};

@@ -1,0 +1,55 @@
+//! What is left of an outbox that was given away: its name.
+use deliveries::Item;
+use ghosts::Snapshot;
+use outbox::{Outbox, PutFault};
+
+/// An outbox of which the name alone is known, in proofs. It has no bytes, and nothing can be put into it.
+#[derive(Drop)]
+pub(crate) struct Namesake<O: Outbox> {
+    of: Snapshot<O>,
+}
+
+impl<O: Outbox> Namesake<O> {
+    ghost use Rattle.std.specs.Prelude.{◌≡◌};
+
+    /// The namesake of an outbox.
+    pub(crate) fn of(outbox: &O) -> Namesake<O>
+        ensures { result.of.value ≡ outbox.now }
+    {
+        Namesake {
+            of: Snapshot::of(outbox),
+        }
+    }
+}
+
+impl<O: Outbox> Outbox for Namesake<O> {
+    ghost use Rattle.std.specs.Prelude.{[], false};
+
+    type Taker = Snapshot<O>;
+
+    type Name = O::Name;
+
+    ghost sent = { λ a. [] };
+
+    ghost room = { λ a. 0 };
+
+    ghost name = { λ a. O.name a.of.value };
+
+    ghost taker_of = { λ w. O.name w.value };
+
+    ghost taken = { λ a w. [] };
+
+    ghost may_be_cut = { false };
+
+    ghost accepts = { λ a x b. ⊥ };
+
+    ghost refuses = { λ a e. Unit {0} };
+
+    fn put(&mut self, item: Item) -> Result<(), (PutFault, Item)> {
+        Err((PutFault::Full, item))
+    }
+
+    fn close(self, _taker: Snapshot<O>) -> u64 {
+        0
+    }
+}
