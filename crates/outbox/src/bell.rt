@@ -45,8 +45,8 @@ impl Bell {
         }
     }
 
-    // Rests until it is rung, or for so long at most. One thread may rest at a time.
-    pub(crate) fn rest<R: Wait>(&self, rt: &R, most: Duration) {
+    /// Rests until it is rung, or for so long at most. One thread may rest at a time.
+    pub fn rest<R: Wait>(&self, rt: &R, most: Duration) {
         let found = self
             .state
             .compare_exchange(QUIET, ASLEEP, Ordering::SeqCst, Ordering::SeqCst);

@@ -11,3 +11,4 @@ pub use bell::Bell;
 pub use ends::{Closed, Empty, Sender, Writer, pair};
 pub use queue::{Outbox, PutFault};
 pub use ring::Ring;
+pub use rule::ChannelName;

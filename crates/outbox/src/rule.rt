@@ -1,4 +1,5 @@
 //! The rule of the channel between the two ends of an outbox.
+use crossbeam_channel::Pass;
 use crossbeam_channel::protocol::{Join, Lesson, Outcome, Protocol, Split};
 use deliveries::Item;
 use std::collections::LinkedList;
@@ -86,3 +87,6 @@ impl Lesson<Item, Log> for Drain {
 
     ghost fact = { Rests };
 }
+
+/// Which channel an end is of, as the register has it.
+pub type ChannelName = Pass<Item, Log>;
