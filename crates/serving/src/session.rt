@@ -1,0 +1,185 @@
+//! The threads of one session.
+ghost use Rattle.std.specs.Prelude.{◌≡◌, Some};
+
+use crate::clock::SystemClock;
+use crate::connections::{Connection, Connections, Shared};
+use crate::hosts::host_of;
+use chronicle::{SessionId, Why};
+use crew::{Gate, Outlet, Server, Sockets, close_up, hang, moment_in, read_on, write_on};
+use hall::{Baton, Naming, Stub, Told};
+use line_grammar::Octets;
+use outbox::{ChannelName, Sender, Writer, pair};
+use std::alloc::Global;
+use std::net::{Shutdown, SocketAddr, TcpStream};
+use std::sync::{Arc, Wait};
+use std::thread;
+use std::thread::{Builder, Threads};
+use std::time::{Clock, Duration};
+use wire::Wire;
+
+/// Milliseconds that a write waits for a client that reads nothing.
+const WRITE: u64 = 1;
+
+/// Octets of a thread's stack.
+pub(crate) const STACK: usize = 262_144;
+
+/// The server as the threads of its sessions know it.
+pub(crate) type Serving<'a, L, R, G> = Server<'a, L, R, G, Connections<L, R>, SystemClock<R>>;
+
+/// A session that was just opened.
+struct Opened<L: Naming, R: Wait + Drop> {
+    baton: Baton<L, Sender<R>>,
+    stub: Stub<L, ChannelName>,
+    writer: Writer,
+    connection: Arc<Connection<L>>,
+    host: Octets,
+    ghost one: { stub.session ≡ baton.session },
+    ghost own: { stub.outbox ≡ Some writer.channel },
+}
+
+/// Opens a session for a peer, where the server takes one.
+fn open<
+    L: Naming + Send + Sync,
+    R: Threads + Wait + Clock + Copy + Drop + Send + Sync,
+    G: Gate + Sync,
+>(
+    rt: &R,
+    alloc: Global,
+    server: &Serving<'_, L, R, G>,
+    sendq: usize,
+    peer: SocketAddr,
+) -> Option<Opened<L, R>> {
+    let (sender, writer) = pair(*rt, alloc, sendq).ok()?;
+    let outlet = Outlet::new(sender.bell().again().ok()?);
+    let connection = Arc::new(alloc, Connection::new(outlet)).ok()?;
+    let again = Arc::try_clone(&connection).ok()?;
+    let host = host_of(alloc, peer)?;
+    let told = host.clone().ok()?;
+    let mut hall = server.hall.lock(rt);
+    if server.sockets.is_stopping() || server.sockets.make_room().is_err() {
+        return None;
+    }
+    let moment = moment_in(&*hall, server.clock);
+    let (session, baton, stub) = hall.open(host, moment, sender).ok()?;
+    server.sockets.add(session, again);
+    Some(Opened {
+        baton,
+        stub,
+        writer,
+        connection,
+        host: told,
+    })
+}
+
+/// Reads and writes for a session in two threads, until both ends are done.
+fn talk<
+    L: Naming + Send + Sync,
+    R: Threads + Wait + Clock + Copy + Drop + Send + Sync,
+    G: Gate + Sync,
+>(
+    rt: &R,
+    alloc: Global,
+    server: &Serving<'_, L, R, G>,
+    baton: Baton<L, Sender<R>>,
+    stream: &TcpStream,
+    outlet: &Outlet<L, Shared>,
+) -> Baton<L, Sender<R>>
+    ensures { result.session ≡ baton.session }
+{
+    let session = baton.session();
+    thread::scope(thread::scope_env(), rt, |scope| {
+        let started = Builder::new()
+            .stack_size(STACK)
+            .spawn_scoped(scope, move || {
+                write_on(rt, alloc, server, session, outlet);
+                let _ = stream.shutdown(Shutdown::Both);
+            });
+        if started.is_err() {
+            hang(rt, server, session, Why::Memory, &mut Told::new(alloc));
+        }
+        let mut input = stream;
+        read_on(rt, alloc, server, baton, &mut input).baton
+    })
+}
+
+/// Ends a session that can't be served for want of memory, and gives it up.
+fn give_up<
+    L: Naming + Send + Sync,
+    R: Threads + Wait + Clock + Copy + Drop + Send + Sync,
+    G: Gate + Sync,
+>(
+    rt: &R,
+    alloc: Global,
+    server: &Serving<'_, L, R, G>,
+    baton: Baton<L, Sender<R>>,
+    stub: Stub<L, ChannelName>,
+    writer: Writer,
+)
+    requires one { stub.session ≡ baton.session }
+    requires own { stub.outbox ≡ Some writer.channel }
+{
+    hang(rt, server, baton.session(), Why::Memory, &mut Told::new(alloc));
+    let _ = close_up(rt, alloc, server, baton, stub, writer);
+}
+
+/// Talks with a client over a wire, and gives its session up at the end.
+fn serve_opened<
+    L: Naming + Send + Sync,
+    R: Threads + Wait + Clock + Copy + Drop + Send + Sync,
+    G: Gate + Sync,
+>(
+    rt: &R,
+    alloc: Global,
+    server: &Serving<'_, L, R, G>,
+    opened: Opened<L, R>,
+    stream: &Arc<TcpStream>,
+) {
+    let Opened {
+        baton,
+        stub,
+        writer,
+        connection,
+        host,
+    } = opened;
+    let session = baton.session();
+    let Some(shared) = Shared::of(stream) else {
+        return give_up(rt, alloc, server, baton, stub, writer);
+    };
+    match Wire::new(alloc, writer, stub, shared, host) {
+        Ok(wire) => {
+            let outlet = &connection.outlet;
+            outlet.open(rt, wire);
+            let baton = talk(rt, alloc, server, baton, stream, outlet);
+            if let Some((writer, stub)) = outlet.end(rt, session) {
+                let _ = close_up(rt, alloc, server, baton, stub, writer);
+            }
+        }
+        Err((writer, stub)) => give_up(rt, alloc, server, baton, stub, writer),
+    }
+}
+
+/// Serves a client from its connection to its end.
+pub(crate) fn serve<
+    L: Naming + Send + Sync,
+    R: Threads + Wait + Clock + Copy + Drop + Send + Sync,
+    G: Gate + Sync,
+>(
+    rt: &R,
+    alloc: Global,
+    server: &Serving<'_, L, R, G>,
+    sendq: usize,
+    stream: TcpStream,
+    peer: SocketAddr,
+)
+{
+    let _ = stream.set_nodelay(true);
+    let _ = stream.set_write_timeout(Some(Duration::from_millis(WRITE)));
+    let Ok(stream) = Arc::new(alloc, stream) else {
+        return;
+    };
+    if let Some(opened) = open(rt, alloc, server, sendq, peer) {
+        let session = opened.baton.session();
+        serve_opened(rt, alloc, server, opened, &stream);
+        server.sockets.remove(session);
+    }
+}

@@ -1,0 +1,17 @@
+-- Limits of what a server is started with: this project's own choice.
+use Rattle.std.specs.Prelude.{◌≤◌, ⊤}
+use Rattle.serving_options.specs.declared.command_line.ServeOptions.{ServeOptions}
+use Rattle.serving_options.specs.declared.command_line.Asked.{Asked}
+use Rattle.serving_options.specs.declared.command_line.Asked.TheVariants.{Play, Serve}
+
+pub record IsWithinLimits (o : ServeOptions) : Type 0 where
+  pub some_workers : 1 ≤ o.workers
+  pub few_workers : o.workers ≤ 64
+  pub some_items : 1 ≤ o.sendq
+  pub few_items : o.sendq ≤ 4096
+  pub some_records : 1 ≤ o.limit
+  pub few_records : o.limit ≤ 10000000
+
+abbrev pub IsAskedWithinLimits : Asked → Type 0
+IsAskedWithinLimits Play = ⊤
+IsAskedWithinLimits (Serve o) = IsWithinLimits o

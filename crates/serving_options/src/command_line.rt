@@ -1,0 +1,153 @@
+//! The command line of `halld`.
+ghost use Rattle.std.specs.Prelude.{◌≡◌, ◌≤◌, IfOk, IfSome};
+ghost use Rattle.serving_options.specs.Asked.{IsWithinLimits, IsAskedWithinLimits};
+
+use clap::builder::ValueParser;
+use clap::error::ErrorKind;
+use clap::{Arg, ArgAction, ArgMatches, Command, Error};
+use std::alloc::{AllocError, Global};
+use std::convert::AsStr;
+use std::net::SocketAddr;
+
+/// What a command line asks for.
+#[derive(Clone, Copy, Debug, PartialEq)]
+pub enum Asked<'a> {
+    /// To play the script on standard input.
+    Play,
+    /// To serve clients.
+    Serve(ServeOptions<'a>),
+}
+
+/// Options of `halld serve`.
+#[derive(Clone, Copy, Debug, PartialEq)]
+pub struct ServeOptions<'a> {
+    /// Where it listens.
+    pub tcp: SocketAddr,
+    /// The server's name, of which nothing is checked yet.
+    pub name: &'a str,
+    /// How many lines may be worked on at a time, 1 to 64.
+    pub workers: u64,
+    /// How many items may wait for a session, 1 to 4,096.
+    pub sendq: u64,
+    /// How many records the journal may have, 1 to 10,000,000.
+    pub limit: u64,
+    /// The file of the accounts.
+    pub accounts: Option<&'a str>,
+    /// The file of the message of the day.
+    pub motd: Option<&'a str>,
+}
+
+/// An option that takes a value.
+fn option<'a>(alloc: Global, id: &'a str, value: &'a str, help: &'a str) -> Arg<'a> {
+    Arg::new(alloc, id)
+        .long(id)
+        .value_name(value)
+        .action(ArgAction::Set)
+        .help(help)
+}
+
+/// An option that takes a number within limits.
+fn number<'a>(
+    alloc: Global,
+    id: &'a str,
+    limits: (u64, u64),
+    usual: &'a str,
+    help: &'a str,
+) -> Arg<'a> {
+    option(alloc, id, "N", help)
+        .value_parser(ValueParser::unsigned(limits.0, limits.1))
+        .default_value(usual)
+}
+
+/// `serve` and its options.
+fn serve_command<'a>(alloc: Global) -> Result<Command<'a>, AllocError> {
+    let tcp = option(
+        alloc,
+        "tcp",
+        "ADDR",
+        "Listen on this address, as 127.0.0.1:6667",
+    );
+    let name = option(alloc, "name", "HOST", "The server's name");
+    let workers = "Lines that are worked on at a time, 1 to 64";
+    let sendq = "Items that may wait for a session, 1 to 4096";
+    let limit = "Records of the journal, 1 to 10000000";
+    let accounts = "Accounts, a line NAME SALT DIGEST each";
+    let motd = "The message of the day";
+    Command::new(alloc, "serve")
+        .about("Serve clients until standard input ends")
+        .arg(tcp.required(true))?
+        .arg(name.default_value("irc.example"))?
+        .arg(number(alloc, "workers", (1, 64), "2", workers))?
+        .arg(number(alloc, "sendq", (1, 4096), "256", sendq))?
+        .arg(number(alloc, "limit", (1, 10_000_000), "1000000", limit))?
+        .arg(option(alloc, "accounts", "FILE", accounts))?
+        .arg(option(alloc, "motd", "FILE", motd))
+}
+
+/// The whole command line, where this is told of scripts.
+fn whole_command<'a>(alloc: Global, script: &'a str) -> Result<Command<'a>, AllocError> {
+    let play = Command::new(alloc, "play")
+        .about("Play a script of steps from standard input and print what each step gave")
+        .after_help(script);
+    Command::new(alloc, "halld")
+        .version("1")
+        .about("An IRC server whose core is proved")
+        .subcommand_required(true)
+        .subcommand(play)?
+        .subcommand(serve_command(alloc)?)
+}
+
+/// A number where it lies within limits, else the usual one.
+fn within(number: Option<u64>, limits: (u64, u64), usual: u64) -> u64
+    requires { (limits.0 ≤ usual) × (usual ≤ limits.1) }
+    ensures within { (limits.0 ≤ result) × (result ≤ limits.1) }
+    ensures given { IfSome number (λ n. limits.0 ≤ n → n ≤ limits.1 → result ≡ n) }
+{
+    match number {
+        Some(number) if limits.0 <= number && number <= limits.1 => number,
+        _ => usual,
+    }
+}
+
+/// Why an address is refused.
+fn bad_address(alloc: Global) -> Result<Error, AllocError> {
+    Command::new(alloc, "halld").error(
+        ErrorKind::ValueValidation,
+        "'--tcp <ADDR>' wants an address and a port, as 127.0.0.1:6667 or [::1]:6667",
+    )
+}
+
+/// The options of `serve`.
+fn serve_options<'a>(alloc: Global, matches: &ArgMatches<'a>) -> Result<ServeOptions<'a>, Error>
+    ensures { IfOk result IsWithinLimits }
+{
+    let Ok(Some(tcp)) = matches.try_get_one::<SocketAddr>("tcp") else {
+        return Err(bad_address(alloc)?);
+    };
+    Ok(ServeOptions {
+        tcp,
+        name: matches.get_str("name").unwrap_or("irc.example"),
+        workers: within(matches.get_one("workers"), (1, 64), 2),
+        sendq: within(matches.get_one("sendq"), (1, 4096), 256),
+        limit: within(matches.get_one("limit"), (1, 10_000_000), 1_000_000),
+        accounts: matches.get_str("accounts"),
+        motd: matches.get_str("motd"),
+    })
+}
+
+/// Reads a command line, whose first word is the program's own name. Help for `play` tells this of scripts.
+///
+/// An error is also how help and the version are asked for.
+pub fn parse<'a, S: AsStr>(
+    alloc: Global,
+    words: &'a [S],
+    script: &'a str,
+) -> Result<Asked<'a>, Error>
+    ensures { IfOk result IsAskedWithinLimits }
+{
+    let matches = whole_command(alloc, script)?.try_get_matches_from(words)?;
+    match matches.subcommand() {
+        Some(("serve", matches)) => Ok(Asked::Serve(serve_options(alloc, matches)?)),
+        _ => Ok(Asked::Play),
+    }
+}
