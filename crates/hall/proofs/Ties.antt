@@ -35,6 +35,11 @@ line_missed : (h : List Rec) (u : ℕ) → newest_line (miss h u) ≡ newest_lin
 line_missed [] u = refl
 line_missed (r ∷ h) u = refl
 
+-- nor of what is said in it
+said_missed : (h : List Rec) (u s : ℕ) → newest_said (miss h u) s ≡ newest_said h s
+said_missed [] u s = refl
+said_missed (r ∷ h) u s = refl
+
 -- ---- which line the newest record says
 
 line_here : (k : Kind) (n : ℕ) → next_of k ≡ Some n → (p : Piece) × (line_of k ≡ Some (actor k, p)) × (said_by k (actor k) ≡ p ∷ [])
@@ -94,6 +99,22 @@ module _ {O : Type 0} (accepts : O → Item → O → Type 0) (refuses : O → P
 
   pub done_idle : (m k : Shown O) (kind : Kind) (moment : ℤ) → IsDone accepts refuses m kind moment k → k.busy ≡ false
   done_idle m k kind moment d = ap (λ n. n.busy) d.2
+
+  -- nor what its session said in it
+  put_said : (m k : Shown O) (ps : List Planned) (step : Option Step) (s : ℕ) → IsPutNext accepts refuses m ps step k → newest_said k.history s ≡ newest_said m.history s
+  put_said m k [] None s p = ap (λ n. newest_said n.history s) p
+  put_said m k [] (Some step) s p = absurd p
+  put_said m k (q ∷ qs) None s p = absurd p
+  put_said m k (q ∷ qs) (Some (Put t)) s p = ap (λ n. newest_said n.history s) p.1.book
+  put_said m k (q ∷ qs) (Some (Missed t)) s p = ap (λ n. newest_said n.history s) p.1.book ∙ said_missed m.history q.session s
+
+  put_all_said : (m k : Shown O) (ps : List Planned) (s : ℕ) → IsPutAll accepts refuses m ps k → newest_said k.history s ≡ newest_said m.history s
+  put_all_said m k [] s p = ap (λ n. newest_said n.history s) p
+  put_all_said m k (q ∷ qs) s p = put_all_said p.0 k qs s p.3 ∙ put_said m p.0 (q ∷ qs) (Some p.1) s p.2
+
+  -- which is its line, when all of it was put
+  pub line_said : (m n k : Shown O) (s i : ℕ) (p : Piece) (moment : ℤ) → n ≡ begun m (Said s i p) moment → IsPutAll accepts refuses n n.plan k → newest_said k.history s ≡ p ∷ []
+  line_said m n k s i p moment is put = put_all_said n k n.plan s put ∙ ap (λ b. newest_said b.history s) is ∙ cond_is (s == s) true (p ∷ []) [] (eq-eqb s s refl)
 
   module _ {N : Type 0} (name : O → N) (stays : (a : O) (x : Item) (b : O) → accepts a x b → name b ≡ name a) where
     pub put_ties : (m k : Shown O) (ps : List Planned) (step : Option Step) (rows : List (Row N)) → IsPutNext accepts refuses m ps step k → IsTied name m rows → IsTied name k rows

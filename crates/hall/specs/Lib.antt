@@ -1,2 +1,3 @@
 pub mod Reaping
+pub mod Telling
 pub mod Tied

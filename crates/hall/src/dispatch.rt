@@ -11,6 +11,7 @@ ghost use Rattle.batons.specs.Turn.{new_turn, next_turn};
 ghost use Rattle.book.specs.Settings.{IsWellSet};
 ghost use Rattle.book.specs.Book.{box_at, outbox_at};
 ghost use Rattle.hall.specs.Reaping.{turn_of, newest_said, MayReap, IsReapRefusal, IsAllOwed};
+ghost use Rattle.hall.specs.Telling.{TellsOf};
 ghost use Rattle.hall.specs.Tied.{newest_line};
 
 use crate::baton::Baton;
@@ -18,6 +19,7 @@ use crate::lasting::Lasting;
 use crate::left::Left;
 use crate::namesake::Namesake;
 use crate::presence::Presence;
+use crate::told::Told;
 use book::{
     BookFault, Done, HangRefusal, Hung, LineRefusal, OpenRefusal, Plan, ReapRefusal, Step,
     SweepRefusal, TakeRefusal,
@@ -174,8 +176,25 @@ impl<L: Naming, O: Lasting> Book<L, O> {
         self.book.put_next(plan)
     }
 
-    /// Puts or misses all that is left of a plan.
-    fn put_rest(&mut self, plan: &mut Plan)
+    /// Puts or misses the first delivery of the plan that is out, and notes whose it is where it was put.
+    fn put_noted(&mut self, plan: &mut Plan, told: &mut Told) -> Option<Step>
+        requires out { IsOut self.old plan.old }
+        ensures put { IsPutNext O.accepts O.refuses self.old self.old.plan result self.new }
+        ensures none { result ≡ None → self.new.plan ≡ [] }
+        ensures out { IsOut self.new plan.new }
+        ensures number { plan.new.number ≡ plan.old.number }
+        ensures session { plan.new.session ≡ plan.old.session }
+        ensures next { plan.new.next ≡ plan.old.next }
+        ensures told { TellsOf told.old told.new self.old.outboxes self.new.outboxes }
+    {
+        self.book().sound();
+        let step = self.put_next(plan)?;
+        told.note_step(step);
+        Some(step)
+    }
+
+    /// Puts or misses all that is left of a plan, and notes who got something.
+    fn put_rest(&mut self, plan: &mut Plan, told: &mut Told)
         requires out { IsOut self.old plan.old }
         ensures put { IsPutAll O.accepts O.refuses self.old self.old.plan self.new }
         ensures out { IsOut self.new plan.new }
@@ -183,8 +202,9 @@ impl<L: Naming, O: Lasting> Book<L, O> {
         ensures number { plan.new.number ≡ plan.old.number }
         ensures session { plan.new.session ≡ plan.old.session }
         ensures next { plan.new.next ≡ plan.old.next }
+        ensures told { TellsOf told.old told.new self.old.outboxes self.new.outboxes }
     {
-        while let Some(_) = self.put_next(plan) {}
+        while let Some(_) = self.put_noted(plan, told) {}
     }
 
     /// Gives back the plan of a line, with nothing left in it: now the line is done, and the turn goes on to the next. It takes no
@@ -211,12 +231,13 @@ impl<L: Naming, O: Lasting> Book<L, O> {
     }
 
     /// Accepts the next line of the baton's session: begins it, puts or misses all that it owes, and finishes it, when the line is
-    /// done. A refusal changes nothing.
+    /// done. Whoever got something is told of it. A refusal changes nothing.
     pub fn line(
         &mut self,
         baton: &mut Baton<L, O>,
         piece: &Piece,
         moment: Moment,
+        told: &mut Told,
     ) -> Result<Done, LineRefusal>
         ensures ok { OnOk result (IsDone O.accepts O.refuses self.old (kind.Said baton.old.session baton.old.next piece.now) moment self.new) }
         ensures baton { OnOk result (baton.new ≡ next_turn baton.old piece.now self.new.history) }
@@ -226,12 +247,12 @@ impl<L: Naming, O: Lasting> Book<L, O> {
         ensures missed { IfOk result (λ d. d.missed ≡ newest_missed self.new.history) }
         ensures shut { IfOk result (λ d. d.shut ≡ shut self.new.history baton.old.session) }
         ensures refusal { IfErr result (λ e. IsLineRefusal self.old (turn_of baton.old) moment e) }
-        ensures err { OnErr result ((self.new ≡ self.old) × (baton.new ≡ baton.old)) }
+        ensures told { OnOk result (TellsOf told.old told.new self.old.outboxes self.new.outboxes) }
+        ensures err { OnErr result ((self.new ≡ self.old) × (baton.new ≡ baton.old) × (told.new ≡ told.old)) }
     {
-        let done = self.book.line(&mut baton.turn, piece, moment)?;
-        self.register.advance(&mut baton.mark, piece);
-        baton.front = Snapshot::of(&self.book);
-        Ok(done)
+        let mut plan = self.begin(baton, piece, moment)?;
+        self.put_rest(&mut plan, told);
+        Ok(self.finish(plan, baton))
     }
 
     /// Ends a session: one record is appended, and its last item is put, or missed where its outbox doesn't take it. It takes no
@@ -283,18 +304,20 @@ impl<L: Naming, O: Lasting> Book<L, O> {
         self.book.finish_sweep(plan)
     }
 
-    /// Sweeps up to one session: begins, puts or misses all that it owes, and finishes. A refusal changes nothing.
-    pub fn sweep(&mut self, moment: Moment) -> Result<Option<Done>, SweepRefusal>
+    /// Sweeps up to one session: begins, puts or misses all that it owes, and finishes. Whoever got something is told of it. A
+    /// refusal changes nothing.
+    pub fn sweep(&mut self, moment: Moment, told: &mut Told) -> Result<Option<Done>, SweepRefusal>
         ensures some { IfOk result (λ o. IfSome o (λ d. (s : ℕ) × (to_sweep self.old.history ≡ Some s) × IsDone O.accepts O.refuses self.old (kind.Gone s) moment self.new × (d.number ≡ length self.old.history + 1) × (d.missed ≡ newest_missed self.new.history) × (d.shut ≡ shut self.new.history s))) }
         ensures none { IfOk result (λ o. o ≡ None → (to_sweep self.old.history ≡ None) × (self.new ≡ self.old)) }
         ensures may { OnOk result (MaySweep self.old moment) }
         ensures refusal { IfErr result (λ e. IsSweepRefusal self.old moment e) }
-        ensures err { OnErr result (self.new ≡ self.old) }
+        ensures told { OnOk result (TellsOf told.old told.new self.old.outboxes self.new.outboxes) }
+        ensures err { OnErr result ((self.new ≡ self.old) × (told.new ≡ told.old)) }
     {
         let Some(mut plan) = self.begin_sweep(moment)? else {
             return Ok(None);
         };
-        self.put_rest(&mut plan);
+        self.put_rest(&mut plan, told);
         Ok(Some(self.finish_sweep(plan)))
     }
 

@@ -14,6 +14,7 @@ use crate::baton::Baton;
 use crate::dispatch::Book;
 use crate::lasting::Lasting;
 use crate::left::Left;
+use crate::told::Told;
 use book::{
     BookFault, Done, HangRefusal, Hung, LineRefusal, OpenRefusal, ReapRefusal, SweepRefusal,
 };
@@ -24,6 +25,7 @@ use register::{Naming, Register, Stub};
 use registration::Settings;
 use std::alloc::Global;
 use std::marker::Model;
+use std::mem;
 
 /// A book with no plan out, which is what stands in a lock. Whenever nobody has it, its history is legal, what was put into each
 /// session's outbox is what the history owes the session, and the register has each session's outbox and accepted pieces. A clause
@@ -31,6 +33,7 @@ use std::marker::Model;
 #[derive(Drop)]
 pub struct Hall<L: Naming, O: Outbox> {
     book: Book<L, O>,
+    told: Told,
 }
 
 impl<L: Naming, O: Outbox> Model for Hall<L, O> {
@@ -61,7 +64,10 @@ impl<L: Naming, O: Lasting> Hall<L, O> {
         ensures memory { IfErr result (λ e. e ≡ BookFault.Memory → IsWellSet settings limit) }
     {
         let book = Book::new(alloc, register, settings, limit)?;
-        Ok(Hall { book })
+        Ok(Hall {
+            book,
+            told: Told::new(alloc),
+        })
     }
 
     /// Opens a session whose host has the shape of one, and gives its baton and its stub. A refusal gives the outbox back, and
@@ -105,7 +111,7 @@ impl<L: Naming, O: Lasting> Hall<L, O> {
         ensures not_busy { IfErr result (λ e. e ≢ LineRefusal.Busy) }
         ensures err { OnErr result ((self.new ≡ self.old) × (baton.new ≡ baton.old)) }
     {
-        self.book.line(baton, piece, moment)
+        self.book.line(baton, piece, moment, &mut self.told)
     }
 
     /// Ends a session: one record is appended, and its last item is put, or missed where its outbox doesn't take it. It takes no
@@ -124,7 +130,11 @@ impl<L: Naming, O: Lasting> Hall<L, O> {
         ensures not_busy { IfErr result (λ e. e ≢ HangRefusal.Busy) }
         ensures err { OnErr result (self.new ≡ self.old) }
     {
-        self.book.hang(session, why, moment)
+        let hung = self.book.hang(session, why, moment)?;
+        if !hung.missed {
+            self.told.note(session);
+        }
+        Ok(hung)
     }
 
     /// Sweeps up to one session: the shut one of the lowest number that isn't gone. Its record is appended, and all that it owes is
@@ -137,7 +147,7 @@ impl<L: Naming, O: Lasting> Hall<L, O> {
         ensures not_busy { IfErr result (λ e. e ≢ SweepRefusal.Busy) }
         ensures err { OnErr result (self.new ≡ self.old) }
     {
-        self.book.sweep(moment)
+        self.book.sweep(moment, &mut self.told)
     }
 
     /// Gives up a session that is gone, with its tokens and with what is left in its outbox, whose taker is given up with it. The
@@ -163,6 +173,13 @@ impl<L: Naming, O: Lasting> Hall<L, O> {
         ensures back { IfErr result (λ e. (e.1 ≡ baton) × (e.2 ≡ stub) × (e.3 ≡ taker)) }
     {
         self.book.reap(baton, stub, taker)
+    }
+
+    /// Gives the list of who got something since it was last given, for one that is to go on with.
+    pub fn swap_told(&mut self, other: &mut Told)
+        ensures { self.new ≡ self.old }
+    {
+        mem::swap(&mut self.told, other);
     }
 
     /// The record of this number, if there is one.

@@ -8,6 +8,7 @@ mod lasting;
 mod left;
 mod namesake;
 mod presence;
+mod told;
 
 pub use baton::Baton;
 pub use book::{
@@ -19,3 +20,4 @@ pub use hall::Hall;
 pub use lasting::Lasting;
 pub use left::Left;
 pub use register::{Naming, Register, Stub};
+pub use told::Told;

@@ -1,0 +1,18 @@
+-- What is read of a stream: words of private contracts.
+use Rattle.std.specs.Prelude.{◌≡◌, ℕ, List, [], ◌++◌, Option}
+use Rattle.std.specs.Io.KnownBytes.{Consumes}
+use Rattle.line_grammar.specs.declared.splitter.Piece.{Piece}
+use Rattle.line_grammar.specs.Lines.{lines, left_by, Feeds}
+
+-- the next octets were read, and these are the pieces that end in them
+pub record TakesIn (before after : Option (List ℕ)) (kept now : Option (List ℕ)) (pieces : List Piece) : Type 0 where
+  pub octets : List ℕ
+  pub read : Consumes before after octets
+  pub feeds : (stream : List ℕ) → kept ≡ left_by stream → Feeds stream octets now [] pieces
+
+-- octets were read, all of whose lines were done after the old ones, and this is kept of the unfinished one
+pub record HasDone (before after : Option (List ℕ)) (old new : List Piece) (kept : Option (List ℕ)) : Type 0 where
+  pub octets : List ℕ
+  pub read : Consumes before after octets
+  pub done : new ≡ old ++ lines octets
+  pub kept : kept ≡ left_by octets

@@ -1,0 +1,58 @@
+//! What the threads of a server share.
+use crate::desk::Desk;
+use chronicle::{Moment, SessionId};
+use hall::{Hall, Naming, Told};
+use outbox::Sender;
+use std::sync::{Mutex, Wait};
+
+/// Stands before the lock of the hall.
+pub trait Gate {
+    /// A line of this session is about to ask for the lock.
+    fn enter(&self, session: SessionId);
+
+    /// A line of this session has given the lock back.
+    fn leave(&self, session: SessionId);
+}
+
+/// The connections of a server's sessions.
+pub trait Sockets {
+    /// A session is shut: what waits for it is still written, and nothing is read of it any more. Its bell is rung.
+    fn shut(&self, session: SessionId);
+
+    /// Whether a session was shut here.
+    fn is_shut(&self, session: SessionId) -> bool;
+
+    /// Rings the bells of all who are told, by a call on the thread of the session `by`, which writes its own answers itself.
+    fn tell(&self, by: SessionId, told: &Told);
+
+    /// Waits a little.
+    fn pause(&self);
+
+    /// Asks the server to stop.
+    fn stop(&self);
+}
+
+/// What time it is.
+pub trait Clock {
+    /// The present moment.
+    fn now(&self) -> Moment;
+}
+
+/// What all calls of a server's threads work with.
+#[derive(Drop)]
+pub struct Server<'a, L: Naming, R: Wait + Drop, G: Gate, S: Sockets, C: Clock> {
+    pub hall: &'a Mutex<Hall<L, Sender<R>>>,
+    pub desk: &'a Desk,
+    pub gate: &'a G,
+    pub sockets: &'a S,
+    pub clock: &'a C,
+}
+
+/// The later of two moments.
+pub(crate) fn later(a: Moment, b: Moment) -> Moment {
+    if a.milliseconds() < b.milliseconds() {
+        b
+    } else {
+        a
+    }
+}

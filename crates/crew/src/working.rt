@@ -1,0 +1,206 @@
+//! Doing lines.
+ghost use Rattle.std.specs.Prelude.{◌≡◌, ◌++◌, ◌∷◌, [], true, false};
+ghost use Rattle.crew.specs.Doing.{OnDone, OnRefused, DoesFront};
+
+use crate::server::{Clock, Gate, Server, Sockets, later};
+use chronicle::{Moment, SessionId, Why};
+use hall::{Baton, Done, Hall, LineRefusal, Naming, Told};
+use line_grammar::Piece;
+use outbox::Sender;
+use std::sync::{Mutex, Wait};
+
+/// A line to do.
+#[derive(Drop)]
+pub struct Job<L: Naming, R: Wait + Drop> {
+    pub baton: Baton<L, Sender<R>>,
+    pub piece: Piece,
+}
+
+/// What came of a line.
+#[derive(Drop)]
+pub enum Outcome {
+    /// It was done.
+    Done(Done),
+    /// It was refused.
+    Refused(LineRefusal),
+}
+
+/// What comes back of a line: its baton, and what came of it.
+#[derive(Drop)]
+pub struct Back<L: Naming, R: Wait + Drop> {
+    pub baton: Baton<L, Sender<R>>,
+    pub outcome: Outcome,
+}
+
+/// What comes back of many lines: their baton, and whether all were done.
+#[derive(Drop)]
+pub struct Worked<L: Naming, R: Wait + Drop> {
+    pub baton: Baton<L, Sender<R>>,
+    pub all: bool,
+}
+
+/// Does a line under the lock, and gives the list of who got something for an empty one.
+fn under_lock<L: Naming, R: Wait + Drop>(
+    rt: &R,
+    hall: &Mutex<Hall<L, Sender<R>>>,
+    baton: &mut Baton<L, Sender<R>>,
+    piece: &Piece,
+    moment: Moment,
+    told: &mut Told,
+) -> Outcome
+    ensures done { OnDone result (baton.new.pieces ≡ baton.old.pieces ++ piece.now ∷ []) }
+    ensures refused { OnRefused result (baton.new ≡ baton.old) }
+    ensures session { baton.new.session ≡ baton.old.session }
+{
+    told.clear();
+    let mut hall = hall.lock(rt);
+    let moment = later(moment, hall.last_moment());
+    let outcome = match hall.line(baton, piece, moment) {
+        Ok(done) => Outcome::Done(done),
+        Err(refusal) => Outcome::Refused(refusal),
+    };
+    hall.swap_told(told);
+    outcome
+}
+
+/// Does a line, at this moment or at that of the newest record where that is later. `told` says then who got something, whose
+/// bells are still to be rung.
+///
+/// Where the line was done, its piece is the newest of those done with the baton that comes back. Where it was refused, the baton
+/// is the one that was given, unchanged.
+pub fn work_one<L: Naming, R: Wait + Drop, G: Gate>(
+    rt: &R,
+    hall: &Mutex<Hall<L, Sender<R>>>,
+    job: Job<L, R>,
+    moment: Moment,
+    gate: &G,
+    told: &mut Told,
+) -> Back<L, R>
+    ensures done { OnDone result.outcome (result.baton.pieces ≡ job.baton.pieces ++ job.piece ∷ []) }
+    ensures refused { OnRefused result.outcome (result.baton ≡ job.baton) }
+    ensures session { result.baton.session ≡ job.baton.session }
+{
+    let Job { mut baton, piece } = job;
+    let session = baton.session();
+    gate.enter(session);
+    let outcome = under_lock(rt, hall, &mut baton, &piece, moment, told);
+    gate.leave(session);
+    Back { baton, outcome }
+}
+
+/// Ends a session for a reason, where it is open, and shuts its connection.
+pub(crate) fn hang<L: Naming, R: Wait + Drop, G: Gate, S: Sockets, C: Clock>(
+    rt: &R,
+    server: &Server<'_, L, R, G, S, C>,
+    session: SessionId,
+    why: Why,
+    told: &mut Told,
+) {
+    told.clear();
+    let moment = server.clock.now();
+    let mut hall = server.hall.lock(rt);
+    let moment = later(moment, hall.last_moment());
+    let hung = hall.hang(session, why, moment);
+    hall.swap_told(told);
+    drop(hall);
+    server.sockets.tell(session, told);
+    if hung.is_ok() {
+        server.sockets.shut(session);
+    }
+}
+
+/// Shuts the connections of all whom a record of this session shut.
+pub(crate) fn shut_those<S: Sockets>(sockets: &S, session: SessionId, done: &Done) {
+    for missed in done.missed.as_slice() {
+        sockets.shut(*missed);
+    }
+    if done.shut {
+        sockets.shut(session);
+    }
+}
+
+/// Ends a session whose line was refused for want of memory or of room for records, and then asks the server to stop.
+fn after_refusal<L: Naming, R: Wait + Drop, G: Gate, S: Sockets, C: Clock>(
+    rt: &R,
+    server: &Server<'_, L, R, G, S, C>,
+    session: SessionId,
+    refusal: LineRefusal,
+    told: &mut Told,
+) {
+    match refusal {
+        LineRefusal::Memory => hang(rt, server, session, Why::Memory, told),
+        LineRefusal::JournalFull => {
+            hang(rt, server, session, Why::Shutdown, told);
+            server.sockets.stop();
+        }
+        LineRefusal::Busy | LineRefusal::WrongTurn | LineRefusal::Shut | LineRefusal::BadMoment =>
+            {}
+    }
+}
+
+/// Does one piece under a slot, rings for who got something, and shuts who was shut. All says whether it was done.
+fn work_next<L: Naming, R: Wait + Drop, G: Gate, S: Sockets, C: Clock>(
+    rt: &R,
+    server: &Server<'_, L, R, G, S, C>,
+    job: Job<L, R>,
+    told: &mut Told,
+) -> Worked<L, R>
+    ensures done { result.all ≡ true → result.baton.pieces ≡ job.baton.pieces ++ job.piece ∷ [] }
+    ensures not_done { result.all ≡ false → result.baton.pieces ≡ job.baton.pieces }
+    ensures session { result.baton.session ≡ job.baton.session }
+{
+    let session = job.baton.session();
+    let Some(slot) = server.desk.slot(rt) else {
+        return Worked {
+            baton: job.baton,
+            all: false,
+        };
+    };
+    let back = work_one(rt, server.hall, job, server.clock.now(), server.gate, told);
+    server.desk.back(rt, slot);
+    server.sockets.tell(session, told);
+    let Back { baton, outcome } = back;
+    match outcome {
+        Outcome::Done(done) => {
+            shut_those(server.sockets, session, &done);
+            Worked { baton, all: true }
+        }
+        Outcome::Refused(refusal) => {
+            after_refusal(rt, server, session, refusal, told);
+            Worked { baton, all: false }
+        }
+    }
+}
+
+/// Does pieces of a session in turn, each under a slot, until one is refused or no slot comes. After each it rings for who got
+/// something and shuts who was shut. Where memory is wanting, for the copy of a piece too, the session is ended with that reason;
+/// where there is no room for a record, it is ended with Shutdown, and the server is asked to stop. `told` is any list, and its
+/// content counts for nothing.
+///
+/// The pieces done with the baton that comes back are those done before, then the first of these pieces, in order; all of them
+/// where `all` is true.
+pub fn work<L: Naming, R: Wait + Drop, G: Gate, S: Sockets, C: Clock>(
+    rt: &R,
+    server: &Server<'_, L, R, G, S, C>,
+    baton: Baton<L, Sender<R>>,
+    pieces: &[Piece],
+    told: &mut Told,
+) -> Worked<L, R>
+    ensures front { DoesFront baton.pieces result.baton.pieces pieces.now }
+    ensures whole { result.all ≡ true → result.baton.pieces ≡ baton.pieces ++ pieces.now }
+    ensures session { result.baton.session ≡ baton.session }
+{
+    let mut baton = baton;
+    for piece in pieces {
+        let Ok(piece) = piece.copy() else {
+            hang(rt, server, baton.session(), Why::Memory, told);
+            return Worked { baton, all: false };
+        };
+        let worked = work_next(rt, server, Job { baton, piece }, told);
+        if !worked.all {
+            return worked;
+        }
+        baton = worked.baton;
+    }
+    Worked { baton, all: true }
+}

@@ -1,0 +1,7 @@
+//! A session's wire: what its writer takes, on its way to a stream.
+#![tactic(auto)]
+
+mod begun;
+mod wire;
+
+pub use wire::{Flow, Wire};

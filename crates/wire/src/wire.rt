@@ -1,0 +1,237 @@
+//! A session's writer and the stream on which its items go out.
+ghost use Rattle.std.specs.Prelude.{◌≡◌, [], true, false, Some, IfOk, IfErr, OnOk, OnErr};
+ghost use Rattle.std.specs.Io.KnownBytes.{append_known};
+ghost use Rattle.wire.specs.declared.wire.Flow.TheVariants.{Idle, Ended};
+ghost use Rattle.wire.specs.Wired.{ends, is_last, IsInStep, IsSameWire};
+
+use crate::begun::{Begun, Stop, stop_of};
+use chronicle::SessionId;
+use deliveries::{Delivery, WriteFault};
+use ghosts::Snapshot;
+use line_grammar::Octets;
+use outbox::{Bell, ChannelName, Writer};
+use register::{Naming, Stub};
+use std::alloc::Global;
+use std::io::{BufWriter, Write};
+use std::marker::Model;
+use std::sync::Wait;
+
+/// How many octets may wait to be written together.
+const ROOM: usize = 8192;
+
+/// How many writes one call makes at most before it answers.
+const TURNS: u32 = 4096;
+
+/// How a wire stands after it was pumped.
+#[derive(Clone, Copy, Debug, PartialEq)]
+pub enum Flow {
+    /// No item waits, and all went out.
+    Idle,
+    /// More may wait.
+    More,
+    /// The stream takes nothing now.
+    Behind,
+    /// The session's last item went out.
+    Ended,
+}
+
+/// A session's writer, and the stream on which its items go out. It takes no memory once it is made.
+#[derive(Drop)]
+pub struct Wire<L: Naming, W: Write + Drop> {
+    writer: Writer,
+    stub: Stub<L, ChannelName>,
+    out: BufWriter<W>,
+    host: Octets,
+    begun: Option<Begun>,
+    has_last: bool,
+    is_broken: bool,
+    writer_before: Snapshot<Writer>,
+    stream_before: Snapshot<W>,
+}
+
+impl<L: Naming, W: Write + Drop> Model for Wire<L, W> {
+    ghost use Rattle.std.specs.Prelude.{◌≡◌, true, Some};
+    ghost use Rattle.std.specs.Io.Buffered.{writer_contents, writer_buffer};
+    ghost use Rattle.wire.specs.Wired.{Wired, IsInStep, rest_of, ends};
+
+    ghost Value = { Wired };
+
+    ghost view = { λ a. record { session = a.stub.session; taken = a.writer.taken; channel = a.writer.channel; told = writer_contents W.contents a.out; waiting = writer_buffer a.out; rest = rest_of a.host a.begun; host = a.host; is_broken = a.is_broken; taken_before = a.writer_before.value.taken; told_before = W.contents a.stream_before.value } };
+
+    ghost invariant = { λ a. (a.stub.outbox ≡ Some a.writer.channel) × IsInStep (record { session = a.stub.session; taken = a.writer.taken; channel = a.writer.channel; told = writer_contents W.contents a.out; waiting = writer_buffer a.out; rest = rest_of a.host a.begun; host = a.host; is_broken = a.is_broken; taken_before = a.writer_before.value.taken; told_before = W.contents a.stream_before.value }) × (a.has_last ≡ true → ends a.writer.taken ≡ true) };
+}
+
+impl<L: Naming, W: Write + Drop> Wire<L, W> {
+    /// A wire of a session that has this host, by its writer and its stub. Where there is no memory for it, both come back.
+    pub fn new(
+        alloc: Global,
+        writer: Writer,
+        stub: Stub<L, ChannelName>,
+        stream: W,
+        host: Octets,
+    ) -> Result<Wire<L, W>, (Writer, Stub<L, ChannelName>)>
+        requires own { stub.outbox ≡ Some writer.channel }
+        ensures taken { IfOk result (λ w. w.taken ≡ writer.taken) }
+        ensures channel { IfOk result (λ w. w.channel ≡ writer.channel) }
+        ensures host { IfOk result (λ w. w.host ≡ host) }
+        ensures taken_before { IfOk result (λ w. w.taken_before ≡ writer.taken) }
+        ensures told_before { IfOk result (λ w. w.told_before ≡ W.contents stream) }
+        ensures whole { IfOk result (λ w. w.is_broken ≡ false) }
+        ensures session { IfOk result (λ w. w.session ≡ stub.session) }
+        ensures err { IfErr result (λ e. (e.0 ≡ writer) × (e.1 ≡ stub)) }
+    {
+        let writer_before = Snapshot::of(&writer);
+        let stream_before = Snapshot::of(&stream);
+        let Ok(out) = BufWriter::with_capacity(alloc, ROOM, stream) else {
+            return Err((writer, stub));
+        };
+        Ok(Wire {
+            writer,
+            stub,
+            out,
+            host,
+            begun: None,
+            has_last: false,
+            is_broken: false,
+            writer_before,
+            stream_before,
+        })
+    }
+
+    /// Begins the item that waits longest, and answers whether there was one.
+    fn begin_next<R: Wait>(&mut self, rt: &R) -> bool
+        requires rest { self.old.rest ≡ [] }
+        requires whole { self.old.is_broken ≡ false }
+        ensures same { IsSameWire self.old self.new }
+        ensures whole { self.new.is_broken ≡ false }
+        ensures none { result ≡ false → self.new.rest ≡ [] }
+    {
+        let Ok(item) = self.writer.take_now(rt) else {
+            return false;
+        };
+        self.has_last = is_last(item.delivery());
+        self.begun = Some(Begun::new(item));
+        true
+    }
+
+    /// Writes more of the item that was begun. It answers whether the stream takes more.
+    fn write_begun(&mut self) -> Result<bool, WriteFault>
+        requires whole { self.old.is_broken ≡ false }
+        ensures same { IsSameWire self.old self.new }
+        ensures whole { OnOk result (self.new.is_broken ≡ false) }
+        ensures fault { OnErr result (self.new.is_broken ≡ true) }
+    {
+        let Some(begun) = &mut self.begun else {
+            return Ok(true);
+        };
+        match begun.write_more(self.host.as_slice(), &mut self.out) {
+            Ok(true) => {
+                self.begun = None;
+                Ok(true)
+            }
+            Ok(false) => Ok(true),
+            Err(Stop::Later) => Ok(false),
+            Err(Stop::Fault(fault)) => {
+                self.is_broken = true;
+                Err(fault)
+            }
+        }
+    }
+
+    /// Writes what waits in the wire.
+    fn flush(&mut self) -> Result<Flow, WriteFault>
+        requires rest { self.old.rest ≡ [] }
+        requires whole { self.old.is_broken ≡ false }
+        ensures same { IsSameWire self.old self.new }
+        ensures whole { OnOk result (self.new.is_broken ≡ false) }
+        ensures idle { IfOk result (λ flow. flow ≡ Idle → (self.new.rest ≡ []) × (self.new.waiting ≡ [])) }
+        ensures ended { IfOk result (λ flow. flow ≡ Ended → (self.new.rest ≡ []) × (self.new.waiting ≡ []) × (ends self.new.taken ≡ true)) }
+        ensures fault { OnErr result (self.new.is_broken ≡ true) }
+    {
+        match self.out.flush() {
+            Ok(()) => Ok(if self.has_last {
+                Flow::Ended
+            } else {
+                Flow::Idle
+            }),
+            Err(error) => match stop_of(&error) {
+                Stop::Later => Ok(Flow::Behind),
+                Stop::Fault(fault) => {
+                    self.is_broken = true;
+                    Err(fault)
+                }
+            },
+        }
+    }
+
+    /// Takes the items that wait, and writes them, many at once where many wait. It waits for none; the stream may wait.
+    ///
+    /// After a fault nothing more is written.
+    pub fn pump<R: Wait>(&mut self, rt: &R) -> Result<Flow, WriteFault>
+        ensures same { IsSameWire self.old self.new }
+        ensures whole { OnOk result (self.new.is_broken ≡ false) }
+        ensures idle { IfOk result (λ flow. flow ≡ Idle → (self.new.rest ≡ []) × (self.new.waiting ≡ [])) }
+        ensures ended { IfOk result (λ flow. flow ≡ Ended → (self.new.rest ≡ []) × (self.new.waiting ≡ []) × (ends self.new.taken ≡ true)) }
+        ensures fault { OnErr result (self.new.is_broken ≡ true) }
+    {
+        if self.is_broken {
+            return Err(WriteFault::Failed);
+        }
+        for _ in 0..TURNS {
+            if self.begun.is_none() && (self.has_last || !self.begin_next(rt)) {
+                return self.flush();
+            }
+            if !self.write_begun()? {
+                return Ok(Flow::Behind);
+            }
+        }
+        Ok(Flow::More)
+    }
+
+    /// The stream.
+    pub fn stream(&self) -> &W
+        ensures { self.now.told ≡ append_known (W.contents result.now) self.now.waiting }
+    {
+        self.out.get_ref()
+    }
+
+    /// The bell that ends a rest of whoever pumps.
+    pub fn bell(&self) -> &Bell {
+        self.writer.bell()
+    }
+
+    /// What holds of every wire: what went out is the texts of the items taken since it was made, in order, but for a rest.
+    pub fn in_step(&self)
+        ensures { IsInStep self.now }
+    {
+        let _ = &self.writer;
+    }
+
+    /// Its session.
+    pub fn session(&self) -> SessionId
+        ensures { result ≡ self.now.session }
+    {
+        self.stub.session()
+    }
+
+    /// Gives the writer and the stub back. What waits in the wire is given to the stream, which is closed.
+    pub fn apart(self) -> (Writer, Stub<L, ChannelName>)
+        ensures taken { result.0.taken ≡ self.taken }
+        ensures channel { result.0.channel ≡ self.channel }
+        ensures session { result.1.session ≡ self.session }
+        ensures own { result.1.outbox ≡ Some result.0.channel }
+    {
+        let Wire { writer, stub, .. } = self;
+        (writer, stub)
+    }
+}
+
+/// Whether a delivery is a session's last.
+fn is_last(delivery: &Delivery) -> bool
+    ensures { result ≡ is_last delivery.now }
+{
+    match delivery {
+        Delivery::Lines { .. } => false,
+        Delivery::Last { .. } => true,
+    }
+}

@@ -1,0 +1,7 @@
+//! Trials of wires.
+#![tactic(auto)]
+
+#[cfg(test)]
+mod narrow;
+#[cfg(test)]
+mod wires;

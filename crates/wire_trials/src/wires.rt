@@ -1,0 +1,195 @@
+//! What goes out on a wire is what its writer took, in order, over streams that take little, wait or fail.
+ghost use Rattle.std.specs.Prelude.{◌≡◌, []};
+
+use crate::narrow::{Narrow, Shape};
+use chronicle::SessionId;
+use deliveries::WriteFault;
+use line_grammar::Octets;
+use outbox::{ChannelName, Sender, pair};
+use outbox_trials::Feed;
+use register::{Naming, Register};
+use std::alloc::Global;
+use std::marker::Brand;
+use std::process::Abort;
+use std::sync::Wait;
+use std::test::Fail;
+use wire::{Flow, Wire};
+
+/// What each item delivers.
+const TOLD: &[u8; 45] = b":irc.example 417 * :Input line was too long\r\n";
+
+/// How many items wait: more than a wire writes at once.
+const ITEMS: u64 = 400;
+
+/// Their octets.
+const OCTETS: usize = 18_000;
+
+/// More than any call takes.
+const CALLS: u32 = 100_000;
+
+/// A wire over a stream of this shape, for which items wait, and what feeds it.
+fn fed<L: Naming, R: Wait + Abort + Drop + Copy>(
+    rt: &R,
+    alloc: Global,
+    mut register: Register<ChannelName>,
+    shape: Shape,
+) -> (Feed<Sender<R>>, Wire<L, Narrow>)
+    requires named { register.table ≡ L.table }
+    requires new { register.rows ≡ [] }
+{
+    let (sender, writer) = pair(*rt, alloc, 512).expect(rt, "memory");
+    let (_, stub) = register.admit::<L, Sender<R>>(SessionId::new(1), &sender);
+    let mut feed = Feed::new(alloc, sender).expect(rt, "memory");
+    for _ in 0..ITEMS {
+        let _ = feed.feed(alloc);
+    }
+    let host = Octets::from_vec(Vec::new(alloc));
+    match Wire::new(alloc, writer, stub, Narrow::new(alloc, shape), host) {
+        Ok(wire) => (feed, wire),
+        Err(_) => rt.abort(),
+    }
+}
+
+/// Pumps until nothing waits or the stream is at its end.
+fn pump_all<L: Naming, R: Wait>(rt: &R, wire: &mut Wire<L, Narrow>) -> Result<Flow, WriteFault> {
+    for _ in 0..CALLS {
+        match wire.pump(rt)? {
+            Flow::Idle => return Ok(Flow::Idle),
+            Flow::Ended => return Ok(Flow::Ended),
+            Flow::More | Flow::Behind => {}
+        }
+    }
+    Ok(Flow::More)
+}
+
+/// Whether octets are the front of what the items deliver.
+fn is_front(octets: &[u8]) -> bool {
+    let mut place = 0;
+    for octet in octets {
+        if TOLD.get(place) != Some(octet) {
+            return false;
+        }
+        place = if place == 44 { 0 } else { place + 1 };
+    }
+    true
+}
+
+/// Streams that take all, in time.
+const SLOW: [(usize, u32); 8] = [
+    (1, 0),
+    (7, 0),
+    (8192, 0),
+    (99_999, 0),
+    (1, 2),
+    (100, 3),
+    (5000, 2),
+    (99_999, 2),
+];
+
+/// Whether all goes out to a stream of this shape.
+fn goes_out<L: Naming, R: Wait + Abort + Drop + Copy>(
+    rt: &R,
+    alloc: Global,
+    register: Register<ChannelName>,
+    shape: Shape,
+) -> bool
+    requires named { register.table ≡ L.table }
+    requires new { register.rows ≡ [] }
+{
+    let (_feed, mut wire) = fed::<L, R>(rt, alloc, register, shape);
+    pump_all(rt, &mut wire) == Ok(Flow::Idle)
+        && wire.stream().octets.len() == OCTETS
+        && is_front(wire.stream().octets.as_slice())
+}
+
+#[test]
+fn all_goes_out_in_order(rt: HostRuntime) -> Result<(), Fail> {
+    for (most, period) in SLOW {
+        let shape = Shape {
+            most,
+            left: 99_999,
+            period,
+            fails: true,
+        };
+        let register = Register::new(rt.alloc())?;
+        assert!(rt;
+            goes_out::<Brand, _>(&rt, rt.alloc(), register, shape),
+            "{most} at a time"
+        );
+    }
+    Ok(())
+}
+
+/// How much a stream takes before it is at its end.
+const ENDS: [usize; 8] = [0, 1, 44, 45, 8191, 8192, 8193, 17_999];
+
+/// Whether a stream that takes so much is given just that, and the fault is told then and later.
+fn is_front_at<L: Naming, R: Wait + Abort + Drop + Copy>(
+    rt: &R,
+    alloc: Global,
+    register: Register<ChannelName>,
+    left: usize,
+    fault: WriteFault,
+) -> bool
+    requires named { register.table ≡ L.table }
+    requires new { register.rows ≡ [] }
+{
+    let shape = Shape {
+        most: 700,
+        left,
+        period: 5,
+        fails: fault == WriteFault::Failed,
+    };
+    let (_feed, mut wire) = fed::<L, R>(rt, alloc, register, shape);
+    pump_all(rt, &mut wire) == Err(fault)
+        && wire.pump(rt) == Err(WriteFault::Failed)
+        && wire.stream().octets.len() == left
+        && is_front(wire.stream().octets.as_slice())
+}
+
+#[test]
+fn a_fault_leaves_the_front(rt: HostRuntime) -> Result<(), Fail> {
+    for left in ENDS {
+        for fault in [WriteFault::Failed, WriteFault::Zero] {
+            let register = Register::new(rt.alloc())?;
+            assert!(rt;
+                is_front_at::<Brand, _>(&rt, rt.alloc(), register, left, fault),
+                "{left} octets"
+            );
+        }
+    }
+    Ok(())
+}
+
+/// Whether an item that comes when all went out goes out, too.
+fn goes_on<L: Naming, R: Wait + Abort + Drop + Copy>(
+    rt: &R,
+    alloc: Global,
+    register: Register<ChannelName>,
+) -> bool
+    requires named { register.table ≡ L.table }
+    requires new { register.rows ≡ [] }
+{
+    let shape = Shape {
+        most: 99_999,
+        left: 99_999,
+        period: 0,
+        fails: true,
+    };
+    let (mut feed, mut wire) = fed::<L, R>(rt, alloc, register, shape);
+    let is_first = pump_all(rt, &mut wire) == Ok(Flow::Idle)
+        && pump_all(rt, &mut wire) == Ok(Flow::Idle)
+        && wire.stream().octets.len() == OCTETS;
+    is_first
+        && feed.feed(alloc).is_ok()
+        && pump_all(rt, &mut wire) == Ok(Flow::Idle)
+        && wire.stream().octets.len() == OCTETS + 45
+        && is_front(wire.stream().octets.as_slice())
+}
+
+#[test]
+fn items_that_come_later_go_out_later(rt: HostRuntime) -> Result<(), Fail> {
+    let register = Register::new(rt.alloc())?;
+    assert!(rt; goes_on::<Brand, _>(&rt, rt.alloc(), register));
+    Ok(())
+}
