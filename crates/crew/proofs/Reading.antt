@@ -1,7 +1,7 @@
 -- Lines are done as they are read.
 use Rattle.std.proofs.Common.{◌≡◌, ℕ, Bool, true, false, cond, List, [], ◌∷◌, ◌++◌, take, drop, Option, Some, None, refl, ap, sym, ◌∙◌, subst, append_assoc, append-nil}
 use Rattle.std.proofs.KnownBytes.{Consumes-nil, Consumes-trans}
-use Rattle.std.proofs.lemmas.List.{take_rest}
+use Rattle.std.proofs.lemmas.List.{take-append-drop}
 use Rattle.std.specs.Io.KnownBytes.{Consumes}
 use Rattle.std.specs.List.{flat_map}
 use Rattle.line_grammar.specs.declared.splitter.Piece.{Piece}
@@ -11,7 +11,7 @@ use Rattle.crew.specs.Taking.{TakesIn, HasDone}
 
 -- what is done of pieces of which so many were done
 pub front_of : (old new pieces : List Piece) (n : ℕ) → new ≡ old ++ take n pieces → DoesFront old new pieces
-front_of old new pieces n grown = record { done = take n pieces; left = drop n pieces; parts = sym (take_rest n pieces); grown = grown }
+front_of old new pieces n grown = record { done = take n pieces; left = drop n pieces; parts = sym (take-append-drop n pieces); grown = grown }
 
 -- no octets come
 pub takes_nothing : (before after kept now : Option (List ℕ)) → Consumes before after [] → now ≡ kept → TakesIn before after kept now []

@@ -8,16 +8,16 @@ use std::time::Duration;
 use std::{io, thread, time};
 
 /// How often a wait looks before it gives up.
-pub(crate) const TURNS: u32 = 10_000;
+pub const TURNS: u32 = 10_000;
 
 /// Waits a little between two looks.
-pub(crate) fn rest<R: time::Clock>(rt: &R) {
+pub fn rest<R: time::Clock>(rt: &R) {
     thread::sleep(rt, Duration::from_micros(100));
 }
 
 /// A gate that is always open.
 #[derive(Drop)]
-pub(crate) struct Open;
+pub struct Open;
 
 impl Gate for Open {
     fn enter(&self, _session: SessionId) {}
@@ -27,11 +27,23 @@ impl Gate for Open {
 
 /// A gate by which the first session leaves when another was answered, or gives up.
 #[derive(Drop)]
-pub(crate) struct Turnstile<R: time::Clock + Drop> {
-    pub(crate) rt: R,
-    pub(crate) first: SessionId,
-    pub(crate) is_answered: AtomicBool,
-    pub(crate) has_given_up: AtomicBool,
+pub struct Turnstile<R: time::Clock + Drop> {
+    rt: R,
+    first: SessionId,
+    pub is_answered: AtomicBool,
+    pub has_given_up: AtomicBool,
+}
+
+impl<R: time::Clock + Drop> Turnstile<R> {
+    /// A gate by which this session leaves when another was answered.
+    pub fn new(rt: R, first: SessionId) -> Turnstile<R> {
+        Turnstile {
+            rt,
+            first,
+            is_answered: AtomicBool::new(false),
+            has_given_up: AtomicBool::new(false),
+        }
+    }
 }
 
 impl<R: time::Clock + Drop> Gate for Turnstile<R> {
@@ -53,13 +65,14 @@ impl<R: time::Clock + Drop> Gate for Turnstile<R> {
 
 /// Connections of which is noted who was shut, and whether the server is to stop.
 #[derive(Drop)]
-pub(crate) struct Noted {
+pub struct Noted {
     shut: AtomicU64,
-    pub(crate) is_stopped: AtomicBool,
+    pub is_stopped: AtomicBool,
 }
 
 impl Noted {
-    pub(crate) fn new() -> Noted {
+    /// Nobody is shut.
+    pub fn new() -> Noted {
         Noted {
             shut: AtomicU64::new(0),
             is_stopped: AtomicBool::new(false),
@@ -94,7 +107,7 @@ impl Sockets for Noted {
 
 /// A clock that stands.
 #[derive(Drop)]
-pub(crate) struct Still;
+pub struct Still;
 
 impl Clock for Still {
     fn now(&self) -> Moment {
@@ -104,8 +117,8 @@ impl Clock for Still {
 
 /// A client's input, which comes in parts of seven octets, and then fails.
 #[derive(Drop)]
-pub(crate) struct Torn<'a> {
-    pub(crate) octets: &'a [u8],
+pub struct Torn<'a> {
+    pub octets: &'a [u8],
 }
 
 impl Read for Torn<'_> {

@@ -1,9 +1,7 @@
 //! Trials of a server's threads, over readers and writers in memory.
 #![tactic(auto)]
 
-#[cfg(test)]
 mod fakes;
-#[cfg(test)]
 mod making;
 #[cfg(test)]
 mod reading;
@@ -11,3 +9,6 @@ mod reading;
 mod taking;
 #[cfg(test)]
 mod threads;
+
+pub use fakes::{Noted, Open, Still, TURNS, Torn, Turnstile, rest};
+pub use making::{Tokens, ends, hung_for, line, open, work_two, work_under_slot};

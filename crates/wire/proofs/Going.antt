@@ -1,7 +1,7 @@
 -- A text goes out part by part.
-use Rattle.std.proofs.Common.{◌≡◌, ℕ, Bool, true, false, List, [], ◌∷◌, ◌++◌, take, drop, Option, Some, None, refl, ap, sym, ◌∙◌, append_assoc, append-nil}
-use Rattle.std.proofs.KnownBytes.{Appends-trans}
-use Rattle.std.proofs.lemmas.List.{take_rest}
+use Rattle.std.proofs.Common.{◌≡◌, ℕ, Bool, true, false, ◌+◌, List, [], ◌∷◌, ◌++◌, take, drop, Option, Some, None, refl, ap, sym, ◌∙◌, append_assoc, append-nil}
+use Rattle.std.proofs.KnownBytes.{Appends-nil, Appends-trans, Appends-kept}
+use Rattle.std.proofs.lemmas.List.{take-append-drop, drop-drop}
 use Rattle.std.specs.Io.KnownBytes.{Appends, Keeps}
 use Rattle.deliveries.specs.declared.item.Item.{Item}
 use Rattle.deliveries.specs.Text.{delivery_text}
@@ -15,10 +15,31 @@ goes_on a b c xs ys zs first next = record {
   parts = first.parts ∙ ap (λ l. first.gone ++ l) next.parts ∙ sym (append_assoc first.gone next.gone zs);
 }
 
+-- nothing goes out
+pub goes_nothing : (a b : Option (List ℕ)) (xs : List ℕ) → Keeps a b → GoesOut a b xs xs
+goes_nothing a b xs kept = record { gone = []; appended = Appends-kept a a b [] (Appends-nil a) kept; parts = refl }
+
+-- the front of what is left
+pub goes_front : (a b : Option (List ℕ)) (xs : List ℕ) (n : ℕ) → Appends a b (take n xs) → GoesOut a b xs (drop n xs)
+goes_front a b xs n appended = record { gone = take n xs; appended = appended; parts = sym (take-append-drop n xs) }
+
+pub goes_further : (a b : Option (List ℕ)) (text : List ℕ) (c n : ℕ) → Appends a b (take n (drop c text)) → GoesOut a b (drop c text) (drop (c + n) text)
+goes_further a b text c n appended = record { gone = take n (drop c text); appended = appended; parts = sym (take-append-drop n (drop c text)) ∙ ap (λ l. take n (drop c text) ++ l) (drop-drop n c text) }
+
 -- the texts of one item more
 pub texts_more : (host : List ℕ) (xs : List Item) (x : Item) → texts host (xs ++ x ∷ []) ≡ texts host xs ++ delivery_text x.delivery host
 texts_more host [] x = append-nil (delivery_text x.delivery host)
 texts_more host (y ∷ ys) x = ap (λ l. delivery_text y.delivery host ++ l) (texts_more host ys x) ∙ sym (append_assoc (delivery_text y.delivery host) (texts host ys) (delivery_text x.delivery host))
+
+-- an item more is to go out, when all before it went out
+pub out_begun : (host : List ℕ) (since : List Item) (x : Item) (a b : Option (List ℕ)) (left : List ℕ) → left ≡ [] → GoesOut a b (texts host since) left → GoesOut a b (texts host (since ++ x ∷ [])) (delivery_text x.delivery host)
+out_begun host since x a b left none out =
+    let text = delivery_text x.delivery host in
+    record {
+      gone = out.gone;
+      appended = out.appended;
+      parts = texts_more host since x ∙ ap (λ l. l ++ text) (out.parts ∙ ap (λ l. out.gone ++ l) none) ∙ append_assoc out.gone [] text;
+    }
 
 -- the newest item is the last of these
 pub ends_more : (xs : List Item) (x : Item) → ends (xs ++ x ∷ []) ≡ is_last x.delivery
