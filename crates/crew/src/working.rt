@@ -192,11 +192,11 @@ pub fn work<L: Naming, R: Wait + Drop, G: Gate, S: Sockets, C: Clock>(
 {
     let mut baton = baton;
     for piece in pieces {
-        let Ok(piece) = piece.copy() else {
+        let Ok(copy) = piece.copy() else {
             hang(rt, server, baton.session(), Why::Memory, told);
             return Worked { baton, all: false };
         };
-        let worked = work_next(rt, server, Job { baton, piece }, told);
+        let worked = work_next(rt, server, Job { baton, piece: copy }, told);
         if !worked.all {
             return worked;
         }

@@ -144,7 +144,7 @@ pub fn ends<L: Naming, R: Wait + Drop>(
     Ok(worked.all && left.session() == session)
 }
 
-/// Whether a session is the one, and why it was hung by this record.
+/// Whom the record of this number hung, and why.
 pub fn hung_for<L: Naming, R: Wait + Drop>(
     hall: &Hall<L, Sender<R>>,
     number: RecordNumber,
