@@ -2,7 +2,7 @@
 ghost use Rattle.std.specs.Prelude.{◌≡◌};
 ghost use Rattle.crew.specs.Doing.{DoesLines};
 
-use crate::intake::Intake;
+use crate::intake::{Ending, Intake};
 use crate::server::{Clock, Gate, Server, Sockets};
 use crate::working::{Worked, hang, work};
 use chronicle::Why;
@@ -47,9 +47,9 @@ fn read_lines<L: Naming, I: Read, W: Write + Drop, R: Wait + Drop, G: Gate, S: S
         if server.sockets.is_shut(session) {
             break;
         }
-        if let Err(why) = intake.take_in(input) {
-            let all = why != Why::Memory;
-            return (Worked { baton, all }, why);
+        match intake.take_in(input) {
+            Ok(()) => {}
+            Err(Ending { why, all }) => return (Worked { baton, all }, why),
         }
         let worked = work(rt, server, baton, intake.pieces(), told);
         answer(rt, wire, bell);

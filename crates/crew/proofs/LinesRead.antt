@@ -1,7 +1,8 @@
 -- Lines are done as they are read.
-use Rattle.std.proofs.Common.{◌≡◌, ℕ, Bool, true, false, cond, List, [], ◌∷◌, ◌++◌, take, drop, Option, Some, None, refl, ap, sym, ◌∙◌, subst, append_assoc, append-nil}
+use Rattle.std.proofs.Common.{◌≡◌, ℕ, Bool, true, false, not, cond, List, [], ◌∷◌, ◌++◌, take, drop, Option, Some, None, refl, ap, sym, ◌∙◌, subst, append_assoc, append-nil}
 use Rattle.std.proofs.KnownBytes.{Consumes-nil, Consumes-trans}
 use Rattle.std.proofs.lemmas.List.{take-append-drop}
+use Rattle.std.specs.Prelude.{Result, Ok, Err, OnOk}
 use Rattle.std.specs.Io.KnownBytes.{Consumes}
 use Rattle.std.specs.List.{flat_map}
 use Rattle.line_grammar.specs.declared.splitter.Piece.{Piece}
@@ -95,3 +96,27 @@ runs_out a b c old new kept octets done read =
       front = record { done = lines done.octets; left = more.0; parts = more.1; grown = done.done };
       whole = λ e. absurd (let f : false ≡ true = e in cc);
     }
+
+-- no more octets come, or octets that aren't split
+pub ends_by : (a b c : Option (List ℕ)) (old new : List Piece) (kept now : Option (List ℕ)) (all : Bool) → HasDone a b old new kept → (all ≡ true → TakesIn b c kept now []) → ((octets : List ℕ) × Consumes b c octets) → DoesLines a c old new all
+ends_by a b c old new kept now true done takes read = ends_whole a c old new now true (goes_on a b c old new new [] kept now done (takes refl) (sym (append-nil new)))
+ends_by a b c old new kept now false done takes read = runs_out a b c old new kept read.0 done read.1
+
+-- the first of some pieces, where that is told to be not all
+pub ends_early : (a b c : Option (List ℕ)) (old mid new pieces : List Piece) (kept now : Option (List ℕ)) (all : Bool) → not all ≡ true → HasDone a b old mid kept → TakesIn b c kept now pieces → DoesFront mid new pieces → DoesLines a c old new all
+ends_early a b c old mid new pieces kept now true not_all done takes front = absurd (let f : false ≡ true = not_all in cc)
+ends_early a b c old mid new pieces kept now false not_all done takes front = ends_within a b c old mid new pieces kept now done takes front
+
+-- what is so of an answer that is no error
+pub unless_err : {A E : Type 0} (r : Result A E) (P : Type 0) → ((e : E) → r ≡ Err e → ⊥) → OnOk r P → P
+unless_err (Ok x) P not p = p
+unless_err (Err e) P not p = absurd (not e refl)
+
+-- a test that fails
+pub fails : (b : Bool) → not b ≡ true → b ≡ false
+fails true e = absurd (let f : false ≡ true = e in cc)
+fails false e = refl
+
+pub holds : (b : Bool) → not b ≡ false → b ≡ true
+holds true e = refl
+holds false e = absurd (let f : true ≡ false = e in cc)
