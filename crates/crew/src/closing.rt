@@ -2,7 +2,7 @@
 ghost use Rattle.std.specs.Prelude.{◌≡◌, Some, IfSome};
 
 use crate::server::{Clock, Gate, Server, Sockets, later};
-use crate::working::shut_those;
+use crate::working::ring_for;
 use chronicle::SessionId;
 use hall::{Baton, Left, Naming, Stub, Told};
 use outbox::{ChannelName, Sender, Writer};
@@ -18,14 +18,14 @@ fn sweep_one<L: Naming, R: Wait + Drop, G: Gate, S: Sockets, C: Clock>(
     by: SessionId,
     told: &mut Told,
 ) -> bool {
-    told.clear();
     let moment = server.clock.now();
     let mut hall = server.hall.lock(rt);
     let moment = later(moment, hall.last_moment());
+    hall.swap_told(told);
     let swept = hall.sweep(moment);
     hall.swap_told(told);
     drop(hall);
-    server.sockets.tell(by, told);
+    ring_for(server.sockets, by, told);
     let Ok(Some(done)) = swept else {
         return false;
     };

@@ -2,7 +2,7 @@
 ghost use Rattle.std.specs.Prelude.{◌≡◌};
 ghost use Rattle.crew.specs.Doing.{DoesLines};
 
-use crate::intake::{Ending, Intake};
+use crate::intake::Intake;
 use crate::server::{Clock, Gate, Server, Sockets};
 use crate::working::{Worked, hang, work};
 use chronicle::Why;
@@ -49,7 +49,13 @@ fn read_lines<L: Naming, I: Read, W: Write + Drop, R: Wait + Drop, G: Gate, S: S
         }
         match intake.take_in(input) {
             Ok(()) => {}
-            Err(Ending { why, all }) => return (Worked { baton, all }, why),
+            Err(ending) => return (
+                Worked {
+                    baton,
+                    all: ending.all,
+                },
+                ending.why,
+            ),
         }
         let worked = work(rt, server, baton, intake.pieces(), told);
         answer(rt, wire, bell);

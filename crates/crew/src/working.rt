@@ -39,7 +39,10 @@ pub struct Worked<L: Naming, R: Wait + Drop> {
     pub all: bool,
 }
 
-/// Does a line under the lock, and gives the list of who got something for an empty one.
+/// How many are told at least before they are rung for.
+const MANY: usize = 1024;
+
+/// Does a line under the lock, and adds who got something.
 fn under_lock<L: Naming, R: Wait + Drop>(
     rt: &R,
     hall: &Mutex<Hall<L, Sender<R>>>,
@@ -52,9 +55,9 @@ fn under_lock<L: Naming, R: Wait + Drop>(
     ensures refused { OnRefused result (baton.new ≡ baton.old) }
     ensures session { baton.new.session ≡ baton.old.session }
 {
-    told.clear();
     let mut hall = hall.lock(rt);
     let moment = later(moment, hall.last_moment());
+    hall.swap_told(told);
     let outcome = match hall.line(baton, piece, moment) {
         Ok(done) => Outcome::Done(done),
         Err(refusal) => Outcome::Refused(refusal),
@@ -63,7 +66,7 @@ fn under_lock<L: Naming, R: Wait + Drop>(
     outcome
 }
 
-/// Does a line, at this moment or at that of the newest record where that is later. `told` says then who got something, whose
+/// Does a line, at this moment or at that of the newest record where that is later. It adds to `told` who got something, whose
 /// bells are still to be rung.
 ///
 /// Where the line was done, its piece is the newest of those done with the baton that comes back. Where it was refused, the baton
@@ -88,7 +91,13 @@ pub fn work_one<L: Naming, R: Wait + Drop, G: Gate>(
     Back { baton, outcome }
 }
 
-/// Ends a session for a reason, where it is open, and shuts its connection.
+/// Rings for all who are told, and for none of them again.
+pub(crate) fn ring_for<S: Sockets>(sockets: &S, by: SessionId, told: &mut Told) {
+    sockets.tell(by, told);
+    told.clear();
+}
+
+/// Ends a session for a reason, where it is open, rings for who is told, and shuts its connection.
 pub(crate) fn hang<L: Naming, R: Wait + Drop, G: Gate, S: Sockets, C: Clock>(
     rt: &R,
     server: &Server<'_, L, R, G, S, C>,
@@ -96,21 +105,21 @@ pub(crate) fn hang<L: Naming, R: Wait + Drop, G: Gate, S: Sockets, C: Clock>(
     why: Why,
     told: &mut Told,
 ) {
-    told.clear();
     let moment = server.clock.now();
     let mut hall = server.hall.lock(rt);
     let moment = later(moment, hall.last_moment());
+    hall.swap_told(told);
     let hung = hall.hang(session, why, moment);
     hall.swap_told(told);
     drop(hall);
-    server.sockets.tell(session, told);
+    ring_for(server.sockets, session, told);
     if hung.is_ok() {
         server.sockets.shut(session);
     }
 }
 
 /// Shuts the connections of all whom a record of this session shut.
-pub(crate) fn shut_those<S: Sockets>(sockets: &S, session: SessionId, done: &Done) {
+fn shut_those<S: Sockets>(sockets: &S, session: SessionId, done: &Done) {
     for missed in done.missed.as_slice() {
         sockets.shut(*missed);
     }
@@ -138,7 +147,7 @@ fn after_refusal<L: Naming, R: Wait + Drop, G: Gate, S: Sockets, C: Clock>(
     }
 }
 
-/// Does one piece under a slot, rings for who got something, and shuts who was shut. All says whether it was done.
+/// Does one piece under a slot, and shuts who was shut. It rings where many are told by then. All says whether it was done.
 fn work_next<L: Naming, R: Wait + Drop, G: Gate, S: Sockets, C: Clock>(
     rt: &R,
     server: &Server<'_, L, R, G, S, C>,
@@ -158,7 +167,9 @@ fn work_next<L: Naming, R: Wait + Drop, G: Gate, S: Sockets, C: Clock>(
     };
     let back = work_one(rt, server.hall, job, server.clock.now(), server.gate, told);
     server.desk.back(rt, slot);
-    server.sockets.tell(session, told);
+    if MANY <= told.sessions().len() {
+        ring_for(server.sockets, session, told);
+    }
     let Back { baton, outcome } = back;
     match outcome {
         Outcome::Done(done) => {
@@ -172,14 +183,8 @@ fn work_next<L: Naming, R: Wait + Drop, G: Gate, S: Sockets, C: Clock>(
     }
 }
 
-/// Does pieces of a session in turn, each under a slot, until one is refused or no slot comes. After each it rings for who got
-/// something and shuts who was shut. Where memory is wanting, for the copy of a piece too, the session is ended with that reason;
-/// where there is no room for a record, it is ended with Shutdown, and the server is asked to stop. `told` is any list, and its
-/// content counts for nothing.
-///
-/// The pieces done with the baton that comes back are those done before, then the first of these pieces, in order; all of them
-/// where `all` is true.
-pub fn work<L: Naming, R: Wait + Drop, G: Gate, S: Sockets, C: Clock>(
+/// Does pieces of a session in turn, until one isn't done.
+fn work_all<L: Naming, R: Wait + Drop, G: Gate, S: Sockets, C: Clock>(
     rt: &R,
     server: &Server<'_, L, R, G, S, C>,
     baton: Baton<L, Sender<R>>,
@@ -203,4 +208,28 @@ pub fn work<L: Naming, R: Wait + Drop, G: Gate, S: Sockets, C: Clock>(
         baton = worked.baton;
     }
     Worked { baton, all: true }
+}
+
+/// Does pieces of a session in turn, each under a slot, until one is refused or no slot comes. After each it shuts who was shut.
+/// Who got something is rung for when all are done, and before where many are told; so is whoever stood in `told`, which is empty
+/// then. Where memory is wanting, for the copy of a piece too, the session is ended with that reason; where there is
+/// no room for a record, it is ended with Shutdown, and the server is asked to stop.
+///
+/// The pieces done with the baton that comes back are those done before, then the first of these pieces, in order; all of them
+/// where `all` is true.
+pub fn work<L: Naming, R: Wait + Drop, G: Gate, S: Sockets, C: Clock>(
+    rt: &R,
+    server: &Server<'_, L, R, G, S, C>,
+    baton: Baton<L, Sender<R>>,
+    pieces: &[Piece],
+    told: &mut Told,
+) -> Worked<L, R>
+    ensures front { DoesFront baton.pieces result.baton.pieces pieces.now }
+    ensures whole { result.all ≡ true → result.baton.pieces ≡ baton.pieces ++ pieces.now }
+    ensures session { result.baton.session ≡ baton.session }
+{
+    let session = baton.session();
+    let worked = work_all(rt, server, baton, pieces, told);
+    ring_for(server.sockets, session, told);
+    worked
 }

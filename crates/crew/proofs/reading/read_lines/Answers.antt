@@ -7,7 +7,7 @@ use Rattle.crew.proofs.reading.read_lines.Goals as goal
 pub returns-in-Err-clause-lines : goal.returns-in-Err-clause-lines
 returns-in-Err-clause-lines g c =
     let known = g.I.Read.remaining in
-    ends_by (known c.args.input.now) (known c.loop.input) (known c.take_in.new.input) c.args.baton.pieces c.loop.baton.pieces c.loop.intake.splitter c.take_in.new.self.splitter c.in-Err.all c.loop.invariant.done c.in-Err.ensures.all
+    ends_by (known c.args.input.now) (known c.loop.input) (known c.take_in.new.input) c.args.baton.pieces c.loop.baton.pieces c.loop.intake.splitter c.take_in.new.self.splitter c.in-Err.ending.all c.loop.invariant.done c.in-Err.ensures.all
     c.in-Err.ensures.some
 
 pub returns-then-not-worked-clause-lines : goal.returns-then-not-worked-clause-lines

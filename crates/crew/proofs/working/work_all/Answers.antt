@@ -1,6 +1,6 @@
 use Rattle.std.proofs.Common.{◌∙◌}
 use Rattle.crew.proofs.LinesRead.{front_of, fails}
-use Rattle.crew.proofs.working.work.Goals as goal
+use Rattle.crew.proofs.working.work_all.Goals as goal
 
 pub returns-in_default-clause-front : goal.returns-in_default-clause-front
 returns-in_default-clause-front g c = front_of c.args.baton.pieces c.loop-piece.baton.pieces c.args.pieces.now c.loop-piece.piece-index c.loop-piece.invariant.grown

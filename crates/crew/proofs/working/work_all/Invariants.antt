@@ -1,5 +1,5 @@
 use Rattle.std.proofs.Common.{◌≡◌, ◌++◌, take}
-use Rattle.crew.proofs.working.work.Given as goal
+use Rattle.crew.proofs.working.work_all.Given as goal
 
 -- so many pieces were done, in order
 abbrev pub invariant-loop-piece : goal.invariant-loop-piece
