@@ -188,9 +188,13 @@ impl<L: Naming, O: Lasting> Book<L, O> {
         ensures told { TellsOf told.old told.new self.old.outboxes self.new.outboxes }
     {
         self.book().sound();
-        let step = self.put_next(plan)?;
-        told.note_step(step);
-        Some(step)
+        match self.put_next(plan)? {
+            Step::Put(session) => {
+                told.note(session);
+                Some(Step::Put(session))
+            }
+            Step::Missed(session) => Some(Step::Missed(session)),
+        }
     }
 
     /// Puts or misses all that is left of a plan, and notes who got something.

@@ -1,8 +1,7 @@
 //! Who got something.
 ghost use Rattle.std.specs.Prelude.{◌≡◌, ℕ, true, false, []};
-ghost use Rattle.hall.specs.Telling.{is_told, is_put_to};
+ghost use Rattle.hall.specs.Telling.{is_told};
 
-use book::Step;
 use chronicle::SessionId;
 use std::alloc::Global;
 use std::marker::Model;
@@ -41,17 +40,6 @@ impl Told {
     {
         if self.sessions.push(session).is_err() {
             self.all = true;
-        }
-    }
-
-    /// Notes the session into whose outbox a delivery was put.
-    pub(crate) fn note_step(&mut self, step: Step)
-        ensures told { (t : ℕ) → is_put_to step t ≡ true → is_told self.new t ≡ true }
-        ensures kept { (t : ℕ) → is_told self.old t ≡ true → is_told self.new t ≡ true }
-    {
-        match step {
-            Step::Put(session) => self.note(session),
-            Step::Missed(_) => {}
         }
     }
 
