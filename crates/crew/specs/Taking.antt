@@ -11,8 +11,8 @@ pub record TakesIn (before after : Option (List ℕ)) (kept now : Option (List �
   pub feeds : (stream : List ℕ) → kept ≡ left_by stream → Feeds stream octets now [] pieces
 
 -- octets were read, all of whose lines were done after the old ones, and this is kept of the unfinished one
-pub record HasDone (before after : Option (List ℕ)) (old new : List Piece) (kept : Option (List ℕ)) : Type 0 where
+pub record HasDone (before after : Option (List ℕ)) (old new : List Piece) (now : Option (List ℕ)) : Type 0 where
   pub octets : List ℕ
   pub read : Consumes before after octets
   pub done : new ≡ old ++ lines octets
-  pub kept : kept ≡ left_by octets
+  pub kept : now ≡ left_by octets

@@ -2,26 +2,30 @@
 ghost use Rattle.std.specs.Prelude.{◌≡◌, Some, IfSome};
 
 use crate::server::{Clock, Gate, Server, Sockets, later};
-use crate::working::shut_those;
+use crate::working::ring_for;
+use chronicle::SessionId;
 use hall::{Baton, Left, Naming, Stub, Told};
 use outbox::{ChannelName, Sender, Writer};
 use std::alloc::Global;
-use std::sync::Wait;
+use std::io::Write;
+use std::sync::{Mutex, Wait};
+use wire::Wire;
 
 /// Sweeps one session, and answers whether there may be more.
 fn sweep_one<L: Naming, R: Wait + Drop, G: Gate, S: Sockets, C: Clock>(
     rt: &R,
     server: &Server<'_, L, R, G, S, C>,
+    by: SessionId,
     told: &mut Told,
 ) -> bool {
-    told.clear();
     let moment = server.clock.now();
     let mut hall = server.hall.lock(rt);
     let moment = later(moment, hall.last_moment());
+    hall.swap_told(told);
     let swept = hall.sweep(moment);
     hall.swap_told(told);
     drop(hall);
-    server.sockets.tell(told);
+    ring_for(server.sockets, by, told);
     let Ok(Some(done)) = swept else {
         return false;
     };
@@ -35,10 +39,11 @@ fn sweep_one<L: Naming, R: Wait + Drop, G: Gate, S: Sockets, C: Clock>(
 fn sweep_all<L: Naming, R: Wait + Drop, G: Gate, S: Sockets, C: Clock>(
     rt: &R,
     server: &Server<'_, L, R, G, S, C>,
+    by: SessionId,
     told: &mut Told,
 ) {
     for _ in rt.forever() {
-        if !sweep_one(rt, server, told) {
+        if !sweep_one(rt, server, by, told) {
             return;
         }
     }
@@ -60,10 +65,11 @@ pub fn close_up<L: Naming, R: Wait + Drop, G: Gate, S: Sockets, C: Clock>(
     requires own { stub.outbox ≡ Some writer.channel }
     ensures session { result.session ≡ baton.session }
 {
+    let session = baton.session();
     let mut told = Told::new(alloc);
     let mut tokens = (baton, stub, writer);
     for _ in rt.forever() {
-        sweep_all(rt, server, &mut told);
+        sweep_all(rt, server, session, &mut told);
         let (baton, stub, writer) = tokens;
         match server.hall.lock(rt).reap(baton, stub, writer) {
             Ok(left) => return left,
@@ -72,4 +78,20 @@ pub fn close_up<L: Naming, R: Wait + Drop, G: Gate, S: Sockets, C: Clock>(
         server.sockets.pause();
     }
     unreachable!()
+}
+
+/// Ends the lock of a session's wire, and gives its writer and its stub back. It answers `None` where the wire is another
+/// session's.
+pub fn end_wire<L: Naming, W: Write + Drop>(
+    session: SessionId,
+    wire: Mutex<Wire<L, W>>,
+) -> Option<(Writer, Stub<L, ChannelName>)>
+    ensures session { IfSome result (λ ends. ends.1.session ≡ session) }
+    ensures own { IfSome result (λ ends. ends.1.outbox ≡ Some ends.0.channel) }
+{
+    let wire = wire.into_inner();
+    if wire.session() != session {
+        return None;
+    }
+    Some(wire.apart())
 }

@@ -1,5 +1,5 @@
 //! What is read of a session's input.
-ghost use Rattle.std.specs.Prelude.{◌≡◌, ◌≢◌, ℕ, List, [], OnOk, OnErr, IfOk, IfErr};
+ghost use Rattle.std.specs.Prelude.{◌≡◌, ℕ, List, [], true, OnOk, OnErr, IfOk, IfErr};
 ghost use Rattle.std.specs.Io.KnownBytes.{Consumes};
 ghost use Rattle.line_grammar.specs.Lines.{left_by};
 ghost use Rattle.crew.specs.Taking.{TakesIn};
@@ -18,6 +18,13 @@ pub(crate) struct Intake {
     splitter: Splitter,
     pieces: Vec<Piece>,
     buffer: Vec<u8>,
+}
+
+/// Why no more is read of a stream, and whether all that was read was cut.
+#[derive(Clone, Copy, Drop)]
+pub(crate) struct Ending {
+    pub(crate) why: Why,
+    pub(crate) all: bool,
 }
 
 impl Intake {
@@ -39,21 +46,30 @@ impl Intake {
         &self.pieces
     }
 
-    /// Reads once. Where that gives nothing more, it answers why a session ends with it.
-    pub(crate) fn take_in<I: Read>(&mut self, input: &mut I) -> Result<(), Why>
+    /// Reads once, and cuts what that brings into lines.
+    pub(crate) fn take_in<I: Read>(&mut self, input: &mut I) -> Result<(), Ending>
         ensures ok { OnOk result (TakesIn (I.remaining input.old) (I.remaining input.new) self.old.splitter self.new.splitter self.new.pieces.items) }
-        ensures ended { IfErr result (λ why. why ≢ Why.Memory → TakesIn (I.remaining input.old) (I.remaining input.new) self.old.splitter self.new.splitter []) }
-        ensures memory { OnErr result ((octets : List ℕ) × Consumes (I.remaining input.old) (I.remaining input.new) octets) }
+        ensures all { IfErr result (λ e. e.all ≡ true → TakesIn (I.remaining input.old) (I.remaining input.new) self.old.splitter self.new.splitter []) }
+        ensures some { OnErr result ((octets : List ℕ) × Consumes (I.remaining input.old) (I.remaining input.new) octets) }
     {
         self.pieces.clear();
         match input.read(&mut self.buffer) {
-            Ok(0) => Err(Why::ReadEnded),
+            Ok(0) => Err(Ending {
+                why: Why::ReadEnded,
+                all: true,
+            }),
             Ok(count) => match self.splitter.feed(&self.buffer[..count], &mut self.pieces) {
                 Ok(()) => Ok(()),
-                Err(AllocError) => Err(Why::Memory),
+                Err(AllocError) => Err(Ending {
+                    why: Why::Memory,
+                    all: false,
+                }),
             },
             Err(error) if error.kind() == ErrorKind::Interrupted => Ok(()),
-            Err(_) => Err(Why::ReadFailed),
+            Err(_) => Err(Ending {
+                why: Why::ReadFailed,
+                all: true,
+            }),
         }
     }
 }

@@ -22,8 +22,8 @@ pub trait Sockets {
     /// Whether a session was shut here.
     fn is_shut(&self, session: SessionId) -> bool;
 
-    /// Sees to it that what waits for these sessions is written.
-    fn tell(&self, told: &Told);
+    /// Rings the bells of all who are told, by a call on the thread of the session `by`, which writes its own answers itself.
+    fn tell(&self, by: SessionId, told: &Told);
 
     /// Waits a little.
     fn pause(&self);
@@ -46,8 +46,6 @@ pub struct Server<'a, L: Naming, R: Wait + Drop, G: Gate, S: Sockets, C: Clock> 
     pub gate: &'a G,
     pub sockets: &'a S,
     pub clock: &'a C,
-    /// Lines of a session after which what they put into outboxes is written.
-    pub burst: usize,
 }
 
 /// The later of two moments.
@@ -57,12 +55,4 @@ pub(crate) fn later(a: Moment, b: Moment) -> Moment {
     } else {
         a
     }
-}
-
-/// The present moment, or that of the newest record of a hall where that is later.
-pub fn moment_in<L: Naming, R: Wait + Drop, C: Clock>(
-    hall: &Hall<L, Sender<R>>,
-    clock: &C,
-) -> Moment {
-    later(clock.now(), hall.last_moment())
 }

@@ -39,7 +39,10 @@ pub struct Worked<L: Naming, R: Wait + Drop> {
     pub all: bool,
 }
 
-/// Does a line under the lock, and gives the list of who got something for an empty one.
+/// How many are told at least before they are rung for.
+const MANY: usize = 1024;
+
+/// Does a line under the lock, and adds who got something.
 fn under_lock<L: Naming, R: Wait + Drop>(
     rt: &R,
     hall: &Mutex<Hall<L, Sender<R>>>,
@@ -63,7 +66,7 @@ fn under_lock<L: Naming, R: Wait + Drop>(
     outcome
 }
 
-/// Does a line, at this moment or at that of the newest record where that is later. `told` says then who got something, whose
+/// Does a line, at this moment or at that of the newest record where that is later. It adds to `told` who got something, whose
 /// bells are still to be rung.
 ///
 /// Where the line was done, its piece is the newest of those done with the baton that comes back. Where it was refused, the baton
@@ -88,8 +91,14 @@ pub fn work_one<L: Naming, R: Wait + Drop, G: Gate>(
     Back { baton, outcome }
 }
 
-/// Ends a session for a reason, where it is open, and shuts its connection.
-pub fn hang<L: Naming, R: Wait + Drop, G: Gate, S: Sockets, C: Clock>(
+/// Rings for all who are told, and for none of them again.
+pub(crate) fn ring_for<S: Sockets>(sockets: &S, by: SessionId, told: &mut Told) {
+    sockets.tell(by, told);
+    told.clear();
+}
+
+/// Ends a session for a reason, where it is open, rings for who is told, and shuts its connection.
+pub(crate) fn hang<L: Naming, R: Wait + Drop, G: Gate, S: Sockets, C: Clock>(
     rt: &R,
     server: &Server<'_, L, R, G, S, C>,
     session: SessionId,
@@ -103,23 +112,14 @@ pub fn hang<L: Naming, R: Wait + Drop, G: Gate, S: Sockets, C: Clock>(
     let hung = hall.hang(session, why, moment);
     hall.swap_told(told);
     drop(hall);
-    tell(server, told);
+    ring_for(server.sockets, session, told);
     if hung.is_ok() {
         server.sockets.shut(session);
     }
 }
 
-/// Has written what waits for whoever got something, who then is told no more.
-fn tell<L: Naming, R: Wait + Drop, G: Gate, S: Sockets, C: Clock>(
-    server: &Server<'_, L, R, G, S, C>,
-    told: &mut Told,
-) {
-    server.sockets.tell(told);
-    told.clear();
-}
-
 /// Shuts the connections of all whom a record of this session shut.
-pub(crate) fn shut_those<S: Sockets>(sockets: &S, session: SessionId, done: &Done) {
+fn shut_those<S: Sockets>(sockets: &S, session: SessionId, done: &Done) {
     for missed in done.missed.as_slice() {
         sockets.shut(*missed);
     }
@@ -147,7 +147,7 @@ fn after_refusal<L: Naming, R: Wait + Drop, G: Gate, S: Sockets, C: Clock>(
     }
 }
 
-/// Does one piece under a slot, rings for who got something, and shuts who was shut. All says whether it was done.
+/// Does one piece under a slot, and shuts who was shut. It rings where many are told by then. All says whether it was done.
 fn work_next<L: Naming, R: Wait + Drop, G: Gate, S: Sockets, C: Clock>(
     rt: &R,
     server: &Server<'_, L, R, G, S, C>,
@@ -167,6 +167,9 @@ fn work_next<L: Naming, R: Wait + Drop, G: Gate, S: Sockets, C: Clock>(
     };
     let back = work_one(rt, server.hall, job, server.clock.now(), server.gate, told);
     server.desk.back(rt, slot);
+    if MANY <= told.sessions().len() {
+        ring_for(server.sockets, session, told);
+    }
     let Back { baton, outcome } = back;
     match outcome {
         Outcome::Done(done) => {
@@ -180,10 +183,37 @@ fn work_next<L: Naming, R: Wait + Drop, G: Gate, S: Sockets, C: Clock>(
     }
 }
 
-/// Does pieces of a session in turn, each under a slot, until one is refused or no slot comes. After each it rings for who got
-/// something and shuts who was shut. Where memory is wanting, for the copy of a piece too, the session is ended with that reason;
-/// where there is no room for a record, it is ended with Shutdown, and the server is asked to stop. `told` is any list, and its
-/// content counts for nothing.
+/// Does pieces of a session in turn, until one isn't done.
+fn work_all<L: Naming, R: Wait + Drop, G: Gate, S: Sockets, C: Clock>(
+    rt: &R,
+    server: &Server<'_, L, R, G, S, C>,
+    baton: Baton<L, Sender<R>>,
+    pieces: &[Piece],
+    told: &mut Told,
+) -> Worked<L, R>
+    ensures front { DoesFront baton.pieces result.baton.pieces pieces.now }
+    ensures whole { result.all ≡ true → result.baton.pieces ≡ baton.pieces ++ pieces.now }
+    ensures session { result.baton.session ≡ baton.session }
+{
+    let mut baton = baton;
+    for piece in pieces {
+        let Ok(copy) = piece.copy() else {
+            hang(rt, server, baton.session(), Why::Memory, told);
+            return Worked { baton, all: false };
+        };
+        let worked = work_next(rt, server, Job { baton, piece: copy }, told);
+        if !worked.all {
+            return worked;
+        }
+        baton = worked.baton;
+    }
+    Worked { baton, all: true }
+}
+
+/// Does pieces of a session in turn, each under a slot, until one is refused or no slot comes. After each it shuts who was shut.
+/// Who got something is rung for when all are done, and before where many are told; so is whoever stood in `told`, which is empty
+/// then. Where memory is wanting, for the copy of a piece too, the session is ended with that reason; where there is
+/// no room for a record, it is ended with Shutdown, and the server is asked to stop.
 ///
 /// The pieces done with the baton that comes back are those done before, then the first of these pieces, in order; all of them
 /// where `all` is true.
@@ -198,25 +228,8 @@ pub fn work<L: Naming, R: Wait + Drop, G: Gate, S: Sockets, C: Clock>(
     ensures whole { result.all ≡ true → result.baton.pieces ≡ baton.pieces ++ pieces.now }
     ensures session { result.baton.session ≡ baton.session }
 {
-    let mut baton = baton;
-    let mut left = server.burst;
-    for piece in pieces {
-        let Ok(copy) = piece.copy() else {
-            hang(rt, server, baton.session(), Why::Memory, told);
-            return Worked { baton, all: false };
-        };
-        let worked = work_next(rt, server, Job { baton, piece: copy }, told);
-        if !worked.all {
-            tell(server, told);
-            return worked;
-        }
-        baton = worked.baton;
-        left = left.saturating_sub(1);
-        if left == 0 || told.is_long() {
-            tell(server, told);
-            left = server.burst;
-        }
-    }
-    tell(server, told);
-    Worked { baton, all: true }
+    let session = baton.session();
+    let worked = work_all(rt, server, baton, pieces, told);
+    ring_for(server.sockets, session, told);
+    worked
 }

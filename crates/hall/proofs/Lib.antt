@@ -4,3 +4,4 @@ pub mod Unopened
 pub mod Ties
 pub mod Places
 pub mod Tellings
+pub mod Turns

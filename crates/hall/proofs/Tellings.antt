@@ -1,5 +1,6 @@
 -- Who is told, over each delivery that is put.
-use Rattle.std.proofs.Common.{◌≡◌, ◌≢◌, ℕ, ◌-◌, ◌<◌, Bool, true, false, ◌==◌, List, [], ◌∷◌, Option, Some, None, refl, sym, ap, ◌∙◌, eq-eqb, arith}
+use Rattle.std.proofs.Common.{◌≡◌, ◌≢◌, ℕ, ◌-◌, ◌<◌, Bool, true, false, ◌==◌, List, [], ◌∷◌, Option, Some, None, refl, sym, ap, ◌∙◌, subst, eq-eqb, arith}
+use Rattle.std.proofs.lemmas.Bool.{eqb-true}
 use Rattle.std.proofs.lemmas.List.{get_or-set_other}
 use Rattle.chronicle.specs.History.{Rec}
 use Rattle.registration.specs.declared.settings.Settings.{Settings}
@@ -20,6 +21,16 @@ both : (b : Bool) → b ≡ true → b ≡ false → ⊥
 both true e f = let x : true ≡ false = f in cc
 both false e f = let x : false ≡ true = e in cc
 
+apart : (s t : ℕ) → 0 < s → 0 < t → (s == t) ≡ false → t - 1 ≢ s - 1
+apart s t f g e same = let is : s ≡ t = omega arith in both (s == t) (eq-eqb s t is) e
+
+-- the session of a delivery is told, and so is whoever it was put to
+pub put_told : (w : Telling) (s : ℕ) → is_told w s ≡ true → (t : ℕ) → is_put_to (Put s) t ≡ true → is_told w t ≡ true
+put_told w s told t e = subst (λ (u : ℕ). is_told w u ≡ true) (eqb-true s t e) told
+
+pub missed_told : (w : Telling) (s : ℕ) → (t : ℕ) → is_put_to (Missed s) t ≡ true → is_told w t ≡ true
+missed_told w s t e = absurd (let x : false ≡ true = e in cc)
+
 module _ {O : Type 0} where
   pub tells_nothing : (w : Telling) (xs : List (Option O)) → TellsOf w w xs xs
   tells_nothing w xs = record { others = λ t from e. refl; kept = λ t e. e }
@@ -29,9 +40,6 @@ module _ {O : Type 0} where
     others = λ t from e. b.others t from e ∙ a.others t from (either (is_told v t) (λ told. absurd (both (is_told w t) (b.kept t told) e)) (λ told. told));
     kept = λ t e. b.kept t (a.kept t e);
   }
-
-  apart : (s t : ℕ) → 0 < s → 0 < t → (s == t) ≡ false → t - 1 ≢ s - 1
-  apart s t f g e same = let is : s ≡ t = omega arith in both (s == t) (eq-eqb s t is) e
 
   module _ (accepts : O → Item → O → Type 0) (refuses : O → PutFault → Type 0) where
     -- whose outbox isn't the one of the delivery has the one that it had

@@ -188,9 +188,13 @@ impl<L: Naming, O: Lasting> Book<L, O> {
         ensures told { TellsOf told.old told.new self.old.outboxes self.new.outboxes }
     {
         self.book().sound();
-        let step = self.put_next(plan)?;
-        told.note_step(step);
-        Some(step)
+        match self.put_next(plan)? {
+            Step::Put(session) => {
+                told.note(session);
+                Some(Step::Put(session))
+            }
+            Step::Missed(session) => Some(Step::Missed(session)),
+        }
     }
 
     /// Puts or misses all that is left of a plan, and notes who got something.
@@ -251,7 +255,6 @@ impl<L: Naming, O: Lasting> Book<L, O> {
         ensures err { OnErr result ((self.new ≡ self.old) × (baton.new ≡ baton.old) × (told.new ≡ told.old)) }
     {
         let mut plan = self.begin(baton, piece, moment)?;
-        told.begin();
         self.put_rest(&mut plan, told);
         Ok(self.finish(plan, baton))
     }
@@ -318,7 +321,6 @@ impl<L: Naming, O: Lasting> Book<L, O> {
         let Some(mut plan) = self.begin_sweep(moment)? else {
             return Ok(None);
         };
-        told.begin();
         self.put_rest(&mut plan, told);
         Ok(Some(self.finish_sweep(plan)))
     }

@@ -132,7 +132,6 @@ impl<L: Naming, O: Lasting> Hall<L, O> {
     {
         let hung = self.book.hang(session, why, moment)?;
         if !hung.missed {
-            self.told.begin();
             self.told.note(session);
         }
         Ok(hung)

@@ -1,22 +1,16 @@
 //! Who got something.
 ghost use Rattle.std.specs.Prelude.{◌≡◌, ℕ, true, false, []};
-ghost use Rattle.hall.specs.Telling.{is_told, is_put_to};
+ghost use Rattle.hall.specs.Telling.{is_told};
 
-use book::Step;
 use chronicle::SessionId;
 use std::alloc::Global;
 use std::marker::Model;
-
-/// So many make a list a long one.
-const MANY: usize = 4096;
 
 /// Sessions into whose outboxes something was put, in the order of the puts; or all, where there was no memory for the list.
 #[derive(Drop)]
 pub struct Told {
     sessions: Vec<SessionId>,
     all: bool,
-    // Where in the list the record stands, as long as it tells those that one before it told.
-    place: usize,
 }
 
 impl Model for Told {
@@ -36,7 +30,6 @@ impl Told {
         Told {
             sessions: Vec::new(alloc),
             all: false,
-            place: 0,
         }
     }
 
@@ -45,26 +38,8 @@ impl Told {
         ensures told { is_told self.new session ≡ true }
         ensures kept { (t : ℕ) → is_told self.old t ≡ true → is_told self.new t ≡ true }
     {
-        if self.sessions.get(self.place) == Some(&session) {
-            self.place = self.place.saturating_add(1);
-        } else if self.sessions.push(session).is_err() {
+        if self.sessions.push(session).is_err() {
             self.all = true;
-        }
-    }
-
-    /// Another record begins.
-    pub(crate) fn begin(&mut self) {
-        self.place = 0;
-    }
-
-    /// Notes the session into whose outbox a delivery was put.
-    pub(crate) fn note_step(&mut self, step: Step)
-        ensures told { (t : ℕ) → is_put_to step t ≡ true → is_told self.new t ≡ true }
-        ensures kept { (t : ℕ) → is_told self.old t ≡ true → is_told self.new t ≡ true }
-    {
-        match step {
-            Step::Put(session) => self.note(session),
-            Step::Missed(_) => {}
         }
     }
 
@@ -82,11 +57,6 @@ impl Told {
         self.all
     }
 
-    /// Whether there are many, who should hear of it soon.
-    pub fn is_long(&self) -> bool {
-        MANY <= self.sessions.len()
-    }
-
     /// Nobody any more.
     pub fn clear(&mut self)
         ensures sessions { self.new.sessions ≡ [] }
@@ -94,6 +64,5 @@ impl Told {
     {
         self.sessions.clear();
         self.all = false;
-        self.place = 0;
     }
 }
