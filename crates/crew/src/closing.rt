@@ -21,6 +21,7 @@ fn sweep_one<L: Naming, R: Wait + Drop, G: Gate, S: Sockets, C: Clock>(
     let moment = server.clock.now();
     let mut hall = server.hall.lock(rt);
     let moment = later(moment, hall.last_moment());
+    told.begin();
     hall.swap_told(told);
     let swept = hall.sweep(moment);
     hall.swap_told(told);
@@ -78,20 +79,4 @@ pub fn close_up<L: Naming, R: Wait + Drop, G: Gate, S: Sockets, C: Clock>(
         server.sockets.pause();
     }
     unreachable!()
-}
-
-/// Ends the lock of a session's wire, and gives its writer and its stub back. It answers `None` where the wire is another
-/// session's.
-pub fn end_wire<L: Naming, W: Write + Drop>(
-    session: SessionId,
-    wire: Mutex<Wire<L, W>>,
-) -> Option<(Writer, Stub<L, ChannelName>)>
-    ensures session { IfSome result (λ ends. ends.1.session ≡ session) }
-    ensures own { IfSome result (λ ends. ends.1.outbox ≡ Some ends.0.channel) }
-{
-    let wire = wire.into_inner();
-    if wire.session() != session {
-        return None;
-    }
-    Some(wire.apart())
 }

@@ -6,14 +6,16 @@
 mod closing;
 mod desk;
 mod intake;
+mod outlet;
 mod reading;
 mod server;
 mod working;
 mod writing;
 
-pub use closing::{close_up, end_wire};
+pub use closing::close_up;
 pub use desk::Desk;
+pub use outlet::Outlet;
 pub use reading::read_on;
-pub use server::{Clock, Gate, Server, Sockets};
-pub use working::{Back, Job, Outcome, Worked, work, work_one};
+pub use server::{Clock, Gate, Server, Sockets, moment_in};
+pub use working::{Back, Job, Outcome, Worked, hang, work, work_one};
 pub use writing::write_on;

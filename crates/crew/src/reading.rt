@@ -7,32 +7,19 @@ use crate::server::{Clock, Gate, Server, Sockets};
 use crate::working::{Worked, hang, work};
 use chronicle::Why;
 use hall::{Baton, Naming, Told};
-use outbox::{Bell, Sender};
+use outbox::Sender;
 use std::alloc::Global;
-use std::io::{Read, Write};
-use std::sync::{Mutex, Wait};
-use wire::{Flow, Wire};
-
-/// Writes a session's own answers at once, where nobody else writes for it, and else has its writer do so.
-fn answer<L: Naming, W: Write + Drop, R: Wait>(rt: &R, wire: &Mutex<Wire<L, W>>, bell: &Bell) {
-    if let Some(mut wire) = wire.try_lock() {
-        if wire.pump(rt) == Ok(Flow::Idle) {
-            return;
-        }
-    }
-    bell.ring();
-}
+use std::io::Read;
+use std::sync::Wait;
 
 /// Has lines done as they come, until no more come, one is refused or the session is shut. It answers why the session is ended
 /// then, if it is still open.
-fn read_lines<L: Naming, I: Read, W: Write + Drop, R: Wait + Drop, G: Gate, S: Sockets, C: Clock>(
+fn read_lines<L: Naming, I: Read, R: Wait + Drop, G: Gate, S: Sockets, C: Clock>(
     rt: &R,
     alloc: Global,
     server: &Server<'_, L, R, G, S, C>,
     baton: Baton<L, Sender<R>>,
     input: &mut I,
-    wire: &Mutex<Wire<L, W>>,
-    bell: &Bell,
     told: &mut Told,
 ) -> (Worked<L, R>, Why)
     ensures lines { DoesLines (I.remaining input.old) (I.remaining input.new) baton.pieces result.0.baton.pieces result.0.all }
@@ -58,7 +45,6 @@ fn read_lines<L: Naming, I: Read, W: Write + Drop, R: Wait + Drop, G: Gate, S: S
             ),
         }
         let worked = work(rt, server, baton, intake.pieces(), told);
-        answer(rt, wire, bell);
         if !worked.all {
             return (worked, Why::ReadFailed);
         }
@@ -69,25 +55,23 @@ fn read_lines<L: Naming, I: Read, W: Write + Drop, R: Wait + Drop, G: Gate, S: S
 
 /// Reads a session's lines and has them done by `work`, until its input ends or fails, a line isn't done, or the session is shut.
 /// Then the session, where it is still open, is ended: with ReadEnded where its input ended, with Memory where memory was wanting,
-/// else with ReadFailed. Its own answers are written by this thread, where its writer doesn't write just then.
+/// else with ReadFailed.
 ///
 /// The pieces done with the baton that comes back are those done before, then the first of the lines that end in the octets that
 /// were read, in order; all of them where `all` is true.
-pub fn read_on<L: Naming, I: Read, W: Write + Drop, R: Wait + Drop, G: Gate, S: Sockets, C: Clock>(
+pub fn read_on<L: Naming, I: Read, R: Wait + Drop, G: Gate, S: Sockets, C: Clock>(
     rt: &R,
     alloc: Global,
     server: &Server<'_, L, R, G, S, C>,
     baton: Baton<L, Sender<R>>,
     input: &mut I,
-    wire: &Mutex<Wire<L, W>>,
-    bell: &Bell,
 ) -> Worked<L, R>
     ensures lines { DoesLines (I.remaining input.old) (I.remaining input.new) baton.pieces result.baton.pieces result.all }
     ensures session { result.baton.session ≡ baton.session }
 {
     let session = baton.session();
     let mut told = Told::new(alloc);
-    let (worked, why) = read_lines(rt, alloc, server, baton, input, wire, bell, &mut told);
+    let (worked, why) = read_lines(rt, alloc, server, baton, input, &mut told);
     hang(rt, server, session, why, &mut told);
     worked
 }

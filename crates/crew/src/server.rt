@@ -22,7 +22,7 @@ pub trait Sockets {
     /// Whether a session was shut here.
     fn is_shut(&self, session: SessionId) -> bool;
 
-    /// Rings the bells of all who are told, by a call on the thread of the session `by`, which writes its own answers itself.
+    /// Sees to it that what waits for all who are told is written, by a call on the thread of the session `by`.
     fn tell(&self, by: SessionId, told: &Told);
 
     /// Waits a little.
@@ -46,6 +46,8 @@ pub struct Server<'a, L: Naming, R: Wait + Drop, G: Gate, S: Sockets, C: Clock> 
     pub gate: &'a G,
     pub sockets: &'a S,
     pub clock: &'a C,
+    /// How many lines of a session may be done before what they put is written.
+    pub burst: usize,
 }
 
 /// The later of two moments.
@@ -55,4 +57,12 @@ pub(crate) fn later(a: Moment, b: Moment) -> Moment {
     } else {
         a
     }
+}
+
+/// The present moment, or that of the newest record of a hall where that is later.
+pub fn moment_in<L: Naming, R: Wait + Drop, C: Clock>(
+    hall: &Hall<L, Sender<R>>,
+    clock: &C,
+) -> Moment {
+    later(clock.now(), hall.last_moment())
 }

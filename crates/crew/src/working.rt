@@ -39,8 +39,8 @@ pub struct Worked<L: Naming, R: Wait + Drop> {
     pub all: bool,
 }
 
-/// How many are told at least before they are rung for.
-const MANY: usize = 1024;
+/// How many are told at least before what waits for them is written.
+const MANY: usize = 4096;
 
 /// Does a line under the lock, and adds who got something.
 fn under_lock<L: Naming, R: Wait + Drop>(
@@ -57,6 +57,7 @@ fn under_lock<L: Naming, R: Wait + Drop>(
 {
     let mut hall = hall.lock(rt);
     let moment = later(moment, hall.last_moment());
+    told.begin();
     hall.swap_told(told);
     let outcome = match hall.line(baton, piece, moment) {
         Ok(done) => Outcome::Done(done),
@@ -98,7 +99,7 @@ pub(crate) fn ring_for<S: Sockets>(sockets: &S, by: SessionId, told: &mut Told) 
 }
 
 /// Ends a session for a reason, where it is open, rings for who is told, and shuts its connection.
-pub(crate) fn hang<L: Naming, R: Wait + Drop, G: Gate, S: Sockets, C: Clock>(
+pub fn hang<L: Naming, R: Wait + Drop, G: Gate, S: Sockets, C: Clock>(
     rt: &R,
     server: &Server<'_, L, R, G, S, C>,
     session: SessionId,
@@ -108,6 +109,7 @@ pub(crate) fn hang<L: Naming, R: Wait + Drop, G: Gate, S: Sockets, C: Clock>(
     let moment = server.clock.now();
     let mut hall = server.hall.lock(rt);
     let moment = later(moment, hall.last_moment());
+    told.begin();
     hall.swap_told(told);
     let hung = hall.hang(session, why, moment);
     hall.swap_told(told);
@@ -167,7 +169,7 @@ fn work_next<L: Naming, R: Wait + Drop, G: Gate, S: Sockets, C: Clock>(
     };
     let back = work_one(rt, server.hall, job, server.clock.now(), server.gate, told);
     server.desk.back(rt, slot);
-    if MANY <= told.sessions().len() {
+    if server.burst <= told.records() || MANY <= told.sessions().len() {
         ring_for(server.sockets, session, told);
     }
     let Back { baton, outcome } = back;

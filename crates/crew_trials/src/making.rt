@@ -136,6 +136,7 @@ pub fn ends<L: Naming, R: Wait + Drop>(
         gate: &Open,
         sockets: &sockets,
         clock: &Still,
+        burst: 4,
     };
     let mut told = Told::new(alloc);
     let quit = [line(alloc, b"QUIT")?];

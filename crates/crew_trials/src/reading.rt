@@ -4,7 +4,7 @@ ghost use Rattle.std.specs.Prelude.{◌≡◌, []};
 use crate::fakes::{Noted, Open, Still, Torn};
 use crate::making::{Tokens, hung_for, open};
 use chronicle::{RecordNumber, Why};
-use crew::{Desk, Server, Sockets, close_up, end_wire, read_on};
+use crew::{Desk, Server, Sockets, close_up, read_on};
 use hall::{Hall, Naming, Register};
 use hall_trials::hall_of_two;
 use line_grammar::Octets;
@@ -14,13 +14,13 @@ use std::marker::Brand;
 use std::process::Abort;
 use std::sync::{Mutex, Wait};
 use std::test::Fail;
-use wire::Wire;
+use wire::{Flow, Wire};
 
 /// Two lines, and one that isn't ended.
 const INPUT: &[u8; 24] = b"PING x\r\nPING y\r\nPING zzz";
 
-/// What is told of the two.
-const OUTPUT: &[u8; 66] = b":irc.example PONG irc.example x\r\n:irc.example PONG irc.example y\r\n";
+/// What is told of the two, and of the end.
+const OUTPUT: &[u8; 104] = b":irc.example PONG irc.example x\r\n:irc.example PONG irc.example y\r\nERROR :Closing Link: h1 (Read error)\r\n";
 
 /// The input fails in the middle of the third line: two are done and answered, and the session is hung.
 fn torn<L: Naming, R: Wait + Abort + Copy + Drop>(
@@ -47,24 +47,27 @@ fn torn<L: Naming, R: Wait + Abort + Copy + Drop>(
         gate: &Open,
         sockets: &sockets,
         clock: &Still,
+        burst: 4,
     };
-    let bell = writer.bell().again()?;
     let host = Octets::copied(alloc, b"h1")?;
-    let Ok(wire) = Wire::new(alloc, writer, stub, Vec::new(alloc), host) else {
+    let Ok(mut wire) = Wire::new(alloc, writer, stub, Vec::new(alloc), host) else {
         return Err("a wire".into());
     };
-    let wire = Mutex::new(wire);
     let mut input = Torn { octets: INPUT };
-    let worked = read_on(rt, alloc, &server, baton, &mut input, &wire, &bell);
+    let worked = read_on(rt, alloc, &server, baton, &mut input);
     assert!(rt; worked.all, "all lines are done");
-    assert_eq!(rt; wire.lock(rt).stream().as_slice(), OUTPUT.as_slice());
+    assert_eq!(rt; wire.pump(rt), Ok(Flow::Ended));
+    assert_eq!(rt; wire.stream().as_slice(), OUTPUT.as_slice());
     assert_eq!(rt; lock.lock(rt).len(), 4);
     let hung = hung_for(&lock.lock(rt), RecordNumber::new(4));
     assert_eq!(rt; hung, Some((session, Why::ReadFailed)));
     assert!(rt; sockets.is_shut(session), "it is shut");
-    let (writer, stub) = end_wire(session, wire).ok_or("its own wire")?;
+    if wire.session() != session {
+        return Err("another's wire".into());
+    }
+    let (writer, stub) = wire.apart();
     let left = close_up(rt, alloc, &server, worked.baton, stub, writer);
-    assert_eq!(rt; (left.session(), left.count()), (session, 1));
+    assert_eq!(rt; (left.session(), left.count()), (session, 0));
     Ok(())
 }
 

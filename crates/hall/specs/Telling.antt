@@ -5,10 +5,11 @@ use Rattle.book.specs.Book.{box_at}
 use Rattle.book.specs.declared.out.Step.{Step}
 use Rattle.book.specs.declared.out.Step.TheVariants.{Put, Missed}
 
--- sessions that are told, or all
+-- sessions that are told, or all, of so many records
 pub record Telling : Type 0 where
   pub sessions : List ℕ
   pub all : Bool
+  pub records : ℕ
 
 -- whether a session is told
 abbrev pub is_told : Telling → ℕ → Bool

@@ -1,16 +1,20 @@
 //! Who got something.
-ghost use Rattle.std.specs.Prelude.{◌≡◌, ℕ, true, false, []};
+ghost use Rattle.std.specs.Prelude.{◌≡◌, ◌≤◌, ℕ, true, false, [], IsTrue};
 ghost use Rattle.hall.specs.Telling.{is_told};
 
 use chronicle::SessionId;
 use std::alloc::Global;
 use std::marker::Model;
 
-/// Sessions into whose outboxes something was put, in the order of the puts; or all, where there was no memory for the list.
+/// Sessions into whose outboxes something was put, in the order of the puts; or all, where there was no memory for the list. A
+/// record that tells those whom one before it told adds nothing.
 #[derive(Drop)]
 pub struct Told {
     sessions: Vec<SessionId>,
     all: bool,
+    records: usize,
+    // How many of the list the newest record told again, in their order.
+    place: usize,
 }
 
 impl Model for Told {
@@ -18,7 +22,7 @@ impl Model for Told {
 
     ghost Value = { Telling };
 
-    ghost view = { λ a. record { sessions = a.sessions.items; all = a.all } };
+    ghost view = { λ a. record { sessions = a.sessions.items; all = a.all; records = a.records } };
 }
 
 impl Told {
@@ -26,11 +30,31 @@ impl Told {
     pub fn new(alloc: Global) -> Told
         ensures sessions { result.sessions ≡ [] }
         ensures all { result.all ≡ false }
+        ensures records { result.records ≡ 0 }
     {
         Told {
             sessions: Vec::new(alloc),
             all: false,
+            records: 0,
+            place: 0,
         }
+    }
+
+    /// Another record begins.
+    pub fn begin(&mut self)
+        ensures sessions { self.new.sessions ≡ self.old.sessions }
+        ensures all { self.new.all ≡ self.old.all }
+        ensures records { self.old.records ≤ self.new.records }
+    {
+        self.records = self.records.saturating_add(1);
+        self.place = 0;
+    }
+
+    /// Whether a session stands where the newest record is in the list.
+    fn is_next(&self, session: SessionId) -> bool
+        ensures { IsTrue result → is_told self.now session ≡ true }
+    {
+        self.place < self.sessions.len() && self.sessions[self.place] == session
     }
 
     /// Notes a session. Where there is no memory for it, all are told.
@@ -38,7 +62,9 @@ impl Told {
         ensures told { is_told self.new session ≡ true }
         ensures kept { (t : ℕ) → is_told self.old t ≡ true → is_told self.new t ≡ true }
     {
-        if self.sessions.push(session).is_err() {
+        if self.is_next(session) {
+            self.place = self.place.saturating_add(1);
+        } else if self.sessions.push(session).is_err() {
             self.all = true;
         }
     }
@@ -57,12 +83,22 @@ impl Told {
         self.all
     }
 
+    /// How many records there were.
+    pub fn records(&self) -> usize
+        ensures { result ≡ self.now.records }
+    {
+        self.records
+    }
+
     /// Nobody any more.
     pub fn clear(&mut self)
         ensures sessions { self.new.sessions ≡ [] }
         ensures all { self.new.all ≡ false }
+        ensures records { self.new.records ≡ 0 }
     {
         self.sessions.clear();
         self.all = false;
+        self.records = 0;
+        self.place = 0;
     }
 }

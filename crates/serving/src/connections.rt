@@ -156,7 +156,7 @@ impl<L: Naming, R: Wait + Clock + Copy + Drop> Sockets for Connections<L, R> {
         }
     }
 
-    fn tell(&self, told: &Told) {
+    fn tell(&self, _by: SessionId, told: &Told) {
         for session in told.sessions() {
             self.write_to(*session);
         }
