@@ -3,5 +3,4 @@ pub mod Boxes
 pub mod Unopened
 pub mod Ties
 pub mod Places
-pub mod Tellings
 pub mod Turns

@@ -1,5 +1,5 @@
 -- The register of a book stands for it over each step.
-use Rattle.std.proofs.Common.{◌≡◌, ◌≢◌, ⊎_elim, ℕ, ℤ, ◌+◌, ◌-◌, ◌<◌, ◌≤◌, Bool, true, false, ◌==◌, cond, List, [], ◌∷◌, ◌++◌, length, slice_index_or, slice_set, Option, Some, None, refl, sym, ap, ◌∙◌, subst, append-nil, eq-eqb, arith}
+use Rattle.std.proofs.Common.{◌≡◌, ◌≢◌, ⊎_elim, ℕ, ℤ, ◌+◌, ◌-◌, ◌<◌, ◌≤◌, Bool, true, false, ◌==◌, cond, List, [], ◌∷◌, ◌++◌, length, Option, Some, None, refl, sym, ap, ◌∙◌, subst, append-nil, eq-eqb, arith}
 use Rattle.std.specs.Prelude.{IfSome}
 use Rattle.std.proofs.lemmas.Bool.Decides.{eqb_tells}
 use Rattle.std.proofs.lemmas.List.{get_or_push}
@@ -8,7 +8,7 @@ use Rattle.line_grammar.specs.declared.splitter.Piece.{Piece}
 use Rattle.chronicle.specs.declared.why.Why.{Why}
 use Rattle.chronicle.specs.declared.record.Kind.{Kind}
 use Rattle.chronicle.specs.declared.record.Kind.TheVariants.{Opened, Said, Hung, Gone}
-use Rattle.chronicle.specs.History.{Rec, actor, opened_by, said_by, sessions, accepted}
+use Rattle.chronicle.specs.History.{Rec, actor, said_by, sessions, accepted}
 use Rattle.chronicle.specs.Journal.{fresh_record, miss}
 use Rattle.registration.specs.declared.settings.Settings.{Settings}
 use Rattle.deliveries.specs.declared.item.Item.{Item}
@@ -16,7 +16,7 @@ use Rattle.outbox.specs.declared.queue.PutFault.{PutFault}
 use Rattle.register.specs.declared.claims.Row.{Row}
 use Rattle.register.specs.Rows.{new_row, with_piece, outbox_at, pieces_at}
 use Rattle.register.proofs.Rows.{cond_is, first_outbox, rest_outbox, piece_outbox, piece_here}
-use Rattle.batons.specs.Standing.{Begun, begun_by, StandsFor}
+use Rattle.batons.specs.Standing.{Begun, StandsFor}
 use Rattle.batons.proofs.Standing.{nothing, opens, passes, begins, finishes, misses, known}
 use Rattle.book.specs.declared.plan.Planned.{Planned}
 use Rattle.book.specs.declared.out.Step.{Step}
@@ -91,14 +91,6 @@ module _ {O : Type 0} (accepts : O → Item → O → Type 0) (refuses : O → P
   put_all_line m k [] p = (ap begun_of p, ap (λ n. sessions n.history) p)
   put_all_line m k (q ∷ qs) p =
       let a = put_line m p.0 (q ∷ qs) (Some p.1) p.2 in let b = put_all_line p.0 k qs p.3 in (b.0 ∙ a.0, b.1 ∙ a.1)
-
-  -- a record that opens no session opens none
-  pub done_sessions : (m k : Shown O) (kind : Kind) (moment : ℤ) → opened_by kind ≡ 0 → IsDone accepts refuses m kind moment k → sessions k.history ≡ sessions m.history
-  done_sessions m k kind moment none d =
-      ap (λ n. sessions n.history) d.2 ∙ (put_all_line (begun m kind moment) d.0 (plan_of m.settings m.history kind moment (length m.outboxes)) d.1).1 ∙ ap (λ (n : ℕ). n + sessions m.history) none ∙ (let e : 0 + sessions m.history ≡ sessions m.history = omega arith in e)
-
-  pub done_idle : (m k : Shown O) (kind : Kind) (moment : ℤ) → IsDone accepts refuses m kind moment k → k.busy ≡ false
-  done_idle m k kind moment d = ap (λ n. n.busy) d.2
 
   -- nor what its session said in it
   put_said : (m k : Shown O) (ps : List Planned) (step : Option Step) (s : ℕ) → IsPutNext accepts refuses m ps step k → newest_said k.history s ≡ newest_said m.history s
@@ -211,16 +203,7 @@ module _ {O N : Type 0} (name : O → N) where
   pub row_names : (m : Shown O) (s : ℕ) (n : N) (rows : List (Row N)) → IsTied name m rows → 0 < s → outbox_at rows s ≡ Some n → IfSome (box_at m.outboxes s) (λ o. name o ≡ n)
   row_names m s n rows tied from is = IfSome_then (box_at m.outboxes s) (tied.names s from) (λ o e. same_Some (name o) n (sym e ∙ is))
 
-  -- a line is done from its beginning to its end
-  pub done_ties : (accepts : O → Item → O → Type 0) (refuses : O → PutFault → Type 0) → ((a : O) (x : Item) (b : O) → accepts a x b → name b ≡ name a)
-      → (m k : Shown O) (s i : ℕ) (p : Piece) (moment : ℤ) (rows : List (Row N)) → m.busy ≡ false → IsDone accepts refuses m (Said s i p) moment k → IsTied name m rows → IsTied name k (with_piece rows s p)
-  done_ties accepts refuses stays m k s i p moment rows idle d tied =
-      let n = d.0 in
-      let begun_ = put_all_ties accepts refuses name stays (begun m (Said s i p) moment) n (plan_of m.settings m.history (Said s i p) moment (length m.outboxes)) rows d.1 (said_ties m s i p moment rows idle tied) in
-      let line : begun_of n ≡ Some (s, p) = (put_all_line accepts refuses (begun m (Said s i p) moment) n (plan_of m.settings m.history (Said s i p) moment (length m.outboxes)) d.1).0 in
-      subst (λ b. IsTied name b (with_piece rows s p)) (sym d.2) (line_ties n s p rows line begun_)
-
-  -- and so is the end of a session
+  -- a session is ended
   pub hung_done_ties : (accepts : O → Item → O → Type 0) (refuses : O → PutFault → Type 0) → ((a : O) (x : Item) (b : O) → accepts a x b → name b ≡ name a)
       → (m k : Shown O) (s : ℕ) (why : Why) (moment : ℤ) (rows : List (Row N)) → m.busy ≡ false → IsDone accepts refuses m (Hung s why) moment k → IsTied name m rows → IsTied name k rows
   hung_done_ties accepts refuses stays m k s why moment rows idle d tied =

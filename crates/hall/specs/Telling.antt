@@ -2,8 +2,6 @@
 use Rattle.std.specs.Prelude.{◌≡◌, ℕ, ◌<◌, Bool, true, false, ◌||◌, ◌==◌, List, Option}
 use Rattle.std.specs.List.{list_any}
 use Rattle.book.specs.Book.{box_at}
-use Rattle.book.specs.declared.out.Step.{Step}
-use Rattle.book.specs.declared.out.Step.TheVariants.{Put, Missed}
 
 -- sessions that are told, or all, of so many records
 pub record Telling : Type 0 where
@@ -14,11 +12,6 @@ pub record Telling : Type 0 where
 -- whether a session is told
 abbrev pub is_told : Telling → ℕ → Bool
 is_told w t = w.all || list_any (λ u. u == t) w.sessions
-
--- whether a delivery was put into the outbox of session t
-abbrev pub is_put_to : Step → ℕ → Bool
-is_put_to (Put s) t = s == t
-is_put_to (Missed s) t = false
 
 -- whoever isn't told has the outbox that it had, and whoever was told before is
 pub record TellsOf {O : Type 0} (old new : Telling) (before after : List (Option O)) : Type 0 where
