@@ -8,6 +8,7 @@ mod lasting;
 mod left;
 mod namesake;
 mod presence;
+mod rings;
 
 pub use baton::Baton;
 pub use book::{
