@@ -11,7 +11,9 @@ ghost use Rattle.hall.specs.Reaping.{MayReap, IsReapRefusal};
 use crate::baton::Baton;
 use crate::dispatch::Book;
 use crate::left::Left;
-use book::{HangRefusal, Hung, Plan, ReapRefusal, Step, rings_take_each_record, rings_take_what_fits};
+use book::{
+    HangRefusal, Hung, Plan, ReapRefusal, Step, rings_take_each_record, rings_take_what_fits,
+};
 use chronicle::{Moment, SessionId, Why};
 use outbox::Ring;
 use register::{Naming, Stub};

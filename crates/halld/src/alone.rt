@@ -55,10 +55,7 @@ pub(crate) fn do_line<L: Naming>(
 }
 
 /// Sweeps. Where there was a session to be swept, the answer is the `Done` of the record.
-pub(crate) fn tidy<L: Naming>(
-    play: &mut Play<L>,
-    moment: Moment,
-) -> Result<Note, StepRefusal>
+pub(crate) fn tidy<L: Naming>(play: &mut Play<L>, moment: Moment) -> Result<Note, StepRefusal>
     ensures { IsTidying moment play.old result play.new }
 {
     let worker = WorkerId::new(ALONE);

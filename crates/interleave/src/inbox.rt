@@ -243,7 +243,11 @@ pub(crate) fn move_to<L: Naming>(inboxes: &mut Vec<Inbox<L>>, session: SessionId
 }
 
 /// Tells clauses of a delivery that was taken of a session.
-pub(crate) fn tell_taken<L: Naming>(inboxes: &mut Vec<Inbox<L>>, session: SessionId, delivery: &Delivery)
+pub(crate) fn tell_taken<L: Naming>(
+    inboxes: &mut Vec<Inbox<L>>,
+    session: SessionId,
+    delivery: &Delivery,
+)
     requires from_1 { 0 < session }
     requires opened { session ≤ length inboxes.old.items }
     ensures { inboxes.new.items ≡ with_held inboxes.old.items session (with_seen (held_at inboxes.old.items session) (with_taken (held_at inboxes.old.items session).seen delivery.now)) }
