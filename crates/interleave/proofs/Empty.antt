@@ -1,5 +1,5 @@
 -- A play in which nothing happened yet.
-use Rattle.std.proofs.Common.{◌≡◌, ℕ, zero, suc, ◌+◌, ◌≤◌, List, [], length, replicate, slice_index_or, Option, Some, None, arith, refl, subst, sym}
+use Rattle.std.proofs.Common.{◌≡◌, ℕ, zero, suc, [], replicate, slice_index_or, Some, None, arith, refl, subst, sym}
 use Rattle.registration.specs.declared.settings.Settings.{Settings}
 use Rattle.outbox.specs.Ring.{Waiting, put_into}
 use Rattle.book.specs.Book.{Shown, held}
@@ -13,7 +13,7 @@ no_job (suc n) (suc i) s e = no_job n i s e
 
 empty_sound : (limit : ℕ) (settings : Settings) (m : Shown Waiting) → m ≡ book.empty_book limit settings → book.IsSound put_into m
 empty_sound limit settings m is =
-    let none : length [] + held [] ≤ limit = omega arith in
+    let nobody : held [] ≡ 0 = refl in
     subst (book.IsSound put_into) (sym is)
     (record {
       owed = λ t from to here. absurd (omega arith);
@@ -23,7 +23,7 @@ empty_sound limit settings m is =
       idle = λ e. refl;
       legal = tt;
       sessions = refl;
-      room = none;
+      room = omega arith;
     })
 
 pub empty_kept : (limit : ℕ) (settings : Settings) (sendq workers : ℕ) → IsKept (book.empty_book limit settings) sendq [] (replicate workers None) None
