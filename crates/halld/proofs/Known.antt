@@ -3,7 +3,6 @@ use Rattle.std.proofs.Common.{◌≡◌, ℕ, List, [], ◌++◌, Option, Some, 
 use Rattle.std.specs.Prelude.{IfSome}
 use Rattle.std.specs.Option.{option_map}
 use Rattle.std.specs.Io.KnownBytes.{Consumes, Keeps, IsAtEnd, Appends}
-use Rattle.register.specs.declared.tokens.Naming.{Ghosts}
 use Rattle.halld.specs.declared.entry.PlayFault.{PlayFault}
 use Rattle.halld.specs.Headers.{default_limits}
 use Rattle.halld.specs.Lines.{continued, lines_of, limits_after, Told, told_of, told_after, told_ahead}
@@ -58,7 +57,7 @@ pub told_from_start : (head : Option Limits) (ended : ℕ) (line : List ℕ) →
 told_from_start head ended line h e l script =
     ap (λ (x : Option Limits). told_ahead x ended line script) h ∙ ap (λ (n : ℕ). told_ahead (Some default_limits) n line script) e ∙ ap (λ (bs : List ℕ). told_ahead (Some default_limits) 0 bs script) l ∙ start script
 
-pub printed_from_start : {L : Type 0} {K : Ghosts L} (stage : Stage L K) (line : List ℕ) → head_of stage ≡ Some default_limits → line ≡ [] → (script text : List ℕ) → PrintsAhead stage line script text → IsPrinted script text
+pub printed_from_start : {L : Type 0} (stage : Stage L) (line : List ℕ) → head_of stage ≡ Some default_limits → line ≡ [] → (script text : List ℕ) → PrintsAhead stage line script text → IsPrinted script text
 printed_from_start (Head k) line h l script text p =
     let ls = lines_of script in
     let same : k ≡ default_limits = (let f : Some k ≡ Some default_limits = h in cc) in
