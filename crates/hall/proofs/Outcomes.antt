@@ -6,6 +6,10 @@ pub by_result : {A E : Type 0} (r : Result A E) (P R Q : Type 0) {G : Type 0} �
 by_result (Ok x) P R Q p r q f g = f p r
 by_result (Err e) P R Q p r q f g = g q
 
+pub on_ok : {A E P Q : Type 0} (r : Result A E) → (P → Q) → OnOk r P → OnOk r Q
+on_ok (Ok x) f p = f p
+on_ok (Err e) f p = p
+
 -- what holds of the value of an option whose value is known
 pub at_some : {A : Type 0} (o : Option A) (x : A) (P : A → Type 0) → o ≡ Some x → IfSome o P → P x
 at_some {A} o x P is p = subst (λ (q : Option A). IfSome q P) is p

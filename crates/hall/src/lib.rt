@@ -8,6 +8,7 @@ mod lasting;
 mod left;
 mod namesake;
 mod presence;
+mod rings;
 mod told;
 
 pub use baton::Baton;

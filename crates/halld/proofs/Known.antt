@@ -5,12 +5,12 @@ use Rattle.std.specs.Option.{option_map}
 use Rattle.std.specs.Io.KnownBytes.{Consumes, Keeps, IsAtEnd, Appends}
 use Rattle.halld.specs.declared.entry.PlayFault.{PlayFault}
 use Rattle.halld.specs.Headers.{default_limits}
-use Rattle.halld.specs.Lines.{lines_of, Told, told_of, told_after, told_ahead}
+use Rattle.halld.specs.Lines.{continued, lines_of, limits_after, Told, told_of, told_after, told_ahead}
 use Rattle.halld.specs.declared.header.Limits.{Limits}
 use Rattle.halld.specs.declared.reader.Stage.{Stage}
 use Rattle.halld.specs.declared.reader.Stage.TheVariants.{Head, Steps}
 use Rattle.halld.specs.Stages.{head_of}
-use Rattle.halld.specs.Printed.{Prints, PrintsAhead, IsPrinted}
+use Rattle.halld.specs.Printed.{steps_of, start_of, ArePerformed, PrintsAhead, IsPrinted}
 use Rattle.halld.specs.Faults.{IsFaultOf}
 use Rattle.halld.proofs.Ahead.{continued-nil}
 
@@ -57,11 +57,11 @@ pub told_from_start : (head : Option Limits) (ended : ℕ) (line : List ℕ) →
 told_from_start head ended line h e l script =
     ap (λ (x : Option Limits). told_ahead x ended line script) h ∙ ap (λ (n : ℕ). told_ahead (Some default_limits) n line script) e ∙ ap (λ (bs : List ℕ). told_ahead (Some default_limits) 0 bs script) l ∙ start script
 
-pub at_head : (stage : Stage) (l : Limits) → head_of stage ≡ Some l → stage ≡ Head l
-at_head (Head k) l e = let kl : k ≡ l = (let f : Some k ≡ Some l = e in cc) in ap (λ (x : Limits). Head x) kl
-at_head (Steps player) l e = absurd (let f : None ≡ Some l = e in cc)
-
-pub printed_from_start : (stage : Stage) (line : List ℕ) → head_of stage ≡ Some default_limits → line ≡ [] → (script text : List ℕ) → PrintsAhead stage line script text → IsPrinted script text
-printed_from_start stage line h l script text p =
-    let at : PrintsAhead (Head default_limits) [] script text = subst (λ (bs : List ℕ). PrintsAhead (Head default_limits) bs script text) l (subst (λ (x : Stage). PrintsAhead x line script text) (at_head stage default_limits h) p) in
-    subst (λ (ls : List (List ℕ)). Prints (Head default_limits) ls text) (continued-nil (lines_of script)) at
+pub printed_from_start : {L : Type 0} (stage : Stage L) (line : List ℕ) → head_of stage ≡ Some default_limits → line ≡ [] → (script text : List ℕ) → PrintsAhead stage line script text → IsPrinted script text
+printed_from_start (Head k) line h l script text p =
+    let ls = lines_of script in
+    let same : k ≡ default_limits = (let f : Some k ≡ Some default_limits = h in cc) in
+    subst (λ (xs : List (List ℕ)). ArePerformed (steps_of xs) [] (start_of (limits_after default_limits xs)) text) (continued-nil ls)
+    (subst (λ (x : Limits). ArePerformed (steps_of (continued [] ls)) [] (start_of (limits_after x (continued [] ls))) text) same
+    (subst (λ (bs : List ℕ). ArePerformed (steps_of (continued bs ls)) [] (start_of (limits_after k (continued bs ls))) text) l p))
+printed_from_start (Steps player) line h l script text p = absurd (let f : None ≡ Some default_limits = h in cc)

@@ -20,46 +20,46 @@ use Rattle.halld.proofs.Ahead.{continued-nil, continued-continued}
 use Rattle.halld.proofs.Taken.{appends_nothing, appends_more}
 
 -- lines from the one stage on print what this line and they print from the other on
-abbrev pub Passes : Stage → List ℕ → Stage → List ℕ → Type 0
+abbrev pub Passes : {L : Type 0} → Stage L → List ℕ → Stage L → List ℕ → Type 0
 Passes s line s' written = (more : List (List ℕ)) (text : List ℕ) → Prints s' more text → Prints s (line ∷ more) (written ++ text)
 
 -- ---- one line
 
-pub empty_prints : (s : Stage) (more : List (List ℕ)) (text : List ℕ) → Prints s more text → Prints s ([] ∷ more) text
+pub empty_prints : {L : Type 0} (s : Stage L) (more : List (List ℕ)) (text : List ℕ) → Prints s more text → Prints s ([] ∷ more) text
 empty_prints (Head l) more text prints = prints
 empty_prints (Steps player) more text prints = prints
 
-pub header_prints : (l k : Limits) (line : List ℕ) (more : List (List ℕ)) (text : List ℕ) → step_of line ≡ None → with_header l line ≡ Some k → Prints (Head k) more text → Prints (Head l) (line ∷ more) text
+pub header_prints : (l k : Limits) (line : List ℕ) (more : List (List ℕ)) (text : List ℕ) → step_of line ≡ None → with_header l line ≡ Some k → ArePerformed (steps_of more) [] (start_of (limits_after k more)) text → ArePerformed (steps_of (line ∷ more)) [] (start_of (limits_after l (line ∷ more))) text
 header_prints l k line more text none is prints =
     let server : start_of (limits_after l (line ∷ more)) ≡ start_of (limits_after k more) = ap (λ t. start_of (cond t l (limits_after (after_line l line) more))) (ap is_some none) ∙ ap (λ o. start_of (limits_after (unless_none l o) more)) is in
     subst (λ o. ArePerformed (with_step o (steps_of more)) [] (start_of (limits_after l (line ∷ more))) text) (sym none) (subst (λ m. ArePerformed (steps_of more) [] m text) (sym server) prints)
 
-server_by : (s : Stage) (line : List ℕ) (more : List (List ℕ)) → is_step line ≡ true → server_of s (line ∷ more) ≡ server_of s []
+server_by : {L : Type 0} (s : Stage L) (line : List ℕ) (more : List (List ℕ)) → is_step line ≡ true → server_of s (line ∷ more) ≡ server_of s []
 server_by (Head l) line more is = ap (λ t. start_of (cond t l (limits_after (after_line l line) more))) is
 server_by (Steps player) line more is = refl
 
-server_on : (s : Stage) (more : List (List ℕ)) → head_of s ≡ None → server_of s more ≡ server_of s []
+server_on : {L : Type 0} (s : Stage L) (more : List (List ℕ)) → head_of s ≡ None → server_of s more ≡ server_of s []
 server_on (Head l) more none = absurd (cc)
 server_on (Steps player) more none = refl
 
-step_prints : (s s' : Stage) (line : List ℕ) (step : Step) (first : List ℕ) → step_of line ≡ Some step → head_of s' ≡ None → IsPerformed step (hosts_of s) (server_of s []) first (hosts_of s') (server_of s' []) → Passes s line s' first
+step_prints : {L : Type 0} (s s' : Stage L) (line : List ℕ) (step : Step) (first : List ℕ) → step_of line ≡ Some step → head_of s' ≡ None → IsPerformed step (hosts_of s) (server_of s []) first (hosts_of s') (server_of s' []) → Passes s line s' first
 step_prints s s' line step first is none performed more rest prints =
     subst (λ o. ArePerformed (with_step o (steps_of more)) (hosts_of s) (server_of s (line ∷ more)) (first ++ rest)) (sym is)
     (subst (λ m. ArePerformed (step ∷ steps_of more) (hosts_of s) m (first ++ rest)) (sym (server_by s line more (ap is_some is)))
     (first, rest, hosts_of s', server_of s' [], performed, subst (λ m. ArePerformed (steps_of more) (hosts_of s') m rest) (server_on s' more none) prints, refl))
 
-pub after_step : {T : Type 0} (r : Result T PlayFault) (s s' : Stage) (line : List ℕ) (step : Step) (x y : Option (List ℕ)) → step_of line ≡ Some step → OnOk r (head_of s' ≡ None) → OnOk r ((text : List ℕ) × IsPerformed step (hosts_of s) (server_of s []) text (hosts_of s') (server_of s' []) × Appends x y text) → OnOk r (Writes x y (Passes s line s'))
+pub after_step : {T L : Type 0} (r : Result T PlayFault) (s s' : Stage L) (line : List ℕ) (step : Step) (x y : Option (List ℕ)) → step_of line ≡ Some step → OnOk r (head_of s' ≡ None) → OnOk r ((text : List ℕ) × IsPerformed step (hosts_of s) (server_of s []) text (hosts_of s') (server_of s' []) × Appends x y text) → OnOk r (Writes x y (Passes s line s'))
 after_step (Ok v) s s' line step x y is none did = (did.0, did.2, step_prints s s' line step did.0 is none did.1)
 after_step (Err e) s s' line step x y is none did = tt
 
-pub nothing_written : (s s' : Stage) (line : List ℕ) (x : Option (List ℕ)) → ((more : List (List ℕ)) (text : List ℕ) → Prints s' more text → Prints s (line ∷ more) text) → Writes x x (Passes s line s')
+pub nothing_written : {L : Type 0} (s s' : Stage L) (line : List ℕ) (x : Option (List ℕ)) → ((more : List (List ℕ)) (text : List ℕ) → Prints s' more text → Prints s (line ∷ more) text) → Writes x x (Passes s line s')
 nothing_written s s' line x same = ([], appends_nothing x, same)
 
-pub after_header : {T : Type 0} (r : Result T PlayFault) (s s' : Stage) (line : List ℕ) (x : Option (List ℕ)) → OnOk r ((more : List (List ℕ)) (text : List ℕ) → Prints s' more text → Prints s (line ∷ more) text) → OnOk r (Writes x x (Passes s line s'))
+pub after_header : {T L : Type 0} (r : Result T PlayFault) (s s' : Stage L) (line : List ℕ) (x : Option (List ℕ)) → OnOk r ((more : List (List ℕ)) (text : List ℕ) → Prints s' more text → Prints s (line ∷ more) text) → OnOk r (Writes x x (Passes s line s'))
 after_header (Ok v) s s' line x same = nothing_written s s' line x same
 after_header (Err e) s s' line x same = tt
 
-pub last_line : {T : Type 0} (r : Result T PlayFault) (s s' : Stage) (line : List ℕ) (x y : Option (List ℕ)) → Writes x y (Passes s line s') → OnOk r (Writes x y (PrintsAhead s line []))
+pub last_line : {T L : Type 0} (r : Result T PlayFault) (s s' : Stage L) (line : List ℕ) (x y : Option (List ℕ)) → Writes x y (Passes s line s') → OnOk r (Writes x y (PrintsAhead s line []))
 last_line (Ok v) s s' line x y did =
     let end : Prints s (line ∷ []) did.0 = subst (λ t. Prints s (line ∷ []) t) (append-nil did.0) (did.2 [] [] refl) in
     (did.0, did.1, subst (λ first. Prints s (first ∷ []) did.0) (sym (append-nil line)) end)
@@ -67,17 +67,17 @@ last_line (Err e) s s' line x y did = tt
 
 -- ---- one octet
 
-line_feed : (s s' : Stage) (line line' written : List ℕ) (b : ℕ) → b ≡ 10 → line' ≡ [] → Passes s line s' written → GoesOn s line s' line' (b ∷ []) written
+line_feed : {L : Type 0} (s s' : Stage L) (line line' written : List ℕ) (b : ℕ) → b ≡ 10 → line' ≡ [] → Passes s line s' written → GoesOn s line s' line' (b ∷ []) written
 line_feed s s' line line' written b lf empty passes rest text prints =
     let next : Prints s' (lines_of rest) text = subst (λ ls. Prints s' ls text) (continued-nil (lines_of rest)) (subst (λ l. PrintsAhead s' l rest text) empty prints) in
     let now : PrintsAhead s line (10 ∷ rest) (written ++ text) = subst (λ first. Prints s (first ∷ lines_of rest) (written ++ text)) (sym (append-nil line)) (passes (lines_of rest) text next) in
     subst (λ c. PrintsAhead s line (c ∷ rest) (written ++ text)) (sym lf) now
 
-pub at_line_feed : {T : Type 0} (r : Result T PlayFault) (s s' : Stage) (line line' : List ℕ) (b : ℕ) (x y : Option (List ℕ)) → b ≡ 10 → OnOk r (line' ≡ []) → OnOk r (Writes x y (Passes s line s')) → OnOk r (Writes x y (GoesOn s line s' line' (b ∷ [])))
+pub at_line_feed : {T L : Type 0} (r : Result T PlayFault) (s s' : Stage L) (line line' : List ℕ) (b : ℕ) (x y : Option (List ℕ)) → b ≡ 10 → OnOk r (line' ≡ []) → OnOk r (Writes x y (Passes s line s')) → OnOk r (Writes x y (GoesOn s line s' line' (b ∷ [])))
 at_line_feed (Ok v) s s' line line' b x y lf empty did = (did.0, did.1, line_feed s s' line line' did.0 b lf empty did.2)
 at_line_feed (Err e) s s' line line' b x y lf empty did = tt
 
-pub in_line : (s : Stage) (line line' : List ℕ) (b : ℕ) (x : Option (List ℕ)) → b ≢ 10 → line' ≡ line ++ b ∷ [] → Writes x x (GoesOn s line s line' (b ∷ []))
+pub in_line : {L : Type 0} (s : Stage L) (line line' : List ℕ) (b : ℕ) (x : Option (List ℕ)) → b ≢ 10 → line' ≡ line ++ b ∷ [] → Writes x x (GoesOn s line s line' (b ∷ []))
 in_line s line line' b x no_end grown = (
   [],
   appends_nothing x,
@@ -152,10 +152,3 @@ kept_after None y z w a k = tt
 kept_after (Some xs) None z w a k = absurd a
 kept_after (Some xs) (Some ys) None w a k = absurd k
 kept_after (Some xs) (Some ys) (Some zs) w a k = k ∙ a
-
--- a play begins before the first line
-pub start : (s : Stage) (script text : List ℕ) → head_of s ≡ Some default_limits → PrintsAhead s [] script text → IsPrinted script text
-start (Head l) script text is prints =
-    let same : l ≡ default_limits = (let known : Some l ≡ Some default_limits = is in cc) in
-    subst (λ ls. ArePerformed (steps_of ls) [] (start_of (limits_after default_limits ls)) text) (continued-nil (lines_of script)) (subst (λ k. PrintsAhead (Head k) [] script text) same prints)
-start (Steps player) script text is prints = absurd (cc)

@@ -36,21 +36,21 @@ IsPrinted script text = ArePerformed (steps_of (lines_of script)) [] (start_of (
 
 -- ---- as the script comes
 
-abbrev pub hosts_of : Stage → List (List ℕ)
+abbrev pub hosts_of : {L : Type 0} → Stage L → List (List ℕ)
 hosts_of (Head l) = []
 hosts_of (Steps player) = player.hosts.items
 
 -- the server that a stage has, or sets up for the lines to come
-abbrev pub server_of : Stage → List (List ℕ) → State
+abbrev pub server_of : {L : Type 0} → Stage L → List (List ℕ) → State
 server_of (Head l) lines = start_of (limits_after l lines)
 server_of (Steps player) lines = player.play
 
 -- what lines print from a stage on
-abbrev pub Prints : Stage → List (List ℕ) → List ℕ → Type 0
+abbrev pub Prints : {L : Type 0} → Stage L → List (List ℕ) → List ℕ → Type 0
 Prints stage lines text = ArePerformed (steps_of lines) (hosts_of stage) (server_of stage lines) text
 
 -- the same where a line has begun, and this rest of the script comes
-abbrev pub PrintsAhead : Stage → List ℕ → List ℕ → List ℕ → Type 0
+abbrev pub PrintsAhead : {L : Type 0} → Stage L → List ℕ → List ℕ → List ℕ → Type 0
 PrintsAhead stage line rest text = Prints stage (continued line (lines_of rest)) text
 
 -- what a writer holds grows by a text of which this holds
@@ -58,5 +58,5 @@ abbrev pub Writes : Option (List ℕ) → Option (List ℕ) → (List ℕ → Ty
 Writes old new P = (text : List ℕ) × Appends old new text × P text
 
 -- what is printed from the one stage on, after what was written, is printed from the other on
-abbrev pub GoesOn : Stage → List ℕ → Stage → List ℕ → List ℕ → List ℕ → Type 0
+abbrev pub GoesOn : {L : Type 0} → Stage L → List ℕ → Stage L → List ℕ → List ℕ → List ℕ → Type 0
 GoesOn stage line stage' line' octets written = (rest : List ℕ) (text : List ℕ) → PrintsAhead stage' line' rest text → PrintsAhead stage line (octets ++ rest) (written ++ text)

@@ -1,13 +1,13 @@
 //! What worker 1 does alone for one step of a script.
 ghost use Rattle.halld.specs.Steps.{IsPutOut, IsEnded, IsBegun, IsDoing, IsTidying};
 
-use interleave::{Event, Moment, Note, Play, SessionId, StepRefusal, WorkerId};
+use interleave::{Event, Moment, Naming, Note, Play, SessionId, StepRefusal, WorkerId};
 
 /// The number of the worker.
 const ALONE: u64 = 1;
 
 /// Puts until a put is refused.
-fn put_all(play: &mut Play)
+fn put_all<L: Naming>(play: &mut Play<L>)
     ensures { IsPutOut play.old play.new }
 {
     let worker = WorkerId::new(ALONE);
@@ -19,7 +19,7 @@ fn put_all(play: &mut Play)
 }
 
 /// Puts what is to be put, and ends.
-fn end(play: &mut Play) -> Result<Note, StepRefusal>
+fn end<L: Naming>(play: &mut Play<L>) -> Result<Note, StepRefusal>
     ensures { IsEnded play.old result play.new }
 {
     put_all(play);
@@ -28,7 +28,7 @@ fn end(play: &mut Play) -> Result<Note, StepRefusal>
 }
 
 /// Begins the line in the worker's hand and carries it out, or gives it back.
-fn begin(play: &mut Play, moment: Moment) -> Result<Note, StepRefusal>
+fn begin<L: Naming>(play: &mut Play<L>, moment: Moment) -> Result<Note, StepRefusal>
     ensures { IsBegun moment play.old result play.new }
 {
     let worker = WorkerId::new(ALONE);
@@ -42,8 +42,8 @@ fn begin(play: &mut Play, moment: Moment) -> Result<Note, StepRefusal>
 }
 
 /// Carries out a session's next line. A line that was begun answers with its `Done`.
-pub(crate) fn do_line(
-    play: &mut Play,
+pub(crate) fn do_line<L: Naming>(
+    play: &mut Play<L>,
     session: SessionId,
     moment: Moment,
 ) -> Result<Note, StepRefusal>
@@ -55,7 +55,7 @@ pub(crate) fn do_line(
 }
 
 /// Sweeps. Where there was a session to be swept, the answer is the `Done` of the record.
-pub(crate) fn tidy(play: &mut Play, moment: Moment) -> Result<Note, StepRefusal>
+pub(crate) fn tidy<L: Naming>(play: &mut Play<L>, moment: Moment) -> Result<Note, StepRefusal>
     ensures { IsTidying moment play.old result play.new }
 {
     let worker = WorkerId::new(ALONE);

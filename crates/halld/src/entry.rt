@@ -1,13 +1,15 @@
 //! Playing a script from a reader to a writer.
-ghost use Rattle.std.specs.Prelude.{◌≡◌, ◌<◌, ◌^◌, List, ℕ, Some, OnOk, IfErr, IfSome};
+ghost use Rattle.std.specs.Prelude.{◌≡◌, ◌<◌, ◌^◌, [], List, ℕ, Some, OnOk, IfErr, IfSome};
 ghost use Rattle.halld.specs.Lines.{told_of, told_ahead};
 ghost use Rattle.halld.specs.Faults.{IsFaultOf, IsGood};
-ghost use Rattle.halld.specs.Stages.{head_of};
+ghost use Rattle.halld.specs.Stages.{head_of, IsReady};
 ghost use Rattle.halld.specs.Printed.{IsPrinted, PrintsAhead, Writes};
 
 use crate::reader::Reader;
+use interleave::{Naming, Register};
 use std::alloc::{AllocError, AllocFailed, Global};
 use std::io::{ErrorKind, Read, Write};
+use std::marker::Brand;
 use thiserror::Error;
 
 /// How many octets are read at once.
@@ -59,12 +61,13 @@ impl<T: Drop> From<AllocFailed<T>> for PlayFault {
 }
 
 /// Reads a script to its end, and writes the notes of each step.
-fn play_lines<R: Read, W: Write>(
-    reader: &mut Reader,
+fn play_lines<L: Naming, R: Read, W: Write>(
+    reader: &mut Reader<L>,
     input: &mut R,
     output: &mut W,
 ) -> Result<(), PlayFault>
-    requires { reader.old.ended < 2 ^ 32 }
+    requires few { reader.old.ended < 2 ^ 32 }
+    requires ready { IsReady L.table reader.old.stage reader.old.register }
     ensures good { OnOk result ((script : List ℕ) → R.remaining input.old ≡ Some script → IsGood (told_ahead (head_of reader.old.stage) reader.old.ended reader.old.line.items script)) }
     ensures printed { OnOk result (Writes (W.contents output.old) (W.contents output.new) (λ written. (script : List ℕ) → R.remaining input.old ≡ Some script → PrintsAhead reader.old.stage reader.old.line.items script written)) }
     ensures fault { IfErr result (λ e. (script : List ℕ) → R.remaining input.old ≡ Some script → IsFaultOf (told_ahead (head_of reader.old.stage) reader.old.ended reader.old.line.items script) e) }
@@ -81,8 +84,32 @@ fn play_lines<R: Read, W: Write>(
     Err(PlayFault::ReadFailed)
 }
 
-/// Plays a script on a new server.
+/// Plays a script on a new server, whose sessions a register has that is named.
 #[tactic(auto, using(crate::proofs::Known::if_known, crate::proofs::Known::start))]
+fn play_named<L: Naming, R: Read, W: Write>(
+    alloc: Global,
+    register: Register<()>,
+    input: &mut R,
+    output: &mut W,
+) -> Result<(), PlayFault>
+    requires named { register.table ≡ L.table }
+    requires empty { register.rows ≡ [] }
+    ensures good { OnOk result (IfSome (R.remaining input.old) (λ script. IsGood (told_of script))) }
+    ensures printed { OnOk result (Writes (W.contents output.old) (W.contents output.new) (λ written. IfSome (R.remaining input.old) (λ script. IsPrinted script written))) }
+    ensures fault { IfErr result (λ fault. IfSome (R.remaining input.old) (λ script. IsFaultOf (told_of script) fault)) }
+{
+    let mut reader: Reader<L> = Reader::new(alloc, register);
+    let played = play_lines(&mut reader, input, output);
+    let flushed = output.flush();
+    played?;
+    match flushed {
+        Ok(()) => Ok(()),
+        Err(_) => Err(PlayFault::WriteFailed),
+    }
+}
+
+/// Plays a script on a new server.
+#[tactic(auto, using(crate::proofs::Known::if_known))]
 pub fn play<R: Read, W: Write>(
     alloc: Global,
     input: &mut R,
@@ -92,12 +119,6 @@ pub fn play<R: Read, W: Write>(
     ensures printed { OnOk result (Writes (W.contents output.old) (W.contents output.new) (λ written. IfSome (R.remaining input.old) (λ script. IsPrinted script written))) }
     ensures fault { IfErr result (λ fault. IfSome (R.remaining input.old) (λ script. IsFaultOf (told_of script) fault)) }
 {
-    let mut reader = Reader::new(alloc);
-    let played = play_lines(&mut reader, input, output);
-    let flushed = output.flush();
-    played?;
-    match flushed {
-        Ok(()) => Ok(()),
-        Err(_) => Err(PlayFault::WriteFailed),
-    }
+    let register = Register::new(alloc)?;
+    play_named::<Brand, R, W>(alloc, register, input, output)
 }

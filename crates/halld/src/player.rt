@@ -11,7 +11,7 @@ use crate::alone::{do_line, tidy};
 use crate::entry::PlayFault;
 use crate::notes::{notes_of, whole_notes};
 use crate::script::Step;
-use interleave::{Event, Note, Play, SessionId, StepRefusal};
+use interleave::{Event, Naming, Note, Play, SessionId, StepRefusal};
 use line_grammar::Octets;
 use std::alloc::{AllocError, Global};
 use std::io::Write;
@@ -21,9 +21,9 @@ const NOBODY: u64 = 0;
 
 /// A play with the hosts of its sessions, by their numbers.
 #[derive(Drop)]
-pub(crate) struct Player {
+pub(crate) struct Player<L: Naming> {
     alloc: Global,
-    play: Play,
+    play: Play<L>,
     hosts: Vec<Octets>,
 }
 
@@ -64,9 +64,9 @@ fn write<W: Write>(notes: &[u8], output: &mut W) -> Result<(), PlayFault>
     }
 }
 
-impl Player {
+impl<L: Naming> Player<L> {
     /// A player of a play that has no sessions.
-    pub(crate) fn new(alloc: Global, play: Play) -> Player
+    pub(crate) fn new(alloc: Global, play: Play<L>) -> Player<L>
         ensures play { result.play ≡ play }
         ensures hosts { result.hosts.items ≡ [] }
     {

@@ -5,7 +5,7 @@ ghost use Rattle.halld.specs.Headers.{default_limits, settings_of, are_good};
 ghost use Rattle.halld.specs.Script.{step_of, NamesHost};
 ghost use Rattle.halld.specs.Lines.{told_after, told_ahead, is_set_after};
 ghost use Rattle.halld.specs.Faults.{IsFaultOf, IsGood, IsOutside};
-ghost use Rattle.halld.specs.Stages.{head_of};
+ghost use Rattle.halld.specs.Stages.{head_of, IsReady};
 ghost use Rattle.halld.specs.Steps.{IsPerformed};
 ghost use Rattle.halld.specs.Printed.{start_of, hosts_of, server_of, Prints, PrintsAhead, Writes, GoesOn};
 
@@ -13,7 +13,7 @@ use crate::entry::PlayFault;
 use crate::header::{HeaderFault, Limits};
 use crate::player::Player;
 use crate::script::{Step, StepFault, parse_step};
-use interleave::{Moment, Play, PlayRefusal, Settings};
+use interleave::{Moment, Naming, Play, PlayRefusal, Register, Settings};
 use line_grammar::Octets;
 use std::alloc::{AllocError, Global};
 use std::io::Write;
@@ -29,18 +29,19 @@ const VERSION: &[u8; 7] = b"halld-1";
 
 /// How far a script has come.
 #[derive(Drop)]
-pub(crate) enum Stage {
+pub(crate) enum Stage<L: Naming> {
     /// No step has come, and the headers have set these limits.
     Head(Limits),
     /// A step has come.
-    Steps(Player),
+    Steps(Player<L>),
 }
 
-/// The part of a script that has come.
+/// The part of a script that has come, and until its first step the register of the sessions to come.
 #[derive(Drop)]
-pub(crate) struct Reader {
+pub(crate) struct Reader<L: Naming> {
     alloc: Global,
-    stage: Stage,
+    register: Option<Register<()>>,
+    stage: Stage<L>,
     line: Vec<u8>,
     ended: u64,
 }
@@ -61,7 +62,13 @@ fn settings_of(alloc: Global, limits: &Limits) -> Result<Settings, AllocError>
 }
 
 /// A player of a server with these limits.
-fn new_player(alloc: Global, limits: &Limits) -> Result<Player, PlayFault>
+fn new_player<L: Naming>(
+    alloc: Global,
+    register: Register<()>,
+    limits: &Limits,
+) -> Result<Player<L>, PlayFault>
+    requires named { register.table ≡ L.table }
+    requires empty { register.rows ≡ [] }
     ensures ok { IfOk result (λ player. are_good limits.now ≡ true) }
     ensures play { IfOk result (λ player. player.play ≡ start_of limits.now) }
     ensures hosts { IfOk result (λ player. player.hosts.items ≡ []) }
@@ -70,6 +77,7 @@ fn new_player(alloc: Global, limits: &Limits) -> Result<Player, PlayFault>
     let settings = settings_of(alloc, limits)?;
     match Play::new(
         alloc,
+        register,
         settings,
         limits.records,
         limits.workers,
@@ -82,31 +90,38 @@ fn new_player(alloc: Global, limits: &Limits) -> Result<Player, PlayFault>
 }
 
 /// A player that did what a script's first step asks for.
-fn begin<W: Write>(
+fn begin<L: Naming, W: Write>(
     alloc: Global,
+    register: Register<()>,
     limits: &Limits,
     step: Step,
     output: &mut W,
-) -> Result<Player, PlayFault>
-    requires { NamesHost step }
+) -> Result<Player<L>, PlayFault>
+    requires named { register.table ≡ L.table }
+    requires empty { register.rows ≡ [] }
+    requires host { NamesHost step }
     ensures ok { IfOk result (λ player. are_good limits.now ≡ true) }
     ensures performed { IfOk result (λ player. (text : List ℕ) × IsPerformed step [] (start_of limits.now) text player.hosts.items player.play × Appends (W.contents output.old) (W.contents output.new) text) }
     ensures fault { IfErr result (IsFaultOf (told_after (Some limits.now) 1 [])) }
 {
-    let mut player = new_player(alloc, limits)?;
+    let mut player = new_player(alloc, register, limits)?;
     player.perform(step, output)?;
     Ok(player)
 }
 
-impl Reader {
+impl<L: Naming> Reader<L> {
     /// A reader at the start of a script.
-    pub(crate) fn new(alloc: Global) -> Reader
+    pub(crate) fn new(alloc: Global, register: Register<()>) -> Reader<L>
+        requires named { register.table ≡ L.table }
+        requires empty { register.rows ≡ [] }
+        ensures ready { IsReady L.table result.stage result.register }
         ensures head { head_of result.stage ≡ Some default_limits }
         ensures line { result.line.items ≡ [] }
         ensures ended { result.ended ≡ 0 }
     {
         Reader {
             alloc,
+            register: Some(register),
             stage: Stage::Head(Limits::new(alloc)),
             line: Vec::new(alloc),
             ended: 0,
@@ -116,7 +131,9 @@ impl Reader {
     /// Does what a step asks for. The first one sets the server up.
     #[tactic(auto, using(crate::proofs::Faults::from_outside))]
     fn step<W: Write>(&mut self, step: Step, output: &mut W) -> Result<(), PlayFault>
-        requires { NamesHost step }
+        requires ready { IsReady L.table self.old.stage self.old.register }
+        requires host { NamesHost step }
+        ensures ready { OnOk result (IsReady L.table self.new.stage self.new.register) }
         ensures head { OnOk result (head_of self.new.stage ≡ None) }
         ensures set { OnOk result (is_set_after (head_of self.old.stage) [] ≡ true) }
         ensures line { self.new.line ≡ self.old.line }
@@ -127,7 +144,10 @@ impl Reader {
         match &mut self.stage {
             Stage::Steps(player) => player.perform(step, output),
             Stage::Head(limits) => {
-                let player = begin(self.alloc, limits, step, output)?;
+                let Some(register) = self.register.take() else {
+                    unreachable!();
+                };
+                let player = begin(self.alloc, register, limits, step, output)?;
                 self.stage = Stage::Steps(player);
                 Ok(())
             }
@@ -139,6 +159,7 @@ impl Reader {
     fn header(&mut self) -> Result<(), PlayFault>
         requires some { 0 < length self.old.line.items }
         requires none { step_of self.old.line.items ≡ None }
+        ensures ready { IsReady L.table self.old.stage self.old.register → OnOk result (IsReady L.table self.new.stage self.new.register) }
         ensures line { OnOk result (self.new.line.items ≡ []) }
         ensures ended { self.new.ended ≡ self.old.ended }
         ensures ahead { OnOk result ((more : List (List ℕ)) → told_after (head_of self.new.stage) (self.new.ended + 1) more ≡ told_after (head_of self.old.stage) self.old.ended (self.old.line.items ∷ more)) }
@@ -160,7 +181,9 @@ impl Reader {
     /// Ends the script's present line.
     #[tactic(auto, using(crate::proofs::Ahead::empty_line))]
     fn end_line<W: Write>(&mut self, output: &mut W) -> Result<(), PlayFault>
-        requires { self.old.ended + 1 < 2 ^ 64 }
+        requires few { self.old.ended + 1 < 2 ^ 64 }
+        requires ready { IsReady L.table self.old.stage self.old.register }
+        ensures ready { OnOk result (IsReady L.table self.new.stage self.new.register) }
         ensures line { OnOk result (self.new.line.items ≡ []) }
         ensures ended { OnOk result (self.new.ended ≡ self.old.ended + 1) }
         ensures ahead { OnOk result ((more : List (List ℕ)) → told_after (head_of self.new.stage) (self.new.ended + 1) more ≡ told_after (head_of self.old.stage) (self.old.ended + 1) (self.old.line.items ∷ more)) }
@@ -183,7 +206,9 @@ impl Reader {
     /// Takes the script's next octet.
     #[tactic(auto, using(crate::proofs::Ahead::line_ends, crate::proofs::Ahead::line_goes_on, crate::proofs::Printing::in_line))]
     fn take_octet<W: Write>(&mut self, octet: u8, output: &mut W) -> Result<(), PlayFault>
-        requires { self.old.ended + 1 < 2 ^ 64 }
+        requires few { self.old.ended + 1 < 2 ^ 64 }
+        requires ready { IsReady L.table self.old.stage self.old.register }
+        ensures ready { OnOk result (IsReady L.table self.new.stage self.new.register) }
         ensures ended { OnOk result (self.new.ended ≤ self.old.ended + 1) }
         ensures ahead { OnOk result ((rest : List ℕ) → told_ahead (head_of self.new.stage) self.new.ended self.new.line.items rest ≡ told_ahead (head_of self.old.stage) self.old.ended self.old.line.items (octet ∷ rest)) }
         ensures printed { OnOk result (Writes (W.contents output.old) (W.contents output.new) (GoesOn self.old.stage self.old.line.items self.new.stage self.new.line.items (octet ∷ []))) }
@@ -198,7 +223,9 @@ impl Reader {
 
     /// Takes what comes next of the script.
     pub(crate) fn feed<W: Write>(&mut self, block: &[u8], output: &mut W) -> Result<(), PlayFault>
-        requires { self.old.ended + length block.now < 2 ^ 64 }
+        requires few { self.old.ended + length block.now < 2 ^ 64 }
+        requires ready { IsReady L.table self.old.stage self.old.register }
+        ensures ready { OnOk result (IsReady L.table self.new.stage self.new.register) }
         ensures ended { OnOk result (self.new.ended ≤ self.old.ended + length block.now) }
         ensures ahead { OnOk result ((rest : List ℕ) → told_ahead (head_of self.new.stage) self.new.ended self.new.line.items rest ≡ told_ahead (head_of self.old.stage) self.old.ended self.old.line.items (block.now ++ rest)) }
         ensures printed { OnOk result (Writes (W.contents output.old) (W.contents output.new) (GoesOn self.old.stage self.old.line.items self.new.stage self.new.line.items block.now)) }
@@ -211,19 +238,24 @@ impl Reader {
     }
 
     /// Whether the server can be set up, where no step came.
-    fn set_up(&self) -> Result<(), PlayFault>
-        ensures good { OnOk result (is_set_after (head_of self.now.stage) [] ≡ true) }
-        ensures fault { IfErr result (IsFaultOf (told_after (head_of self.now.stage) 1 [])) }
+    fn set_up(&mut self) -> Result<(), PlayFault>
+        requires ready { IsReady L.table self.old.stage self.old.register }
+        ensures good { OnOk result (is_set_after (head_of self.old.stage) [] ≡ true) }
+        ensures fault { IfErr result (IsFaultOf (told_after (head_of self.old.stage) 1 [])) }
     {
         if let Stage::Head(limits) = &self.stage {
-            new_player(self.alloc, limits)?;
+            let Some(register) = self.register.take() else {
+                unreachable!();
+            };
+            let _: Player<L> = new_player(self.alloc, register, limits)?;
         }
         Ok(())
     }
 
     /// Ends the script.
     pub(crate) fn finish<W: Write>(&mut self, output: &mut W) -> Result<(), PlayFault>
-        requires { self.old.ended + 1 < 2 ^ 64 }
+        requires few { self.old.ended + 1 < 2 ^ 64 }
+        requires ready { IsReady L.table self.old.stage self.old.register }
         ensures good { OnOk result (IsGood (told_ahead (head_of self.old.stage) self.old.ended self.old.line.items [])) }
         ensures printed { OnOk result (Writes (W.contents output.old) (W.contents output.new) (PrintsAhead self.old.stage self.old.line.items [])) }
         ensures fault { IfErr result (IsFaultOf (told_ahead (head_of self.old.stage) self.old.ended self.old.line.items [])) }

@@ -2,13 +2,16 @@
 //! the third scene, with 1,000 lines. `scenes` lists them.
 #![tactic(auto)]
 
+ghost use Rattle.std.specs.Prelude.{◌≡◌, []};
+
 mod scenes;
 mod server;
 
-use interleave::Play;
+use interleave::{Naming, Play, Register};
 use registration::MAX_SESSIONS;
 use scenes::{SCENES, Scene};
 use server::{play_of, talk};
+use std::marker::Brand;
 use std::process::ExitCode;
 use std::rt::{Clock, Files};
 use std::time::Instant;
@@ -18,7 +21,12 @@ use std::{env, fs};
 const STATUS: &str = "/proc/self/status";
 
 /// Microseconds that a scene's lines took, and how many steps they were.
-fn timed(rt: &HostRuntime, play: &mut Play, scene: &Scene, lines: u64) -> Option<(u64, u64)> {
+fn timed<L: Naming>(
+    rt: &HostRuntime,
+    play: &mut Play<L>,
+    scene: &Scene,
+    lines: u64,
+) -> Option<(u64, u64)> {
     talk(rt.alloc(), play, scene, scene.before)?;
     let start = Instant::now(rt).ok()?;
     let steps = talk(rt.alloc(), play, scene, lines)?;
@@ -49,6 +57,21 @@ fn tell_memory(rt: &(impl Print + Files + Alloc)) -> Option<()> {
     Some(())
 }
 
+/// Times a scene with so many lines in a play of its own, whose sessions this register has.
+fn measure_in<L: Naming>(
+    rt: &HostRuntime,
+    register: Register<()>,
+    scene: &Scene,
+    lines: u64,
+) -> Option<()>
+    requires named { register.table ≡ L.table }
+    requires empty { register.rows ≡ [] }
+{
+    let mut play: Play<L> = play_of(rt.alloc(), register, scene)?;
+    let (micros, steps) = timed(rt, &mut play, scene, lines)?;
+    tell(rt, scene, micros, steps, lines)
+}
+
 /// Times a scene with so many lines, unless it has more sessions than a server lets in.
 fn measure(rt: &HostRuntime, scene: &Scene, lines: u64) -> Option<()> {
     let name = scene.name;
@@ -57,9 +80,8 @@ fn measure(rt: &HostRuntime, scene: &Scene, lines: u64) -> Option<()> {
             "{name}: not measured, for a server has {MAX_SESSIONS} sessions at most"
         ).ok();
     }
-    let mut play = play_of(rt.alloc(), scene)?;
-    let (micros, steps) = timed(rt, &mut play, scene, lines)?;
-    tell(rt, scene, micros, steps, lines)
+    let register = Register::new(rt.alloc()).ok()?;
+    measure_in::<Brand>(rt, register, scene, lines)
 }
 
 fn measure_all(rt: &HostRuntime) -> Option<()> {

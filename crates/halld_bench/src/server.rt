@@ -1,21 +1,24 @@
 //! A server with the sessions of a scene, and what its one worker does.
+ghost use Rattle.std.specs.Prelude.{◌≡◌, []};
 ghost use Rattle.interleave.specs.Steps.{IsWellShaped};
 
 use crate::scenes::{ALONE, Scene};
 use casemapping::is_host;
-use interleave::{Event, Moment, Note, Octets, Play, SessionId, Settings, Why, WorkerId};
+use interleave::{
+    Event, Moment, Naming, Note, Octets, Play, Register, SessionId, Settings, Why, WorkerId,
+};
 use registration::{Accounts, MAX_SESSIONS};
 use std::alloc::Global;
 
 /// What a step makes, where it isn't refused.
-fn take(play: &mut Play, event: Event) -> Option<Note>
+fn take<L: Naming>(play: &mut Play<L>, event: Event) -> Option<Note>
     requires { IsWellShaped event }
 {
     play.step(&event).ok()
 }
 
 /// A step that isn't refused.
-fn go(play: &mut Play, event: Event) -> Option<()>
+fn go<L: Naming>(play: &mut Play<L>, event: Event) -> Option<()>
     requires { IsWellShaped event }
 {
     let _ = take(play, event)?;
@@ -23,17 +26,17 @@ fn go(play: &mut Play, event: Event) -> Option<()>
 }
 
 /// Whether worker 1 puts a delivery.
-fn puts(play: &mut Play) -> bool {
+fn puts<L: Naming>(play: &mut Play<L>) -> bool {
     let worker = WorkerId::new(1);
     matches!(take(play, Event::Put { worker }), Some(Note::Put(_)))
 }
 
 /// Whether the writer of a session takes an item.
-fn takes_item(play: &mut Play, session: SessionId) -> bool {
+fn takes_item<L: Naming>(play: &mut Play<L>, session: SessionId) -> bool {
     matches!(take(play, Event::Take { session }), Some(Note::Item(_)))
 }
 
-fn connect(alloc: Global, play: &mut Play) -> Option<()> {
+fn connect<L: Naming>(alloc: Global, play: &mut Play<L>) -> Option<()> {
     let host = Octets::copied(alloc, b"host.example").ok()?;
     if !is_host(host.as_slice()) {
         return None;
@@ -43,7 +46,7 @@ fn connect(alloc: Global, play: &mut Play) -> Option<()> {
 }
 
 /// Puts all that worker 1's line owes. It answers how many deliveries those were.
-fn put_all(play: &mut Play) -> u64 {
+fn put_all<L: Naming>(play: &mut Play<L>) -> u64 {
     let mut deliveries = 0u64;
     for _ in 0..u64::MAX {
         if !puts(play) {
@@ -55,7 +58,12 @@ fn put_all(play: &mut Play) -> u64 {
 }
 
 /// Reads one line of a session, and has worker 1 accept it, with all that it owes. It answers how many deliveries those were.
-fn say(alloc: Global, play: &mut Play, session: SessionId, line: &str) -> Option<u64> {
+fn say<L: Naming>(
+    alloc: Global,
+    play: &mut Play<L>,
+    session: SessionId,
+    line: &str,
+) -> Option<u64> {
     let worker = WorkerId::new(1);
     let moment = Moment::new(0);
     let octets = Octets::copied(alloc, line.as_bytes()).ok()?;
@@ -68,7 +76,12 @@ fn say(alloc: Global, play: &mut Play, session: SessionId, line: &str) -> Option
 }
 
 /// Says these lines.
-fn say_all(alloc: Global, play: &mut Play, session: SessionId, lines: &[&str]) -> Option<()> {
+fn say_all<L: Naming>(
+    alloc: Global,
+    play: &mut Play<L>,
+    session: SessionId,
+    lines: &[&str],
+) -> Option<()> {
     for line in lines {
         say(alloc, play, session, line)?;
     }
@@ -76,7 +89,7 @@ fn say_all(alloc: Global, play: &mut Play, session: SessionId, lines: &[&str]) -
 }
 
 /// Takes an item of each session from the first that is told. It answers how many those were.
-fn take_items(play: &mut Play, scene: &Scene) -> u64 {
+fn take_items<L: Naming>(play: &mut Play<L>, scene: &Scene) -> u64 {
     let mut items = 0u64;
     for place in scene.told..scene.last.saturating_add(1) {
         if takes_item(play, SessionId::new(place)) {
@@ -87,7 +100,7 @@ fn take_items(play: &mut Play, scene: &Scene) -> u64 {
 }
 
 /// Takes all that waits for a session.
-fn empty(play: &mut Play, session: SessionId) {
+fn empty<L: Naming>(play: &mut Play<L>, session: SessionId) {
     for _ in 0..u64::MAX {
         if !takes_item(play, session) {
             break;
@@ -112,7 +125,7 @@ fn settings(alloc: Global) -> Option<Settings> {
 }
 
 /// A session comes, with a nickname of its own.
-fn enter(alloc: Global, play: &mut Play, session: u64) -> Option<()> {
+fn enter<L: Naming>(alloc: Global, play: &mut Play<L>, session: u64) -> Option<()> {
     connect(alloc, play)?;
     let nick = format!(in alloc; "NICK n{session}\r\n").ok()?;
     say(alloc, play, SessionId::new(session), nick.as_str())?;
@@ -120,7 +133,7 @@ fn enter(alloc: Global, play: &mut Play, session: u64) -> Option<()> {
 }
 
 /// A session comes, registers, joins no channel, and takes what waits for it.
-fn enter_alone(alloc: Global, play: &mut Play, session: u64) -> Option<()> {
+fn enter_alone<L: Naming>(alloc: Global, play: &mut Play<L>, session: u64) -> Option<()> {
     enter(alloc, play, session)?;
     say_all(alloc, play, SessionId::new(session), ALONE)?;
     empty(play, SessionId::new(session));
@@ -128,7 +141,12 @@ fn enter_alone(alloc: Global, play: &mut Play, session: u64) -> Option<()> {
 }
 
 /// A session makes channels of its own.
-fn make_channels(alloc: Global, play: &mut Play, session: u64, channels: u64) -> Option<()> {
+fn make_channels<L: Naming>(
+    alloc: Global,
+    play: &mut Play<L>,
+    session: u64,
+    channels: u64,
+) -> Option<()> {
     for channel in 0..channels {
         let join = format!(in alloc; "JOIN #c{session}-{channel}\r\n").ok()?;
         say(alloc, play, SessionId::new(session), join.as_str())?;
@@ -137,7 +155,12 @@ fn make_channels(alloc: Global, play: &mut Play, session: u64, channels: u64) ->
 }
 
 /// A session quits, or its input ends.
-fn leave(alloc: Global, play: &mut Play, session: SessionId, quits: bool) -> Option<()> {
+fn leave<L: Naming>(
+    alloc: Global,
+    play: &mut Play<L>,
+    session: SessionId,
+    quits: bool,
+) -> Option<()> {
     if quits {
         say(alloc, play, session, "QUIT :bye\r\n")?;
         return Some(());
@@ -157,7 +180,7 @@ fn leave(alloc: Global, play: &mut Play, session: SessionId, quits: bool) -> Opt
 }
 
 /// Worker 1 sweeps a session that is shut.
-fn sweep(play: &mut Play) -> Option<()> {
+fn sweep<L: Naming>(play: &mut Play<L>) -> Option<()> {
     let worker = WorkerId::new(1);
     let moment = Moment::new(0);
     go(play, Event::Sweep { worker, moment })?;
@@ -167,7 +190,7 @@ fn sweep(play: &mut Play) -> Option<()> {
 
 /// A session comes, goes and is given up. Of four in a row two register first; of these one quits and one's input ends, and so it is
 /// with the other two.
-fn come_and_go(alloc: Global, play: &mut Play, number: u64) -> Option<()> {
+fn come_and_go<L: Naming>(alloc: Global, play: &mut Play<L>, number: u64) -> Option<()> {
     let session = SessionId::new(number);
     if number % 2 == 0 {
         enter_alone(alloc, play, number)?;
@@ -181,7 +204,7 @@ fn come_and_go(alloc: Global, play: &mut Play, number: u64) -> Option<()> {
 }
 
 /// The members of a scene come.
-fn bring_members(alloc: Global, play: &mut Play, scene: &Scene) -> Option<()> {
+fn bring_members<L: Naming>(alloc: Global, play: &mut Play<L>, scene: &Scene) -> Option<()> {
     for session in 1..scene.members.saturating_add(1) {
         enter(alloc, play, session)?;
         say_all(alloc, play, SessionId::new(session), scene.start)?;
@@ -191,14 +214,14 @@ fn bring_members(alloc: Global, play: &mut Play, scene: &Scene) -> Option<()> {
 }
 
 /// The members of a scene take what waits for them.
-fn empty_members(play: &mut Play, scene: &Scene) {
+fn empty_members<L: Naming>(play: &mut Play<L>, scene: &Scene) {
     for session in 1..scene.members.saturating_add(1) {
         empty(play, SessionId::new(session));
     }
 }
 
 /// The idle sessions of a scene come, after so many others.
-fn bring_idle(alloc: Global, play: &mut Play, others: u64, idle: u64) -> Option<()> {
+fn bring_idle<L: Naming>(alloc: Global, play: &mut Play<L>, others: u64, idle: u64) -> Option<()> {
     for place in 0..idle {
         enter_alone(alloc, play, others.saturating_add(place).saturating_add(1))?;
     }
@@ -206,7 +229,12 @@ fn bring_idle(alloc: Global, play: &mut Play, others: u64, idle: u64) -> Option<
 }
 
 /// Sessions come and go, one after another, after so many others.
-fn pass_through(alloc: Global, play: &mut Play, others: u64, gone: u64) -> Option<()> {
+fn pass_through<L: Naming>(
+    alloc: Global,
+    play: &mut Play<L>,
+    others: u64,
+    gone: u64,
+) -> Option<()> {
     for place in 0..gone {
         come_and_go(alloc, play, others.saturating_add(place).saturating_add(1))?;
     }
@@ -214,7 +242,7 @@ fn pass_through(alloc: Global, play: &mut Play, others: u64, gone: u64) -> Optio
 }
 
 /// The sessions of a scene come, and take what waits for them.
-fn fill(alloc: Global, play: &mut Play, scene: &Scene) -> Option<()> {
+fn fill<L: Naming>(alloc: Global, play: &mut Play<L>, scene: &Scene) -> Option<()> {
     bring_members(alloc, play, scene)?;
     empty_members(play, scene);
     bring_idle(alloc, play, scene.members, scene.idle)?;
@@ -222,10 +250,17 @@ fn fill(alloc: Global, play: &mut Play, scene: &Scene) -> Option<()> {
     pass_through(alloc, play, others, scene.gone)
 }
 
-/// A play in which the sessions of a scene are there.
-pub(crate) fn play_of(alloc: Global, scene: &Scene) -> Option<Play> {
+/// A play in which the sessions of a scene are there, which this register has.
+pub(crate) fn play_of<L: Naming>(
+    alloc: Global,
+    register: Register<()>,
+    scene: &Scene,
+) -> Option<Play<L>>
+    requires named { register.table ≡ L.table }
+    requires empty { register.rows ≡ [] }
+{
     let settings = settings(alloc)?;
-    let mut play = Play::new(alloc, settings, 10_000_000, 1, scene.sendq).ok()?;
+    let mut play = Play::new(alloc, register, settings, 10_000_000, 1, scene.sendq).ok()?;
     fill(alloc, &mut play, scene)?;
     Some(play)
 }
@@ -246,7 +281,12 @@ fn line_of(alloc: Global, scene: &Scene) -> Option<String> {
 }
 
 /// Has the first session say its line so often, and whoever is told take it. It answers how many steps that took.
-pub(crate) fn talk(alloc: Global, play: &mut Play, scene: &Scene, lines: u64) -> Option<u64> {
+pub(crate) fn talk<L: Naming>(
+    alloc: Global,
+    play: &mut Play<L>,
+    scene: &Scene,
+    lines: u64,
+) -> Option<u64> {
     let mut steps = 0u64;
     let line = line_of(alloc, scene)?;
     for _ in 0..lines {

@@ -6,5 +6,6 @@ pub mod Opened
 pub mod Answered
 pub mod Sound
 pub mod Kept
+pub mod Empty
 pub mod Does
 pub mod Runs

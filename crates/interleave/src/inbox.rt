@@ -9,40 +9,42 @@ ghost use Rattle.interleave.specs.Steps.{with_taken};
 ghost use Rattle.interleave.specs.Inbox.{Held, IsRead, IsBegun, held_at, with_held, with_seen, moved_to, ended_at, reaped_at};
 
 use crate::event::{StepRefusal, of_line};
+use crate::tokens::Tokens;
 use crate::worker::{Place, WorkerId};
-use book::{Baton, Book, Delivery, Done, Plan, ReapRefusal, Ring};
+use book::Delivery;
 use chronicle::{Moment, SessionId};
 use ghosts::{Change, Snapshot, append, append_all, apply, blank, copied};
+use hall::{Book, Done, Naming, Plan, ReapRefusal, Ring};
 use line_grammar::{Piece, Splitter};
 use std::alloc::{AllocError, Global};
 use std::collections::{LinkedList, VecDeque};
 use std::marker::Model;
 use std::mem;
 
-/// A session's lines that no worker has begun, and its baton. The first of them is in a worker's hand where the baton is. They
+/// A session's lines that no worker has begun, and its tokens. The first of them is in a worker's hand where the baton is. They
 /// stand in two halves, so that no line is moved where one is taken: what comes next, and what arrived since. A
 /// clause sees all octets that were ever fed, all items that were ever taken, and those that were left, which aren't kept.
 #[derive(Drop)]
-pub(crate) struct Inbox {
+pub(crate) struct Inbox<L: Naming> {
     alloc: Global,
     splitter: Splitter,
     next: VecDeque<Piece>,
     arrived: Vec<Piece>,
     place: Place,
-    baton: Option<Baton>,
+    tokens: Option<Tokens<L>>,
     fed: Snapshot<LinkedList<u8>>,
     taken: Snapshot<LinkedList<Delivery>>,
     left: Snapshot<LinkedList<Delivery>>,
 }
 
-impl Model for Inbox {
+impl<L: Naming> Model for Inbox<L> {
     ghost use Rattle.std.specs.Prelude.{◌≡◌, ◌++◌};
     ghost use Rattle.line_grammar.specs.Lines.{left_by};
     ghost use Rattle.interleave.specs.Inbox.{Held};
 
     ghost Value = { Held };
 
-    ghost view = { λ a. record { seen = record { fed = a.fed.value; pending = a.next.items ++ a.arrived.items; place = a.place; taken = a.taken.value; left = a.left.value }; turn = a.baton } };
+    ghost view = { λ a. record { seen = record { fed = a.fed.value; pending = a.next.items ++ a.arrived.items; place = a.place; taken = a.taken.value; left = a.left.value }; turn = a.tokens } };
 
     ghost invariant = { λ a. a.splitter ≡ left_by a.fed.value };
 }
@@ -60,19 +62,19 @@ fn move_up(alloc: Global, next: &mut VecDeque<Piece>, arrived: &mut Vec<Piece>)
 // What waits in the outbox of a session.
 struct LeftIn;
 
-impl<'a> Change<LinkedList<Delivery>, (&'a Book<Ring>, SessionId)> for LeftIn {
+impl<'a, L: Naming> Change<LinkedList<Delivery>, (&'a Book<L, Ring>, SessionId)> for LeftIn {
     ghost use Rattle.book.specs.Book.{outbox_at};
 
     ghost changed = { λ xs by. deliveries (outbox_at by.0.now.outboxes by.1).queue };
 }
 
-impl Inbox {
+impl<L: Naming> Inbox<L> {
     ghost use Rattle.interleave.specs.State.{nothing_fed};
     ghost use Rattle.interleave.specs.Refusals.{is_empty};
 
     /// An inbox at the start of a session's stream.
-    pub(crate) fn new(alloc: Global, baton: Baton) -> Inbox
-        ensures { result ≡ record { seen = nothing_fed; turn = Some baton } }
+    pub(crate) fn new(alloc: Global, tokens: Tokens<L>) -> Inbox<L>
+        ensures { result ≡ record { seen = nothing_fed; turn = Some tokens } }
     {
         Inbox {
             alloc,
@@ -80,7 +82,7 @@ impl Inbox {
             next: VecDeque::new(alloc),
             arrived: Vec::new(alloc),
             place: Place::Home,
-            baton: Some(baton),
+            tokens: Some(tokens),
             fed: blank(alloc),
             taken: blank(alloc),
             left: blank(alloc),
@@ -106,10 +108,10 @@ impl Inbox {
     }
 
     /// Whether the session isn't given up.
-    pub(crate) fn has_baton(&self) -> bool
+    pub(crate) fn has_tokens(&self) -> bool
         ensures { result ≡ is_some self.now.turn }
     {
-        self.baton.is_some()
+        self.tokens.is_some()
     }
 
     /// Whether no line is left that isn't begun.
@@ -136,7 +138,7 @@ impl Inbox {
     /// Has the book begin the line in a worker's hand.
     pub(crate) fn begin(
         &mut self,
-        book: &mut Book<Ring>,
+        book: &mut Book<L, Ring>,
         worker: WorkerId,
         moment: Moment,
     ) -> Result<Plan, StepRefusal>
@@ -147,14 +149,14 @@ impl Inbox {
         ensures inbox { OnErr result (self.new ≡ self.old) }
         ensures book { OnErr result (book.new ≡ book.old) }
     {
-        let Some(baton) = &self.baton else {
+        let Some(tokens) = &self.tokens else {
             unreachable!();
         };
         move_up(self.alloc, &mut self.next, &mut self.arrived);
         let Some(piece) = self.next.front() else {
             unreachable!();
         };
-        match book.begin(baton, piece, moment) {
+        match tokens.begin(book, piece, moment) {
             Ok(plan) => {
                 let _ = self.next.pop_front();
                 self.place = Place::Begun(worker);
@@ -165,7 +167,7 @@ impl Inbox {
     }
 
     /// Gives the plan of its line back, and the baton home.
-    pub(crate) fn end(&mut self, book: &mut Book<Ring>, plan: Plan) -> Done
+    pub(crate) fn end(&mut self, book: &mut Book<L, Ring>, plan: Plan) -> Done
         requires out { IsOut book.old plan }
         requires none { book.old.plan ≡ [] }
         requires baton { IsSome self.old.turn }
@@ -177,14 +179,14 @@ impl Inbox {
         ensures shut { IfSome self.old.turn (λ turn. result.shut ≡ shut book.old.history turn.session) }
     {
         self.place = Place::Home;
-        let Some(baton) = &mut self.baton else {
+        let Some(tokens) = &mut self.tokens else {
             unreachable!();
         };
-        book.finish(plan, baton)
+        tokens.finish(book, plan)
     }
 
     /// Gives the session up, and tells clauses of what was left for it. It answers how many items that were.
-    pub(crate) fn reap(&mut self, book: &mut Book<Ring>) -> Result<u64, ReapRefusal>
+    pub(crate) fn reap(&mut self, book: &mut Book<L, Ring>) -> Result<u64, ReapRefusal>
         requires baton { IsSome self.old.turn }
         ensures ok { IfSome self.old.turn (λ turn. OnOk result (self.new ≡ reaped_at self.old (deliveries (outbox_at book.old.outboxes turn.session).queue))) }
         ensures book { IfSome self.old.turn (λ turn. OnOk result (book.new ≡ reaped book.old turn.session)) }
@@ -193,22 +195,22 @@ impl Inbox {
         ensures refusal { IfSome self.old.turn (λ turn. IfErr result (λ e. IsReapRefusal book.old turn.session e)) }
         ensures same { OnErr result ((self.new ≡ self.old) × (book.new ≡ book.old)) }
     {
-        let Some(baton) = self.baton.take() else {
+        let Some(tokens) = self.tokens.take() else {
             unreachable!();
         };
         let mut left = copied(&self.left);
-        let session = baton.session();
-        apply::<LeftIn, LinkedList<Delivery>, (&Book<Ring>, SessionId)>(
+        let session = tokens.session();
+        apply::<LeftIn, LinkedList<Delivery>, (&Book<L, Ring>, SessionId)>(
             &mut left,
             &(&*book, session),
         );
-        match book.reap_ring(baton) {
-            Ok(given_up) => {
+        match tokens.reap(book) {
+            Ok(count) => {
                 self.left = left;
-                Ok(given_up.count)
+                Ok(count)
             }
-            Err((refusal, baton)) => {
-                self.baton = Some(baton);
+            Err((refusal, tokens)) => {
+                self.tokens = Some(tokens);
                 Err(refusal)
             }
         }
@@ -218,8 +220,8 @@ impl Inbox {
 // ---- the inboxes of all sessions, by their numbers
 
 /// Reads octets of a session, and answers how many lines ended in them.
-pub(crate) fn feed(
-    inboxes: &mut Vec<Inbox>,
+pub(crate) fn feed<L: Naming>(
+    inboxes: &mut Vec<Inbox<L>>,
     session: SessionId,
     octets: &[u8],
 ) -> Result<usize, AllocError>
@@ -232,7 +234,7 @@ pub(crate) fn feed(
 }
 
 /// Brings the baton of a session elsewhere.
-pub(crate) fn move_to(inboxes: &mut Vec<Inbox>, session: SessionId, place: Place)
+pub(crate) fn move_to<L: Naming>(inboxes: &mut Vec<Inbox<L>>, session: SessionId, place: Place)
     requires from_1 { 0 < session }
     requires opened { session ≤ length inboxes.old.items }
     ensures { inboxes.new.items ≡ with_held inboxes.old.items session (moved_to (held_at inboxes.old.items session) place) }
@@ -241,7 +243,11 @@ pub(crate) fn move_to(inboxes: &mut Vec<Inbox>, session: SessionId, place: Place
 }
 
 /// Tells clauses of a delivery that was taken of a session.
-pub(crate) fn tell_taken(inboxes: &mut Vec<Inbox>, session: SessionId, delivery: &Delivery)
+pub(crate) fn tell_taken<L: Naming>(
+    inboxes: &mut Vec<Inbox<L>>,
+    session: SessionId,
+    delivery: &Delivery,
+)
     requires from_1 { 0 < session }
     requires opened { session ≤ length inboxes.old.items }
     ensures { inboxes.new.items ≡ with_held inboxes.old.items session (with_seen (held_at inboxes.old.items session) (with_taken (held_at inboxes.old.items session).seen delivery.now)) }
@@ -250,9 +256,9 @@ pub(crate) fn tell_taken(inboxes: &mut Vec<Inbox>, session: SessionId, delivery:
 }
 
 /// Has the book begin the line of a session that is in a worker's hand.
-pub(crate) fn begin(
-    inboxes: &mut Vec<Inbox>,
-    book: &mut Book<Ring>,
+pub(crate) fn begin<L: Naming>(
+    inboxes: &mut Vec<Inbox<L>>,
+    book: &mut Book<L, Ring>,
     session: SessionId,
     worker: WorkerId,
     moment: Moment,
@@ -270,9 +276,9 @@ pub(crate) fn begin(
 }
 
 /// Gives the plan of a session's line back, and the baton home.
-pub(crate) fn end(
-    inboxes: &mut Vec<Inbox>,
-    book: &mut Book<Ring>,
+pub(crate) fn end<L: Naming>(
+    inboxes: &mut Vec<Inbox<L>>,
+    book: &mut Book<L, Ring>,
     session: SessionId,
     plan: Plan,
 ) -> Done
@@ -292,9 +298,9 @@ pub(crate) fn end(
 }
 
 /// Gives a session up, and answers how many items were left for it.
-pub(crate) fn reap(
-    inboxes: &mut Vec<Inbox>,
-    book: &mut Book<Ring>,
+pub(crate) fn reap<L: Naming>(
+    inboxes: &mut Vec<Inbox<L>>,
+    book: &mut Book<L, Ring>,
     session: SessionId,
 ) -> Result<u64, ReapRefusal>
     requires from_1 { 0 < session }

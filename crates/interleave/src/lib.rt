@@ -5,6 +5,7 @@ mod event;
 mod inbox;
 mod laws;
 mod play;
+mod tokens;
 mod worker;
 
 pub use book::{
@@ -19,4 +20,5 @@ pub use laws::{
 };
 pub use line_grammar::{Octets, Piece};
 pub use play::Play;
+pub use register::{Naming, Register};
 pub use worker::WorkerId;

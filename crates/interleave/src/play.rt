@@ -12,9 +12,10 @@ use crate::event::{BookRefusal, Event, Note, PlayRefusal, StepRefusal, of_open, 
 use crate::inbox;
 use crate::inbox::{Inbox, move_to, tell_taken};
 use crate::laws::{batch_closed, labelled_first, labelled_once, lone_line_unbatched};
+use crate::tokens::Tokens;
 use crate::worker::{Place, WorkerId};
-use book::{Book, BookFault, Plan, Ring, Settings, TakeRefusal};
 use chronicle::{Moment, SessionId, Why};
+use hall::{Book, BookFault, Naming, Plan, Register, Ring, Settings, TakeRefusal};
 use line_grammar::Octets;
 use std::alloc::{AllocError, Global};
 use std::marker::Model;
@@ -34,16 +35,16 @@ struct Holder {
 
 /// A book with what was read of each session, and what each worker does.
 #[derive(Drop)]
-pub struct Play {
+pub struct Play<L: Naming> {
     alloc: Global,
-    book: Book<Ring>,
+    book: Book<L, Ring>,
     sendq: usize,
-    inboxes: Vec<Inbox>,
+    inboxes: Vec<Inbox<L>>,
     jobs: Vec<Option<SessionId>>,
     holder: Option<Holder>,
 }
 
-impl Model for Play {
+impl<L: Naming> Model for Play<L> {
     ghost use Rattle.interleave.specs.State.{State};
     ghost use Rattle.interleave.specs.Kept.{IsKept, state_of};
 
@@ -77,7 +78,7 @@ fn set_job(jobs: &mut Vec<Option<SessionId>>, worker: WorkerId, job: Option<Sess
     jobs[worker.number() as usize - 1] = job;
 }
 
-impl Play {
+impl<L: Naming> Play<L> {
     ghost use Rattle.interleave.specs.declared.event.Event.TheVariants as event;
     ghost use Rattle.interleave.specs.State.{IsSound, ForEach, empty_state, inbox_at, in_hand, unread, taken_of, queue_of, planned_for, is_known, is_worker, job_of, holds, is_home};
     ghost use Rattle.interleave.specs.Refusals.{own_refusal, no_session, no_worker, locked, not_holding, has_job, no_job, in_flight, nothing_left, puts_left, holds_lock};
@@ -86,14 +87,18 @@ impl Play {
     ghost use Rattle.interleave.specs.Order.{IsPrefix, IsRising};
     ghost use Rattle.interleave.specs.Laws.{IsAnsweredOnce, IsBatchClosed, IsLabelledFirst, IsLoneUnbatched};
 
-    /// A play with no sessions, for at most `limit` records, 1 to 64 workers, and outboxes for `sendq` items, 1 to 4,096.
+    /// A play with no sessions, for at most `limit` records, 1 to 64 workers, and outboxes for `sendq` items, 1 to 4,096. Its
+    /// sessions' tokens a register has that is named by `L` and has no session yet.
     pub fn new(
         alloc: Global,
+        register: Register<()>,
         settings: Settings,
         limit: usize,
         workers: usize,
         sendq: usize,
-    ) -> Result<Play, PlayRefusal>
+    ) -> Result<Play<L>, PlayRefusal>
+        requires named { register.table ≡ L.table }
+        requires empty { register.rows ≡ [] }
         ensures ok { IfOk result (λ p. (p ≡ empty_state limit settings sendq workers) × IsWellSet settings limit workers sendq) }
         ensures bad { IfErr result (λ e. e ≡ PlayRefusal.BadSettings → IsWellSet settings limit workers sendq → ⊥) }
         ensures memory { IfErr result (λ e. e ≡ PlayRefusal.Memory → IsWellSet settings limit workers sendq) }
@@ -101,7 +106,7 @@ impl Play {
         if !are_well_set(workers, sendq) {
             return Err(PlayRefusal::BadSettings);
         }
-        let book = match Book::new(alloc, settings, limit) {
+        let book = match Book::new(alloc, register, settings, limit) {
             Ok(book) => book,
             Err(BookFault::BadSettings) => return Err(PlayRefusal::BadSettings),
             Err(BookFault::Memory) => return Err(PlayRefusal::Memory),
@@ -129,10 +134,10 @@ impl Play {
     }
 
     /// The book, as it stands.
-    pub fn book(&self) -> &Book<Ring>
+    pub fn book(&self) -> &book::Book<Ring>
         ensures { result.now ≡ self.now.book }
     {
-        &self.book
+        self.book.book()
     }
 
     // ---- why a step is refused
@@ -143,7 +148,7 @@ impl Play {
         let number = session.number();
         1 <= number
             && number <= self.inboxes.len() as u64
-            && self.inboxes[number as usize - 1].has_baton()
+            && self.inboxes[number as usize - 1].has_tokens()
     }
 
     fn is_worker(&self, worker: WorkerId) -> bool
@@ -170,7 +175,7 @@ impl Play {
         self.jobs[worker.number() as usize - 1]
     }
 
-    fn inbox(&self, session: SessionId) -> &Inbox
+    fn inbox(&self, session: SessionId) -> &Inbox<L>
         requires { is_known self.now session ≡ true }
         ensures { result.now.seen ≡ inbox_at self.now session }
     {
@@ -229,7 +234,7 @@ impl Play {
         if !self.holds(worker) {
             return Some(StepRefusal::NotHolding);
         }
-        if self.book.puts_left() == 0 {
+        if self.book.book().puts_left() == 0 {
             return Some(StepRefusal::NothingLeft);
         }
         None
@@ -244,7 +249,7 @@ impl Play {
         if !self.holds(worker) {
             return Some(StepRefusal::NotHolding);
         }
-        if self.book.puts_left() != 0 {
+        if self.book.book().puts_left() != 0 {
             return Some(StepRefusal::PutsLeft);
         }
         None
@@ -335,7 +340,7 @@ impl Play {
         requires free { own_refusal self.old (event.Connect host.now moment) ≡ None }
         ensures { IsStep self.old (event.Connect host.now moment) result self.new }
     {
-        if let Err(refusal) = self.book.may_open(moment) {
+        if let Err(refusal) = self.book.book().may_open(moment) {
             return Err(of_open(refusal));
         }
         let outbox = Ring::new(self.alloc, self.sendq)?;
@@ -344,8 +349,8 @@ impl Play {
         let opened = self.book.open(host, moment, outbox);
         self.book.sound();
         match opened {
-            Ok((session, baton)) => {
-                let inbox = Inbox::new(self.alloc, baton);
+            Ok((session, baton, stub)) => {
+                let inbox = Inbox::new(self.alloc, Tokens::new(baton, stub));
                 self.inboxes.push_reserved(inbox);
                 Ok(Note::Session(session))
             }

@@ -1,12 +1,12 @@
 //! The steps that tests take, each as a small value, and what became of each as another.
-ghost use Rattle.std.specs.Prelude.{IfOk, IfSome};
+ghost use Rattle.std.specs.Prelude.{◌≡◌, [], IfOk, IfSome};
 ghost use Rattle.interleave.specs.Steps.{IsWellShaped};
 
 use crate::again::copied;
 use casemapping::is_host;
 use interleave::{
-    Delivery, Done, Event, Moment, Note, Play, PlayRefusal, SessionId, Settings, StepRefusal, Why,
-    WorkerId,
+    Delivery, Done, Event, Moment, Naming, Note, Play, PlayRefusal, Register, SessionId, Settings,
+    StepRefusal, Why, WorkerId,
 };
 use registration::Accounts;
 use std::alloc::{AllocError, Global};
@@ -70,24 +70,37 @@ pub(crate) fn settings(alloc: Global, sessions: usize) -> Result<Settings, Alloc
     })
 }
 
-/// A play for four sessions.
-pub(crate) fn play(
+/// A register of no session, once more where its growth was refused.
+pub(crate) fn new_register(alloc: Global) -> Result<Register<()>, AllocError>
+    ensures { IfOk result (λ r. r.rows ≡ []) }
+{
+    match Register::new(alloc) {
+        Ok(register) => Ok(register),
+        Err(_) => Register::new(alloc),
+    }
+}
+
+/// A play for four sessions, or nothing where a growth was refused.
+pub(crate) fn play<L: Naming>(
     alloc: Global,
+    register: Register<()>,
     limit: usize,
     workers: usize,
     sendq: usize,
-) -> Result<Play, Fail> {
-    let first = settings(alloc, 4)?;
-    let again = settings(alloc, 4)?;
-    let play = match Play::new(alloc, first, limit, workers, sendq) {
-        Err(PlayRefusal::Memory) => Play::new(alloc, again, limit, workers, sendq),
-        answer => answer,
-    };
-    Ok(play.ok().ok_or("a play")?)
+) -> Result<Option<Play<L>>, Fail>
+    requires named { register.table ≡ L.table }
+    requires empty { register.rows ≡ [] }
+{
+    let settings = settings(alloc, 4)?;
+    match Play::new(alloc, register, settings, limit, workers, sendq) {
+        Ok(play) => Ok(Some(play)),
+        Err(PlayRefusal::Memory) => Ok(None),
+        Err(PlayRefusal::BadSettings) => Err("a play".into()),
+    }
 }
 
 /// Takes a step, once more where there was no memory: one growth is refused at most.
-fn step(play: &mut Play, event: Event) -> Result<Note, StepRefusal>
+fn step<L: Naming>(play: &mut Play<L>, event: Event) -> Result<Note, StepRefusal>
     requires { IsWellShaped event }
 {
     match play.step(&event) {
@@ -183,10 +196,10 @@ fn event_of(rt: &impl Abort, alloc: Global, act: Act, at: i64) -> Result<Event, 
 }
 
 /// Takes a step.
-pub(crate) fn take_step(
+pub(crate) fn take_step<L: Naming>(
     rt: &impl Abort,
     alloc: Global,
-    play: &mut Play,
+    play: &mut Play<L>,
     act: Act,
     at: i64,
 ) -> Result<Result<Note, StepRefusal>, AllocError> {
@@ -224,10 +237,10 @@ pub(crate) fn brief(answer: &Result<Note, StepRefusal>) -> Told {
 }
 
 /// Takes steps in turn, and compares what became of each.
-pub(crate) fn compare(
+pub(crate) fn compare<L: Naming>(
     rt: &impl Abort,
     alloc: Global,
-    play: &mut Play,
+    play: &mut Play<L>,
     table: &[(Act, Told)],
 ) -> Result<(), AllocError> {
     for (place, (act, want)) in table.iter().enumerate() {

@@ -1,10 +1,14 @@
 //! Growths that are refused: a labelled line for which there is no memory changes nothing, and is accepted when it comes again.
+ghost use Rattle.std.specs.Prelude.{◌≡◌, []};
 ghost use Rattle.interleave.specs.Steps.{IsWellShaped};
 
-use crate::acts::{Act, Told, brief, compare, play};
+use crate::acts::{Act, Told, brief, compare, new_register, play};
 use crate::again::copied;
-use interleave::{Delivery, Event, Moment, Note, Play, SessionId, StepRefusal, WorkerId};
+use interleave::{
+    Delivery, Event, Moment, Naming, Note, Play, Register, SessionId, StepRefusal, WorkerId,
+};
 use std::alloc::{AllocError, Global};
+use std::marker::Brand;
 use std::process::Abort;
 use std::test::Fail;
 
@@ -82,13 +86,13 @@ const TO_AL: &str = "\
 const TO_BO: &str = ":al!a@one.example JOIN #a\r\n";
 
 /// Whether nothing waits for a session.
-fn has_nothing(play: &mut Play, session: u64) -> bool {
+fn has_nothing<L: Naming>(play: &mut Play<L>, session: u64) -> bool {
     let session = SessionId::new(session);
     matches!(play.step(&Event::Take { session }), Ok(Note::Empty))
 }
 
 /// Whether nobody holds the lock.
-fn is_free(play: &mut Play) -> bool {
+fn is_free<L: Naming>(play: &mut Play<L>) -> bool {
     let worker = WorkerId::new(1);
     matches!(
         play.step(&Event::Put { worker }),
@@ -97,7 +101,7 @@ fn is_free(play: &mut Play) -> bool {
 }
 
 /// Takes a step, once more where a growth was refused: then there are as many records as before, and nothing was put.
-fn step_again(rt: &impl Abort, play: &mut Play, event: &Event) -> Told
+fn step_again<L: Naming>(rt: &impl Abort, play: &mut Play<L>, event: &Event) -> Told
     requires { IsWellShaped event.now }
 {
     let records = play.book().len();
@@ -111,7 +115,7 @@ fn step_again(rt: &impl Abort, play: &mut Play, event: &Event) -> Told
 }
 
 /// Al's line is read.
-fn read(rt: &impl Abort, alloc: Global, play: &mut Play) -> Result<(), AllocError> {
+fn read<L: Naming>(rt: &impl Abort, alloc: Global, play: &mut Play<L>) -> Result<(), AllocError> {
     let session = SessionId::new(1);
     let octets = copied(alloc, b"@label=j JOIN #a\r\n")?;
     let told = step_again(rt, play, &Event::Feed { session, octets });
@@ -120,7 +124,7 @@ fn read(rt: &impl Abort, alloc: Global, play: &mut Play) -> Result<(), AllocErro
 }
 
 /// It is accepted.
-fn begin(rt: &impl Abort, play: &mut Play) {
+fn begin<L: Naming>(rt: &impl Abort, play: &mut Play<L>) {
     let worker = WorkerId::new(1);
     let moment = Moment::new(2000);
     let told = step_again(rt, play, &Event::Begin { worker, moment });
@@ -128,7 +132,7 @@ fn begin(rt: &impl Abort, play: &mut Play) {
 }
 
 /// Whether a session takes this text.
-fn takes(play: &mut Play, session: u64, want: &str) -> bool {
+fn takes<L: Naming>(play: &mut Play<L>, session: u64, want: &str) -> bool {
     let session = SessionId::new(session);
     match play.step(&Event::Take { session }) {
         Ok(Note::Item(Delivery::Lines { number: _, text })) => text.as_slice() == want.as_bytes(),
@@ -137,7 +141,7 @@ fn takes(play: &mut Play, session: u64, want: &str) -> bool {
 }
 
 /// Al joins the channel.
-fn join(rt: &impl Abort, alloc: Global, play: &mut Play) -> Result<(), AllocError> {
+fn join<L: Naming>(rt: &impl Abort, alloc: Global, play: &mut Play<L>) -> Result<(), AllocError> {
     read(rt, alloc, play)?;
     compare(rt, alloc, play, &PICK)?;
     begin(rt, play);
@@ -147,15 +151,32 @@ fn join(rt: &impl Abort, alloc: Global, play: &mut Play) -> Result<(), AllocErro
 }
 
 /// Al and bo come, and al joins the channel.
-fn meet(rt: &impl Abort, alloc: Global, play: &mut Play) -> Result<(), Fail> {
+fn meet<L: Naming>(rt: &impl Abort, alloc: Global, play: &mut Play<L>) -> Result<(), Fail> {
     compare(rt, alloc, play, &AL)?;
     compare(rt, alloc, play, &BO)?;
     join(rt, alloc, play)?;
     Ok(())
 }
 
+/// They do so in a play of their own. It answers whether there was memory for that.
+fn meet_in<L: Naming>(rt: &impl Abort, alloc: Global, register: Register<()>) -> Result<bool, Fail>
+    requires named { register.table ≡ L.table }
+    requires empty { register.rows ≡ [] }
+{
+    let Some(mut play) = play::<L>(alloc, register, 100, 1, 8)? else {
+        return Ok(false);
+    };
+    meet(rt, alloc, &mut play)?;
+    Ok(true)
+}
+
 #[test]
 fn a_labelled_line_without_memory_changes_nothing(rt: HostRuntime) -> Result<(), Fail> {
-    let mut play = play(rt.alloc(), 100, 1, 8)?;
-    meet(&rt, rt.alloc(), &mut play)
+    for _ in 0..2 {
+        let register = new_register(rt.alloc())?;
+        if meet_in::<Brand>(&rt, rt.alloc(), register)? {
+            return Ok(());
+        }
+    }
+    Err("a play".into())
 }

@@ -1,10 +1,13 @@
 //! Plays: their settings, and whole runs of events.
-use crate::acts::{Act, Told, brief, compare, play, settings};
+ghost use Rattle.std.specs.Prelude.{◌≡◌, []};
+
+use crate::acts::{Act, Told, brief, compare, new_register, play, settings};
 use interleave::{
-    BookRefusal, Event, Moment, Note, Play, PlayRefusal, ReapRefusal, SessionId, StepRefusal,
-    WorkerId,
+    BookRefusal, Event, Moment, Naming, Note, Play, PlayRefusal, ReapRefusal, Register, SessionId,
+    StepRefusal, WorkerId,
 };
 use std::alloc::{AllocError, Global};
+use std::marker::Brand;
 use std::process::Abort;
 use std::test::Fail;
 
@@ -20,6 +23,25 @@ const SETTINGS: [(usize, usize, usize, usize, Option<PlayRefusal>); 8] = [
     (4, 100, 1, 4097, Some(PlayRefusal::BadSettings)),
 ];
 
+/// Why there is no play of so many, whose sessions this register has.
+fn refusal_of<L: Naming>(
+    alloc: Global,
+    register: Register<()>,
+    sessions: usize,
+    limit: usize,
+    workers: usize,
+    sendq: usize,
+) -> Result<Option<PlayRefusal>, AllocError>
+    requires named { register.table ≡ L.table }
+    requires empty { register.rows ≡ [] }
+{
+    let settings = settings(alloc, sessions)?;
+    let made: Result<Play<L>, PlayRefusal> = Play::new(
+        alloc, register, settings, limit, workers, sendq,
+    );
+    Ok(made.err())
+}
+
 /// Why there is no play of so many, once more where a growth was refused.
 fn refusal(
     alloc: Global,
@@ -28,11 +50,13 @@ fn refusal(
     workers: usize,
     sendq: usize,
 ) -> Result<Option<PlayRefusal>, AllocError> {
-    let made = Play::new(alloc, settings(alloc, sessions)?, limit, workers, sendq).err();
+    let register = new_register(alloc)?;
+    let made = refusal_of::<Brand>(alloc, register, sessions, limit, workers, sendq)?;
     if made != Some(PlayRefusal::Memory) {
         return Ok(made);
     }
-    Ok(Play::new(alloc, settings(alloc, sessions)?, limit, workers, sendq).err())
+    let register = new_register(alloc)?;
+    refusal_of::<Brand>(alloc, register, sessions, limit, workers, sendq)
 }
 
 #[test]
@@ -87,7 +111,7 @@ const TOLD: [Told; 7] = [
 ];
 
 /// What becomes of the events of a run, in which worker 1 ends and worker 2 gives its line back.
-fn run(play: &mut Play) -> Result<Vec<Result<Note, StepRefusal>>, AllocError> {
+fn run<L: Naming>(play: &mut Play<L>) -> Result<Vec<Result<Note, StepRefusal>>, AllocError> {
     let session = SessionId::new(1);
     let one = WorkerId::new(1);
     let two = WorkerId::new(2);
@@ -116,7 +140,7 @@ fn compare_notes(rt: &impl Abort, notes: &[Result<Note, StepRefusal>]) {
 }
 
 /// Takes the run, once more where a growth was refused.
-fn run_again(play: &mut Play) -> Result<Vec<Result<Note, StepRefusal>>, AllocError> {
+fn run_again<L: Naming>(play: &mut Play<L>) -> Result<Vec<Result<Note, StepRefusal>>, AllocError> {
     match run(play) {
         Ok(notes) => Ok(notes),
         Err(_) => run(play),
@@ -124,7 +148,7 @@ fn run_again(play: &mut Play) -> Result<Vec<Result<Note, StepRefusal>>, AllocErr
 }
 
 /// Compares a whole run.
-fn compare_run(rt: &impl Abort, alloc: Global, play: &mut Play) -> Result<(), Fail> {
+fn compare_run<L: Naming>(rt: &impl Abort, alloc: Global, play: &mut Play<L>) -> Result<(), Fail> {
     compare(rt, alloc, play, &START)?;
     compare(rt, alloc, play, &BEFORE_THE_RUN)?;
     let notes = run_again(play)?;
@@ -133,8 +157,25 @@ fn compare_run(rt: &impl Abort, alloc: Global, play: &mut Play) -> Result<(), Fa
     Ok(())
 }
 
+/// Compares a whole run in a play of its own. It answers whether there was memory for that.
+fn run_of<L: Naming>(rt: &impl Abort, alloc: Global, register: Register<()>) -> Result<bool, Fail>
+    requires named { register.table ≡ L.table }
+    requires empty { register.rows ≡ [] }
+{
+    let Some(mut play) = play::<L>(alloc, register, 100, 2, 8)? else {
+        return Ok(false);
+    };
+    compare_run(rt, alloc, &mut play)?;
+    Ok(true)
+}
+
 #[test]
 fn a_run_tells_the_same(rt: HostRuntime) -> Result<(), Fail> {
-    let mut play = play(rt.alloc(), 100, 2, 8)?;
-    compare_run(&rt, rt.alloc(), &mut play)
+    for _ in 0..2 {
+        let register = new_register(rt.alloc())?;
+        if run_of::<Brand>(&rt, rt.alloc(), register)? {
+            return Ok(());
+        }
+    }
+    Err("a play".into())
 }

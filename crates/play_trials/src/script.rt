@@ -1,19 +1,22 @@
 //! A script of what the thousand steps don't meet, compared after each step as those are.
-use crate::acts::Act;
+ghost use Rattle.std.specs.Prelude.{◌≡◌, []};
+
+use crate::acts::{Act, new_register};
 use crate::texts::{SCRIPT, SCRIPT_MET};
 use crate::thousand::{
     Draw, Seen, compare_all, count_all, look_ahead, nothing_seen, play_of, take_next,
 };
-use interleave::Play;
+use interleave::{Naming, Play, Register};
 use std::alloc::Global;
+use std::marker::Brand;
 use std::process::Abort;
 use std::test::Fail;
 
 /// Feeds a session, has its lines done, and takes what they bring.
-fn say_lines(
+fn say_lines<L: Naming>(
     rt: &impl Abort,
     alloc: Global,
-    play: &mut Play,
+    play: &mut Play<L>,
     seen: &mut Seen,
     session: u64,
     text: &'static str,
@@ -37,10 +40,10 @@ fn say_lines(
 }
 
 /// Takes the steps of the script in a play, and counts what is met.
-fn say_script(
+fn say_script<L: Naming>(
     rt: &impl Abort,
     alloc: Global,
-    play: &mut Play,
+    play: &mut Play<L>,
     seen: &mut Seen,
     met: &mut [u64],
 ) -> Result<(), Fail> {
@@ -54,6 +57,24 @@ fn say_script(
     count_all(rt, alloc, play, seen, &SCRIPT_MET, met)
 }
 
+/// Takes them in a play of its own. It answers whether there was memory for that.
+fn script_in<L: Naming>(
+    rt: &impl Abort,
+    alloc: Global,
+    register: Register<()>,
+    seen: &mut Seen,
+    met: &mut [u64],
+) -> Result<bool, Fail>
+    requires named { register.table ≡ L.table }
+    requires empty { register.rows ≡ [] }
+{
+    let Some(mut play) = play_of::<L>(alloc, register, seen)? else {
+        return Ok(false);
+    };
+    say_script(rt, alloc, &mut play, seen, met)?;
+    Ok(true)
+}
+
 /// Takes them in a play of its own.
 fn play_script(
     rt: &impl Abort,
@@ -61,8 +82,13 @@ fn play_script(
     seen: &mut Seen,
     met: &mut [u64],
 ) -> Result<(), Fail> {
-    let mut play = play_of(alloc, seen)?;
-    say_script(rt, alloc, &mut play, seen, met)
+    for _ in 0..2 {
+        let register = new_register(alloc)?;
+        if script_in::<Brand>(rt, alloc, register, seen, met)? {
+            return Ok(());
+        }
+    }
+    Err("a play".into())
 }
 
 /// Takes the steps of the script.

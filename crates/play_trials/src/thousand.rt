@@ -1,12 +1,16 @@
 //! A thousand steps, after each of which what is told is compared with what the records say.
-use crate::acts::{Act, Told, brief, play, take_step};
+ghost use Rattle.std.specs.Prelude.{◌≡◌, []};
+
+use crate::acts::{Act, Told, brief, new_register, play, take_step};
 use crate::again::copied;
 use crate::texts::{FIRST, MET, MORE};
 use interleave::{
-    BookRefusal, Delivery, LineRefusal, Note, Octets, Play, SessionId, StepRefusal, Why,
+    BookRefusal, Delivery, LineRefusal, Naming, Note, Octets, Play, Register, SessionId,
+    StepRefusal, Why,
 };
 use oracle::{Reader, World, slow_nick, slow_on, slow_owed};
 use std::alloc::{AllocError, Global};
+use std::marker::Brand;
 use std::process::Abort;
 use std::test::Fail;
 
@@ -214,9 +218,16 @@ pub(crate) fn nothing_seen(alloc: Global, draw: Draw) -> Result<Seen, AllocError
     })
 }
 
-/// The play of what is seen.
-pub(crate) fn play_of(alloc: Global, seen: &Seen) -> Result<Play, Fail> {
-    play(alloc, seen.draw.limit, WORKERS, seen.draw.sendq)
+/// The play of what is seen, or nothing where a growth was refused.
+pub(crate) fn play_of<L: Naming>(
+    alloc: Global,
+    register: Register<()>,
+    seen: &Seen,
+) -> Result<Option<Play<L>>, Fail>
+    requires named { register.table ≡ L.table }
+    requires empty { register.rows ≡ [] }
+{
+    play(alloc, register, seen.draw.limit, WORKERS, seen.draw.sendq)
 }
 
 /// Counts an answer by its kind.
@@ -397,10 +408,10 @@ fn note_workers(seen: &mut Seen, act: Act, told: Told) {
 }
 
 /// Takes the items that wait for a session.
-fn take_all(
+fn take_all<L: Naming>(
     rt: &impl Abort,
     alloc: Global,
-    play: &mut Play,
+    play: &mut Play<L>,
     session: u64,
     items: &mut Vec<Delivery>,
 ) -> Result<(), AllocError> {
@@ -413,10 +424,10 @@ fn take_all(
 }
 
 /// Takes what waits for each session that isn't reaped.
-fn take_queues(
+fn take_queues<L: Naming>(
     rt: &impl Abort,
     alloc: Global,
-    play: &mut Play,
+    play: &mut Play<L>,
     sessions: &mut Vec<Watched>,
 ) -> Result<(), AllocError> {
     for (place, session) in sessions.iter_mut().enumerate() {
@@ -429,10 +440,10 @@ fn take_queues(
 }
 
 /// Puts what a plan has left, and takes it.
-fn take_plan(
+fn take_plan<L: Naming>(
     rt: &impl Abort,
     alloc: Global,
-    play: &mut Play,
+    play: &mut Play<L>,
     holder: u64,
     sessions: &mut Vec<Watched>,
 ) -> Result<(), AllocError> {
@@ -448,7 +459,12 @@ fn take_plan(
 }
 
 /// Takes the same steps in another play, and there all that is left for each session.
-fn repeat(rt: &impl Abort, alloc: Global, copy: &mut Play, seen: &mut Seen) -> Result<(), Fail> {
+fn repeat<L: Naming>(
+    rt: &impl Abort,
+    alloc: Global,
+    copy: &mut Play<L>,
+    seen: &mut Seen,
+) -> Result<(), Fail> {
     for (at, act) in seen.acts.iter().enumerate() {
         let _ = take_step(rt, alloc, copy, *act, moment_of(at))?;
     }
@@ -459,10 +475,32 @@ fn repeat(rt: &impl Abort, alloc: Global, copy: &mut Play, seen: &mut Seen) -> R
     Ok(())
 }
 
+/// Does so in a play of its own. It answers whether there was memory for that.
+fn repeat_in<L: Naming>(
+    rt: &impl Abort,
+    alloc: Global,
+    register: Register<()>,
+    seen: &mut Seen,
+) -> Result<bool, Fail>
+    requires named { register.table ≡ L.table }
+    requires empty { register.rows ≡ [] }
+{
+    let Some(mut copy) = play_of::<L>(alloc, register, seen)? else {
+        return Ok(false);
+    };
+    repeat(rt, alloc, &mut copy, seen)?;
+    Ok(true)
+}
+
 /// Takes the same steps in a play of its own, and there all that is left for each session.
 pub(crate) fn look_ahead(rt: &impl Abort, alloc: Global, seen: &mut Seen) -> Result<(), Fail> {
-    let mut copy = play_of(alloc, seen)?;
-    repeat(rt, alloc, &mut copy, seen)
+    for _ in 0..2 {
+        let register = new_register(alloc)?;
+        if repeat_in::<Brand>(rt, alloc, register, seen)? {
+            return Ok(());
+        }
+    }
+    Err("a play".into())
 }
 
 /// Whether what was taken is the first of what is owed, and what is left is the rest.
@@ -492,7 +530,11 @@ fn is_told(watched: &Watched, is_looked_at: bool) -> bool {
 }
 
 /// All that is owed, once more where a growth was refused.
-fn owed(alloc: Global, play: &Play, session: SessionId) -> Result<Vec<Delivery>, AllocError> {
+fn owed<L: Naming>(
+    alloc: Global,
+    play: &Play<L>,
+    session: SessionId,
+) -> Result<Vec<Delivery>, AllocError> {
     match slow_owed(alloc, play.book(), session) {
         Ok(items) => Ok(items),
         Err(_) => slow_owed(alloc, play.book(), session),
@@ -500,9 +542,9 @@ fn owed(alloc: Global, play: &Play, session: SessionId) -> Result<Vec<Delivery>,
 }
 
 /// Reads the records that are new, and all of them where a growth was refused.
-fn read_on(
+fn read_on<L: Naming>(
     alloc: Global,
-    play: &Play,
+    play: &Play<L>,
     reader: &mut Reader,
     session: SessionId,
 ) -> Result<(), AllocError> {
@@ -516,7 +558,12 @@ fn read_on(
 }
 
 /// Whether the book knows of a session what the records say.
-fn is_known(play: &Play, world: &World, session: SessionId, channels: &[Octets]) -> bool {
+fn is_known<L: Naming>(
+    play: &Play<L>,
+    world: &World,
+    session: SessionId,
+    channels: &[Octets],
+) -> bool {
     let book = play.book();
     for channel in channels {
         if book.is_on(session, channel) != slow_on(world, session, channel.as_slice()) {
@@ -530,7 +577,7 @@ fn is_known(play: &Play, world: &World, session: SessionId, channels: &[Octets])
 }
 
 /// Reads what is new for each session.
-fn read_back(alloc: Global, play: &Play, seen: &mut Seen) -> Result<(), AllocError> {
+fn read_back<L: Naming>(alloc: Global, play: &Play<L>, seen: &mut Seen) -> Result<(), AllocError> {
     read_on(alloc, play, &mut seen.reader, SessionId::new(0))?;
     for (place, watched) in seen.sessions.iter_mut().enumerate() {
         let session = SessionId::new(place as u64 + 1);
@@ -540,9 +587,9 @@ fn read_back(alloc: Global, play: &Play, seen: &mut Seen) -> Result<(), AllocErr
 }
 
 /// Compares each session that was ever opened with the records.
-pub(crate) fn compare_all(
+pub(crate) fn compare_all<L: Naming>(
     rt: &impl Abort,
-    play: &Play,
+    play: &Play<L>,
     seen: &Seen,
     is_looked_at: bool,
     channels: &[Octets],
@@ -596,10 +643,10 @@ fn note(
 }
 
 /// Takes a step, and compares what is told after it with what the records say.
-pub(crate) fn take_next(
+pub(crate) fn take_next<L: Naming>(
     rt: &impl Abort,
     alloc: Global,
-    play: &mut Play,
+    play: &mut Play<L>,
     seen: &mut Seen,
     act: Act,
     channels: &[Octets],
@@ -621,10 +668,10 @@ pub(crate) fn take_next(
 }
 
 /// Takes the steps that a sequence of numbers says, and counts the answers by their kinds.
-fn take_steps(
+fn take_steps<L: Naming>(
     rt: &impl Abort,
     alloc: Global,
-    play: &mut Play,
+    play: &mut Play<L>,
     seen: &mut Seen,
     channels: &[Octets],
     counts: &mut [u64],
@@ -666,10 +713,10 @@ fn count_met(items: &[Delivery], wanted: &[&str], met: &mut [u64]) {
 }
 
 /// Takes the steps in a play, and counts the answers by their kinds, and what is met.
-fn go_through(
+fn go_through<L: Naming>(
     rt: &impl Abort,
     alloc: Global,
-    play: &mut Play,
+    play: &mut Play<L>,
     seen: &mut Seen,
     counts: &mut [u64],
     met: &mut [u64],
@@ -683,6 +730,25 @@ fn go_through(
     count_all(rt, alloc, play, seen, &MET, met)
 }
 
+/// Takes the steps in a play of its own. It answers whether there was memory for that.
+fn go_in<L: Naming>(
+    rt: &impl Abort,
+    alloc: Global,
+    register: Register<()>,
+    seen: &mut Seen,
+    counts: &mut [u64],
+    met: &mut [u64],
+) -> Result<bool, Fail>
+    requires named { register.table ≡ L.table }
+    requires empty { register.rows ≡ [] }
+{
+    let Some(mut play) = play_of::<L>(alloc, register, seen)? else {
+        return Ok(false);
+    };
+    go_through(rt, alloc, &mut play, seen, counts, met)?;
+    Ok(true)
+}
+
 /// Takes the steps in a play of its own.
 fn play_through(
     rt: &impl Abort,
@@ -691,8 +757,13 @@ fn play_through(
     counts: &mut [u64],
     met: &mut [u64],
 ) -> Result<(), Fail> {
-    let mut play = play_of(alloc, seen)?;
-    go_through(rt, alloc, &mut play, seen, counts, met)
+    for _ in 0..2 {
+        let register = new_register(alloc)?;
+        if go_in::<Brand>(rt, alloc, register, seen, counts, met)? {
+            return Ok(());
+        }
+    }
+    Err("a play".into())
 }
 
 /// Takes the steps that a draw says.
@@ -708,10 +779,10 @@ fn play_steps(
 }
 
 /// Counts what is met in all that is owed, as it is read at once.
-pub(crate) fn count_all(
+pub(crate) fn count_all<L: Naming>(
     rt: &impl Abort,
     alloc: Global,
-    play: &Play,
+    play: &Play<L>,
     seen: &Seen,
     wanted: &[&str],
     met: &mut [u64],

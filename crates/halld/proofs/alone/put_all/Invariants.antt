@@ -3,4 +3,4 @@ use Rattle.halld.proofs.alone.put_all.Given as goal
 
 -- so many puts so far, none of them refused
 abbrev pub invariant-loop : goal.invariant-loop
-invariant-loop l = ArePut l.counter l.fn.play l.play
+invariant-loop g l = ArePut l.counter l.fn.play l.play

@@ -25,12 +25,14 @@ loop-preserved g c =
     elim c.match-read.branch [
       | in-Ok+in_ok-feed-in-Ok w ↦
           rw (w.reader-is, w.output-is) (record {
+            ready = w.in_ok-feed-in-Ok.ensures.ready;
             ended = grind (arith, common_steps, w.in_ok-feed-in-Ok.ensures.ended);
             ahead = λ script is. read_more (g.R.Read.remaining c.loop.input) (g.R.Read.remaining c.read.new.self) (take w.in-Ok.count c.read.new.buf) (told_ahead (head_of c.loop.reader.stage) c.loop.reader.ended c.loop.reader.line.items) (told_ahead (head_of w.feed.new.self.stage) w.feed.new.self.ended w.feed.new.self.line.items) _ w.in-Ok.ensures.bytes.0 w.in_ok-feed-in-Ok.ensures.ahead (c.loop.invariant.ahead script is);
             printed = by_a_block (g.R.Read.remaining c.args.input.now) (g.R.Read.remaining c.loop.input) (g.R.Read.remaining c.read.new.self) (take w.in-Ok.count c.read.new.buf) _ _ _ (PrintsAhead c.args.reader.now.stage c.args.reader.now.line.items) (PrintsAhead c.loop.reader.stage c.loop.reader.line.items) (PrintsAhead w.feed.new.self.stage w.feed.new.self.line.items) w.in-Ok.ensures.bytes.0 c.loop.invariant.printed w.in_ok-feed-in-Ok.ensures.printed;
           })
       | in-Err w ↦
           rw (w.reader-is, w.output-is) (record {
+            ready = c.loop.invariant.ready;
             ended = omega (arith, c.loop.invariant.ended);
             ahead = λ script is. read_none (g.R.Read.remaining c.loop.input) (g.R.Read.remaining c.read.new.self) (told_ahead (head_of c.loop.reader.stage) c.loop.reader.ended c.loop.reader.line.items) _ w.in-Err.ensures.bytes (c.loop.invariant.ahead script is);
             printed = by_nothing (g.R.Read.remaining c.args.input.now) (g.R.Read.remaining c.loop.input) (g.R.Read.remaining c.read.new.self) _ _ (PrintsAhead c.args.reader.now.stage c.args.reader.now.line.items) (PrintsAhead c.loop.reader.stage c.loop.reader.line.items) w.in-Err.ensures.bytes c.loop.invariant.printed;

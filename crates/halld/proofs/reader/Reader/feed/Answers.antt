@@ -18,6 +18,7 @@ pub loop-octet-preserved : goal.loop-octet-preserved
 loop-octet-preserved g c =
     let at : c.loop-octet.octet-index < length c.args.block.now = grind (arith, common_steps) in
     record {
+      ready = c.in_ok-take_octet.ensures.ready;
       ended = omega (arith, c.in_ok-take_octet.ensures.ended);
       ahead = octet_on c.args.block.now c.loop-octet.octet-index (told_ahead (head_of c.args.self.now.stage) c.args.self.now.ended c.args.self.now.line.items) (told_ahead (head_of c.loop-octet.self.stage) c.loop-octet.self.ended c.loop-octet.self.line.items) (told_ahead (head_of c.take_octet.new.self.stage) c.take_octet.new.self.ended c.take_octet.new.self.line.items) at c.loop-octet.invariant.ahead c.in_ok-take_octet.ensures.ahead;
       printed = one_on c.args.block.now c.loop-octet.octet-index (PrintsAhead c.args.self.now.stage c.args.self.now.line.items) (PrintsAhead c.loop-octet.self.stage c.loop-octet.self.line.items) (PrintsAhead c.take_octet.new.self.stage c.take_octet.new.self.line.items) _ _ _ at c.loop-octet.invariant.printed c.in_ok-take_octet.ensures.printed;

@@ -1,6 +1,6 @@
 use Rattle.std.proofs.Common.{◌≡◌, ◌≤◌, ◌+◌, ◌++◌, ℕ, List, drop}
 use Rattle.halld.specs.Lines.{told_ahead}
-use Rattle.halld.specs.Stages.{head_of}
+use Rattle.halld.specs.Stages.{head_of, IsReady}
 use Rattle.halld.specs.Printed.{PrintsAhead, Writes}
 use Rattle.halld.proofs.reader.Reader.feed.Given as goal
 
@@ -8,6 +8,7 @@ use Rattle.halld.proofs.reader.Reader.feed.Given as goal
 abbrev pub invariant-loop-octet : goal.invariant-loop-octet
 invariant-loop-octet g l =
     record {
+      ready : IsReady g.L.Naming.table l.self.stage l.self.register;
       ended : l.self.ended ≤ l.fn.self.ended + l.octet-index;
       ahead : (rest : List ℕ) → told_ahead (head_of l.self.stage) l.self.ended l.self.line.items (drop l.octet-index l.block ++ rest) ≡ told_ahead (head_of l.fn.self.stage) l.fn.self.ended l.fn.self.line.items (l.block ++ rest);
       printed : Writes (g.W.Write.contents l.fn.output) (g.W.Write.contents l.output) (λ w. (rest : List ℕ) (text : List ℕ) → PrintsAhead l.self.stage l.self.line.items (drop l.octet-index l.block ++ rest) text → PrintsAhead l.fn.self.stage l.fn.self.line.items (l.block ++ rest) (w ++ text));

@@ -17,7 +17,7 @@ use Rattle.interleave.proofs.Does.{begins}
 use Rattle.interleave.proofs.play.Play.begin.Goals as goal
 
 pub begin-requires-clause-from_1 : goal.begin-requires-clause-from_1
-begin-requires-clause-from_1 c =
+begin-requires-clause-from_1 g c =
     let a = c.self.inside in let m = a.book in let boxes = a.inboxes.items in let jobs = a.jobs.items in let w = c.args.worker in let s = c.in-Some.session in
     let st = state_of m a.sendq boxes jobs a.holder in
     let free : own_refusal st (event.Begin w c.args.moment) ≡ None = subst (λ (y : State). own_refusal y (event.Begin w c.args.moment) ≡ None) (sym c.self.view_is) c.requires.free in
@@ -26,7 +26,7 @@ begin-requires-clause-from_1 c =
     (job_is m a.sendq boxes jobs a.holder w s c.self.invariant.sound may.worker has).above
 
 pub begin-requires-clause-opened : goal.begin-requires-clause-opened
-begin-requires-clause-opened c =
+begin-requires-clause-opened g c =
     let a = c.self.inside in let m = a.book in let boxes = a.inboxes.items in let jobs = a.jobs.items in let w = c.args.worker in let s = c.in-Some.session in
     let st = state_of m a.sendq boxes jobs a.holder in
     let free : own_refusal st (event.Begin w c.args.moment) ≡ None = subst (λ (y : State). own_refusal y (event.Begin w c.args.moment) ≡ None) (sym c.self.view_is) c.requires.free in
@@ -35,7 +35,7 @@ begin-requires-clause-opened c =
     (job_is m a.sendq boxes jobs a.holder w s c.self.invariant.sound may.worker has).below
 
 pub begin-requires-clause-baton : goal.begin-requires-clause-baton
-begin-requires-clause-baton c =
+begin-requires-clause-baton g c =
     let a = c.self.inside in let m = a.book in let boxes = a.inboxes.items in let jobs = a.jobs.items in let w = c.args.worker in let s = c.in-Some.session in
     let st = state_of m a.sendq boxes jobs a.holder in
     let free : own_refusal st (event.Begin w c.args.moment) ≡ None = subst (λ (y : State). own_refusal y (event.Begin w c.args.moment) ≡ None) (sym c.self.view_is) c.requires.free in
@@ -44,7 +44,7 @@ begin-requires-clause-baton c =
     subst IsSome (sym (turn_in_hand m a.sendq boxes jobs a.holder w s c.self.invariant may.worker may.lock has)) refl
 
 pub begin-requires-clause-hand : goal.begin-requires-clause-hand
-begin-requires-clause-hand c =
+begin-requires-clause-hand g c =
     let a = c.self.inside in let m = a.book in let boxes = a.inboxes.items in let jobs = a.jobs.items in let w = c.args.worker in let s = c.in-Some.session in
     let st = state_of m a.sendq boxes jobs a.holder in
     let free : own_refusal st (event.Begin w c.args.moment) ≡ None = subst (λ (y : State). own_refusal y (event.Begin w c.args.moment) ≡ None) (sym c.self.view_is) c.requires.free in
@@ -53,7 +53,7 @@ begin-requires-clause-hand c =
     pending_in_hand m a.sendq boxes jobs a.holder w s c.self.invariant may.worker may.lock has
 
 pub invariant_of-self-2 : goal.invariant_of-self-2
-invariant_of-self-2 c =
+invariant_of-self-2 g c =
     let a = c.self.inside in let m = a.book in let boxes = a.inboxes.items in let jobs = a.jobs.items in let w = c.args.worker in let s = c.in-Some.session in
     let st = state_of m a.sendq boxes jobs a.holder in
     let free : own_refusal st (event.Begin w c.args.moment) ≡ None = subst (λ (y : State). own_refusal y (event.Begin w c.args.moment) ≡ None) (sym c.self.view_is) c.requires.free in
@@ -64,7 +64,7 @@ invariant_of-self-2 c =
     (begun_kept m c.begin.new.book a.sendq boxes jobs a.holder w s c.args.moment c.in_ok-plan.plan b.0 c.self.invariant may.worker may.there may.lock has b.1 c.sound.ensures).1
 
 pub returns : goal.returns
-returns c =
+returns g c =
     let a = c.self.inside in let m = a.book in let boxes = a.inboxes.items in let jobs = a.jobs.items in let w = c.args.worker in let s = c.in-Some.session in
     let st = state_of m a.sendq boxes jobs a.holder in
     let free : own_refusal st (event.Begin w c.args.moment) ≡ None = subst (λ (y : State). own_refusal y (event.Begin w c.args.moment) ≡ None) (sym c.self.view_is) c.requires.free in
@@ -91,7 +91,7 @@ returns c =
     )
 
 pub returns-in_err-plan : goal.returns-in_err-plan
-returns-in_err-plan c =
+returns-in_err-plan g c =
     let a = c.self.inside in let m = a.book in let boxes = a.inboxes.items in let jobs = a.jobs.items in let w = c.args.worker in let s = c.in-Some.session in
     let st = state_of m a.sendq boxes jobs a.holder in
     let free : own_refusal st (event.Begin w c.args.moment) ≡ None = subst (λ (y : State). own_refusal y (event.Begin w c.args.moment) ≡ None) (sym c.self.view_is) c.requires.free in

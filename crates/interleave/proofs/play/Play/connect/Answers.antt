@@ -14,7 +14,7 @@ use Rattle.interleave.proofs.Does.{connects}
 use Rattle.interleave.proofs.play.Play.connect.Goals as goal
 
 pub invariant_of-self-in-Ok : goal.invariant_of-self-in-Ok
-invariant_of-self-in-Ok c =
+invariant_of-self-in-Ok g c =
     let a = c.self.inside in let m = a.book in let boxes = a.inboxes.items in let jobs = a.jobs.items in
     let free : own_refusal (state_of m a.sendq boxes jobs a.holder) (event.Connect c.args.host.now c.args.moment) ≡ None = subst (λ (x : State). own_refusal x (event.Connect c.args.host.now c.args.moment) ≡ None) (sym c.self.view_is) c.requires.free in
     let b = c.new-inbox.result in

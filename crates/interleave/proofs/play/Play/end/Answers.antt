@@ -15,7 +15,7 @@ use Rattle.interleave.proofs.Does.{MayEnd, may_end, ends_sweep, plan_goes, ends_
 use Rattle.interleave.proofs.play.Play.end.Goals as goal
 
 pub invariant_of-self : goal.invariant_of-self
-invariant_of-self c =
+invariant_of-self g c =
     let a = c.self.inside in let m = a.book in let boxes = a.inboxes.items in let jobs = a.jobs.items in let w = c.args.worker in let x = c.in-Some.field-0 in
     let free : own_refusal (state_of m a.sendq boxes jobs a.holder) (event.End w) ≡ None = subst (λ (y : State). own_refusal y (event.End w) ≡ None) (sym c.self.view_is) c.requires.free in
     let held : a.holder ≡ Some x = grind (arith, common_steps) in
@@ -26,14 +26,14 @@ invariant_of-self c =
     (ends_sweep m c.finish_sweep-done.new.self a.sendq boxes jobs x w may none c.finish_sweep-done.ensures.book c.sound.ensures)
 
 pub end-done-requires-clause-none : goal.end-done-requires-clause-none
-end-done-requires-clause-none c =
+end-done-requires-clause-none g c =
     let a = c.self.inside in let m = a.book in let boxes = a.inboxes.items in let jobs = a.jobs.items in let w = c.args.worker in let x = c.in-Some.field-0 in
     let free : own_refusal (state_of m a.sendq boxes jobs a.holder) (event.End w) ≡ None = subst (λ (y : State). own_refusal y (event.End w) ≡ None) (sym c.self.view_is) c.requires.free in
     let held : a.holder ≡ Some x = grind (arith, common_steps) in
     (may_end m a.sendq boxes jobs a.holder x w held c.self.invariant free).none
 
 pub end-done-requires-clause-baton : goal.end-done-requires-clause-baton
-end-done-requires-clause-baton c =
+end-done-requires-clause-baton g c =
     let a = c.self.inside in let m = a.book in let boxes = a.inboxes.items in let jobs = a.jobs.items in let w = c.args.worker in let x = c.in-Some.field-0 in let s = c.in-Some-job.session in
     let free : own_refusal (state_of m a.sendq boxes jobs a.holder) (event.End w) ≡ None = subst (λ (y : State). own_refusal y (event.End w) ≡ None) (sym c.self.view_is) c.requires.free in
     let held : a.holder ≡ Some x = grind (arith, common_steps) in
@@ -43,7 +43,7 @@ end-done-requires-clause-baton c =
     subst IsSome (sym l.held) refl
 
 pub end-done-requires-clause-line : goal.end-done-requires-clause-line
-end-done-requires-clause-line c =
+end-done-requires-clause-line g c =
     let a = c.self.inside in let m = a.book in let boxes = a.inboxes.items in let jobs = a.jobs.items in let w = c.args.worker in let x = c.in-Some.field-0 in let s = c.in-Some-job.session in
     let free : own_refusal (state_of m a.sendq boxes jobs a.holder) (event.End w) ≡ None = subst (λ (y : State). own_refusal y (event.End w) ≡ None) (sym c.self.view_is) c.requires.free in
     let held : a.holder ≡ Some x = grind (arith, common_steps) in
@@ -53,7 +53,7 @@ end-done-requires-clause-line c =
     subst (λ (o : Option Turn). IfSome o (λ turn. (x.plan.session ≡ turn.session) × (x.plan.next ≡ Some (turn.next + 1)))) (sym l.held) l.plan
 
 pub invariant_of-self-2 : goal.invariant_of-self-2
-invariant_of-self-2 c =
+invariant_of-self-2 g c =
     let a = c.self.inside in let m = a.book in let boxes = a.inboxes.items in let jobs = a.jobs.items in let w = c.args.worker in let x = c.in-Some.field-0 in let s = c.in-Some-job.session in
     let free : own_refusal (state_of m a.sendq boxes jobs a.holder) (event.End w) ≡ None = subst (λ (y : State). own_refusal y (event.End w) ≡ None) (sym c.self.view_is) c.requires.free in
     let held : a.holder ≡ Some x = grind (arith, common_steps) in
@@ -69,7 +69,7 @@ invariant_of-self-2 c =
     (subst (λ (js : List (Option ℕ)). IsKept k a.sendq (with_held boxes s (ended_at (held_at boxes s) l.turn)) js None) (sym c.set_job.ensures) all.1))
 
 pub returns : goal.returns
-returns c =
+returns g c =
     let a = c.self.inside in let m = a.book in let boxes = a.inboxes.items in let jobs = a.jobs.items in let w = c.args.worker in let x = c.in-Some.field-0 in let s = c.in-Some-job.session in
     let free : own_refusal (state_of m a.sendq boxes jobs a.holder) (event.End w) ≡ None = subst (λ (y : State). own_refusal y (event.End w) ≡ None) (sym c.self.view_is) c.requires.free in
     let held : a.holder ≡ Some x = grind (arith, common_steps) in

@@ -13,7 +13,7 @@ use Rattle.interleave.proofs.Does.{feeds}
 use Rattle.interleave.proofs.play.Play.feed.Goals as goal
 
 pub invariant_of-self-2 : goal.invariant_of-self-2
-invariant_of-self-2 c =
+invariant_of-self-2 g c =
     let a = c.self.inside in let m = a.book in let boxes = a.inboxes.items in let jobs = a.jobs.items in let s = c.args.session in
     let free : own_refusal (state_of m a.sendq boxes jobs a.holder) (event.Feed s c.args.octets.now) ≡ None = subst (λ (x : State). own_refusal x (event.Feed s c.args.octets.now) ≡ None) (sym c.self.view_is) c.requires.free in
     let in_ = feeds m a.sendq boxes jobs a.holder s c.args.octets.now free in
@@ -21,7 +21,7 @@ invariant_of-self-2 c =
     subst (λ (bs : List Held). IsKept m a.sendq bs jobs a.holder) (sym read.2) (fed_kept m a.sendq boxes jobs a.holder s c.args.octets.now c.in_ok-read.read read.0 c.self.invariant in_.above in_.below read.1).1
 
 pub returns : goal.returns
-returns c =
+returns g c =
     let a = c.self.inside in let m = a.book in let boxes = a.inboxes.items in let jobs = a.jobs.items in let s = c.args.session in
     let free : own_refusal (state_of m a.sendq boxes jobs a.holder) (event.Feed s c.args.octets.now) ≡ None = subst (λ (x : State). own_refusal x (event.Feed s c.args.octets.now) ≡ None) (sym c.self.view_is) c.requires.free in
     let in_ = feeds m a.sendq boxes jobs a.holder s c.args.octets.now free in

@@ -10,7 +10,7 @@ use Rattle.interleave.proofs.play.Play.hang.Goals as goal
 use Rattle.interleave.proofs.play.Play.hang.Goals.{in-Ok, in-Err}
 
 pub invariant_of-self : goal.invariant_of-self
-invariant_of-self c =
+invariant_of-self g c =
     let a = c.self.inside in let m = a.book in let boxes = a.inboxes.items in let jobs = a.jobs.items in let w = c.args.worker in let s = c.args.session in
     let free : own_refusal (state_of m a.sendq boxes jobs a.holder) (event.Hang w s c.args.why c.args.moment) ≡ None = subst (λ (x : State). own_refusal x (event.Hang w s c.args.why c.args.moment) ≡ None) (sym c.self.view_is) c.requires.free in
     elim c.match-hung.branch [

@@ -25,7 +25,7 @@ use Rattle.interleave.proofs.play.Play.reap.Goals as goal
 use Rattle.interleave.proofs.play.Play.reap.Goals.{in-Ok, in-Err}
 
 pub invariant_of-self : goal.invariant_of-self
-invariant_of-self c =
+invariant_of-self g c =
     let a = c.self.inside in let m = a.book in let boxes = a.inboxes.items in let jobs = a.jobs.items in let s = c.args.session in
     let st = state_of m a.sendq boxes jobs a.holder in let k = c.reap-reaped.new.book in
     let free : own_refusal st (event.Reap s) ≡ None = subst (λ (x : State). own_refusal x (event.Reap s) ≡ None) (sym c.self.view_is) c.requires.free in
@@ -47,7 +47,7 @@ invariant_of-self c =
     ]
 
 pub returns : goal.returns
-returns c =
+returns g c =
     let a = c.self.inside in let m = a.book in let boxes = a.inboxes.items in let jobs = a.jobs.items in let s = c.args.session in
     let st = state_of m a.sendq boxes jobs a.holder in let k = c.reap-reaped.new.book in
     let free : own_refusal st (event.Reap s) ≡ None = subst (λ (x : State). own_refusal x (event.Reap s) ≡ None) (sym c.self.view_is) c.requires.free in

@@ -2,19 +2,19 @@ use Rattle.interleave.proofs.Order.{sound_owed, sound_accepted}
 use Rattle.interleave.proofs.play.Play.step.Goals as goal
 
 pub returns-clause-taken_is_owed : goal.returns-clause-taken_is_owed
-returns-clause-taken_is_owed c = sound_owed _ c.sound.ensures
+returns-clause-taken_is_owed g c = sound_owed _ c.sound.ensures
 
 pub returns-clause-accepted_is_sent : goal.returns-clause-accepted_is_sent
-returns-clause-accepted_is_sent c = sound_accepted _ c.sound.ensures
+returns-clause-accepted_is_sent g c = sound_accepted _ c.sound.ensures
 
 pub returns-clause-answered_once : goal.returns-clause-answered_once
-returns-clause-answered_once c = c.labelled_once.ensures _ _ c.sound.ensures.book.legal
+returns-clause-answered_once g c = c.labelled_once.ensures _ _ c.sound.ensures.book.legal
 
 pub returns-clause-labelled_first : goal.returns-clause-labelled_first
-returns-clause-labelled_first c = c.labelled_first.ensures _ _
+returns-clause-labelled_first g c = c.labelled_first.ensures _ _
 
 pub returns-clause-lone_unbatched : goal.returns-clause-lone_unbatched
-returns-clause-lone_unbatched c = c.lone_line_unbatched.ensures _ _ c.sound.ensures.book.legal
+returns-clause-lone_unbatched g c = c.lone_line_unbatched.ensures _ _ c.sound.ensures.book.legal
 
 pub returns-clause-batch_closed : goal.returns-clause-batch_closed
-returns-clause-batch_closed c = c.batch_closed.ensures _ _
+returns-clause-batch_closed g c = c.batch_closed.ensures _ _

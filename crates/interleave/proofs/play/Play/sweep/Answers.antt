@@ -10,7 +10,7 @@ use Rattle.interleave.proofs.Does.{sweeps}
 use Rattle.interleave.proofs.play.Play.sweep.Goals as goal
 
 pub invariant_of-self : goal.invariant_of-self
-invariant_of-self c =
+invariant_of-self g c =
     let a = c.self.inside in let m = a.book in let boxes = a.inboxes.items in let jobs = a.jobs.items in let w = c.args.worker in let p = c.in-Ok-Some.plan in
     let free : own_refusal (state_of m a.sendq boxes jobs a.holder) (event.Sweep w c.args.moment) ≡ None = subst (λ (x : State). own_refusal x (event.Sweep w c.args.moment) ≡ None) (sym c.self.view_is) c.requires.free in
     let may = sweeps m a.sendq boxes jobs a.holder w c.args.moment free in

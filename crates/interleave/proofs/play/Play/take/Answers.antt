@@ -24,7 +24,7 @@ abbrev told : List Held → ℕ → Delivery → List Held
 told boxes s x = with_held boxes s (with_seen (held_at boxes s) (with_taken (held_at boxes s).seen x))
 
 pub invariant_of-self : goal.invariant_of-self
-invariant_of-self c =
+invariant_of-self g c =
     let a = c.self.inside in let m = a.book in let boxes = a.inboxes.items in let jobs = a.jobs.items in let s = c.args.session in let y = c.in-Ok.item in let x = y.delivery in
     let free : own_refusal (state_of m a.sendq boxes jobs a.holder) (event.Take s) ≡ None = subst (λ (x : State). own_refusal x (event.Take s) ≡ None) (sym c.self.view_is) c.requires.free in
     let in_ = takes m a.sendq boxes jobs a.holder s free in
@@ -33,7 +33,7 @@ invariant_of-self c =
     (took_kept m c.take-taken.new.self a.sendq boxes jobs a.holder s x c.self.invariant in_.above in_.below in_.here front c.in-Ok.ensures.taken c.sound.ensures).1
 
 pub returns-in-Ok : goal.returns-in-Ok
-returns-in-Ok c =
+returns-in-Ok g c =
     let a = c.self.inside in let m = a.book in let boxes = a.inboxes.items in let jobs = a.jobs.items in let s = c.args.session in let y = c.in-Ok.item in let x = y.delivery in
     let free : own_refusal (state_of m a.sendq boxes jobs a.holder) (event.Take s) ≡ None = subst (λ (x : State). own_refusal x (event.Take s) ≡ None) (sym c.self.view_is) c.requires.free in
     let in_ = takes m a.sendq boxes jobs a.holder s free in

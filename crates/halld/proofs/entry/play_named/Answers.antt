@@ -5,7 +5,7 @@ use Rattle.halld.specs.Lines.{Told, told_of}
 use Rattle.halld.specs.Faults.{IsFaultOf, IsGood}
 use Rattle.halld.specs.Printed.{IsPrinted}
 use Rattle.halld.proofs.Known.{if_known, appends_kept, told_from_start, printed_from_start}
-use Rattle.halld.proofs.entry.play.Goals as goal
+use Rattle.halld.proofs.entry.play_named.Goals as goal
 
 pub returns-in_err-played-clause-fault : goal.returns-in_err-played-clause-fault
 returns-in_err-played-clause-fault g c =

@@ -1,0 +1,42 @@
+-- A play in which nothing happened yet.
+use Rattle.std.proofs.Common.{◌≡◌, ℕ, zero, suc, [], replicate, slice_index_or, Some, None, arith, refl, subst, sym}
+use Rattle.registration.specs.declared.settings.Settings.{Settings}
+use Rattle.outbox.specs.Ring.{Waiting, put_into}
+use Rattle.book.specs.Book.{Shown, held}
+use Rattle.book.specs.Book as book
+use Rattle.interleave.specs.Kept.{IsKept}
+
+no_job : (workers i s : ℕ) → slice_index_or (replicate workers None) i None ≡ Some s → ⊥
+no_job zero i s e = let f : None ≡ Some s = e in cc
+no_job (suc n) zero s e = let f : None ≡ Some s = e in cc
+no_job (suc n) (suc i) s e = no_job n i s e
+
+empty_sound : (limit : ℕ) (settings : Settings) (m : Shown Waiting) → m ≡ book.empty_book limit settings → book.IsSound put_into m
+empty_sound limit settings m is =
+    let nobody : held [] ≡ 0 = refl in
+    subst (book.IsSound put_into) (sym is)
+    (record {
+      owed = λ t from to here. absurd (omega arith);
+      items = λ t from to. absurd (omega arith);
+      reaped = λ t from to away. absurd (omega arith);
+      plan = tt;
+      idle = λ e. refl;
+      legal = tt;
+      sessions = refl;
+      room = omega arith;
+    })
+
+pub empty_kept : (limit : ℕ) (settings : Settings) (sendq workers : ℕ) → IsKept (book.empty_book limit settings) sendq [] (replicate workers None) None
+empty_kept limit settings sendq workers =
+    record {
+      sound = record {
+        book = empty_sound limit settings (book.empty_book limit settings) refl;
+        inboxes = refl;
+        each = λ t from to. absurd (omega arith);
+        jobs = λ i s e. absurd (no_job workers i s e);
+        lock = refl;
+        holder = λ w e. absurd (let f : None ≡ Some w = e in cc);
+      };
+      turns = λ t from to. absurd (omega arith);
+      holding = tt;
+    }
