@@ -42,7 +42,7 @@ fn meet<L: Naming, O: Made<R, T>, R: Abort, T: Drop>(
     Ok(())
 }
 
-/// A hall is made, in which they meet. Where a growth is refused in making it that is told as want of memory, and nobody meets.
+/// A hall is made, in which they meet. A growth that is refused in making it is told as want of memory.
 fn meet_in_a_hall<L: Naming, O: Made<R, T>, R: Abort, T: Drop>(
     rt: &R,
     alloc: Global,

@@ -58,7 +58,7 @@ pub(crate) struct Guest<L: Naming, O: Lasting<Taker = T>, T: Drop> {
     ghost own: { stub.outbox ≡ Some (O.taker_of taker) },
 }
 
-/// What a hall tells who asks it: how many records there are, and of each of two sessions whether it is open.
+/// What a hall tells who asks it: how many records there are, and whether each of two sessions is open.
 #[derive(Clone, Copy, PartialEq)]
 struct Seen {
     records: usize,
@@ -88,7 +88,7 @@ fn host(alloc: Global) -> Option<Octets>
 
 type Opened<L, O> = (SessionId, Baton<L, O>, Stub<L, <O as Outbox>::Name>);
 
-/// Opens a session. Where a growth is refused the hall answers as before, the outbox comes back, and it is opened with it.
+/// Opens a session. Where a growth is refused the hall answers as before, and opens it with the outbox that came back.
 fn opened<L: Naming, O: Lasting>(
     alloc: Global,
     hall: &mut Hall<L, O>,
@@ -139,7 +139,8 @@ pub(crate) fn turned_away<L: Naming, O: Made<R, T>, R, T: Drop>(
     }
 }
 
-/// Sweeps one session, and answers whether there was one. Where a growth is refused the hall answers as before, and sweeps then.
+/// Sweeps one session, and answers whether there was one. Where a growth is refused the hall answers as before, and
+/// sweeps then.
 pub(crate) fn sweeps<L: Naming, O: Lasting>(hall: &mut Hall<L, O>) -> bool {
     let before = look(hall);
     match hall.sweep(Moment::new(0)) {
@@ -152,7 +153,8 @@ pub(crate) fn sweeps<L: Naming, O: Lasting>(hall: &mut Hall<L, O>) -> bool {
 }
 
 impl<L: Naming, O: Lasting<Taker = T>, T: Drop> Guest<L, O, T> {
-    /// Says a line, and answers whether it is accepted. Where a growth is refused the hall answers as before, and accepts it then.
+    /// Says a line, and answers whether it is accepted. Where a growth is refused the hall answers as before, and accepts
+    /// it then.
     pub(crate) fn says(&mut self, hall: &mut Hall<L, O>, piece: &Piece) -> bool
         ensures { self.new.baton.session ≡ self.old.baton.session }
     {

@@ -1,4 +1,5 @@
-//! Trials of what stands in a lock: a session's tokens come together when it is reaped, over both outboxes, and threads share a hall.
+//! Trials of what stands in a lock: a session's tokens come together when it is reaped, over both outboxes, and threads
+//! share a hall.
 #![tactic(auto)]
 
 #[cfg(test)]

@@ -11,7 +11,7 @@ use std::marker::Brand;
 use std::process::Abort;
 use std::test::Fail;
 
-/// Has all that is held of a session refused while the session is there, and given up when it is gone, with so many items left.
+/// Has all that is held of a session refused while it is there, and given up when it is gone, with so many items left.
 fn ends_in_steps<L: Naming, O: Made<R, T>, R: Abort, T: Drop>(
     rt: &R,
     hall: &mut Hall<L, O>,
@@ -28,8 +28,8 @@ fn ends_in_steps<L: Naming, O: Made<R, T>, R: Abort, T: Drop>(
     Ok(())
 }
 
-/// Opens two sessions, of which the first says two lines that are answered. The baton of one with the stub and the taker of the other is
-/// handed back with these; then each ends.
+/// Opens two sessions, of which the first says two lines that are answered. The baton of one with the stub and the taker
+/// of the other is handed back with these; then each ends.
 fn two_sessions<L: Naming, O: Made<R, T>, R: Abort, T: Drop>(
     rt: &R,
     alloc: Global,

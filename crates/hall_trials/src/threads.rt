@@ -121,7 +121,7 @@ fn is_said<L: Naming, R: Wait + Drop>(
     }
 }
 
-/// How many records say a line of a session after those of these numbers, which are the first that do; nothing where they aren't.
+/// How many records say a line of a session after those of these numbers, if these are the first that do.
 fn said_since<L: Naming, R: Wait + Drop>(
     hall: &Hall<L, Sender<R>>,
     by: SessionId,
@@ -160,7 +160,8 @@ fn hears<L: Naming, R: Wait + Drop>(
     guest.taker.take_now(rt).is_err()
 }
 
-/// Al and bo meet on a channel by eight records, and each takes what it is sent: its welcome and its join, and al bo's join too.
+/// Al and bo meet on a channel by eight records, and each takes what it is sent: its welcome and its join, and al bo's
+/// join too.
 fn meet<L: Naming, R: Wait + Drop + Copy>(
     rt: &R,
     alloc: Global,
@@ -175,8 +176,7 @@ fn meet<L: Naming, R: Wait + Drop + Copy>(
     if has_met { Some((al, bo)) } else { None }
 }
 
-/// What was left for a session whose lines the other's records are compared with: what it took and what is left is what they owe it, and
-/// its last item.
+/// A session goes: what it took and what is left for it is what the records of the other owe it, and its last item.
 fn leaves<L: Naming, R: Wait + Drop + Abort>(
     rt: &R,
     hall: &mut Hall<L, Sender<R>>,
