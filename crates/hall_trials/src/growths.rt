@@ -63,32 +63,26 @@ fn meet_in_a_hall<L: Naming, O: Made<R, T>, R: Abort, T: Drop>(
     }
 }
 
-#[test]
-fn a_refused_growth_changes_nothing_over_rings(rt: HostRuntime) -> Result<(), Fail> {
-    let register = new_register(rt.alloc())?;
-    let again = new_register(rt.alloc())?;
-    if !meet_in_a_hall::<Brand, Ring, HostRuntime, ()>(&rt, rt.alloc(), register)? {
-        assert!(rt; meet_in_a_hall::<Brand, Ring, HostRuntime, ()>(&rt, rt.alloc(), again)?);
+/// They meet in a hall with a register of its own; nobody meets where no hall is made.
+fn meet_once<O: Made<R, T>, R: Abort, T: Drop>(rt: &R, alloc: Global) -> Result<bool, Fail> {
+    let register = new_register(alloc)?;
+    meet_in_a_hall::<Brand, O, R, T>(rt, alloc, register)
+}
+
+/// They meet, at the second time where a growth is refused in making the hall.
+fn meet_at_last<O: Made<R, T>, R: Abort, T: Drop>(rt: &R, alloc: Global) -> Result<(), Fail> {
+    if !meet_once::<O, R, T>(rt, alloc)? {
+        assert!(rt; meet_once::<O, R, T>(rt, alloc)?, "a hall");
     }
     Ok(())
 }
 
 #[test]
+fn a_refused_growth_changes_nothing_over_rings(rt: HostRuntime) -> Result<(), Fail> {
+    meet_at_last::<Ring, HostRuntime, ()>(&rt, rt.alloc())
+}
+
+#[test]
 fn a_refused_growth_changes_nothing_over_channels(rt: HostRuntime) -> Result<(), Fail> {
-    let register = new_register(rt.alloc())?;
-    let again = new_register(rt.alloc())?;
-    if !meet_in_a_hall::<Brand, Sender<HostRuntime>, HostRuntime, Writer>(
-        &rt,
-        rt.alloc(),
-        register,
-    )? {
-        assert!(rt;
-            meet_in_a_hall::<Brand, Sender<HostRuntime>, HostRuntime, Writer>(
-                &rt,
-                rt.alloc(),
-                again
-            )?
-        );
-    }
-    Ok(())
+    meet_at_last::<Sender<HostRuntime>, HostRuntime, Writer>(&rt, rt.alloc())
 }

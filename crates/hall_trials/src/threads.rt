@@ -47,7 +47,7 @@ fn work_often<L: Naming, R: Wait + Drop>(
             .line(&mut baton, piece, Moment::new(0))
             .is_ok()
         {
-            count += 1;
+            count = u64::saturating_add(count, 1);
         }
     }
     (baton, count)
@@ -192,8 +192,8 @@ fn leaves<L: Naming, R: Wait + Drop + Abort>(
     assert_eq!(rt; said, LINES);
     assert_eq!(rt; numbers.len(), TAKEN);
     let since = said_since(hall, by, line, &numbers).expect(rt, "what is owed");
-    assert_eq!(rt; numbers.len() as u64 + since, LINES);
-    assert_eq!(rt; guest.leaves(hall), Some(since + 1));
+    assert_eq!(rt; since, LINES - TAKEN as u64);
+    assert_eq!(rt; guest.leaves(hall), Some(LINES - TAKEN as u64 + 1));
 }
 
 /// Each says its lines while what comes of them is taken; then both quit, are swept and reaped.

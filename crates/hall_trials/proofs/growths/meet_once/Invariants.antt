@@ -1,4 +1,4 @@
-use Rattle.hall_trials.proofs.growths.a_refused_growth_changes_nothing_over_channels.Given as goal
+use Rattle.hall_trials.proofs.growths.meet_once.Given as goal
 
 -- the register that was just made
 abbrev pub ghosts-meet_in_a_hall : goal.ghosts-meet_in_a_hall
