@@ -1,5 +1,5 @@
 //! Sessions that come and go one after the other.
-ghost use Rattle.std.specs.Prelude.{◌≡◌, []};
+ghost use Rattle.std.specs.Prelude.{◌≡◌, ◌<◌, []};
 
 use crate::again::{line, new_register};
 use crate::guests::{Guest, Made, enter, sweeps};

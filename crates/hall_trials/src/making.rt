@@ -1,5 +1,5 @@
 //! What trials do with a hall, as one call each.
-ghost use Rattle.std.specs.Prelude.{◌≡◌, [], IfErr, IfSome};
+ghost use Rattle.std.specs.Prelude.{◌≡◌, [], Some, IfSome};
 
 use crate::again::copied;
 use chronicle::{Moment, SessionId, Why};
@@ -60,7 +60,7 @@ where
     }
 }
 
-/// How many items are left of a session that is given up; nothing where it isn't.
+/// What a session that is given up left; nothing where it isn't.
 pub(crate) fn left_of<L: Naming, O: Lasting>(
     hall: &mut Hall<L, O>,
     baton: Baton<L, O>,
@@ -72,8 +72,5 @@ where
     requires own { stub.outbox ≡ Some (O.taker_of taker) }
     ensures whose { IfSome result (λ l. l.session ≡ baton.session) }
 {
-    match hall.reap(baton, stub, taker) {
-        Ok(left) => Some(left),
-        Err(_) => None,
-    }
+    hall.reap(baton, stub, taker).ok()
 }

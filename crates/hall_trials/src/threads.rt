@@ -6,7 +6,7 @@ use crate::guests::{Guest, enter, sweeps};
 use crate::making::hall_of;
 use chronicle::{Kind, Moment, RecordNumber, SessionId};
 use deliveries::{Delivery, Item};
-use hall::{Baton, Hall, Naming, Register};
+use hall::{Baton, Hall, Lasting, Naming, Register};
 use line_grammar::Piece;
 use outbox::{Outbox, Sender, Writer};
 use std::alloc::{AllocError, Global};
@@ -75,8 +75,8 @@ fn take_often<R: Wait>(rt: &R, alloc: Global, mut writer: Writer) -> (Writer, Ve
 
 /// A session after its lines: how many were accepted, and the numbers of the records whose items it took.
 #[derive(Drop)]
-struct Served<L: Naming, R: Wait + Drop> {
-    guest: Guest<L, Sender<R>, Writer>,
+struct Served<L: Naming, O: Lasting<Taker = T>, T: Drop> {
+    guest: Guest<L, O, T>,
     said: u64,
     numbers: Vec<u64>,
 }
@@ -88,7 +88,7 @@ fn serve<L: Naming + Send + Sync, R: Threads + Wait + Drop + Send + Sync>(
     hall: &Mutex<Hall<L, Sender<R>>>,
     guest: Guest<L, Sender<R>, Writer>,
     piece: &Piece,
-) -> Served<L, R> {
+) -> Served<L, Sender<R>, Writer> {
     let Guest { baton, stub, taker } = guest;
     let ((baton, said), (taker, numbers)) = join(
         rt,
@@ -180,7 +180,7 @@ fn meet<L: Naming, R: Wait + Drop + Copy>(
 fn leaves<L: Naming, R: Wait + Drop + Abort>(
     rt: &R,
     hall: &mut Hall<L, Sender<R>>,
-    served: Served<L, R>,
+    served: Served<L, Sender<R>, Writer>,
     by: SessionId,
     line: &Piece,
 ) {
