@@ -1,10 +1,23 @@
-//! Trials of what stands in a lock: a session's tokens come together when it is reaped, over both outboxes, and threads share a hall.
+//! Trials of what stands in a lock: a session's tokens come together when it is reaped, over both outboxes, and threads
+//! share a hall.
 #![tactic(auto)]
 
+#[cfg(test)]
+mod again;
+mod apart;
+#[cfg(test)]
+mod crowd;
+#[cfg(test)]
+mod growths;
+#[cfg(test)]
+mod guests;
+#[cfg(test)]
+mod limits;
+#[cfg(test)]
 mod making;
 #[cfg(test)]
 mod reaping;
 #[cfg(test)]
 mod threads;
 
-pub use making::{end, hall_of_two, left_of, open, refused, settings};
+pub use apart::line_apart;

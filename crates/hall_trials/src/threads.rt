@@ -1,19 +1,35 @@
-//! Threads share a hall by a lock, each with the baton of its own session.
-ghost use Rattle.std.specs.Prelude.{◌≡◌, [], Some, IfSome};
+//! Four threads share a hall by a lock: two say lines of a session each, two take what comes of them.
+ghost use Rattle.std.specs.Prelude.{◌≡◌, []};
 
-use crate::making::{end, hall_of_two, left_of, open};
-use chronicle::{Moment, SessionId};
-use hall::{Baton, Hall, Naming, Register, Stub};
-use line_grammar::{Octets, Piece};
-use outbox::{Outbox, Sender, Writer, pair};
-use std::alloc::Global;
+use crate::again::{line, new_register};
+use crate::guests::{Guest, enter, sweeps};
+use crate::making::hall_of;
+use chronicle::{Kind, Moment, RecordNumber, SessionId};
+use deliveries::{Delivery, Item};
+use hall::{Baton, Hall, Lasting, Naming, Register};
+use line_grammar::Piece;
+use outbox::{Outbox, Sender, Writer};
+use std::alloc::{AllocError, Global};
 use std::marker::Brand;
 use std::process::Abort;
 use std::sync::{Mutex, Wait};
 use std::test::Fail;
 use std::thread::{Threads, join};
 
-const LINES: u64 = 1000;
+/// How many lines each says.
+const LINES: u64 = 100_000;
+
+/// How many items of the other each takes; the rest is left.
+const TAKEN: usize = 90_000;
+
+/// Room for all items at once, so that nobody is missed however the threads run.
+const CAP: usize = 100_010;
+
+/// All records: two sessions with three lines before, and a quit and an end after.
+const RECORDS: usize = 200_012;
+
+/// How many records there are when both have met.
+const MET: u64 = 8;
 
 type Name<R> = <Sender<R> as Outbox>::Name;
 
@@ -31,29 +47,157 @@ fn work_often<L: Naming, R: Wait + Drop>(
             .line(&mut baton, piece, Moment::new(0))
             .is_ok()
         {
-            count += 1;
+            count = u64::saturating_add(count, 1);
         }
     }
     (baton, count)
 }
 
-/// Opens a session with a channel.
-fn enter<L: Naming, R: Wait + Drop>(
-    rt: R,
-    alloc: Global,
-    hall: &mut Hall<L, Sender<R>>,
-) -> Option<(SessionId, Baton<L, Sender<R>>, Stub<L, Name<R>>, Writer)>
-    ensures { IfSome result (λ t. t.2.outbox ≡ Some t.3.channel) }
-{
-    let Ok((sender, writer)) = pair(rt, alloc, 4) else {
-        return None;
-    };
-    let (session, baton, stub) = open(alloc, hall, sender)?;
-    Some((session, baton, stub, writer))
+/// The number of an item's record.
+fn number_of(item: &Item) -> u64 {
+    match item.delivery() {
+        Delivery::Lines { number, .. } | Delivery::Last { number, .. } => number.number(),
+    }
 }
 
-/// Two threads say lines of a session each, and both sessions end.
-fn two_threads<L: Naming + Send + Sync, R: Threads + Wait + Abort + Copy + Drop + Send + Sync>(
+/// Takes so many items as they come, and answers the numbers of their records.
+fn take_often<R: Wait>(rt: &R, alloc: Global, mut writer: Writer) -> (Writer, Vec<u64>)
+    ensures { result.0.channel ≡ writer.channel }
+{
+    let mut numbers = Vec::new(alloc);
+    for _ in 0..TAKEN {
+        if let Ok(item) = writer.take(rt) {
+            let _ = numbers.push(number_of(&item));
+        }
+    }
+    (writer, numbers)
+}
+
+/// A session after its lines: how many were accepted, and the numbers of the records whose items it took.
+#[derive(Drop)]
+struct Served<L: Naming, O: Lasting<Taker = T>, T: Drop> {
+    guest: Guest<L, O, T>,
+    said: u64,
+    numbers: Vec<u64>,
+}
+
+/// Two threads serve a session: one says its lines, another takes its items.
+fn serve<L: Naming + Send + Sync, R: Threads + Wait + Drop + Send + Sync>(
+    rt: &R,
+    alloc: Global,
+    hall: &Mutex<Hall<L, Sender<R>>>,
+    guest: Guest<L, Sender<R>, Writer>,
+    piece: &Piece,
+) -> Served<L, Sender<R>, Writer> {
+    let Guest { baton, stub, taker } = guest;
+    let ((baton, said), (taker, numbers)) = join(
+        rt,
+        || work_often(rt, hall, baton, piece),
+        move || -> (Writer, Vec<u64>)
+            ensures { result.0.channel ≡ taker.channel }
+        { take_often(rt, alloc, taker) },
+    );
+    let guest = Guest { baton, stub, taker };
+    Served {
+        guest,
+        said,
+        numbers,
+    }
+}
+
+/// Whether a record says this line of a session.
+fn is_said<L: Naming, R: Wait + Drop>(
+    hall: &Hall<L, Sender<R>>,
+    number: u64,
+    by: SessionId,
+    line: &Piece,
+) -> bool {
+    let Some(record) = hall.record(RecordNumber::new(number)) else {
+        return false;
+    };
+    match &record.kind {
+        Kind::Said { session, piece, .. } => *session == by && piece == line,
+        _ => false,
+    }
+}
+
+/// How many records say a line of a session after those of these numbers, if these are the first that do.
+fn said_since<L: Naming, R: Wait + Drop>(
+    hall: &Hall<L, Sender<R>>,
+    by: SessionId,
+    line: &Piece,
+    numbers: &[u64],
+) -> Option<u64> {
+    let mut place = 0usize;
+    let mut since = 0u64;
+    for number in MET + 1..=hall.len() as u64 {
+        if is_said(hall, number, by, line) {
+            match numbers.get(place) {
+                Some(taken) if *taken != number => return None,
+                Some(_) => place = place.saturating_add(1),
+                None => since = since.saturating_add(1),
+            }
+        }
+    }
+    if place == numbers.len() {
+        Some(since)
+    } else {
+        None
+    }
+}
+
+/// Takes so many items, and answers whether there were as many and no more.
+fn hears<L: Naming, R: Wait + Drop>(
+    rt: &R,
+    guest: &mut Guest<L, Sender<R>, Writer>,
+    count: u64,
+) -> bool {
+    for _ in 0..count {
+        if guest.taker.take_now(rt).is_err() {
+            return false;
+        }
+    }
+    guest.taker.take_now(rt).is_err()
+}
+
+/// Al and bo meet on a channel by eight records, and each takes what it is sent: its welcome and its join, and al bo's
+/// join too.
+fn meet<L: Naming, R: Wait + Drop + Copy>(
+    rt: &R,
+    alloc: Global,
+    hall: &mut Hall<L, Sender<R>>,
+) -> Option<(Guest<L, Sender<R>, Writer>, Guest<L, Sender<R>, Writer>)> {
+    let mut al = enter(rt, alloc, hall, CAP)?;
+    let mut bo = enter(rt, alloc, hall, CAP)?;
+    let has_met = al.says_all(alloc, hall, &["NICK al", "USER a 0 * :Al", "JOIN #a"])
+        && bo.says_all(alloc, hall, &["NICK bo", "USER b 0 * :Bo", "JOIN #a"])
+        && hears(rt, &mut al, 3)
+        && hears(rt, &mut bo, 2);
+    if has_met { Some((al, bo)) } else { None }
+}
+
+/// A session goes: what it took and what is left for it is what the records of the other owe it, and its last item.
+fn leaves<L: Naming, R: Wait + Drop + Abort>(
+    rt: &R,
+    hall: &mut Hall<L, Sender<R>>,
+    served: Served<L, Sender<R>, Writer>,
+    by: SessionId,
+    line: &Piece,
+) {
+    let Served {
+        guest,
+        said,
+        numbers,
+    } = served;
+    assert_eq!(rt; said, LINES);
+    assert_eq!(rt; numbers.len(), TAKEN);
+    let since = said_since(hall, by, line, &numbers).expect(rt, "what is owed");
+    assert_eq!(rt; since, LINES - TAKEN as u64);
+    assert_eq!(rt; guest.leaves(hall), Some(LINES - TAKEN as u64 + 1));
+}
+
+/// Each says its lines while what comes of them is taken; then both quit, are swept and reaped.
+fn four_threads<L: Naming + Send + Sync, R: Threads + Wait + Abort + Copy + Drop + Send + Sync>(
     rt: &R,
     alloc: Global,
     register: Register<Name<R>>,
@@ -61,37 +205,30 @@ fn two_threads<L: Naming + Send + Sync, R: Threads + Wait + Abort + Copy + Drop 
     requires named { register.table ≡ L.table }
     requires empty { register.rows ≡ [] }
 {
-    let mut hall: Hall<L, Sender<R>> = hall_of_two(alloc, register, 4096).ok_or("a hall")?;
-    let (session, baton, stub, writer) = enter(*rt, alloc, &mut hall).ok_or("a session")?;
-    let (another, other, their_stub, their_writer) = enter(*rt, alloc, &mut hall).ok_or(
-        "another session",
-    )?;
-    let piece = Piece::Line(Octets::copied(alloc, b"PONG x")?);
+    let Ok(mut hall) = hall_of::<L, Sender<R>>(alloc, register, 2, RECORDS) else {
+        return Err("a hall".into());
+    };
+    let (al, bo) = meet(rt, alloc, &mut hall).ok_or("two who meet")?;
+    let one = line(alloc, "PRIVMSG #a :one")?;
+    let two = line(alloc, "PRIVMSG #a :two")?;
+    let (first, second) = (al.baton.session(), bo.baton.session());
     let lock = Mutex::new(hall);
-    let (done, their_done) = join(
+    let (mut al, mut bo) = join(
         rt,
-        || work_often(rt, &lock, baton, &piece),
-        || work_often(rt, &lock, other, &piece),
+        || serve(rt, alloc, &lock, al, &one),
+        || serve(rt, alloc, &lock, bo, &two),
     );
     let mut hall = lock.into_inner();
-    assert_eq!(rt; (done.1, their_done.1), (LINES, LINES));
-    assert!(rt;
-        end(&mut hall, session) && end(&mut hall, another),
-        "two ends"
-    );
-    assert!(rt;
-        left_of(&mut hall, done.0, stub, writer).is_some(),
-        "the first"
-    );
-    assert!(rt;
-        left_of(&mut hall, their_done.0, their_stub, their_writer).is_some(),
-        "the second"
-    );
+    let quit = line(alloc, "QUIT")?;
+    assert!(rt; al.guest.says(&mut hall, &quit) && bo.guest.says(&mut hall, &quit));
+    assert!(rt; sweeps(&mut hall) && sweeps(&mut hall) && !sweeps(&mut hall));
+    leaves(rt, &mut hall, al, second, &two);
+    leaves(rt, &mut hall, bo, first, &one);
     Ok(())
 }
 
 #[test]
-fn two_threads_share_a_hall(rt: HostRuntime) -> Result<(), Fail> {
-    let register = Register::new(rt.alloc())?;
-    two_threads::<Brand, _>(&rt, rt.alloc(), register)
+fn four_threads_share_a_hall(rt: HostRuntime) -> Result<(), Fail> {
+    let register = new_register(rt.alloc())?;
+    four_threads::<Brand, _>(&rt, rt.alloc(), register)
 }

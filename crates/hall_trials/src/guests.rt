@@ -1,0 +1,200 @@
+//! Sessions, each with all that is held of it.
+ghost use Rattle.std.specs.Prelude.{◌≡◌, ◌<◌, [], IfOk, IfSome, IfErr, Some, true};
+ghost use Rattle.casemapping.specs.Names.{host_shape};
+
+use crate::again::{copied, line};
+use crate::making::left_of;
+use casemapping::is_host;
+use chronicle::{Moment, SessionId};
+use hall::{
+    Baton, Hall, Lasting, LineRefusal, Naming, OpenRefusal, Outbox, Ring, Stub, SweepRefusal,
+};
+use line_grammar::{Octets, Piece};
+use outbox::{Sender, Writer, pair};
+use std::alloc::{AllocError, Global};
+use std::sync::Wait;
+
+/// An outbox that trials make.
+pub(crate) trait Made<R, T>: Lasting<Taker = T> {
+    ghost use Rattle.std.specs.Prelude.{◌≡◌, ◌<◌, [], IfOk};
+
+    /// An empty outbox for so many items, and what takes them.
+    fn make(rt: &R, alloc: Global, cap: usize) -> Result<(Self, T), AllocError>
+        requires { 0 < cap }
+        ensures fresh { IfOk result (λ p. Self.sent p.0 ≡ []) }
+        ensures own { IfOk result (λ p. Self.name p.0 ≡ Self.taker_of p.1) };
+}
+
+impl<R> Made<R, ()> for Ring {
+    fn make(_rt: &R, alloc: Global, cap: usize) -> Result<(Ring, ()), AllocError> {
+        Ok((Ring::new(alloc, cap)?, ()))
+    }
+}
+
+impl<R: Wait + Drop + Copy> Made<R, Writer> for Sender<R> {
+    fn make(rt: &R, alloc: Global, cap: usize) -> Result<(Sender<R>, Writer), AllocError> {
+        pair(*rt, alloc, cap)
+    }
+}
+
+/// An empty outbox for so many items, and what takes them. It is made once more where a growth was refused.
+pub(crate) fn outbox_of<O: Made<R, T>, R, T>(rt: &R, alloc: Global, cap: usize) -> Option<(O, T)>
+    requires { 0 < cap }
+    ensures fresh { IfSome result (λ p. O.sent p.0 ≡ []) }
+    ensures own { IfSome result (λ p. O.name p.0 ≡ O.taker_of p.1) }
+{
+    match O::make(rt, alloc, cap) {
+        Ok(made) => Some(made),
+        Err(_) => O::make(rt, alloc, cap).ok(),
+    }
+}
+
+/// The tokens of a session, and what takes its items: that of the outbox for which the stub was given.
+#[derive(Drop)]
+pub(crate) struct Guest<L: Naming, O: Lasting<Taker = T>, T: Drop> {
+    pub(crate) baton: Baton<L, O>,
+    pub(crate) stub: Stub<L, O::Name>,
+    pub(crate) taker: T,
+    ghost own: { stub.outbox ≡ Some (O.taker_of taker) },
+}
+
+/// What a hall tells who asks it: how many records there are, and whether each of two sessions is open.
+#[derive(Clone, Copy, PartialEq)]
+struct Seen {
+    records: usize,
+    first: bool,
+    second: bool,
+}
+
+fn look<L: Naming, O: Lasting>(hall: &Hall<L, O>) -> Seen {
+    Seen {
+        records: hall.len(),
+        first: hall.is_open(SessionId::new(1)),
+        second: hall.is_open(SessionId::new(2)),
+    }
+}
+
+/// A host, once more where a growth was refused.
+fn host(alloc: Global) -> Option<Octets>
+    ensures { IfSome result (λ h. host_shape h ≡ true) }
+{
+    let host = copied(alloc, b"h1").ok()?;
+    if is_host(host.as_slice()) {
+        Some(host)
+    } else {
+        None
+    }
+}
+
+type Opened<L, O> = (SessionId, Baton<L, O>, Stub<L, <O as Outbox>::Name>);
+
+/// Opens a session. Where a growth is refused the hall answers as before, and opens it with the outbox that came back.
+fn opened<L: Naming, O: Lasting>(
+    alloc: Global,
+    hall: &mut Hall<L, O>,
+    outbox: O,
+) -> Result<Opened<L, O>, (OpenRefusal, O)>
+    requires fresh { O.sent outbox ≡ [] }
+    ensures stub { IfOk result (λ t. t.2.outbox ≡ Some (O.name outbox)) }
+    ensures back { IfErr result (λ e. e.1 ≡ outbox) }
+{
+    let (Some(first), Some(again)) = (host(alloc), host(alloc)) else {
+        return Err((OpenRefusal::Busy, outbox));
+    };
+    let before = look(hall);
+    match hall.open(first, Moment::new(0), outbox) {
+        Err((OpenRefusal::Memory, outbox)) if look(hall) == before => {
+            hall.open(again, Moment::new(0), outbox)
+        }
+        answer => answer,
+    }
+}
+
+/// Opens a session with an outbox for so many items.
+pub(crate) fn enter<L: Naming, O: Made<R, T>, R, T: Drop>(
+    rt: &R,
+    alloc: Global,
+    hall: &mut Hall<L, O>,
+    cap: usize,
+) -> Option<Guest<L, O, T>>
+    requires { 0 < cap }
+{
+    let (outbox, taker) = outbox_of(rt, alloc, cap)?;
+    match opened(alloc, hall, outbox) {
+        Ok((_, baton, stub)) => Some(Guest { baton, stub, taker }),
+        Err(_) => None,
+    }
+}
+
+/// Why no session is opened, and how many items were put into the outbox that came back; nothing where one is.
+pub(crate) fn turned_away<L: Naming, O: Made<R, T>, R, T: Drop>(
+    rt: &R,
+    alloc: Global,
+    hall: &mut Hall<L, O>,
+) -> Option<(OpenRefusal, u64)> {
+    let (outbox, taker) = outbox_of::<O, R, T>(rt, alloc, 4)?;
+    match opened(alloc, hall, outbox) {
+        Ok(_) => None,
+        Err((refusal, outbox)) => Some((refusal, outbox.close(taker))),
+    }
+}
+
+/// Sweeps one session, and answers whether there was one. Where a growth is refused the hall answers as before, and
+/// sweeps then.
+pub(crate) fn sweeps<L: Naming, O: Lasting>(hall: &mut Hall<L, O>) -> bool {
+    let before = look(hall);
+    match hall.sweep(Moment::new(0)) {
+        Ok(swept) => swept.is_some(),
+        Err(SweepRefusal::Memory) if look(hall) == before => {
+            matches!(hall.sweep(Moment::new(0)), Ok(Some(_)))
+        }
+        Err(_) => false,
+    }
+}
+
+impl<L: Naming, O: Lasting<Taker = T>, T: Drop> Guest<L, O, T> {
+    /// Says a line, and answers whether it is accepted. Where a growth is refused the hall answers as before, and accepts
+    /// it then.
+    pub(crate) fn says(&mut self, hall: &mut Hall<L, O>, piece: &Piece) -> bool
+        ensures { self.new.baton.session ≡ self.old.baton.session }
+    {
+        let before = look(hall);
+        match hall.line(&mut self.baton, piece, Moment::new(0)) {
+            Ok(_) => true,
+            Err(LineRefusal::Memory) if look(hall) == before => hall
+                .line(&mut self.baton, piece, Moment::new(0))
+                .is_ok(),
+            Err(_) => false,
+        }
+    }
+
+    /// Says lines in turn, and answers whether each is accepted.
+    pub(crate) fn says_all(
+        &mut self,
+        alloc: Global,
+        hall: &mut Hall<L, O>,
+        lines: &[&str],
+    ) -> bool {
+        for text in lines {
+            let Ok(piece) = line(alloc, text) else {
+                return false;
+            };
+            if !self.says(hall, &piece) {
+                return false;
+            }
+        }
+        true
+    }
+
+    /// Gives all up, and answers how many items were left; nothing where the session isn't gone.
+    pub(crate) fn leaves(self, hall: &mut Hall<L, O>) -> Option<u64> {
+        let Guest { baton, stub, taker } = self;
+        let session = baton.session();
+        let left = left_of(hall, baton, stub, taker)?;
+        if left.session() == session {
+            Some(left.count())
+        } else {
+            None
+        }
+    }
+}
