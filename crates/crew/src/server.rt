@@ -1,4 +1,7 @@
 //! What the threads of a server share.
+ghost use Rattle.std.specs.Prelude.{◌≤◌};
+ghost use Rattle.chronicle.specs.History.{last_moment};
+
 use crate::desk::Desk;
 use chronicle::{Moment, SessionId};
 use hall::{Hall, Naming, Told};
@@ -51,7 +54,10 @@ pub struct Server<'a, L: Naming, R: Wait + Drop, G: Gate, S: Sockets, C: Clock> 
 }
 
 /// The later of two moments.
-pub(crate) fn later(a: Moment, b: Moment) -> Moment {
+pub(crate) fn later(a: Moment, b: Moment) -> Moment
+    ensures first { a ≤ result }
+    ensures second { b ≤ result }
+{
     if a.milliseconds() < b.milliseconds() {
         b
     } else {
@@ -63,6 +69,8 @@ pub(crate) fn later(a: Moment, b: Moment) -> Moment {
 pub fn moment_in<L: Naming, R: Wait + Drop, C: Clock>(
     hall: &Hall<L, Sender<R>>,
     clock: &C,
-) -> Moment {
+) -> Moment
+    ensures { last_moment hall.now.history ≤ result }
+{
     later(clock.now(), hall.last_moment())
 }
