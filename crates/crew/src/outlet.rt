@@ -82,11 +82,7 @@ impl<L: Naming, W: Write + Drop> Outlet<L, W> {
 
     /// Ends the outlet of a session, and gives its writer and its stub back. It answers `None` where it has no wire, or is
     /// another session's.
-    pub fn end<R: Wait>(
-        &self,
-        rt: &R,
-        session: SessionId,
-    ) -> Option<(Writer, Stub<L, ChannelName>)>
+    pub fn end<R: Wait>(&self, rt: &R, session: SessionId) -> Option<(Writer, Stub<L, ChannelName>)>
         ensures session { IfSome result (λ ends. ends.1.session ≡ session) }
         ensures own { IfSome result (λ ends. ends.1.outbox ≡ Some ends.0.channel) }
     {

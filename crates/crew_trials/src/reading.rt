@@ -19,7 +19,8 @@ use wire::{Flow, Wire};
 const INPUT: &[u8; 24] = b"PING x\r\nPING y\r\nPING zzz";
 
 /// What is told of the two, and of the end.
-const OUTPUT: &[u8; 104] = b":irc.example PONG irc.example x\r\n:irc.example PONG irc.example y\r\nERROR :Closing Link: h1 (Read error)\r\n";
+const OUTPUT: &[u8; 104] =
+    b":irc.example PONG irc.example x\r\n:irc.example PONG irc.example y\r\nERROR :Closing Link: h1 (Read error)\r\n";
 
 /// The input fails in the middle of the third line: two are done and answered, and the session is hung.
 fn torn<L: Naming, R: Wait + Abort + Copy + Drop>(

@@ -133,7 +133,13 @@ fn settings<'a, R: Ticks + Copy + Drop + Alloc<A = Global>>(
 /// Listens, tells where on standard error, and serves until standard input ends.
 fn serve<'a, R, I>(rt: &R, options: ServeOptions<'a>, stop: I) -> Result<(), Ended<'a>>
 where
-    R: Threads + Wait + Ticks + Files + Net<Listener = TcpListener, Stream = TcpStream> + Eprint + Alloc<A = Global>,
+    R: Threads
+        + Wait
+        + Ticks
+        + Files
+        + Net<Listener = TcpListener, Stream = TcpStream>
+        + Eprint
+        + Alloc<A = Global>,
     R: Copy + Drop + Send + Sync + 'static,
     I: Read + Send + Drop + 'static,
 {
@@ -168,7 +174,13 @@ where
 /// Serves as options say, and answers how that ended.
 pub(crate) fn serve_options<'a, R, I>(rt: &R, options: ServeOptions<'a>, stop: I) -> Ended<'a>
 where
-    R: Threads + Wait + Ticks + Files + Net<Listener = TcpListener, Stream = TcpStream> + Eprint + Alloc<A = Global>,
+    R: Threads
+        + Wait
+        + Ticks
+        + Files
+        + Net<Listener = TcpListener, Stream = TcpStream>
+        + Eprint
+        + Alloc<A = Global>,
     R: Copy + Drop + Send + Sync + 'static,
     I: Read + Send + Drop + 'static,
 {

@@ -5,13 +5,12 @@ use crew::{Outlet, Sockets};
 use hall::{Naming, Told};
 use indexmap::IndexMap;
 use std::alloc::{AllocError, Global};
-use std::io;
 use std::io::Write;
 use std::net::TcpStream;
 use std::sync::atomic::{AtomicBool, Ordering};
 use std::sync::{Arc, RwLock, Wait};
-use std::thread;
 use std::time::{Clock, Duration};
+use std::{io, thread};
 
 /// Milliseconds of a pause.
 const PAUSE: u64 = 20;

@@ -118,7 +118,13 @@ fn give_up<
     requires one { stub.session ≡ baton.session }
     requires own { stub.outbox ≡ Some writer.channel }
 {
-    hang(rt, server, baton.session(), Why::Memory, &mut Told::new(alloc));
+    hang(
+        rt,
+        server,
+        baton.session(),
+        Why::Memory,
+        &mut Told::new(alloc),
+    );
     let _ = close_up(rt, alloc, server, baton, stub, writer);
 }
 
@@ -170,8 +176,7 @@ pub(crate) fn serve<
     sendq: usize,
     stream: TcpStream,
     peer: SocketAddr,
-)
-{
+) {
     let _ = stream.set_nodelay(true);
     let _ = stream.set_write_timeout(Some(Duration::from_millis(WRITE)));
     let Ok(stream) = Arc::new(alloc, stream) else {

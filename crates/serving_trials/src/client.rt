@@ -1,12 +1,11 @@
 //! A client, and what stops a server.
 use std::alloc::Global;
-use std::io;
 use std::io::{BufRead, BufReader, Read, Write};
 use std::net::{Net, SocketAddr, TcpStream};
-use std::sync::atomic::{AtomicBool, Ordering};
 use std::sync::Arc;
-use std::thread;
+use std::sync::atomic::{AtomicBool, Ordering};
 use std::time::{Clock, Duration};
+use std::{io, thread};
 
 /// How often a wait looks before it gives up.
 pub(crate) const TURNS: u32 = 10_000;

@@ -55,9 +55,9 @@ impl<R: Clock + Drop> Gate for Turnstile<R> {
         if !self.is_closed.load(Ordering::SeqCst) {
             return;
         }
-        let found =
-            self.first
-                .compare_exchange(0, session.number(), Ordering::SeqCst, Ordering::SeqCst);
+        let found = self
+            .first
+            .compare_exchange(0, session.number(), Ordering::SeqCst, Ordering::SeqCst);
         match found {
             Ok(_) => self.wait_for_another(),
             Err(first) if first != session.number() => {

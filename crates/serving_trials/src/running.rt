@@ -1,19 +1,18 @@
 //! A server that runs while its clients talk.
 use crate::client::Until;
 use crate::gates::Turnstile;
-use crate::talks::{Talk, talk};
+use crate::talks::{Story, talk};
 use chronicle::Moment;
 use line_grammar::Octets;
 use registration::{Accounts, Settings};
 use serving::serve_on;
 use std::alloc::{AllocError, Global};
-use std::io;
 use std::net::{IpAddr, Ipv4Addr, Net, TcpListener, TcpStream};
 use std::sync::atomic::{AtomicBool, Ordering};
 use std::sync::{Arc, Wait};
-use std::thread;
 use std::thread::Threads;
 use std::time::Clock;
+use std::{io, thread};
 
 /// The settings of a server for 16 sessions.
 fn settings(alloc: Global) -> Result<Settings, AllocError> {
@@ -33,7 +32,7 @@ pub(crate) fn is_served<R>(
     rt: &R,
     alloc: Global,
     gate: &Turnstile<R>,
-    what: Talk,
+    story: Story,
 ) -> io::Result<bool>
 where
     R: Threads + Wait + Clock + Net<Listener = TcpListener, Stream = TcpStream>,
@@ -56,7 +55,7 @@ where
         let serving = scope.spawn(move || {
             serve_on(rt, alloc, listener, settings, 1000, 2, 16, gate, stop).is_ok()
         });
-        let heard = talk(rt, alloc, address, gate, what).unwrap_or(false);
+        let heard = talk(rt, alloc, address, gate, story).unwrap_or(false);
         has_ended.store(true, Ordering::SeqCst);
         match serving {
             Ok(serving) => serving.join(rt) && heard,

@@ -10,7 +10,7 @@ use std::time::Clock;
 
 /// What is talked about.
 #[derive(Clone, Copy)]
-pub(crate) enum Talk {
+pub(crate) enum Story {
     /// Two people are in a channel; one speaks, the other leaves.
     TwoPeople,
     /// Two ask at once, each of whose lines has to wait for the other's.
@@ -47,10 +47,7 @@ fn two_people(alloc: Global, al: &mut Client, bo: &mut Client) -> io::Result<boo
     bo.send(b"PRIVMSG #a :hi \xFF\xFE\r\n")?;
     let is_heard = al.hears(alloc, b":bo!b@127.0.0.1 PRIVMSG #a :hi \xFF\xFE")?;
     al.send(b"QUIT\r\n")?;
-    let is_told = al.hears(
-        alloc,
-        b"ERROR :Closing Link: 127.0.0.1 (Client Quit)",
-    )?;
+    let is_told = al.hears(alloc, b"ERROR :Closing Link: 127.0.0.1 (Client Quit)")?;
     let is_seen = bo.hears(alloc, b":al!a@127.0.0.1 QUIT :Client Quit")?;
     Ok(al_is_in && bo_is_in && is_heard && is_told && is_seen)
 }
@@ -76,29 +73,29 @@ pub(crate) fn talk<R: Clock + Drop + Net<Stream = TcpStream>>(
     alloc: Global,
     address: SocketAddr,
     gate: &Turnstile<R>,
-    what: Talk,
+    story: Story,
 ) -> io::Result<bool> {
     let al = registered(rt, alloc, address, b"NICK al\r\nUSER a 0 * :Al\r\n")?;
     let bo = registered(rt, alloc, address, b"NICK bo\r\nUSER b 0 * :Bo\r\n")?;
     let (Some(mut al), Some(mut bo)) = (al, bo) else {
         return Ok(false);
     };
-    match what {
-        Talk::TwoPeople => two_people(alloc, &mut al, &mut bo),
-        Talk::AtOnce => at_once(alloc, gate, &mut al, &mut bo),
+    match story {
+        Story::TwoPeople => two_people(alloc, &mut al, &mut bo),
+        Story::AtOnce => at_once(alloc, gate, &mut al, &mut bo),
     }
 }
 
 #[test]
 fn two_people_talk_over_the_loopback(rt: HostRuntime) -> Result<(), Fail> {
     let gate = Turnstile::new(rt);
-    assert!(rt; is_served(&rt, rt.alloc(), &gate, Talk::TwoPeople)?);
+    assert!(rt; is_served(&rt, rt.alloc(), &gate, Story::TwoPeople)?);
     Ok(())
 }
 
 #[test]
 fn lines_of_two_are_done_at_once(rt: HostRuntime) -> Result<(), Fail> {
     let gate = Turnstile::new(rt);
-    assert!(rt; is_served(&rt, rt.alloc(), &gate, Talk::AtOnce)?);
+    assert!(rt; is_served(&rt, rt.alloc(), &gate, Story::AtOnce)?);
     Ok(())
 }
