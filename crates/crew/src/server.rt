@@ -1,5 +1,5 @@
 //! What the threads of a server share.
-ghost use Rattle.std.specs.Prelude.{◌≤◌};
+ghost use Rattle.std.specs.Prelude.{◌≤ℤ◌};
 ghost use Rattle.chronicle.specs.History.{last_moment};
 
 use crate::desk::Desk;
@@ -55,8 +55,8 @@ pub struct Server<'a, L: Naming, R: Wait + Drop, G: Gate, S: Sockets, C: Clock> 
 
 /// The later of two moments.
 pub(crate) fn later(a: Moment, b: Moment) -> Moment
-    ensures first { a ≤ result }
-    ensures second { b ≤ result }
+    ensures first { a ≤ℤ result }
+    ensures second { b ≤ℤ result }
 {
     if a.milliseconds() < b.milliseconds() {
         b
@@ -70,7 +70,7 @@ pub fn moment_in<L: Naming, R: Wait + Drop, C: Clock>(
     hall: &Hall<L, Sender<R>>,
     clock: &C,
 ) -> Moment
-    ensures { last_moment hall.now.history ≤ result }
+    ensures { last_moment hall.now.history ≤ℤ result }
 {
     later(clock.now(), hall.last_moment())
 }
