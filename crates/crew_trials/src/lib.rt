@@ -11,4 +11,4 @@ mod taking;
 mod threads;
 
 pub use fakes::{Noted, Open, Still, TURNS, Torn, Turnstile, rest};
-pub use making::{Tokens, ends, hung_for, line, open, work_two, work_under_slot};
+pub use making::{Tokens, ends, hall, hung_for, line, open, work_two, work_under_slot};

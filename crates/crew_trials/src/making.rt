@@ -1,13 +1,14 @@
 //! What the trials work with.
-ghost use Rattle.std.specs.Prelude.{◌≡◌, Some, IfSome};
+ghost use Rattle.std.specs.Prelude.{◌≡◌, [], Some, IfSome};
 
 use crate::fakes::{Noted, Open, Still, Turnstile};
 use casemapping::is_host;
 use chronicle::{Kind, Moment, RecordNumber, SessionId, Why};
 use crew::{Desk, Gate, Job, Outcome, Server, close_up, work, work_one};
-use hall::{Baton, Hall, Naming, Stub, Told};
+use hall::{Baton, Hall, Naming, Register, Settings, Stub, Told};
 use line_grammar::{Octets, Piece};
 use outbox::{ChannelName, Sender, Writer, pair};
+use registration::Accounts;
 use std::alloc::{AllocError, Global};
 use std::sync::atomic::Ordering;
 use std::sync::{Mutex, Wait};
@@ -29,7 +30,27 @@ pub fn line(alloc: Global, octets: &[u8]) -> Result<Piece, AllocError> {
     Ok(Piece::Line(Octets::copied(alloc, octets)?))
 }
 
-/// Opens a session with an outbox for so many items.
+/// A hall for two sessions and 64 records, or nothing where it is refused.
+pub fn hall<L: Naming, R: Wait + Drop>(
+    alloc: Global,
+    register: Register<ChannelName>,
+) -> Option<Hall<L, Sender<R>>>
+    requires named { register.table ≡ L.table }
+    requires empty { register.rows ≡ [] }
+{
+    let settings = Settings {
+        server: Octets::copied(alloc, b"irc.example").ok()?,
+        info: Octets::copied(alloc, b"halld").ok()?,
+        version: Octets::copied(alloc, b"halld-1").ok()?,
+        created: Moment::new(0),
+        motd: None,
+        accounts: Accounts::new(alloc),
+        sessions: 2,
+    };
+    Hall::new(alloc, register, settings, 64).ok()
+}
+
+/// Opens a session with an outbox for sixteen items.
 pub fn open<L: Naming, R: Wait + Drop + Copy>(
     rt: &R,
     alloc: Global,

@@ -2,11 +2,10 @@
 ghost use Rattle.std.specs.Prelude.{◌≡◌, []};
 
 use crate::fakes::{Noted, Open, Still, Torn};
-use crate::making::{Tokens, hung_for, open};
+use crate::making::{Tokens, hall, hung_for, open};
 use chronicle::{RecordNumber, Why};
 use crew::{Desk, Server, Sockets, close_up, end_wire, read_on};
 use hall::{Hall, Naming, Register};
-use hall_trials::hall_of_two;
 use line_grammar::Octets;
 use outbox::{ChannelName, Sender};
 use std::alloc::Global;
@@ -31,8 +30,8 @@ fn torn<L: Naming, R: Wait + Abort + Copy + Drop>(
     requires named { register.table ≡ L.table }
     requires empty { register.rows ≡ [] }
 {
-    let hall: Hall<L, Sender<R>> = hall_of_two(alloc, register, 64).ok_or("a hall")?;
-    let lock = Mutex::new(hall);
+    let made: Hall<L, Sender<R>> = hall(alloc, register).ok_or("a hall")?;
+    let lock = Mutex::new(made);
     let Tokens {
         baton,
         stub,

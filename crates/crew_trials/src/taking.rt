@@ -2,12 +2,11 @@
 ghost use Rattle.std.specs.Prelude.{◌≡◌, []};
 
 use crate::fakes::{Open, TURNS, rest};
-use crate::making::{ends, line, open};
+use crate::making::{ends, hall, line, open};
 use chronicle::Moment;
 use crew::{Desk, Job, Outcome, work_one};
 use deliveries::{Delivery, Item};
 use hall::{Hall, Naming, Register, Told};
-use hall_trials::hall_of_two;
 use outbox::{ChannelName, Sender, Writer};
 use std::alloc::Global;
 use std::marker::Brand;
@@ -44,8 +43,8 @@ fn taken_meanwhile<
     requires named { register.table ≡ L.table }
     requires empty { register.rows ≡ [] }
 {
-    let hall: Hall<L, Sender<R>> = hall_of_two(alloc, register, 64).ok_or("a hall")?;
-    let lock = Mutex::new(hall);
+    let made: Hall<L, Sender<R>> = hall(alloc, register).ok_or("a hall")?;
+    let lock = Mutex::new(made);
     let mut al = open(rt, alloc, &lock).ok_or("a session")?;
     assert!(rt; al.writer.take_now(rt).is_err(), "nothing waits");
     let desk = Desk::new(rt, alloc, 2)?;

@@ -2,10 +2,9 @@
 ghost use Rattle.std.specs.Prelude.{◌≡◌, []};
 
 use crate::fakes::Turnstile;
-use crate::making::{ends, line, open, work_two};
+use crate::making::{ends, hall, line, open, work_two};
 use crew::Desk;
 use hall::{Hall, Naming, Register};
-use hall_trials::hall_of_two;
 use outbox::{ChannelName, Sender};
 use std::alloc::Global;
 use std::marker::Brand;
@@ -24,8 +23,8 @@ fn two_sessions<
     requires named { register.table ≡ L.table }
     requires empty { register.rows ≡ [] }
 {
-    let hall: Hall<L, Sender<R>> = hall_of_two(alloc, register, 64).ok_or("a hall")?;
-    let lock = Mutex::new(hall);
+    let made: Hall<L, Sender<R>> = hall(alloc, register).ok_or("a hall")?;
+    let lock = Mutex::new(made);
     let al = open(rt, alloc, &lock).ok_or("a session")?;
     let bo = open(rt, alloc, &lock).ok_or("another session")?;
     let desk = Desk::new(rt, alloc, 2)?;
