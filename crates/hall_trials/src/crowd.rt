@@ -75,6 +75,20 @@ fn visits<L: Naming, O: Made<R, T>, R, T: Drop>(
 }
 
 /// All come and go: each leaves its answers, and its last item.
+fn visit_all<L: Naming, O: Made<R, T>, R: Abort, T: Drop>(
+    rt: &R,
+    alloc: Global,
+    hall: &mut Hall<L, O>,
+    lines: &Lines,
+) {
+    for number in 1..=SESSIONS {
+        let left = visits(rt, alloc, hall, lines, number);
+        assert_eq!(rt; left, Some(lines_of(number) + 1));
+    }
+    assert!(rt; !sweeps(hall), "nobody is there");
+}
+
+/// All come and go in a hall for two.
 fn come_and_go<L: Naming, O: Made<R, T>, R: Abort, T: Drop>(
     rt: &R,
     alloc: Global,
@@ -83,15 +97,11 @@ fn come_and_go<L: Naming, O: Made<R, T>, R: Abort, T: Drop>(
     requires named { register.table ≡ L.table }
     requires empty { register.rows ≡ [] }
 {
+    let lines = Lines::new(alloc)?;
     let Ok(mut hall) = hall_of::<L, O>(alloc, register, 2, RECORDS) else {
         return Err("a hall".into());
     };
-    let lines = Lines::new(alloc)?;
-    for number in 1..=SESSIONS {
-        let left = visits(rt, alloc, &mut hall, &lines, number);
-        assert_eq!(rt; left, Some(lines_of(number) + 1));
-    }
-    assert!(rt; !sweeps(&mut hall), "nobody is there");
+    visit_all(rt, alloc, &mut hall, &lines);
     Ok(())
 }
 

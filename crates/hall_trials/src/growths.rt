@@ -23,23 +23,31 @@ const LEFT_FOR_AL: u64 = 4;
 /// What is left for bo: its welcome, its own join and its last item.
 const LEFT_FOR_BO: u64 = 3;
 
-/// Al and bo come, bo quits, is swept and reaped. Then al quits, which is another item, and so is al.
-fn meet<L: Naming, O: Made<R, T>, R: Abort, T: Drop>(
+/// Bo comes, quits, is swept and reaped.
+fn visit<L: Naming, O: Made<R, T>, R, T: Drop>(
     rt: &R,
     alloc: Global,
     hall: &mut Hall<L, O>,
-) -> Result<(), Fail> {
-    let mut al = enter(rt, alloc, hall, 8).ok_or("al")?;
-    assert!(rt; al.says_all(alloc, hall, &AL), "al's lines");
-    let mut bo = enter(rt, alloc, hall, 8).ok_or("bo")?;
-    assert!(rt; bo.says_all(alloc, hall, &BO), "bo's lines");
-    assert!(rt; sweeps(hall), "bo is swept");
-    assert_eq!(rt; bo.leaves(hall), Some(LEFT_FOR_BO));
-    assert!(rt; al.says_all(alloc, hall, &["QUIT"]), "al quits");
-    assert!(rt; sweeps(hall), "al is swept");
-    assert_eq!(rt; al.leaves(hall), Some(LEFT_FOR_AL + 1));
-    assert_eq!(rt; hall.len(), 12);
-    Ok(())
+) -> bool {
+    let Some(mut bo) = enter(rt, alloc, hall, 8) else {
+        return false;
+    };
+    let has_ended = bo.says_all(alloc, hall, &BO) && sweeps(hall);
+    has_ended && bo.leaves(hall) == Some(LEFT_FOR_BO)
+}
+
+/// Al comes, bo comes and goes, and al quits, which is another item, and goes.
+fn meet<L: Naming, O: Made<R, T>, R, T: Drop>(
+    rt: &R,
+    alloc: Global,
+    hall: &mut Hall<L, O>,
+) -> bool {
+    let Some(mut al) = enter(rt, alloc, hall, 8) else {
+        return false;
+    };
+    let has_met = al.says_all(alloc, hall, &AL) && visit(rt, alloc, hall);
+    let has_ended = has_met && al.says_all(alloc, hall, &["QUIT"]) && sweeps(hall);
+    has_ended && al.leaves(hall) == Some(LEFT_FOR_AL + 1) && hall.len() == 12
 }
 
 /// A hall is made, in which they meet. A growth that is refused in making it is told as want of memory.
@@ -53,7 +61,7 @@ fn meet_in_a_hall<L: Naming, O: Made<R, T>, R: Abort, T: Drop>(
 {
     match hall_of::<L, O>(alloc, register, 2, 16) {
         Ok(mut hall) => {
-            meet(rt, alloc, &mut hall)?;
+            assert!(rt; meet(rt, alloc, &mut hall), "two who meet");
             Ok(true)
         }
         Err(fault) => {

@@ -196,7 +196,60 @@ fn leaves<L: Naming, R: Wait + Drop + Abort>(
     assert_eq!(rt; guest.leaves(hall), Some(LINES - TAKEN as u64 + 1));
 }
 
+/// What is said.
+#[derive(Drop)]
+struct Lines {
+    one: Piece,
+    two: Piece,
+    quit: Piece,
+}
+
+impl Lines {
+    fn new(alloc: Global) -> Result<Lines, AllocError> {
+        Ok(Lines {
+            one: line(alloc, "PRIVMSG #a :one")?,
+            two: line(alloc, "PRIVMSG #a :two")?,
+            quit: line(alloc, "QUIT")?,
+        })
+    }
+}
+
+/// Both quit and are swept, and nobody else is to be swept.
+fn end_both<L: Naming, R: Wait + Drop>(
+    hall: &mut Hall<L, Sender<R>>,
+    al: &mut Served<L, Sender<R>, Writer>,
+    bo: &mut Served<L, Sender<R>, Writer>,
+    quit: &Piece,
+) -> bool {
+    let has_ended = al.guest.says(hall, quit) && bo.guest.says(hall, quit);
+    has_ended && sweeps(hall) && sweeps(hall) && !sweeps(hall)
+}
+
 /// Each says its lines while what comes of them is taken; then both quit, are swept and reaped.
+fn speak<L: Naming + Send + Sync, R: Threads + Wait + Abort + Copy + Drop + Send + Sync>(
+    rt: &R,
+    alloc: Global,
+    mut hall: Hall<L, Sender<R>>,
+    lines: &Lines,
+) {
+    let (al, bo) = meet(rt, alloc, &mut hall).expect(rt, "two who meet");
+    let (first, second) = (al.baton.session(), bo.baton.session());
+    let lock = Mutex::new(hall);
+    let (mut al, mut bo) = join(
+        rt,
+        || serve(rt, alloc, &lock, al, &lines.one),
+        || serve(rt, alloc, &lock, bo, &lines.two),
+    );
+    let mut hall = lock.into_inner();
+    assert!(rt;
+        end_both(&mut hall, &mut al, &mut bo, &lines.quit),
+        "two ends"
+    );
+    leaves(rt, &mut hall, al, second, &lines.two);
+    leaves(rt, &mut hall, bo, first, &lines.one);
+}
+
+/// They speak in a hall for two.
 fn four_threads<L: Naming + Send + Sync, R: Threads + Wait + Abort + Copy + Drop + Send + Sync>(
     rt: &R,
     alloc: Global,
@@ -205,25 +258,11 @@ fn four_threads<L: Naming + Send + Sync, R: Threads + Wait + Abort + Copy + Drop
     requires named { register.table ≡ L.table }
     requires empty { register.rows ≡ [] }
 {
-    let Ok(mut hall) = hall_of::<L, Sender<R>>(alloc, register, 2, RECORDS) else {
+    let lines = Lines::new(alloc)?;
+    let Ok(hall) = hall_of::<L, Sender<R>>(alloc, register, 2, RECORDS) else {
         return Err("a hall".into());
     };
-    let (al, bo) = meet(rt, alloc, &mut hall).ok_or("two who meet")?;
-    let one = line(alloc, "PRIVMSG #a :one")?;
-    let two = line(alloc, "PRIVMSG #a :two")?;
-    let (first, second) = (al.baton.session(), bo.baton.session());
-    let lock = Mutex::new(hall);
-    let (mut al, mut bo) = join(
-        rt,
-        || serve(rt, alloc, &lock, al, &one),
-        || serve(rt, alloc, &lock, bo, &two),
-    );
-    let mut hall = lock.into_inner();
-    let quit = line(alloc, "QUIT")?;
-    assert!(rt; al.guest.says(&mut hall, &quit) && bo.guest.says(&mut hall, &quit));
-    assert!(rt; sweeps(&mut hall) && sweeps(&mut hall) && !sweeps(&mut hall));
-    leaves(rt, &mut hall, al, second, &two);
-    leaves(rt, &mut hall, bo, first, &one);
+    speak(rt, alloc, hall, &lines);
     Ok(())
 }
 
