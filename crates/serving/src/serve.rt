@@ -1,5 +1,6 @@
 //! Accepting connections.
 ghost use Rattle.std.specs.Prelude.{◌≡◌, ◌<◌, ◌≤◌, []};
+ghost use Rattle.serving.specs.declared.serve.ServeFault.TheVariants.{Memory};
 
 use crate::clock::SystemClock;
 use crate::connections::Connections;
@@ -30,7 +31,7 @@ pub enum ServeFault {
 }
 
 impl From<AllocError> for ServeFault {
-    ghost from_gives = { λ e b. b ≡ ServeFault.Memory };
+    ghost from_gives = { λ _ b. b ≡ Memory };
 
     fn from(_error: AllocError) -> ServeFault {
         ServeFault::Memory

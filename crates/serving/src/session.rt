@@ -71,6 +71,41 @@ fn open<
     })
 }
 
+/// Writes for a session until its end, and then shuts its stream down, so that its reading ends, too.
+fn write_to_end<
+    L: Naming + Send + Sync,
+    R: Threads + Wait + Clock + Copy + Drop + Send + Sync,
+    G: Gate + Sync,
+>(
+    rt: &R,
+    alloc: Global,
+    server: &Serving<'_, L, R, G>,
+    session: SessionId,
+    stream: &TcpStream,
+    outlet: &Outlet<L, Shared>,
+) {
+    write_on(rt, alloc, server, session, outlet);
+    let _ = stream.shutdown(Shutdown::Both);
+}
+
+/// Reads for a session until its end.
+fn read_to_end<
+    L: Naming + Send + Sync,
+    R: Threads + Wait + Clock + Copy + Drop + Send + Sync,
+    G: Gate + Sync,
+>(
+    rt: &R,
+    alloc: Global,
+    server: &Serving<'_, L, R, G>,
+    baton: Baton<L, Sender<R>>,
+    stream: &TcpStream,
+) -> Baton<L, Sender<R>>
+    ensures { result.session ≡ baton.session }
+{
+    let mut input = stream;
+    read_on(rt, alloc, server, baton, &mut input).baton
+}
+
 /// Reads and writes for a session in two threads, until both ends are done.
 fn talk<
     L: Naming + Send + Sync,
@@ -91,14 +126,12 @@ fn talk<
         let started = Builder::new()
             .stack_size(STACK)
             .spawn_scoped(scope, move || {
-                write_on(rt, alloc, server, session, outlet);
-                let _ = stream.shutdown(Shutdown::Both);
+                write_to_end(rt, alloc, server, session, stream, outlet)
             });
         if started.is_err() {
             hang(rt, server, session, Why::Memory, &mut Told::new(alloc));
         }
-        let mut input = stream;
-        read_on(rt, alloc, server, baton, &mut input).baton
+        read_to_end(rt, alloc, server, baton, stream)
     })
 }
 
