@@ -25,8 +25,8 @@ const TAKEN: usize = 90_000;
 /// Room for all items at once, so that nobody is missed however the threads run.
 const CAP: usize = 100_010;
 
-/// All records: two sessions with three lines before, and a quit and an end after.
-const RECORDS: usize = 200_012;
+/// Room for all records, and for those that are kept free for the ends while both quit.
+const RECORDS: usize = 200_016;
 
 /// How many records there are when both have met.
 const MET: u64 = 8;
