@@ -6,7 +6,7 @@ use hall::{Naming, Told};
 use indexmap::IndexMap;
 use std::alloc::{AllocError, Global};
 use std::io::Write;
-use std::net::TcpStream;
+use std::net::{Shutdown, TcpStream};
 use std::sync::atomic::{AtomicBool, Ordering};
 use std::sync::{Arc, RwLock, Wait};
 use std::time::{Clock, Duration};
@@ -45,16 +45,23 @@ impl Write for Shared {
 #[derive(Drop)]
 pub(crate) struct Connection<L: Naming> {
     pub(crate) outlet: Outlet<L, Shared>,
+    pub(crate) stream: Arc<TcpStream>,
     is_shut: AtomicBool,
 }
 
 impl<L: Naming> Connection<L> {
-    /// The connection of a session that has this outlet.
-    pub(crate) fn new(outlet: Outlet<L, Shared>) -> Connection<L> {
+    /// The connection of a session that has this outlet, over this stream.
+    pub(crate) fn new(outlet: Outlet<L, Shared>, stream: Arc<TcpStream>) -> Connection<L> {
         Connection {
             outlet,
+            stream,
             is_shut: AtomicBool::new(false),
         }
+    }
+
+    /// Ends the stream in both directions.
+    pub(crate) fn end(&self) {
+        let _ = self.stream.shutdown(Shutdown::Both);
     }
 
     fn shut(&self) {

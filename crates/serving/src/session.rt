@@ -10,7 +10,7 @@ use hall::{Baton, Naming, Stub, Told};
 use line_grammar::Octets;
 use outbox::{ChannelName, Sender, Writer, pair};
 use std::alloc::Global;
-use std::net::{Shutdown, SocketAddr, TcpStream};
+use std::net::{SocketAddr, TcpStream};
 use std::sync::{Arc, Wait};
 use std::thread;
 use std::thread::{Builder, Threads};
@@ -47,11 +47,12 @@ fn open<
     alloc: Global,
     server: &Serving<'_, L, R, G>,
     sendq: usize,
+    stream: Arc<TcpStream>,
     peer: SocketAddr,
 ) -> Option<Opened<L, R>> {
     let (sender, writer) = pair(*rt, alloc, sendq).ok()?;
     let outlet = Outlet::new(sender.bell().again().ok()?);
-    let connection = Arc::new(alloc, Connection::new(outlet)).ok()?;
+    let connection = Arc::new(alloc, Connection::new(outlet, stream)).ok()?;
     let again = Arc::try_clone(&connection).ok()?;
     let host = host_of(alloc, peer)?;
     let told = host.clone().ok()?;
@@ -81,11 +82,10 @@ fn write_to_end<
     alloc: Global,
     server: &Serving<'_, L, R, G>,
     session: SessionId,
-    stream: &TcpStream,
-    outlet: &Outlet<L, Shared>,
+    connection: Arc<Connection<L>>,
 ) {
-    write_on(rt, alloc, server, session, outlet);
-    let _ = stream.shutdown(Shutdown::Both);
+    write_on(rt, alloc, server, session, &connection.outlet);
+    connection.end();
 }
 
 /// Reads for a session until its end.
@@ -98,11 +98,11 @@ fn read_to_end<
     alloc: Global,
     server: &Serving<'_, L, R, G>,
     baton: Baton<L, Sender<R>>,
-    stream: &TcpStream,
+    connection: &Connection<L>,
 ) -> Baton<L, Sender<R>>
     ensures { result.session ≡ baton.session }
 {
-    let mut input = stream;
+    let mut input = &*connection.stream;
     read_on(rt, alloc, server, baton, &mut input).baton
 }
 
@@ -116,22 +116,21 @@ fn talk<
     alloc: Global,
     server: &Serving<'_, L, R, G>,
     baton: Baton<L, Sender<R>>,
-    stream: &TcpStream,
-    outlet: &Outlet<L, Shared>,
+    connection: &Connection<L>,
+    again: Arc<Connection<L>>,
 ) -> Baton<L, Sender<R>>
     ensures { result.session ≡ baton.session }
 {
     let session = baton.session();
     thread::scope(thread::scope_env(), rt, |scope| {
-        let started = Builder::new()
-            .stack_size(STACK)
-            .spawn_scoped(scope, move || {
-                write_to_end(rt, alloc, server, session, stream, outlet)
-            });
+        let started = Builder::new().stack_size(STACK).spawn_scoped(
+            scope,
+            move || write_to_end(rt, alloc, server, session, again),
+        );
         if started.is_err() {
             hang(rt, server, session, Why::Memory, &mut Told::new(alloc));
         }
-        read_to_end(rt, alloc, server, baton, stream)
+        read_to_end(rt, alloc, server, baton, connection)
     })
 }
 
@@ -166,13 +165,7 @@ fn serve_opened<
     L: Naming + Send + Sync,
     R: Threads + Wait + Clock + Copy + Drop + Send + Sync,
     G: Gate + Sync,
->(
-    rt: &R,
-    alloc: Global,
-    server: &Serving<'_, L, R, G>,
-    opened: Opened<L, R>,
-    stream: &Arc<TcpStream>,
-) {
+>(rt: &R, alloc: Global, server: &Serving<'_, L, R, G>, opened: Opened<L, R>) {
     let Opened {
         baton,
         stub,
@@ -181,15 +174,15 @@ fn serve_opened<
         host,
     } = opened;
     let session = baton.session();
-    let Some(shared) = Shared::of(stream) else {
+    let (Some(shared), Ok(again)) = (Shared::of(&connection.stream), Arc::try_clone(&connection))
+    else {
         return give_up(rt, alloc, server, baton, stub, writer);
     };
     match Wire::new(alloc, writer, stub, shared, host) {
         Ok(wire) => {
-            let outlet = &connection.outlet;
-            outlet.open(rt, wire);
-            let baton = talk(rt, alloc, server, baton, stream, outlet);
-            if let Some((writer, stub)) = outlet.end(rt, session) {
+            connection.outlet.open(rt, wire);
+            let baton = talk(rt, alloc, server, baton, &connection, again);
+            if let Some((writer, stub)) = connection.outlet.end(rt, session) {
                 let _ = close_up(rt, alloc, server, baton, stub, writer);
             }
         }
@@ -215,9 +208,9 @@ pub(crate) fn serve<
     let Ok(stream) = Arc::new(alloc, stream) else {
         return;
     };
-    if let Some(opened) = open(rt, alloc, server, sendq, peer) {
+    if let Some(opened) = open(rt, alloc, server, sendq, stream, peer) {
         let session = opened.baton.session();
-        serve_opened(rt, alloc, server, opened, &stream);
+        serve_opened(rt, alloc, server, opened);
         server.sockets.remove(session);
     }
 }
