@@ -56,8 +56,12 @@ pub fn open<L: Naming, R: Wait + Drop + Copy>(
     alloc: Global,
     hall: &Mutex<Hall<L, Sender<R>>>,
 ) -> Option<Tokens<L, R>> {
-    let (sender, writer) = pair(*rt, alloc, 16).ok()?;
-    let host = Octets::copied(alloc, b"h1").ok()?;
+    let Ok((sender, writer)) = pair(*rt, alloc, 16) else {
+        return None;
+    };
+    let Ok(host) = Octets::copied(alloc, b"h1") else {
+        return None;
+    };
     if !is_host(host.as_slice()) {
         return None;
     }

@@ -1,5 +1,6 @@
 //! The threads of one session.
-ghost use Rattle.std.specs.Prelude.{◌≡◌, Some};
+ghost use Rattle.std.specs.Prelude.{◌≡◌, true, Some, IfSome};
+ghost use Rattle.casemapping.specs.Names.{host_shape};
 
 use crate::clock::SystemClock;
 use crate::connections::{Connection, Connections, Shared};
@@ -8,7 +9,7 @@ use chronicle::{SessionId, Why};
 use crew::{Gate, Outlet, Server, Sockets, close_up, hang, moment_in, read_on, write_on};
 use hall::{Baton, Naming, Stub, Told};
 use line_grammar::Octets;
-use outbox::{ChannelName, Sender, Writer, pair};
+use outbox::{Bell, ChannelName, Sender, Writer, pair};
 use std::alloc::Global;
 use std::net::{SocketAddr, TcpStream};
 use std::sync::{Arc, Wait};
@@ -37,6 +38,32 @@ struct Opened<L: Naming, R: Wait + Drop> {
     ghost own: { stub.outbox ≡ Some writer.channel },
 }
 
+/// The connection of a session whose writer rests by this bell.
+fn connection_of<L: Naming>(
+    alloc: Global,
+    bell: &Bell,
+    stream: Arc<TcpStream>,
+) -> Option<Arc<Connection<L>>> {
+    let Ok(bell) = bell.again() else {
+        return None;
+    };
+    match Arc::new(alloc, Connection::new(Outlet::new(bell), stream)) {
+        Ok(connection) => Some(connection),
+        Err(_) => None,
+    }
+}
+
+/// The host of a peer, twice.
+fn host_twice(alloc: Global, peer: SocketAddr) -> Option<(Octets, Octets)>
+    ensures { IfSome result (λ hosts. host_shape hosts.0 ≡ true) }
+{
+    let host = host_of(alloc, peer)?;
+    match host.clone() {
+        Ok(again) => Some((host, again)),
+        Err(_) => None,
+    }
+}
+
 /// Opens a session for a peer, where the server takes one.
 fn open<
     L: Naming + Send + Sync,
@@ -50,26 +77,32 @@ fn open<
     stream: Arc<TcpStream>,
     peer: SocketAddr,
 ) -> Option<Opened<L, R>> {
-    let (sender, writer) = pair(*rt, alloc, sendq).ok()?;
-    let outlet = Outlet::new(sender.bell().again().ok()?);
-    let connection = Arc::new(alloc, Connection::new(outlet, stream)).ok()?;
-    let again = Arc::try_clone(&connection).ok()?;
-    let host = host_of(alloc, peer)?;
-    let told = host.clone().ok()?;
+    let Ok((sender, writer)) = pair(*rt, alloc, sendq.max(1)) else {
+        return None;
+    };
+    let connection = connection_of(alloc, sender.bell(), stream)?;
+    let Ok(again) = Arc::try_clone(&connection) else {
+        return None;
+    };
+    let (host, told) = host_twice(alloc, peer)?;
     let mut hall = server.hall.lock(rt);
     if server.sockets.is_stopping() || server.sockets.make_room().is_err() {
         return None;
     }
     let moment = moment_in(&*hall, server.clock);
-    let (session, baton, stub) = hall.open(host, moment, sender).ok()?;
-    server.sockets.add(session, again);
-    Some(Opened {
-        baton,
-        stub,
-        writer,
-        connection,
-        host: told,
-    })
+    match hall.open(host, moment, sender) {
+        Ok((session, baton, stub)) => {
+            server.sockets.add(session, again);
+            Some(Opened {
+                baton,
+                stub,
+                writer,
+                connection,
+                host: told,
+            })
+        }
+        Err(_) => None,
+    }
 }
 
 /// Writes for a session until its end, and then shuts its stream down, so that its reading ends, too.
