@@ -1,0 +1,135 @@
+//! What stands for gates, connections, a clock and a client's input.
+use chronicle::{Moment, SessionId};
+use crew::{Clock, Gate, Sockets};
+use hall::Told;
+use std::io::{ErrorKind, Read};
+use std::sync::atomic::{AtomicBool, AtomicU64, Ordering};
+use std::time::Duration;
+use std::{io, thread, time};
+
+/// How often a wait looks before it gives up.
+pub const TURNS: u32 = 10_000;
+
+/// Waits a little between two looks.
+pub fn rest<R: time::Clock>(rt: &R) {
+    thread::sleep(rt, Duration::from_micros(100));
+}
+
+/// A gate that is always open.
+#[derive(Drop)]
+pub struct Open;
+
+impl Gate for Open {
+    fn enter(&self, _session: SessionId) {}
+
+    fn leave(&self, _session: SessionId) {}
+}
+
+/// A gate by which the first session leaves when another was answered, or gives up.
+#[derive(Drop)]
+pub struct Turnstile<R: time::Clock + Drop> {
+    rt: R,
+    first: SessionId,
+    pub is_answered: AtomicBool,
+    pub has_given_up: AtomicBool,
+}
+
+impl<R: time::Clock + Drop> Turnstile<R> {
+    /// A gate by which this session leaves when another was answered.
+    pub fn new(rt: R, first: SessionId) -> Turnstile<R> {
+        Turnstile {
+            rt,
+            first,
+            is_answered: AtomicBool::new(false),
+            has_given_up: AtomicBool::new(false),
+        }
+    }
+}
+
+impl<R: time::Clock + Drop> Gate for Turnstile<R> {
+    fn enter(&self, _session: SessionId) {}
+
+    fn leave(&self, session: SessionId) {
+        if session != self.first {
+            return;
+        }
+        for _ in 0..TURNS {
+            if self.is_answered.load(Ordering::SeqCst) {
+                return;
+            }
+            rest(&self.rt);
+        }
+        self.has_given_up.store(true, Ordering::SeqCst);
+    }
+}
+
+/// Connections of which is noted who was shut, and whether the server is to stop.
+#[derive(Drop)]
+pub struct Noted {
+    shut: AtomicU64,
+    pub is_stopped: AtomicBool,
+}
+
+impl Noted {
+    /// Nobody is shut.
+    pub fn new() -> Noted {
+        Noted {
+            shut: AtomicU64::new(0),
+            is_stopped: AtomicBool::new(false),
+        }
+    }
+}
+
+/// The bit of a session.
+fn bit_of(session: SessionId) -> u64 {
+    1 << (session.number() % 64)
+}
+
+impl Sockets for Noted {
+    fn shut(&self, session: SessionId) {
+        self.shut.fetch_or(bit_of(session), Ordering::SeqCst);
+    }
+
+    fn is_shut(&self, session: SessionId) -> bool {
+        self.shut.load(Ordering::SeqCst) & bit_of(session) != 0
+    }
+
+    fn tell(&self, _by: SessionId, _told: &Told) {}
+
+    fn pause(&self) {
+        thread::yield_now();
+    }
+
+    fn stop(&self) {
+        self.is_stopped.store(true, Ordering::SeqCst);
+    }
+}
+
+/// A clock that stands.
+#[derive(Drop)]
+pub struct Still;
+
+impl Clock for Still {
+    fn now(&self) -> Moment {
+        Moment::new(0)
+    }
+}
+
+/// A client's input, which comes in parts of seven octets, and then fails.
+#[derive(Drop)]
+pub struct Torn<'a> {
+    pub octets: &'a [u8],
+}
+
+impl Read for Torn<'_> {
+    fn read(&mut self, buf: &mut [u8]) -> io::Result<usize> {
+        if self.octets.is_empty() {
+            return Err(io::Error::from(ErrorKind::ConnectionReset));
+        }
+        let count = self.octets.len().min(buf.len()).min(7);
+        let (front, rest) = self.octets.split_at(count);
+        buf[..count].copy_from_slice(front);
+        self.octets = rest;
+        Ok(count)
+    }
+}

@@ -1,0 +1,14 @@
+//! Trials of a server's threads, over readers and writers in memory.
+#![tactic(auto)]
+
+mod fakes;
+mod making;
+#[cfg(test)]
+mod reading;
+#[cfg(test)]
+mod taking;
+#[cfg(test)]
+mod threads;
+
+pub use fakes::{Noted, Open, Still, TURNS, Torn, Turnstile, rest};
+pub use making::{Tokens, ends, hall, hung_for, line, open, work_two, work_under_slot};
