@@ -2,9 +2,9 @@
 ghost use Rattle.std.specs.Prelude.{◌≡◌, []};
 
 use crate::fakes::{Open, TURNS, rest};
-use crate::making::{ends, hall, line, open};
+use crate::making::{Tokens, hall, line, open};
 use chronicle::Moment;
-use crew::{Desk, Job, Outcome, work_one};
+use crew::{Job, Outcome, work_one};
 use deliveries::{Delivery, Item};
 use hall::{Hall, Naming, Register, Told};
 use outbox::{ChannelName, Sender, Writer};
@@ -45,29 +45,31 @@ fn taken_meanwhile<
 {
     let made: Hall<L, Sender<R>> = hall(alloc, register).ok_or("a hall")?;
     let lock = Mutex::new(made);
-    let mut al = open(rt, alloc, &lock).ok_or("a session")?;
-    assert!(rt; al.writer.take_now(rt).is_err(), "nothing waits");
-    let desk = Desk::new(rt, alloc, 2)?;
+    let Tokens {
+        baton,
+        mut writer,
+        ..
+    } = open(rt, alloc, &lock).ok_or("a session")?;
+    let session = baton.session();
+    assert!(rt; writer.take_now(rt).is_err(), "nothing waits");
     let mut told = Told::new(alloc);
     let job = Job {
-        baton: al.baton,
+        baton,
         piece: line(alloc, b"PING x")?,
     };
     let back = work_one(rt, &lock, job, Moment::new(0), &Open, &mut told);
-    al.baton = back.baton;
     assert!(rt; matches!(back.outcome, Outcome::Done(_)), "it is done");
     assert!(rt;
-        told.sessions() == [al.baton.session()].as_slice() && !told.is_all(),
+        told.sessions() == [session].as_slice() && !told.is_all(),
         "one is told"
     );
     let hall = lock.lock(rt);
-    let (item, ()) = join(rt, || take(rt, &mut al.writer), || {});
+    let (item, ()) = join(rt, || take(rt, &mut writer), || {});
     drop(hall);
     assert!(rt;
         says(item, b":irc.example PONG irc.example x\r\n"),
         "it is taken"
     );
-    assert!(rt; ends(rt, alloc, &lock, &desk, al)?, "it is reaped");
     Ok(())
 }
 
