@@ -1,10 +1,16 @@
 //! The program `halld`.
 #![tactic(auto)]
 
+mod script;
+mod start;
+
+use clap::Error;
 use clap::error::ErrorKind;
-use clap::{ArgMatches, Command, Error};
 use halld::{PlayFault, play};
-use std::alloc::{AllocError, Global};
+use script::SCRIPT;
+use serving_options::{Asked, parse};
+use start::{Ended, serve_options};
+use std::alloc::AllocError;
 use std::env;
 use std::fmt::Display;
 use std::io::BufWriter;
@@ -16,43 +22,8 @@ const FAULT: u8 = 1;
 /// The status after a command line that was refused.
 const REFUSED: u8 = 2;
 
-/// What the lines of a script are.
-const SCRIPT: &str = "Headers, before the first step:
-  limit N             records of the journal, 1 to 10000000 (1000000)
-  sendq N             items that wait for a session, 1 to 4096 (256)
-  workers N           workers, 1 to 64 (2)
-  sessions N          open sessions, 1 to 1024 (1024)
-  motd TEXT           one more line of the message of the day
-  account NAME SALT DIGEST
-                      one more account, as a line of an accounts file
-
-Steps of a session S, a worker W and a moment MS:
-  connect HOST MS     open a session
-  feed S \"TEXT\"       give octets to a session
-  pick W S            hand a session's next line to a worker
-  begin W MS          accept the worker's line, and take the lock
-  put W               put the next delivery
-  end W               give the lock and the session back
-  back W              give back a line that wasn't begun
-  take S              take what is next due to a session
-  hang W S WORD MS    end a session: quit, sendq, ended, readfail, writefail, memory or shutdown
-  sweep W MS          say that a session that was shut is gone, and take the lock
-  reap S              give up a session that is gone
-  do S MS             worker 1: pick, begin, put all, end
-  tidy MS             worker 1: sweep, put all, end
-  drain S             take until nothing is left";
-
-/// Reads a command line, whose first word is the program's own name.
-fn parse<'a>(alloc: Global, words: &'a [String]) -> Result<ArgMatches<'a>, Error> {
-    let play = Command::new(alloc, "play")
-        .about("Play a script of steps from standard input and print what each step gave")
-        .after_help(SCRIPT);
-    let command = Command::new(alloc, "halld")
-        .about("An IRC server whose core is proved")
-        .subcommand_required(true)
-        .subcommand(play)?;
-    command.try_get_matches_from(words)
-}
+/// The status where the journal is full.
+const FULL: u8 = 3;
 
 /// Tells of a fault on standard error.
 fn fault<D: Display + Drop>(rt: &impl Eprint, fault: D) -> ExitCode {
@@ -60,7 +31,7 @@ fn fault<D: Display + Drop>(rt: &impl Eprint, fault: D) -> ExitCode {
     ExitCode::from(FAULT)
 }
 
-/// Shows help, or why the command line was refused.
+/// Shows help or the version, or why the command line was refused.
 fn refuse(rt: &(impl Print + Eprint), error: Error) -> ExitCode {
     if error.kind() == ErrorKind::OutOfMemory {
         return fault(rt, PlayFault::Memory);
@@ -87,6 +58,16 @@ fn play_standard(rt: &HostRuntime) -> ExitCode {
     }
 }
 
+/// Tells how a server ended.
+fn tell_ended(rt: &impl Eprint, ended: Ended) -> ExitCode {
+    if ended == Ended::Well {
+        return ExitCode::SUCCESS;
+    }
+    let is_full = ended == Ended::JournalFull;
+    let told = fault(rt, ended);
+    if is_full { ExitCode::from(FULL) } else { told }
+}
+
 fn main(rt: HostRuntime) -> ExitCode {
     let alloc = rt.alloc();
     let Ok(args) = env::args(&rt) else {
@@ -96,8 +77,9 @@ fn main(rt: HostRuntime) -> ExitCode {
     let Ok(words) = words else {
         return fault(&rt, PlayFault::Memory);
     };
-    match parse(alloc, words.as_slice()) {
-        Ok(_) => play_standard(&rt),
+    match parse(alloc, words.as_slice(), SCRIPT) {
+        Ok(Asked::Play) => play_standard(&rt),
+        Ok(Asked::Serve(options)) => tell_ended(&rt, serve_options(&rt, options, rt.stdin())),
         Err(error) => refuse(&rt, error),
     }
 }

@@ -1,0 +1,66 @@
+//! A server that runs while its clients talk.
+use crate::client::Until;
+use crate::gates::Turnstile;
+use crate::talks::{Story, talk};
+use chronicle::Moment;
+use line_grammar::Octets;
+use registration::{Accounts, Settings};
+use serving::serve_on;
+use std::alloc::{AllocError, Global};
+use std::net::{IpAddr, Ipv4Addr, Net, TcpListener, TcpStream};
+use std::sync::atomic::{AtomicBool, Ordering};
+use std::sync::{Arc, Wait};
+use std::thread::Threads;
+use std::time::Clock;
+use std::{io, thread};
+
+/// The settings of a server for 16 sessions.
+fn settings(alloc: Global) -> Result<Settings, AllocError> {
+    Ok(Settings {
+        server: Octets::copied(alloc, b"irc.example")?,
+        info: Octets::copied(alloc, b"halld")?,
+        version: Octets::copied(alloc, b"halld-1")?,
+        created: Moment::new(0),
+        motd: None,
+        accounts: Accounts::new(alloc),
+        sessions: 16,
+    })
+}
+
+/// Whether a server with two workers ends well, after clients heard what they should.
+pub(crate) fn is_served<R>(
+    rt: &R,
+    alloc: Global,
+    gate: &Turnstile<R>,
+    story: Story,
+) -> io::Result<bool>
+where
+    R: Threads + Wait + Clock + Net<Listener = TcpListener, Stream = TcpStream>,
+    R: Copy + Drop + Send + Sync + 'static,
+{
+    let listener = TcpListener::bind(rt, (IpAddr::V4(Ipv4Addr::new(127, 0, 0, 1)), 0))?;
+    let address = listener.local_addr()?;
+    let settings = settings(alloc)?;
+    let Ok(has_ended) = Arc::new(alloc, AtomicBool::new(false)) else {
+        return Ok(false);
+    };
+    let Ok(again) = Arc::try_clone(&has_ended) else {
+        return Ok(false);
+    };
+    let stop = Until {
+        rt: *rt,
+        has_ended: again,
+    };
+    let served = thread::scope(thread::scope_env(), rt, |scope| {
+        let serving = scope.spawn(move || {
+            serve_on(rt, alloc, listener, settings, 1000, 2, 16, gate, stop).is_ok()
+        });
+        let heard = talk(rt, alloc, address, gate, story).unwrap_or(false);
+        has_ended.store(true, Ordering::SeqCst);
+        match serving {
+            Ok(serving) => serving.join(rt) && heard,
+            Err(_) => false,
+        }
+    });
+    Ok(served)
+}

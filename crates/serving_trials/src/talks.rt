@@ -1,0 +1,101 @@
+//! What clients say, and what they have to hear.
+use crate::client::Client;
+use crate::gates::Turnstile;
+use crate::running::is_served;
+use std::alloc::Global;
+use std::io;
+use std::net::{Net, SocketAddr, TcpStream};
+use std::test::Fail;
+use std::time::Clock;
+
+/// What is talked about.
+#[derive(Clone, Copy)]
+pub(crate) enum Story {
+    /// Two people are in a channel; one speaks, the other leaves.
+    TwoPeople,
+    /// Two ask at once, each of whose lines has to wait for the other's.
+    AtOnce,
+}
+
+/// A client that has registered.
+fn registered<R: Net<Stream = TcpStream>>(
+    rt: &R,
+    alloc: Global,
+    address: SocketAddr,
+    lines: &[u8],
+) -> io::Result<Option<Client>> {
+    let mut client = Client::connect(rt, alloc, address)?;
+    client.send(lines)?;
+    if client.hears_end(alloc, b":MOTD File is missing\r\n")? {
+        Ok(Some(client))
+    } else {
+        Ok(None)
+    }
+}
+
+/// Whether two people in a channel hear each other, octet for octet, and who leaves is seen to.
+fn two_people(alloc: Global, al: &mut Client, bo: &mut Client) -> io::Result<bool> {
+    al.send(b"JOIN #a\r\n")?;
+    let al_is_in = al.hears(alloc, b":al!a@127.0.0.1 JOIN #a")?
+        && al.hears(alloc, b":irc.example 353 al = #a :@al")?
+        && al.hears(alloc, b":irc.example 366 al #a :End of NAMES list")?;
+    bo.send(b"JOIN #a\r\n")?;
+    let bo_is_in = bo.hears(alloc, b":bo!b@127.0.0.1 JOIN #a")?
+        && bo.hears(alloc, b":irc.example 353 bo = #a :@al bo")?
+        && bo.hears(alloc, b":irc.example 366 bo #a :End of NAMES list")?
+        && al.hears(alloc, b":bo!b@127.0.0.1 JOIN #a")?;
+    bo.send(b"PRIVMSG #a :hi \xFF\xFE\r\n")?;
+    let is_heard = al.hears(alloc, b":bo!b@127.0.0.1 PRIVMSG #a :hi \xFF\xFE")?;
+    al.send(b"QUIT\r\n")?;
+    let is_told = al.hears(alloc, b"ERROR :Closing Link: 127.0.0.1 (Client Quit)")?;
+    let is_seen = bo.hears(alloc, b":al!a@127.0.0.1 QUIT :Client Quit")?;
+    Ok(al_is_in && bo_is_in && is_heard && is_told && is_seen)
+}
+
+/// Whether both are answered, though a gate lets the line of one go only with that of the other.
+fn at_once<R: Clock + Drop>(
+    alloc: Global,
+    gate: &Turnstile<R>,
+    al: &mut Client,
+    bo: &mut Client,
+) -> io::Result<bool> {
+    gate.close();
+    al.send(b"PING x\r\n")?;
+    bo.send(b"PING y\r\n")?;
+    let are_answered = al.hears(alloc, b":irc.example PONG irc.example x")?
+        && bo.hears(alloc, b":irc.example PONG irc.example y")?;
+    Ok(are_answered && gate.has_served())
+}
+
+/// Whether all is heard as it should be.
+pub(crate) fn talk<R: Clock + Drop + Net<Stream = TcpStream>>(
+    rt: &R,
+    alloc: Global,
+    address: SocketAddr,
+    gate: &Turnstile<R>,
+    story: Story,
+) -> io::Result<bool> {
+    let al = registered(rt, alloc, address, b"NICK al\r\nUSER a 0 * :Al\r\n")?;
+    let bo = registered(rt, alloc, address, b"NICK bo\r\nUSER b 0 * :Bo\r\n")?;
+    let (Some(mut al), Some(mut bo)) = (al, bo) else {
+        return Ok(false);
+    };
+    match story {
+        Story::TwoPeople => two_people(alloc, &mut al, &mut bo),
+        Story::AtOnce => at_once(alloc, gate, &mut al, &mut bo),
+    }
+}
+
+#[test]
+fn two_people_talk_over_the_loopback(rt: HostRuntime) -> Result<(), Fail> {
+    let gate = Turnstile::new(rt);
+    assert!(rt; is_served(&rt, rt.alloc(), &gate, Story::TwoPeople)?);
+    Ok(())
+}
+
+#[test]
+fn lines_of_two_are_done_at_once(rt: HostRuntime) -> Result<(), Fail> {
+    let gate = Turnstile::new(rt);
+    assert!(rt; is_served(&rt, rt.alloc(), &gate, Story::AtOnce)?);
+    Ok(())
+}
