@@ -89,6 +89,29 @@ const FULL: [Act; 19] = [
     Act::Reap(2, 0),
 ];
 
+/// Al and bo meet, and bo, whose outbox is for one item, doesn't take what its own `JOIN` is answered: al's text is missed.
+const FULL_AT_ONE: [Act; 19] = [
+    Act::Open(1),
+    Act::Line(1, 2, "NICK al", &[]),
+    Act::Line(1, 3, "USER a 0 * :Al", &[]),
+    Act::TakeFirst(1, 3, WELCOME_AL),
+    Act::Open(2),
+    Act::Line(2, 5, "NICK bo", &[]),
+    Act::Line(2, 6, "USER b 0 * :Bo", &[]),
+    Act::TakeFirst(2, 6, WELCOME_BO),
+    Act::Line(1, 7, "JOIN #a", &[]),
+    Act::Take(1, 7, AL_ON_A),
+    Act::InSteps(2, 8, "JOIN #a", &[Fate::Put(2), Fate::Put(1)]),
+    Act::Take(1, 8, ":bo!b@h2 JOIN #a\r\n"),
+    Act::InSteps(1, 9, "PRIVMSG #a :hi", &[Fate::Missed(2)]),
+    Act::IsShut(2),
+    Act::Take(2, 8, BO_ON_A),
+    Act::Nothing(2),
+    Act::SweepInSteps(2, 10, &[Fate::Put(1)]),
+    Act::Take(1, 10, ":bo!b@h2 QUIT :Max SendQ exceeded\r\n"),
+    Act::Reap(2, 0),
+];
+
 /// Of two who hear al, one takes in time.
 const ONE_IS_SLOW: [Act; 14] = [
     Act::Line(1, 13, "PRIVMSG #a :one", &[]),
@@ -317,6 +340,7 @@ fn of_nobody(limit: usize, cap: usize, then: &'static [Act]) -> Story {
 #[test]
 fn who_does_not_take_is_shut(rt: HostRuntime) {
     tell(&rt, rt.alloc(), &of_two(40, 2, &FULL));
+    tell(&rt, rt.alloc(), &of_nobody(40, 1, &FULL_AT_ONE));
 }
 
 #[test]

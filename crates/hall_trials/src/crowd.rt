@@ -13,10 +13,10 @@ use std::marker::Brand;
 use std::process::Abort;
 use std::test::Fail;
 
-const SESSIONS: u64 = 10_000;
+const SESSIONS: u64 = 100_000;
 
 /// Six records a session at most.
-const RECORDS: usize = 60_000;
+const RECORDS: usize = 600_000;
 
 /// What each says.
 #[derive(Drop)]
@@ -106,13 +106,13 @@ fn come_and_go<L: Naming, O: Made<R, T>, R: Abort, T: Drop>(
 }
 
 #[test]
-fn ten_thousand_come_and_go_over_rings(rt: HostRuntime) -> Result<(), Fail> {
+fn a_hundred_thousand_come_and_go_over_rings(rt: HostRuntime) -> Result<(), Fail> {
     let register = new_register(rt.alloc())?;
     come_and_go::<Brand, Ring, HostRuntime, ()>(&rt, rt.alloc(), register)
 }
 
 #[test]
-fn ten_thousand_come_and_go_over_channels(rt: HostRuntime) -> Result<(), Fail> {
+fn a_hundred_thousand_come_and_go_over_channels(rt: HostRuntime) -> Result<(), Fail> {
     let register = new_register(rt.alloc())?;
     come_and_go::<Brand, Sender<HostRuntime>, HostRuntime, Writer>(&rt, rt.alloc(), register)
 }

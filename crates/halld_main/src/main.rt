@@ -11,10 +11,10 @@ use script::SCRIPT;
 use serving_options::{Asked, parse};
 use start::{Ended, serve_options};
 use std::alloc::AllocError;
-use std::env;
 use std::fmt::Display;
 use std::io::BufWriter;
 use std::process::ExitCode;
+use std::{env, io};
 
 /// The status after a fault.
 const FAULT: u8 = 1;
@@ -70,8 +70,13 @@ fn tell_ended(rt: &impl Eprint, ended: Ended) -> ExitCode {
 
 fn main(rt: HostRuntime) -> ExitCode {
     let alloc = rt.alloc();
-    let Ok(args) = env::args(&rt) else {
-        return fault(&rt, PlayFault::Memory);
+    let args = match env::args(&rt) {
+        Ok(args) => args,
+        Err(error) if error.kind() == io::ErrorKind::InvalidData => {
+            let _ = eprintln!(&rt; "error: a word of the command line isn't UTF-8");
+            return ExitCode::from(REFUSED);
+        }
+        Err(_) => return fault(&rt, PlayFault::Memory),
     };
     let words: Result<Vec<String>, AllocError> = args.collect(alloc);
     let Ok(words) = words else {

@@ -2,7 +2,7 @@
 use chronicle::Moment;
 use crew::Clock;
 use line_grammar::Octets;
-use registration::{AccountFault, Accounts, Motd, Settings};
+use registration::{AccountFault, Accounts, Motd, Settings, is_well_set};
 use serving::{OpenGate, ServeFault, SystemClock, serve_on};
 use serving_options::{FileFault, ServeOptions, accounts_of, content_of, motd_of};
 use std::alloc::{AllocError, Global};
@@ -150,6 +150,9 @@ where
         return Err(Ended::NotListening(options.tcp));
     };
     let settings = settings(rt, options.name, accounts, motd)?;
+    if !is_well_set(&settings) {
+        return Err(Ended::Settings);
+    }
     let address = listener.local_addr().unwrap_or(options.tcp);
     let _ = eprintln!(rt; "halld: listening on {address}");
     let (limit, workers, sendq) = (options.limit, options.workers, options.sendq);
