@@ -1,6 +1,5 @@
 use Rattle.std.proofs.Common.{◌≡◌, List, [], ℕ, true, false, Some, refl, ap, ◌∙◌, subst}
 use Rattle.wire.specs.Gathering.{gathered_contents}
-use Rattle.wire.specs.declared.begun.Begun.{Begun}
 use Rattle.wire.specs.Wired.{Wired, texts, rest_of, GoesOut}
 use Rattle.wire.proofs.Going.{out_more}
 use Rattle.wire.proofs.wire.Wire.write_begun.Goals as goal
