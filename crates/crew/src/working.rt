@@ -243,9 +243,10 @@ fn work_all<L: Naming, R: Wait + Drop, G: Gate, S: Sockets, C: Clock>(
 }
 
 /// Does pieces of a session in turn, each under a slot, until one is refused or no slot comes. After each it shuts who was shut.
-/// Who got something is rung for when all are done, and before where many are told; so is whoever stood in `told`, which is empty
-/// then. A slot is held from one piece to the next, and given back before anybody is rung for. Where memory is wanting, for the copy of a piece too, the session is ended with that reason; where there is
-/// no room for a record, it is ended with Shutdown, and the server is asked to stop.
+/// A slot is held from one piece to the next, and given back before anybody is rung for. Who got something is rung for when all are
+/// done, and before where many are told; so is whoever stood in `told`, which is empty then. Where memory is wanting, for the copy
+/// of a piece too, the session is ended with that reason; where there is no room for a record, it is ended with Shutdown, and the
+/// server is asked to stop.
 ///
 /// The pieces done with the baton that comes back are those done before, then the first of these pieces, in order; all of them
 /// where `all` is true.
