@@ -40,3 +40,31 @@ impl Desk {
         }
     }
 }
+
+/// The slot that a thread holds, where it holds one. Whoever takes one gives it back.
+#[derive(Clone, Copy, Debug, Drop)]
+pub(crate) struct Held {
+    slot: Option<u64>,
+}
+
+impl Held {
+    /// No slot is held.
+    pub(crate) fn none() -> Held {
+        Held { slot: None }
+    }
+
+    /// Takes a slot where none is held, and waits for one. It answers whether one is held then.
+    pub(crate) fn take<R: Wait>(&mut self, rt: &R, desk: &Desk) -> bool {
+        if self.slot.is_none() {
+            self.slot = desk.slot(rt);
+        }
+        self.slot.is_some()
+    }
+
+    /// Gives the slot back, where one is held.
+    pub(crate) fn give_back<R: Wait>(&mut self, rt: &R, desk: &Desk) {
+        if let Some(slot) = self.slot.take() {
+            desk.back(rt, slot);
+        }
+    }
+}

@@ -2,12 +2,14 @@
 ghost use Rattle.std.specs.Prelude.{◌≡◌, ◌++◌, ◌∷◌, [], true, false};
 ghost use Rattle.crew.specs.Doing.{OnDone, OnRefused, DoesFront};
 
+use crate::desk::Held;
 use crate::server::{Clock, Gate, Server, Sockets, later};
 use chronicle::{Moment, SessionId, Why};
 use hall::{Baton, Done, Hall, LineRefusal, Naming, Told};
 use line_grammar::Piece;
 use outbox::Sender;
-use std::sync::{Mutex, Wait};
+use std::hint::spin_loop;
+use std::sync::{Mutex, MutexGuard, Wait};
 
 /// A line to do.
 #[derive(Drop)]
@@ -42,6 +44,29 @@ pub struct Worked<L: Naming, R: Wait + Drop> {
 /// How many are told at least before what waits for them is written.
 const MANY: usize = 4096;
 
+/// How often a thread looks whether the hall is free before it sleeps.
+const LOOKS: u32 = 50;
+
+/// Pauses of the processor between two looks.
+const PAUSES: u32 = 8;
+
+/// Takes the lock of the hall. It looks for a while whether it is free before it sleeps until it is, since a line is done in less
+/// time than it takes to wake a thread, and only as many threads as there are slots ask for the lock at a time.
+fn lock_soon<'a, L: Naming, R: Wait + Drop>(
+    rt: &R,
+    hall: &'a Mutex<Hall<L, Sender<R>>>,
+) -> MutexGuard<'a, Hall<L, Sender<R>>> {
+    for _ in 0..LOOKS {
+        if let Some(guard) = hall.try_lock() {
+            return guard;
+        }
+        for _ in 0..PAUSES {
+            spin_loop();
+        }
+    }
+    hall.lock(rt)
+}
+
 /// Does a line under the lock, and adds who got something.
 fn under_lock<L: Naming, R: Wait + Drop>(
     rt: &R,
@@ -55,7 +80,7 @@ fn under_lock<L: Naming, R: Wait + Drop>(
     ensures refused { OnRefused result (baton.new ≡ baton.old) }
     ensures session { baton.new.session ≡ baton.old.session }
 {
-    let mut hall = hall.lock(rt);
+    let mut hall = lock_soon(rt, hall);
     let moment = later(moment, hall.last_moment());
     told.begin();
     hall.swap_told(told);
@@ -149,27 +174,29 @@ fn after_refusal<L: Naming, R: Wait + Drop, G: Gate, S: Sockets, C: Clock>(
     }
 }
 
-/// Does one piece under a slot, and shuts who was shut. It rings where many are told by then. All says whether it was done.
+/// Does one piece under the slot that is held, or under one that it takes, and shuts who was shut. Where many are told by then it
+/// gives the slot back and rings. All says whether the piece was done.
 fn work_next<L: Naming, R: Wait + Drop, G: Gate, S: Sockets, C: Clock>(
     rt: &R,
     server: &Server<'_, L, R, G, S, C>,
     job: Job<L, R>,
     told: &mut Told,
+    held: &mut Held,
 ) -> Worked<L, R>
     ensures done { result.all ≡ true → result.baton.pieces ≡ job.baton.pieces ++ job.piece ∷ [] }
     ensures not_done { result.all ≡ false → result.baton.pieces ≡ job.baton.pieces }
     ensures session { result.baton.session ≡ job.baton.session }
 {
     let session = job.baton.session();
-    let Some(slot) = server.desk.slot(rt) else {
+    if !held.take(rt, server.desk) {
         return Worked {
             baton: job.baton,
             all: false,
         };
-    };
+    }
     let back = work_one(rt, server.hall, job, server.clock.now(), server.gate, told);
-    server.desk.back(rt, slot);
     if server.burst <= told.records() || MANY <= told.sessions().len() {
+        held.give_back(rt, server.desk);
         ring_for(server.sockets, session, told);
     }
     let Back { baton, outcome } = back;
@@ -179,6 +206,7 @@ fn work_next<L: Naming, R: Wait + Drop, G: Gate, S: Sockets, C: Clock>(
             Worked { baton, all: true }
         }
         Outcome::Refused(refusal) => {
+            held.give_back(rt, server.desk);
             after_refusal(rt, server, session, refusal, told);
             Worked { baton, all: false }
         }
@@ -192,6 +220,7 @@ fn work_all<L: Naming, R: Wait + Drop, G: Gate, S: Sockets, C: Clock>(
     baton: Baton<L, Sender<R>>,
     pieces: &[Piece],
     told: &mut Told,
+    held: &mut Held,
 ) -> Worked<L, R>
     ensures front { DoesFront baton.pieces result.baton.pieces pieces.now }
     ensures whole { result.all ≡ true → result.baton.pieces ≡ baton.pieces ++ pieces.now }
@@ -200,10 +229,11 @@ fn work_all<L: Naming, R: Wait + Drop, G: Gate, S: Sockets, C: Clock>(
     let mut baton = baton;
     for piece in pieces {
         let Ok(copy) = piece.copy() else {
+            held.give_back(rt, server.desk);
             hang(rt, server, baton.session(), Why::Memory, told);
             return Worked { baton, all: false };
         };
-        let worked = work_next(rt, server, Job { baton, piece: copy }, told);
+        let worked = work_next(rt, server, Job { baton, piece: copy }, told, held);
         if !worked.all {
             return worked;
         }
@@ -213,9 +243,10 @@ fn work_all<L: Naming, R: Wait + Drop, G: Gate, S: Sockets, C: Clock>(
 }
 
 /// Does pieces of a session in turn, each under a slot, until one is refused or no slot comes. After each it shuts who was shut.
-/// Who got something is rung for when all are done, and before where many are told; so is whoever stood in `told`, which is empty
-/// then. Where memory is wanting, for the copy of a piece too, the session is ended with that reason; where there is
-/// no room for a record, it is ended with Shutdown, and the server is asked to stop.
+/// A slot is held from one piece to the next, and given back before anybody is rung for. Who got something is rung for when all are
+/// done, and before where many are told; so is whoever stood in `told`, which is empty then. Where memory is wanting, for the copy
+/// of a piece too, the session is ended with that reason; where there is no room for a record, it is ended with Shutdown, and the
+/// server is asked to stop.
 ///
 /// The pieces done with the baton that comes back are those done before, then the first of these pieces, in order; all of them
 /// where `all` is true.
@@ -231,7 +262,9 @@ pub fn work<L: Naming, R: Wait + Drop, G: Gate, S: Sockets, C: Clock>(
     ensures session { result.baton.session ≡ baton.session }
 {
     let session = baton.session();
-    let worked = work_all(rt, server, baton, pieces, told);
+    let mut held = Held::none();
+    let worked = work_all(rt, server, baton, pieces, told, &mut held);
+    held.give_back(rt, server.desk);
     ring_for(server.sockets, session, told);
     worked
 }

@@ -115,10 +115,11 @@ impl Clock for Still {
     }
 }
 
-/// A client's input, which comes in parts of seven octets, and then fails.
+/// A client's input, which comes in parts of so many octets at most, and then fails.
 #[derive(Drop)]
 pub struct Torn<'a> {
     pub octets: &'a [u8],
+    pub most: usize,
 }
 
 impl Read for Torn<'_> {
@@ -126,7 +127,7 @@ impl Read for Torn<'_> {
         if self.octets.is_empty() {
             return Err(io::Error::from(ErrorKind::ConnectionReset));
         }
-        let count = self.octets.len().min(buf.len()).min(7);
+        let count = self.octets.len().min(buf.len()).min(self.most);
         let (front, rest) = self.octets.split_at(count);
         buf[..count].copy_from_slice(front);
         self.octets = rest;

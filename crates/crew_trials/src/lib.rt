@@ -6,6 +6,8 @@ mod making;
 #[cfg(test)]
 mod reading;
 #[cfg(test)]
+mod refusing;
+#[cfg(test)]
 mod taking;
 #[cfg(test)]
 mod threads;

@@ -8,7 +8,7 @@ use crew::{Desk, Server, Sockets, close_up, read_on};
 use hall::{Hall, Naming, Register};
 use line_grammar::Octets;
 use outbox::{ChannelName, Sender};
-use std::alloc::Global;
+use std::alloc::{AllocError, Global};
 use std::marker::Brand;
 use std::process::Abort;
 use std::sync::{Mutex, Wait};
@@ -22,11 +22,15 @@ const INPUT: &[u8; 24] = b"PING x\r\nPING y\r\nPING zzz";
 const OUTPUT: &[u8; 104] =
     b":irc.example PONG irc.example x\r\n:irc.example PONG irc.example y\r\nERROR :Closing Link: h1 (Read error)\r\n";
 
-/// The input fails in the middle of the third line: two are done and answered, and the session is hung.
+/// An input fails: the lines before that are done and told so, the session is hung by the record of this number, and the only slot
+/// is there again.
 fn torn<L: Naming, R: Wait + Abort + Copy + Drop>(
     rt: &R,
     alloc: Global,
     register: Register<ChannelName>,
+    mut input: Torn<'_>,
+    output: &[u8],
+    records: u64,
 ) -> Result<(), Fail>
     requires named { register.table ≡ L.table }
     requires empty { register.rows ≡ [] }
@@ -53,13 +57,13 @@ fn torn<L: Naming, R: Wait + Abort + Copy + Drop>(
     let Ok(mut wire) = Wire::new(alloc, writer, stub, Vec::new(alloc), host) else {
         return Err("a wire".into());
     };
-    let mut input = Torn { octets: INPUT };
     let worked = read_on(rt, alloc, &server, baton, &mut input);
     assert!(rt; worked.all, "all lines are done");
+    assert!(rt; desk.slot(rt).is_some(), "the slot is there");
     assert_eq!(rt; wire.pump(rt), Ok(Flow::Ended));
-    assert_eq!(rt; wire.stream().as_slice(), OUTPUT.as_slice());
-    assert_eq!(rt; lock.lock(rt).len(), 4);
-    let hung = hung_for(&lock.lock(rt), RecordNumber::new(4));
+    assert_eq!(rt; wire.stream().as_slice(), output);
+    assert_eq!(rt; lock.lock(rt).len(), records);
+    let hung = hung_for(&lock.lock(rt), RecordNumber::new(records));
     assert_eq!(rt; hung, Some((session, Why::ReadFailed)));
     assert!(rt; sockets.is_shut(session), "it is shut");
     if wire.session() != session {
@@ -74,5 +78,44 @@ fn torn<L: Naming, R: Wait + Abort + Copy + Drop>(
 #[test]
 fn a_session_is_hung_where_its_input_fails(rt: HostRuntime) -> Result<(), Fail> {
     let register = Register::new(rt.alloc())?;
-    torn::<Brand, _>(&rt, rt.alloc(), register)
+    let input = Torn {
+        octets: INPUT,
+        most: 7,
+    };
+    torn::<Brand, _>(&rt, rt.alloc(), register, input, OUTPUT, 4)
+}
+
+/// How often the long line comes: more octets than are read at first.
+const LONG_LINES: u64 = 4;
+
+/// Octets that are said so often, each time with a long parameter, and then others.
+fn long_lines(alloc: Global, front: &[u8], end: &[u8]) -> Result<Vec<u8>, AllocError> {
+    let mut octets = Vec::new(alloc);
+    for _ in 0..LONG_LINES {
+        octets.extend_from_slice(front)?;
+        octets.resize(octets.len() + 400, b'a')?;
+        octets.extend_from_slice(b"\r\n")?;
+    }
+    octets.extend_from_slice(end)?;
+    Ok(octets)
+}
+
+#[test]
+fn a_client_that_sends_much_is_read_whole(rt: HostRuntime) -> Result<(), Fail> {
+    let alloc = rt.alloc();
+    let said = long_lines(alloc, b"PING ", b"")?;
+    let told = long_lines(
+        alloc,
+        b":irc.example PONG irc.example ",
+        b"ERROR :Closing Link: h1 (Read error)\r\n",
+    )?;
+    for most in [1, 511, 512, 513, 4096] {
+        let register = Register::new(alloc)?;
+        let input = Torn {
+            octets: &said,
+            most,
+        };
+        torn::<Brand, _>(&rt, alloc, register, input, &told, LONG_LINES + 2)?;
+    }
+    Ok(())
 }

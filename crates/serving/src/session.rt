@@ -1,5 +1,5 @@
 //! The threads of one session.
-ghost use Rattle.std.specs.Prelude.{◌≡◌, true, Some, IfSome};
+ghost use Rattle.std.specs.Prelude.{◌≡◌, true, Some, IfSome, IfErr};
 ghost use Rattle.casemapping.specs.Names.{host_shape};
 
 use crate::clock::SystemClock;
@@ -65,6 +65,7 @@ fn host_twice(alloc: Global, peer: SocketAddr) -> Option<(Octets, Octets)>
 }
 
 /// Opens a session for a peer, where the server takes one.
+#[inline(never)]
 fn open<
     L: Naming + Send + Sync,
     R: Threads + Wait + Clock + Copy + Drop + Send + Sync,
@@ -193,7 +194,51 @@ fn give_up<
     let _ = close_up(rt, alloc, server, baton, stub, writer);
 }
 
-/// Talks with a client over a wire, and gives its session up at the end.
+/// Gives a connection its wire. Where memory is wanting, the writer and the stub come back.
+#[inline(never)]
+fn open_wire<L: Naming, R: Wait>(
+    rt: &R,
+    alloc: Global,
+    writer: Writer,
+    stub: Stub<L, ChannelName>,
+    connection: &Connection<L>,
+    host: Octets,
+) -> Result<(), (Writer, Stub<L, ChannelName>)>
+    requires own { stub.outbox ≡ Some writer.channel }
+    ensures { IfErr result (λ e. (e.0 ≡ writer) × (e.1 ≡ stub)) }
+{
+    let Some(shared) = Shared::of(&connection.stream) else {
+        return Err((writer, stub));
+    };
+    match Wire::new(alloc, writer, stub, shared, host) {
+        Ok(wire) => {
+            connection.outlet.open(rt, wire);
+            Ok(())
+        }
+        Err(ends) => Err(ends),
+    }
+}
+
+/// Gives a session up whose two threads are done.
+#[inline(never)]
+fn end_talk<
+    L: Naming + Send + Sync,
+    R: Threads + Wait + Clock + Copy + Drop + Send + Sync,
+    G: Gate + Sync,
+>(
+    rt: &R,
+    alloc: Global,
+    server: &Serving<'_, L, R, G>,
+    baton: Baton<L, Sender<R>>,
+    connection: &Connection<L>,
+) {
+    if let Some((writer, stub)) = connection.outlet.end(rt, baton.session()) {
+        let _ = close_up(rt, alloc, server, baton, stub, writer);
+    }
+}
+
+/// Talks with a client over a wire, and gives its session up at the end. What is done once stands in functions of its own, so that
+/// this thread's stack is short while lines are done.
 fn serve_opened<
     L: Naming + Send + Sync,
     R: Threads + Wait + Clock + Copy + Drop + Send + Sync,
@@ -206,18 +251,13 @@ fn serve_opened<
         connection,
         host,
     } = opened;
-    let session = baton.session();
-    let (Some(shared), Ok(again)) = (Shared::of(&connection.stream), Arc::try_clone(&connection))
-    else {
+    let Ok(again) = Arc::try_clone(&connection) else {
         return give_up(rt, alloc, server, baton, stub, writer);
     };
-    match Wire::new(alloc, writer, stub, shared, host) {
-        Ok(wire) => {
-            connection.outlet.open(rt, wire);
+    match open_wire(rt, alloc, writer, stub, &connection, host) {
+        Ok(()) => {
             let baton = talk(rt, alloc, server, baton, &connection, again);
-            if let Some((writer, stub)) = connection.outlet.end(rt, session) {
-                let _ = close_up(rt, alloc, server, baton, stub, writer);
-            }
+            end_talk(rt, alloc, server, baton, &connection);
         }
         Err((writer, stub)) => give_up(rt, alloc, server, baton, stub, writer),
     }

@@ -1,13 +1,17 @@
 //! An item on its way to a stream.
 ghost use Rattle.std.specs.Prelude.{◌≡◌, [], true, Some, drop, length, List, ℕ, OnOk, OnErr, IfOk, IfErr};
-ghost use Rattle.std.specs.Io.Buffered.{writer_contents};
 ghost use Rattle.std.specs.Io.KnownBytes.{Keeps};
 ghost use Rattle.deliveries.specs.Text.{delivery_text};
 ghost use Rattle.wire.specs.declared.begun.Stop.TheVariants.{Later};
+ghost use Rattle.wire.specs.Gathering.{gathered_contents};
 ghost use Rattle.wire.specs.Wired.{rest_of, GoesOut};
 
+use crate::gathered::Gathered;
 use deliveries::{Delivery, Item, WriteFault, write_out};
-use std::io::{BufWriter, Error, ErrorKind, Write};
+use std::io::{Error, ErrorKind, Write};
+
+/// More octets than a session's last item has.
+const LAST: usize = 512;
 
 /// An item of which the first octets were written.
 #[derive(Drop)]
@@ -38,11 +42,11 @@ pub(crate) fn stop_of(error: &Error) -> Stop {
 fn write_lines<W: Write + Drop>(
     text: &[u8],
     count: usize,
-    out: &mut BufWriter<W>,
+    out: &mut Gathered<W>,
 ) -> Result<(usize, bool), Stop>
-    ensures more { IfOk result (λ n. GoesOut (writer_contents W.contents out.old) (writer_contents W.contents out.new) (drop count text.now) (drop n.0 text.now)) }
+    ensures more { IfOk result (λ n. GoesOut (gathered_contents W.contents out.old) (gathered_contents W.contents out.new) (drop count text.now) (drop n.0 text.now)) }
     ensures whole { IfOk result (λ n. n.1 ≡ true → drop n.0 text.now ≡ []) }
-    ensures none { OnErr result (Keeps (writer_contents W.contents out.old) (writer_contents W.contents out.new)) }
+    ensures none { OnErr result (Keeps (gathered_contents W.contents out.old) (gathered_contents W.contents out.new)) }
 {
     if text.len() <= count {
         return Ok((count, true));
@@ -58,14 +62,14 @@ fn write_lines<W: Write + Drop>(
 fn write_last<W: Write + Drop>(
     delivery: &Delivery,
     host: &[u8],
-    out: &mut BufWriter<W>,
+    out: &mut Gathered<W>,
 ) -> Result<usize, Stop>
-    ensures more { IfOk result (λ n. GoesOut (writer_contents W.contents out.old) (writer_contents W.contents out.new) (delivery_text delivery.now host.now) (drop n (delivery_text delivery.now host.now))) }
+    ensures more { IfOk result (λ n. GoesOut (gathered_contents W.contents out.old) (gathered_contents W.contents out.new) (delivery_text delivery.now host.now) (drop n (delivery_text delivery.now host.now))) }
     ensures whole { IfOk result (λ n. drop n (delivery_text delivery.now host.now) ≡ []) }
-    ensures later { IfErr result (λ e. e ≡ Later → Keeps (writer_contents W.contents out.old) (writer_contents W.contents out.new)) }
-    ensures front { OnErr result ((left : List ℕ) × GoesOut (writer_contents W.contents out.old) (writer_contents W.contents out.new) (delivery_text delivery.now host.now) left) }
+    ensures later { IfErr result (λ e. e ≡ Later → Keeps (gathered_contents W.contents out.old) (gathered_contents W.contents out.new)) }
+    ensures front { OnErr result ((left : List ℕ) × GoesOut (gathered_contents W.contents out.old) (gathered_contents W.contents out.new) (delivery_text delivery.now host.now) left) }
 {
-    if let Err(error) = out.flush() {
+    if let Err(error) = out.ready_for(LAST) {
         return Err(stop_of(&error));
     }
     match write_out(delivery, host, out) {
@@ -87,13 +91,13 @@ impl Begun {
     pub(crate) fn write_more<W: Write + Drop>(
         &mut self,
         host: &[u8],
-        out: &mut BufWriter<W>,
+        out: &mut Gathered<W>,
     ) -> Result<bool, Stop>
         ensures item { self.new.item ≡ self.old.item }
-        ensures more { OnOk result (GoesOut (writer_contents W.contents out.old) (writer_contents W.contents out.new) (rest_of host.now (Some self.old)) (rest_of host.now (Some self.new))) }
+        ensures more { OnOk result (GoesOut (gathered_contents W.contents out.old) (gathered_contents W.contents out.new) (rest_of host.now (Some self.old)) (rest_of host.now (Some self.new))) }
         ensures whole { IfOk result (λ whole. whole ≡ true → rest_of host.now (Some self.new) ≡ []) }
-        ensures later { IfErr result (λ e. e ≡ Later → (self.new ≡ self.old) × Keeps (writer_contents W.contents out.old) (writer_contents W.contents out.new)) }
-        ensures front { OnErr result ((left : List ℕ) × GoesOut (writer_contents W.contents out.old) (writer_contents W.contents out.new) (rest_of host.now (Some self.old)) left) }
+        ensures later { IfErr result (λ e. e ≡ Later → (self.new ≡ self.old) × Keeps (gathered_contents W.contents out.old) (gathered_contents W.contents out.new)) }
+        ensures front { OnErr result ((left : List ℕ) × GoesOut (gathered_contents W.contents out.old) (gathered_contents W.contents out.new) (rest_of host.now (Some self.old)) left) }
     {
         let (count, whole) = match self.item.delivery() {
             Delivery::Lines { text, .. } => write_lines(text.as_slice(), self.count, out)?,

@@ -2,6 +2,7 @@
 #![tactic(auto)]
 
 mod begun;
+mod gathered;
 mod wire;
 
 pub use wire::{Flow, Wire};

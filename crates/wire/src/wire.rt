@@ -5,6 +5,7 @@ ghost use Rattle.wire.specs.declared.wire.Flow.TheVariants.{Idle, Ended};
 ghost use Rattle.wire.specs.Wired.{ends, is_last, IsInStep, IsSameWire};
 
 use crate::begun::{Begun, Stop, stop_of};
+use crate::gathered::Gathered;
 use chronicle::SessionId;
 use deliveries::{Delivery, WriteFault};
 use ghosts::Snapshot;
@@ -12,12 +13,9 @@ use line_grammar::Octets;
 use outbox::{Bell, ChannelName, Writer};
 use register::{Naming, Stub};
 use std::alloc::Global;
-use std::io::{BufWriter, Write};
+use std::io::Write;
 use std::marker::Model;
 use std::sync::Wait;
-
-/// How many octets may wait to be written together.
-const ROOM: usize = 8192;
 
 /// How many writes one call makes at most before it answers.
 const TURNS: u32 = 4096;
@@ -35,12 +33,13 @@ pub enum Flow {
     Ended,
 }
 
-/// A session's writer, and the stream on which its items go out. It takes no memory once it is made.
+/// A session's writer, and the stream on which its items go out. It takes room for many items while many wait, and where that is
+/// refused writes few at a time.
 #[derive(Drop)]
 pub struct Wire<L: Naming, W: Write + Drop> {
     writer: Writer,
     stub: Stub<L, ChannelName>,
-    out: BufWriter<W>,
+    out: Gathered<W>,
     host: Octets,
     begun: Option<Begun>,
     has_last: bool,
@@ -51,14 +50,14 @@ pub struct Wire<L: Naming, W: Write + Drop> {
 
 impl<L: Naming, W: Write + Drop> Model for Wire<L, W> {
     ghost use Rattle.std.specs.Prelude.{◌≡◌, true, Some};
-    ghost use Rattle.std.specs.Io.Buffered.{writer_contents, writer_buffer};
+    ghost use Rattle.wire.specs.Gathering.{gathered_contents};
     ghost use Rattle.wire.specs.Wired.{Wired, IsInStep, rest_of, ends};
 
     ghost Value = { Wired };
 
-    ghost view = { λ a. record { session = a.stub.session; taken = a.writer.taken; channel = a.writer.channel; told = writer_contents W.contents a.out; waiting = writer_buffer a.out; rest = rest_of a.host a.begun; host = a.host; is_broken = a.is_broken; taken_before = a.writer_before.value.taken; told_before = W.contents a.stream_before.value } };
+    ghost view = { λ a. record { session = a.stub.session; taken = a.writer.taken; channel = a.writer.channel; told = gathered_contents W.contents a.out; waiting = a.out.waiting.items; rest = rest_of a.host a.begun; host = a.host; is_broken = a.is_broken; taken_before = a.writer_before.value.taken; told_before = W.contents a.stream_before.value } };
 
-    ghost invariant = { λ a. (a.stub.outbox ≡ Some a.writer.channel) × IsInStep (record { session = a.stub.session; taken = a.writer.taken; channel = a.writer.channel; told = writer_contents W.contents a.out; waiting = writer_buffer a.out; rest = rest_of a.host a.begun; host = a.host; is_broken = a.is_broken; taken_before = a.writer_before.value.taken; told_before = W.contents a.stream_before.value }) × (a.has_last ≡ true → ends a.writer.taken ≡ true) };
+    ghost invariant = { λ a. (a.stub.outbox ≡ Some a.writer.channel) × IsInStep (record { session = a.stub.session; taken = a.writer.taken; channel = a.writer.channel; told = gathered_contents W.contents a.out; waiting = a.out.waiting.items; rest = rest_of a.host a.begun; host = a.host; is_broken = a.is_broken; taken_before = a.writer_before.value.taken; told_before = W.contents a.stream_before.value }) × (a.has_last ≡ true → ends a.writer.taken ≡ true) };
 }
 
 impl<L: Naming, W: Write + Drop> Wire<L, W> {
@@ -82,7 +81,7 @@ impl<L: Naming, W: Write + Drop> Wire<L, W> {
     {
         let writer_before = Snapshot::of(&writer);
         let stream_before = Snapshot::of(&stream);
-        let Ok(out) = BufWriter::with_capacity(alloc, ROOM, stream) else {
+        let Ok(out) = Gathered::new(alloc, stream) else {
             return Err((writer, stub));
         };
         Ok(Wire {
@@ -164,7 +163,7 @@ impl<L: Naming, W: Write + Drop> Wire<L, W> {
         }
     }
 
-    /// Takes the items that wait, and writes them, many at once where many wait. It waits for none; the stream may wait.
+    /// Takes the items that wait, and writes them, as many in one write as have room. It waits for none; the stream may wait.
     ///
     /// After a fault nothing more is written.
     pub fn pump<R: Wait>(&mut self, rt: &R) -> Result<Flow, WriteFault>
@@ -192,7 +191,7 @@ impl<L: Naming, W: Write + Drop> Wire<L, W> {
     pub fn stream(&self) -> &W
         ensures { self.now.told ≡ append_known (W.contents result.now) self.now.waiting }
     {
-        self.out.get_ref()
+        &self.out.stream
     }
 
     /// The bell that ends a rest of whoever pumps.
@@ -221,7 +220,13 @@ impl<L: Naming, W: Write + Drop> Wire<L, W> {
         ensures session { result.1.session ≡ self.session }
         ensures own { result.1.outbox ≡ Some result.0.channel }
     {
-        let Wire { writer, stub, .. } = self;
+        let Wire {
+            writer,
+            stub,
+            mut out,
+            ..
+        } = self;
+        let _ = out.flush();
         (writer, stub)
     }
 }

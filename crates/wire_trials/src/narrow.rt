@@ -3,13 +3,13 @@ use std::alloc::Global;
 use std::io;
 use std::io::{ErrorKind, Write};
 
-/// Takes `most` octets in one write and `left` in all. Of each `period` writes it takes nothing in one, where that isn't 0. After
+/// Counts what it is asked to write. It takes `most` octets in one write and `left` in all. Of each `period` writes it takes nothing in one, where that isn't 0. After
 /// what is left it takes none, or fails.
 #[derive(Drop)]
 pub(crate) struct Narrow {
     pub(crate) octets: Vec<u8>,
     pub(crate) shape: Shape,
-    writes: u32,
+    pub(crate) writes: u32,
 }
 
 /// How narrow a stream is.

@@ -18,29 +18,36 @@ use wire::{Flow, Wire};
 /// What each item delivers.
 const TOLD: &[u8; 45] = b":irc.example 417 * :Input line was too long\r\n";
 
-/// How many items wait: more than a wire writes at once.
+/// How many items wait: as many as a wire writes at once.
 const ITEMS: u64 = 400;
 
 /// Their octets.
 const OCTETS: usize = 18_000;
 
+/// More items than a wire writes at once.
+const MANY_ITEMS: u64 = 1500;
+
+/// Their octets.
+const MANY_OCTETS: usize = 67_500;
+
 /// More than any call takes.
 const CALLS: u32 = 100_000;
 
-/// A wire over a stream of this shape, for which items wait, and what feeds it.
+/// A wire over a stream of this shape, for which so many items wait, and what feeds it.
 fn fed<L: Naming, R: Wait + Abort + Drop + Copy>(
     rt: &R,
     alloc: Global,
     mut register: Register<ChannelName>,
     shape: Shape,
+    items: u64,
 ) -> (Feed<Sender<R>>, Wire<L, Narrow>)
     requires named { register.table ≡ L.table }
     requires new { register.rows ≡ [] }
 {
-    let (sender, writer) = pair(*rt, alloc, 512).expect(rt, "memory");
+    let (sender, writer) = pair(*rt, alloc, 2048).expect(rt, "memory");
     let (_, stub) = register.admit::<L, Sender<R>>(SessionId::new(1), &sender);
     let mut feed = Feed::new(alloc, sender).expect(rt, "memory");
-    for _ in 0..ITEMS {
+    for _ in 0..items {
         let _ = feed.feed(alloc);
     }
     let host = Octets::from_vec(Vec::new(alloc));
@@ -86,19 +93,24 @@ const SLOW: [(usize, u32); 8] = [
     (99_999, 2),
 ];
 
-/// Whether all goes out to a stream of this shape.
+/// The same of more items than a wire writes at once.
+const WIDE: [(usize, u32); 3] = [(700, 2), (65_519, 3), (65_520, 2)];
+
+/// Whether all these octets of so many items go out to a stream of this shape.
 fn goes_out<L: Naming, R: Wait + Abort + Drop + Copy>(
     rt: &R,
     alloc: Global,
     register: Register<ChannelName>,
     shape: Shape,
+    items: u64,
+    octets: usize,
 ) -> bool
     requires named { register.table ≡ L.table }
     requires new { register.rows ≡ [] }
 {
-    let (_feed, mut wire) = fed::<L, R>(rt, alloc, register, shape);
+    let (_feed, mut wire) = fed::<L, R>(rt, alloc, register, shape, items);
     pump_all(rt, &mut wire) == Ok(Flow::Idle)
-        && wire.stream().octets.len() == OCTETS
+        && wire.stream().octets.len() == octets
         && is_front(wire.stream().octets.as_slice())
 }
 
@@ -113,15 +125,81 @@ fn all_goes_out_in_order(rt: HostRuntime) -> Result<(), Fail> {
         };
         let register = Register::new(rt.alloc())?;
         assert!(rt;
-            goes_out::<Brand, _>(&rt, rt.alloc(), register, shape),
+            goes_out::<Brand, _>(&rt, rt.alloc(), register, shape, ITEMS, OCTETS),
             "{most} at a time"
         );
     }
     Ok(())
 }
 
-/// How much a stream takes before it is at its end.
-const ENDS: [usize; 8] = [0, 1, 44, 45, 8191, 8192, 8193, 17_999];
+#[test]
+fn more_than_a_write_goes_out_in_order(rt: HostRuntime) -> Result<(), Fail> {
+    for (most, period) in WIDE {
+        let shape = Shape {
+            most,
+            left: 99_999,
+            period,
+            fails: true,
+        };
+        let register = Register::new(rt.alloc())?;
+        assert!(rt;
+            goes_out::<Brand, _>(&rt, rt.alloc(), register, shape, MANY_ITEMS, MANY_OCTETS),
+            "{most} at a time"
+        );
+    }
+    Ok(())
+}
+
+/// In how many writes so many items go out in one call, to a stream that takes all; 0 where they don't.
+fn writes_for<L: Naming, R: Wait + Abort + Drop + Copy>(
+    rt: &R,
+    alloc: Global,
+    register: Register<ChannelName>,
+    items: u64,
+) -> u32
+    requires named { register.table ≡ L.table }
+    requires new { register.rows ≡ [] }
+{
+    let shape = Shape {
+        most: 99_999,
+        left: 99_999,
+        period: 0,
+        fails: true,
+    };
+    let (_feed, mut wire) = fed::<L, R>(rt, alloc, register, shape, items);
+    match wire.pump(rt) {
+        Ok(Flow::Idle) => wire.stream().writes,
+        _ => 0,
+    }
+}
+
+/// Items, and the writes in which they go out: 1,456 items have 65,520 octets, and one more would have more than 65,536.
+const WRITES: [(u64, u32); 5] = [(0, 0), (1, 1), (100, 1), (1456, 1), (1457, 2)];
+
+#[test]
+fn all_that_waits_goes_out_in_one_write(rt: HostRuntime) -> Result<(), Fail> {
+    for (items, writes) in WRITES {
+        let register = Register::new(rt.alloc())?;
+        assert_eq!(rt;
+            writes_for::<Brand, _>(&rt, rt.alloc(), register, items),
+            writes,
+            "{items} items"
+        );
+    }
+    Ok(())
+}
+
+/// How much a stream takes before it is at its end, and how many items wait.
+const ENDS: [(usize, u64); 8] = [
+    (0, ITEMS),
+    (1, ITEMS),
+    (44, ITEMS),
+    (45, ITEMS),
+    (512, ITEMS),
+    (17_999, ITEMS),
+    (65_520, MANY_ITEMS),
+    (65_521, MANY_ITEMS),
+];
 
 /// Whether a stream that takes so much is given just that, and the fault is told then and later.
 fn is_front_at<L: Naming, R: Wait + Abort + Drop + Copy>(
@@ -129,6 +207,7 @@ fn is_front_at<L: Naming, R: Wait + Abort + Drop + Copy>(
     alloc: Global,
     register: Register<ChannelName>,
     left: usize,
+    items: u64,
     fault: WriteFault,
 ) -> bool
     requires named { register.table ≡ L.table }
@@ -140,7 +219,7 @@ fn is_front_at<L: Naming, R: Wait + Abort + Drop + Copy>(
         period: 5,
         fails: fault == WriteFault::Failed,
     };
-    let (_feed, mut wire) = fed::<L, R>(rt, alloc, register, shape);
+    let (_feed, mut wire) = fed::<L, R>(rt, alloc, register, shape, items);
     pump_all(rt, &mut wire) == Err(fault)
         && wire.pump(rt) == Err(WriteFault::Failed)
         && wire.stream().octets.len() == left
@@ -149,11 +228,11 @@ fn is_front_at<L: Naming, R: Wait + Abort + Drop + Copy>(
 
 #[test]
 fn a_fault_leaves_the_front(rt: HostRuntime) -> Result<(), Fail> {
-    for left in ENDS {
+    for (left, items) in ENDS {
         for fault in [WriteFault::Failed, WriteFault::Zero] {
             let register = Register::new(rt.alloc())?;
             assert!(rt;
-                is_front_at::<Brand, _>(&rt, rt.alloc(), register, left, fault),
+                is_front_at::<Brand, _>(&rt, rt.alloc(), register, left, items, fault),
                 "{left} octets"
             );
         }
@@ -176,7 +255,7 @@ fn goes_on<L: Naming, R: Wait + Abort + Drop + Copy>(
         period: 0,
         fails: true,
     };
-    let (mut feed, mut wire) = fed::<L, R>(rt, alloc, register, shape);
+    let (mut feed, mut wire) = fed::<L, R>(rt, alloc, register, shape, ITEMS);
     let is_first = pump_all(rt, &mut wire) == Ok(Flow::Idle)
         && pump_all(rt, &mut wire) == Ok(Flow::Idle)
         && wire.stream().octets.len() == OCTETS;

@@ -1,7 +1,7 @@
 use Rattle.std.proofs.Common.{◌≡◌, ℕ, List, [], ◌∷◌, ◌++◌, drop, false, Some, refl, sym, ap, ◌∙◌, subst, append_assoc}
-use Rattle.std.specs.Io.Buffered.{writer_contents}
 use Rattle.deliveries.specs.declared.item.Item.{Item}
 use Rattle.deliveries.specs.Text.{delivery_text}
+use Rattle.wire.specs.Gathering.{gathered_contents}
 use Rattle.wire.specs.declared.begun.Begun.{Begun}
 use Rattle.wire.specs.Wired.{Wired, texts, rest_of, is_last, ends, GoesOut}
 use Rattle.wire.proofs.Going.{out_begun, ends_more}
@@ -20,7 +20,7 @@ invariant_of-self-2 g c =
     let whole : a.is_broken ≡ false = ap (λ (w : Wired). w.is_broken) c.self.view_is ∙ c.requires.whole in
     let none : i.1.left ≡ [] = i.1.whole whole ∙ ap (λ (w : Wired). w.rest) c.self.view_is ∙ c.requires.rest in
     let took : now.taken ≡ a.writer.taken ++ item ∷ [] = ap (λ w. w.taken) c.in-Ok.ensures.took in
-    let told = writer_contents g.W.Write.contents a.out in
+    let told = gathered_contents g.W.Write.contents a.out in
     let before = g.W.Write.contents a.stream_before.value in
     let since = i.1.since ++ item ∷ [] in
     let b = c.new.result in

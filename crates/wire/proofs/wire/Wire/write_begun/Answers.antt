@@ -1,6 +1,5 @@
 use Rattle.std.proofs.Common.{◌≡◌, List, [], ℕ, true, false, Some, refl, ap, ◌∙◌, subst}
-use Rattle.std.specs.Io.Buffered.{writer_contents}
-use Rattle.wire.specs.declared.begun.Begun.{Begun}
+use Rattle.wire.specs.Gathering.{gathered_contents}
 use Rattle.wire.specs.Wired.{Wired, texts, rest_of, GoesOut}
 use Rattle.wire.proofs.Going.{out_more}
 use Rattle.wire.proofs.wire.Wire.write_begun.Goals as goal
@@ -11,7 +10,7 @@ invariant_of-self-in-Ok-true g c =
     let i = c.self.invariant in
     let whole : a.is_broken ≡ false = ap (λ (w : Wired). w.is_broken) c.self.view_is ∙ c.requires.whole in
     let lent = c.as_slice.result.now in
-    let known = writer_contents g.W.Write.contents in
+    let known = gathered_contents g.W.Write.contents in
     let before = g.W.Write.contents a.stream_before.value in
     let x = c.in-Some.begun in
     let rest = rest_of lent (Some c.write_more.new.self) in
@@ -28,7 +27,7 @@ invariant_of-self-in-Ok-false g c =
     let i = c.self.invariant in
     let whole : a.is_broken ≡ false = ap (λ (w : Wired). w.is_broken) c.self.view_is ∙ c.requires.whole in
     let lent = c.as_slice.result.now in
-    let known = writer_contents g.W.Write.contents in
+    let known = gathered_contents g.W.Write.contents in
     let before = g.W.Write.contents a.stream_before.value in
     let x = c.in-Some.begun in
     let y = Some c.write_more.new.self in
@@ -44,7 +43,7 @@ invariant_of-self-in-Err-Fault g c =
     let i = c.self.invariant in
     let whole : a.is_broken ≡ false = ap (λ (w : Wired). w.is_broken) c.self.view_is ∙ c.requires.whole in
     let lent = c.as_slice.result.now in
-    let known = writer_contents g.W.Write.contents in
+    let known = gathered_contents g.W.Write.contents in
     let before = g.W.Write.contents a.stream_before.value in
     let x = c.in-Some.begun in
     let front = c.in-Err-Fault.ensures.front in (
