@@ -1,10 +1,10 @@
 //! A session's wire as threads share it.
-ghost use Rattle.std.specs.Prelude.{◌≡◌, Some, IfSome};
+ghost use Rattle.std.specs.Prelude.{◌≡◌, IfSome};
 
 use chronicle::SessionId;
 use deliveries::WriteFault;
-use hall::{Naming, Stub};
-use outbox::{Bell, ChannelName, Writer};
+use hall::Naming;
+use outbox::Bell;
 use std::io::Write;
 use std::sync::atomic::{AtomicBool, Ordering};
 use std::sync::{Mutex, Wait};
@@ -80,16 +80,15 @@ impl<L: Naming, W: Write + Drop> Outlet<L, W> {
         self.bell.rest(rt, most);
     }
 
-    /// Ends the outlet of a session, and gives its writer and its stub back. It answers `None` where it has no wire, or is
-    /// another session's.
-    pub fn end<R: Wait>(&self, rt: &R, session: SessionId) -> Option<(Writer, Stub<L, ChannelName>)>
-        ensures session { IfSome result (λ ends. ends.1.session ≡ session) }
-        ensures own { IfSome result (λ ends. ends.1.outbox ≡ Some ends.0.channel) }
+    /// Ends the outlet of a session, and gives back its wire, which tells what went out (`Wire::in_step`), and from which its writer
+    /// and its stub come back. It answers `None` where it has no wire, or is another session's.
+    pub fn end<R: Wait>(&self, rt: &R, session: SessionId) -> Option<Wire<L, W>>
+        ensures { IfSome result (λ wire. wire.session ≡ session) }
     {
         let wire = self.wire.lock(rt).take()?;
         if wire.session() != session {
             return None;
         }
-        Some(wire.apart())
+        Some(wire)
     }
 }

@@ -1,5 +1,5 @@
 //! What the threads of a server share.
-ghost use Rattle.std.specs.Prelude.{◌≤ℤ◌};
+ghost use Rattle.std.specs.Prelude.{◌≡◌, ◌≤ℤ◌, ◌⊎◌};
 ghost use Rattle.chronicle.specs.History.{last_moment};
 
 use crate::desk::Desk;
@@ -57,6 +57,7 @@ pub struct Server<'a, L: Naming, R: Wait + Drop, G: Gate, S: Sockets, C: Clock> 
 pub(crate) fn later(a: Moment, b: Moment) -> Moment
     ensures first { a ≤ℤ result }
     ensures second { b ≤ℤ result }
+    ensures either { (result ≡ a) ⊎ (result ≡ b) }
 {
     if a.milliseconds() < b.milliseconds() {
         b
@@ -65,12 +66,11 @@ pub(crate) fn later(a: Moment, b: Moment) -> Moment
     }
 }
 
-/// The present moment, or that of the newest record of a hall where that is later.
-pub fn moment_in<L: Naming, R: Wait + Drop, C: Clock>(
-    hall: &Hall<L, Sender<R>>,
-    clock: &C,
-) -> Moment
-    ensures { last_moment hall.now.history ≤ℤ result }
+/// A moment, or that of the newest record of a hall where that is later.
+pub fn moment_in<L: Naming, R: Wait + Drop>(hall: &Hall<L, Sender<R>>, moment: Moment) -> Moment
+    ensures given { moment ≤ℤ result }
+    ensures newest { last_moment hall.now.history ≤ℤ result }
+    ensures either { (result ≡ moment) ⊎ (result ≡ last_moment hall.now.history) }
 {
-    later(clock.now(), hall.last_moment())
+    later(moment, hall.last_moment())
 }

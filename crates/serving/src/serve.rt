@@ -72,7 +72,7 @@ fn hang_next<L: Naming, R: Wait + Clock + Copy + Drop, G: Gate>(
     let Some(session) = server.sockets.any_open() else {
         return false;
     };
-    let moment = moment_in(&*hall, server.clock);
+    let moment = moment_in(&*hall, crew::Clock::now(server.clock));
     let _ = hall.hang(session, Why::Shutdown, moment);
     drop(hall);
     server.sockets.shut(session);

@@ -90,7 +90,7 @@ fn open<
     if server.sockets.is_stopping() || server.sockets.make_room().is_err() {
         return None;
     }
-    let moment = moment_in(&*hall, server.clock);
+    let moment = moment_in(&*hall, crew::Clock::now(server.clock));
     match hall.open(host, moment, sender) {
         Ok((session, baton, stub)) => {
             server.sockets.add(session, again);
@@ -232,7 +232,8 @@ fn end_talk<
     baton: Baton<L, Sender<R>>,
     connection: &Connection<L>,
 ) {
-    if let Some((writer, stub)) = connection.outlet.end(rt, baton.session()) {
+    if let Some(wire) = connection.outlet.end(rt, baton.session()) {
+        let (writer, stub) = wire.apart();
         let _ = close_up(rt, alloc, server, baton, stub, writer);
     }
 }
