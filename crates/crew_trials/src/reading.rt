@@ -62,7 +62,7 @@ fn torn<L: Naming, R: Wait + Abort + Copy + Drop>(
     assert!(rt; desk.slot(rt).is_some(), "the slot is there");
     assert_eq!(rt; wire.pump(rt), Ok(Flow::Ended));
     assert_eq!(rt; wire.stream().as_slice(), output);
-    assert_eq!(rt; lock.lock(rt).len(), records);
+    assert_eq!(rt; lock.lock(rt).len() as u64, records);
     let hung = hung_for(&lock.lock(rt), RecordNumber::new(records));
     assert_eq!(rt; hung, Some((session, Why::ReadFailed)));
     assert!(rt; sockets.is_shut(session), "it is shut");
