@@ -2,7 +2,7 @@
 use chronicle::{Moment, SessionId};
 use crew::{Clock, Gate, Sockets};
 use hall::Told;
-use std::io::{ErrorKind, Read, Write};
+use std::io::{ErrorKind, Read};
 use std::sync::atomic::{AtomicBool, AtomicU64, Ordering};
 use std::time::Duration;
 use std::{io, thread, time};
@@ -132,29 +132,5 @@ impl Read for Torn<'_> {
         buf[..count].copy_from_slice(front);
         self.octets = rest;
         Ok(count)
-    }
-}
-
-/// A stream of which other threads see how many octets were written.
-#[derive(Drop)]
-pub struct Tally<'a> {
-    written: &'a AtomicU64,
-}
-
-impl<'a> Tally<'a> {
-    /// A stream that counts here.
-    pub fn new(written: &'a AtomicU64) -> Tally<'a> {
-        Tally { written }
-    }
-}
-
-impl Write for Tally<'_> {
-    fn write(&mut self, buf: &[u8]) -> io::Result<usize> {
-        self.written.fetch_add(buf.len() as u64, Ordering::SeqCst);
-        Ok(buf.len())
-    }
-
-    fn flush(&mut self) -> io::Result<()> {
-        Ok(())
     }
 }
