@@ -1,5 +1,5 @@
 -- What was put into an outbox, over each step.
-use Rattle.std.proofs.Common.{◌≡◌, ◌∙◌, ℕ, List, [], ◌∷◌, ◌++◌, ap, sym, refl, subst}
+use Rattle.std.proofs.Common.{◌≡◌, ◌∙◌, ℕ, List, [], ◌∷◌, ◌++◌, length, ap, sym, refl, subst}
 use Rattle.std.specs.Prelude.{All}
 use Rattle.std.proofs.lemmas.List.{map-append}
 use Rattle.std.proofs.lemmas.List.Elements.{All-nil, All-push, All-weaker}
@@ -9,7 +9,7 @@ use Rattle.deliveries.specs.declared.delivery.Delivery.{Delivery}
 use Rattle.deliveries.specs.declared.item.Item.{Item}
 use Rattle.deliveries.specs.Growth.{Grows}
 use Rattle.deliveries.specs.Items.{Continues, deliveries, front}
-use Rattle.deliveries.specs.Owed.{owed}
+use Rattle.deliveries.specs.Owed.{number_of, owed}
 use Rattle.deliveries.proofs.Growing.{grows_to_itself, grows_on}
 use Rattle.book.specs.Book.{IsSent}
 
@@ -36,9 +36,10 @@ pub delivered_one : (xs : List Item) (x : Item) → deliveries (xs ++ x ∷ []) 
 delivered_one xs x = map-append (λ (y : Item). y.delivery) xs (x ∷ [])
 
 -- and it may be put there, where with it all is put that the history owes
-pub may_continue : (g : Settings) (h : List Rec) (x : Item) (xs : List Item) → x.settings ≡ g → front x ≡ h → IsSent g h x.session xs → deliveries xs ++ x.delivery ∷ [] ≡ owed g h x.session → Continues xs x
-may_continue g h x xs settings here i all =
+pub may_continue : (g : Settings) (h : List Rec) (x : Item) (xs : List Item) → x.settings ≡ g → front x ≡ h → number_of x.delivery ≡ length h → IsSent g h x.session xs → deliveries xs ++ x.delivery ∷ [] ≡ owed g h x.session → Continues xs x
+may_continue g h x xs settings here newest i all =
     record {
+      newest = newest ∙ ap (λ (k : List Rec). length k) (sym here);
       owed = delivered_one xs x ∙ all ∙ ap (λ (s : Settings). owed s h x.session) (sym settings) ∙ ap (λ (k : List Rec). owed x.settings k x.session) (sym here);
       whose = i.whose;
       settings = subst (λ (s : Settings). All (λ (y : Item). y.settings ≡ s) xs) (sym settings) i.settings;

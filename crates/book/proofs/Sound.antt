@@ -14,12 +14,13 @@ use Rattle.deliveries.specs.declared.item.Item.{Item}
 use Rattle.registration.specs.declared.settings.Settings.{Settings}
 use Rattle.book.specs.declared.plan.Planned.{Planned}
 use Rattle.outbox.specs.Ring.{Waiting, with_taken, put_into}
-use Rattle.deliveries.specs.Owed.{delivery, owed}
+use Rattle.deliveries.specs.Owed.{number_of, delivery, owed}
 use Rattle.book.specs.Legal.{AreMissed, IsLegal}
 use Rattle.book.proofs.About.{gone_before}
 use Rattle.roster.specs.LookBack.{numbers}
 use Rattle.deliveries.specs.Items.{deliveries, front}
 use Rattle.deliveries.proofs.Growing.{grows_by_a_miss}
+use Rattle.deliveries.proofs.Newest.{of_newest}
 use Rattle.book.proofs.Sent.{sent_none, sent_grown, sent_one, delivered_one, may_continue}
 use Rattle.book.specs.Seats.{MayFollow}
 use Rattle.book.specs.Book.{Shown, IsSent, item_of, box_at, sent_by, box_of, outbox_at, is_here, held, planned, delivered_to, dropped, finished, taken, reaped, IsOwed, IsPlan, IsSound}
@@ -108,6 +109,12 @@ not_gone_owed : (g : Settings) (h : List Rec) (p : Planned) → IsLegal g h → 
 not_gone_owed g [] p l i e = i
 not_gone_owed g (r ∷ h) p l i e = absurd (let f : true ≡ false = sym (gone_before g r h p.session l e) ∙ i.1 in cc)
 
+-- what the newest record owes is of its number
+owed_newest : (g : Settings) (h : List Rec) (p : Planned) → IsOwed g h p → number_of p.delivery ≡ length h
+owed_newest g [] p i = absurd i
+owed_newest g (r ∷ h) p i =
+    let e : number_of p.delivery ≡ length h + 1 = of_newest g h r.kind r.moment p.session p.delivery i.0 in let goal : number_of p.delivery ≡ length (r ∷ h) = omega arith in goal
+
 -- ---- outboxes by the numbers of their sessions
 
 pub box_same : {X : Type 0} (boxes : List (Option X)) (s : ℕ) (v : Option X) → 0 < s → s ≤ length boxes → slice_index_or (slice_set boxes (s - 1) v) (s - 1) None ≡ v
@@ -127,9 +134,9 @@ here_same boxes s t v there from to above =
     ]
 
 -- an item may be put where with it all is put that the history owes
-follows_in : {O : Type 0} (sent : O → List Item) (g : Settings) (h : List Rec) (x : Item) (box : Option O) → x.settings ≡ g → front x ≡ h → IsSent g h x.session (sent_by sent box) → deliveries (sent_by sent box) ++ x.delivery ∷ [] ≡ owed g h x.session → MayFollow sent box x
-follows_in sent g h x None settings here i all = tt
-follows_in sent g h x (Some o) settings here i all = may_continue g h x (sent o) settings here i all
+follows_in : {O : Type 0} (sent : O → List Item) (g : Settings) (h : List Rec) (x : Item) (box : Option O) → x.settings ≡ g → front x ≡ h → number_of x.delivery ≡ length h → IsSent g h x.session (sent_by sent box) → deliveries (sent_by sent box) ++ x.delivery ∷ [] ≡ owed g h x.session → MayFollow sent box x
+follows_in sent g h x None settings here newest i all = tt
+follows_in sent g h x (Some o) settings here newest i all = may_continue g h x (sent o) settings here newest i all
 
 module _ {O : Type 0} (sent : O → List Item) where
   dropped_at : (h : List Rec) (limit : ℕ) (g : Settings) (boxes : List (Option O)) (busy : Bool) (p : Planned) (ps : List Planned) → let m : Shown O = record { history = h; limit = limit; settings = g; outboxes = boxes; plan = p ∷ ps; busy = busy } in IsSound sent m → IsSound sent (dropped m p ps)
@@ -173,7 +180,7 @@ module _ {O : Type 0} (sent : O → List Item) where
       let s = p.session in let g = m.settings in let h = m.history in let is : IsPlan g h (length m.outboxes) (p ∷ ps) = subst (IsPlan g h (length m.outboxes)) e i.plan in
       let head : planned m.plan s ≡ p.delivery ∷ [] = ap (λ qs. planned qs s) e ∙ (let f : planned (p ∷ ps) s ≡ p.delivery ∷ [] = rw (eq-eqb s s refl) (ap (λ xs. p.delivery ∷ xs) is.2) in f) in
       let all : deliveries (sent_by sent (box_at m.outboxes s)) ++ p.delivery ∷ [] ≡ owed g h s = ap (λ xs. deliveries (sent_by sent (box_at m.outboxes s)) ++ xs) (sym head) ∙ i.owed s is.0 is.1 (next_here m p ps e i) in
-      follows_in sent g h (item_of m p) (box_at m.outboxes s) refl refl (i.items s is.0 is.1) all
+      follows_in sent g h (item_of m p) (box_at m.outboxes s) refl refl (owed_newest g h p is.3) (i.items s is.0 is.1) all
 
   -- ---- a delivery is put
 

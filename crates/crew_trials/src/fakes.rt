@@ -2,7 +2,8 @@
 use chronicle::{Moment, SessionId};
 use crew::{Clock, Gate, Sockets};
 use hall::Told;
-use std::io::{ErrorKind, Read};
+use std::io::{ErrorKind, Read, Write};
+use std::sync::Arc;
 use std::sync::atomic::{AtomicBool, AtomicU64, Ordering};
 use std::time::Duration;
 use std::{io, thread, time};
@@ -25,11 +26,13 @@ impl Gate for Open {
     fn leave(&self, _session: SessionId) {}
 }
 
-/// A gate by which the first session leaves when another was answered, or gives up.
+/// A gate by which the first session leaves when another was answered, which enters when the first is about to leave; or each gives
+/// up.
 #[derive(Drop)]
 pub struct Turnstile<R: time::Clock + Drop> {
     rt: R,
     first: SessionId,
+    is_leaving: AtomicBool,
     pub is_answered: AtomicBool,
     pub has_given_up: AtomicBool,
 }
@@ -40,26 +43,36 @@ impl<R: time::Clock + Drop> Turnstile<R> {
         Turnstile {
             rt,
             first,
+            is_leaving: AtomicBool::new(false),
             is_answered: AtomicBool::new(false),
             has_given_up: AtomicBool::new(false),
         }
     }
-}
 
-impl<R: time::Clock + Drop> Gate for Turnstile<R> {
-    fn enter(&self, _session: SessionId) {}
-
-    fn leave(&self, session: SessionId) {
-        if session != self.first {
-            return;
-        }
+    /// Looks until this is set, or gives up.
+    fn wait_for(&self, is_set: &AtomicBool) {
         for _ in 0..TURNS {
-            if self.is_answered.load(Ordering::SeqCst) {
+            if is_set.load(Ordering::SeqCst) {
                 return;
             }
             rest(&self.rt);
         }
         self.has_given_up.store(true, Ordering::SeqCst);
+    }
+}
+
+impl<R: time::Clock + Drop> Gate for Turnstile<R> {
+    fn enter(&self, session: SessionId) {
+        if session != self.first {
+            self.wait_for(&self.is_leaving);
+        }
+    }
+
+    fn leave(&self, session: SessionId) {
+        if session == self.first {
+            self.is_leaving.store(true, Ordering::SeqCst);
+            self.wait_for(&self.is_answered);
+        }
     }
 }
 
@@ -132,5 +145,29 @@ impl Read for Torn<'_> {
         buf[..count].copy_from_slice(front);
         self.octets = rest;
         Ok(count)
+    }
+}
+
+/// A stream that takes everything and counts its octets.
+#[derive(Drop)]
+pub struct Tally {
+    written: Arc<AtomicU64>,
+}
+
+impl Tally {
+    /// A stream that counts here.
+    pub fn new(written: Arc<AtomicU64>) -> Tally {
+        Tally { written }
+    }
+}
+
+impl Write for Tally {
+    fn write(&mut self, buf: &[u8]) -> io::Result<usize> {
+        self.written.fetch_add(buf.len() as u64, Ordering::SeqCst);
+        Ok(buf.len())
+    }
+
+    fn flush(&mut self) -> io::Result<()> {
+        Ok(())
     }
 }

@@ -11,6 +11,8 @@ mod refusing;
 mod taking;
 #[cfg(test)]
 mod threads;
+#[cfg(test)]
+mod writing;
 
-pub use fakes::{Noted, Open, Still, TURNS, Torn, Turnstile, rest};
+pub use fakes::{Noted, Open, Still, TURNS, Tally, Torn, Turnstile, rest};
 pub use making::{Tokens, ends, hall, hung_for, line, open, work_two, work_under_slot};

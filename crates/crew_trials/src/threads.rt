@@ -15,7 +15,8 @@ use std::test::Fail;
 use std::thread::Threads;
 use std::time::Clock;
 
-/// The first session leaves the gate when the second was answered, so they don't wait for each other.
+/// The second session enters the gate when the first is about to leave it, and the first leaves it when the second was answered: so
+/// nobody has the hall at the gate.
 fn two_sessions<
     L: Naming + Send + Sync,
     R: Threads + Wait + Clock + Abort + Copy + Drop + Send + Sync,

@@ -10,6 +10,11 @@ use Rattle.deliveries.specs.declared.delivery.Delivery.{Delivery}
 use Rattle.deliveries.specs.declared.delivery.Delivery.TheVariants.{Lines, Last}
 use Rattle.deeds.specs.Deeds.{facts, text}
 
+-- the record that a delivery is of
+abbrev pub number_of : Delivery → ℕ
+number_of (Lines number text) = number
+number_of (Last number why) = number
+
 -- none where there is nothing to tell
 abbrev pub item : ℕ → List ℕ → List Delivery
 item n [] = []

@@ -132,7 +132,7 @@ impl<L: Naming, O: Lasting> Hall<L, O> {
     {
         let hung = self.book.hang(session, why, moment)?;
         if !hung.missed {
-            self.told.note(session);
+            self.told.note_in_room(session);
         }
         Ok(hung)
     }

@@ -40,7 +40,7 @@ impl Told {
         }
     }
 
-    /// Another record begins.
+    /// Another record begins. Room is made for one session more, as far as there is memory.
     pub fn begin(&mut self)
         ensures sessions { self.new.sessions ≡ self.old.sessions }
         ensures all { self.new.all ≡ self.old.all }
@@ -48,6 +48,7 @@ impl Told {
     {
         self.records = self.records.saturating_add(1);
         self.place = 0;
+        let _ = self.sessions.reserve(1);
     }
 
     /// Whether a session stands where the newest record is in the list.
@@ -65,6 +66,20 @@ impl Told {
         if self.is_next(session) {
             self.place = self.place.saturating_add(1);
         } else if self.sessions.push(session).is_err() {
+            self.all = true;
+        }
+    }
+
+    /// Notes a session, without taking memory. Where no room was made for it, all are told.
+    pub(crate) fn note_in_room(&mut self, session: SessionId)
+        ensures told { is_told self.new session ≡ true }
+        ensures kept { (t : ℕ) → is_told self.old t ≡ true → is_told self.new t ≡ true }
+    {
+        if self.is_next(session) {
+            self.place = self.place.saturating_add(1);
+        } else if self.sessions.len() < self.sessions.capacity() {
+            self.sessions.push_reserved(session);
+        } else {
             self.all = true;
         }
     }

@@ -19,7 +19,7 @@ use Rattle.interleave.specs.declared.worker.Place.{Place}
 use Rattle.interleave.specs.declared.worker.Place.TheVariants.{Home, Hand, Begun}
 use Rattle.interleave.specs.State.{Seen, State, IsSound, IsBoxOf, ForEach, hand, behind, waits, box_at, inbox_at, in_hand, unread, taken_of, queue_of, planned_for}
 use Rattle.interleave.proofs.Carried.{shut_more, owed_by as owed_nothing, away_before, none_planned}
-use Rattle.interleave.specs.Order.{IsPrefix, number_of, AreAfter, IsRising}
+use Rattle.interleave.specs.Order.{IsPrefix, AreAfter, IsRising}
 use Rattle.interleave.specs.Laws.{OnceInOrder, TakenInOrder, AcceptedIsPrefixOfSent, ErrorAtMostAfterTheClose, IsErrorAtMost}
 
 -- each number is at most n

@@ -1,15 +1,10 @@
 -- Prefixes, and the order of deliveries: this project's own promise.
 use Rattle.std.specs.Prelude.{◌≡◌, ℕ, ◌<◌, List, [], ◌∷◌, ◌++◌}
 use Rattle.deliveries.specs.declared.delivery.Delivery.{Delivery}
-use Rattle.deliveries.specs.declared.delivery.Delivery.TheVariants.{Lines, Last}
+use Rattle.deliveries.specs.Owed.{number_of}
 
 abbrev pub IsPrefix : {X : Type 0} → List X → List X → Type 0
 IsPrefix {X} xs ys = (rest : List X) × (xs ++ rest ≡ ys)
-
--- the record that an item is of
-abbrev pub number_of : Delivery → ℕ
-number_of (Lines number text) = number
-number_of (Last number why) = number
 
 -- each is of a record after number n
 abbrev pub AreAfter : ℕ → List Delivery → Type 0

@@ -23,7 +23,7 @@ use Rattle.deliveries.specs.declared.delivery.Delivery.TheVariants.{Lines}
 use Rattle.deliveries.specs.declared.item.Item.{Item}
 use Rattle.deliveries.specs.Growth.{Grows}
 use Rattle.deliveries.specs.Items.{Continues, deliveries, front, owed_by_front}
-use Rattle.deliveries.specs.Owed.{owed, told, item}
+use Rattle.deliveries.specs.Owed.{number_of, owed, told, item}
 use Rattle.deliveries.proofs.Growing.{grows_to_itself, grows_by_one, grows_on}
 use Rattle.outbox_trials.specs.Fed.{says, next, server_name, line, IsFed, IsReady}
 
@@ -67,8 +67,10 @@ feeds sent g h n x fed delivery session settings here =
     let mine : owed g (next h) 1 ≡ owed_by_front x = ap (λ (q : Settings × List Rec × ℕ). owed q.0 q.1 q.2) (λ i. (sym settings i, sym here i, sym session i)) in
     let grown : All (λ (y : Item). Grows (front y) (next h)) sent =
     All-weaker (λ (y : Item). Grows (front y) h) (λ (y : Item). Grows (front y) (next h)) (λ y p. grows_on (front y) h (next h) p (grows_by_one h (fresh_record h (pos 0) says))) sent fed.grows in
-    let longer : length (next h) ≡ n + 1 + 1 = (let e = fed.number in omega arith) in (
+    let longer : length (next h) ≡ n + 1 + 1 = (let e = fed.number in omega arith) in
+    let second : n + 2 ≡ length (next h) = omega arith in (
       record {
+        newest = ap number_of delivery ∙ second ∙ ap (λ (k : List Rec). length k) (sym here);
         owed = all ∙ mine;
         whose = subst (λ (s : ℕ). All (λ (y : Item). y.session ≡ s) sent) (sym session) fed.whose;
         settings = subst (λ (s : Settings). All (λ (y : Item). y.settings ≡ s) sent) (sym settings) fed.settings;

@@ -111,7 +111,7 @@ fn within(number: Option<u64>, limits: (u64, u64), usual: u64) -> u64
 
 /// Why an address is refused.
 fn bad_address(alloc: Global) -> Result<Error, AllocError> {
-    Command::new(alloc, "halld").error(
+    serve_command(alloc)?.bin_name("halld serve")?.error(
         ErrorKind::ValueValidation,
         "'--tcp <ADDR>' wants an address and a port, as 127.0.0.1:6667 or [::1]:6667",
     )
