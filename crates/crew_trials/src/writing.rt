@@ -110,7 +110,7 @@ fn written_meanwhile<
     let written = Arc::new(alloc, AtomicU64::new(0))?;
     let outlet = Outlet::new(writer.bell().again()?);
     let host = Octets::copied(alloc, b"h1")?;
-    let stream = Tally::new(written.clone());
+    let stream = Tally::new(written.clone()?);
     let Ok(wire) = Wire::new(alloc, writer, stub, stream, host) else {
         return Err("a wire".into());
     };
