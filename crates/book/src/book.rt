@@ -520,10 +520,10 @@ impl<O: Outbox> Book<O> {
         Ok(Some(self.finish_sweep(plan)))
     }
 
-    /// Whether a session may be reaped now.
-    fn check_reap(&self, session: SessionId) -> Result<(), ReapRefusal>
+    /// Whether a session may be reaped now: what `reap` would answer. It takes no memory.
+    pub fn may_reap(&self, session: SessionId) -> Result<(), ReapRefusal>
         ensures ok { OnOk result (MayReap self.now session) }
-        ensures err { IfErr result (λ e. IsReapRefusal self.now session e) }
+        ensures refusal { IfErr result (λ e. IsReapRefusal self.now session e) }
     {
         if self.busy {
             return Err(ReapRefusal::Busy);
@@ -552,7 +552,7 @@ impl<O: Outbox> Book<O> {
         ensures refusal { IfErr result (λ e. IsReapRefusal self.old baton.session e.0) }
         ensures err { IfErr result (λ e. (self.new ≡ self.old) × (e.1 ≡ baton) × (e.2 ≡ taker)) }
     {
-        match self.check_reap(baton.session) {
+        match self.may_reap(baton.session) {
             Ok(()) => {
                 self.seats.give_up(baton.session);
                 let count = self.outboxes.give_up(baton.session, taker);

@@ -1,7 +1,6 @@
 -- Outboxes in a list, of which one is changed.
-use Rattle.std.proofs.Common.{◌≡◌, ◌≢◌, ℕ, zero, suc, ◌+◌, Bool, List, [], ◌∷◌, ◌++◌, length, slice_index_or, slice_set, Option, Some, None, refl, sym, ap, subst, arith}
+use Rattle.std.proofs.Common.{◌≡◌, ◌≢◌, ℕ, zero, suc, ◌+◌, List, [], ◌∷◌, ◌++◌, length, slice_index_or, slice_set, Option, Some, None, refl, sym, ap, subst, arith}
 use Rattle.std.specs.Prelude.{IfSome}
-use Rattle.std.specs.Option.{is_some}
 use Rattle.std.proofs.lemmas.Option.{none-some}
 
 -- one more at the end changes no other place
@@ -19,14 +18,6 @@ module _ {O : Type 0} where
   replaced P (x ∷ l) zero (suc j) a b is f p = p
   replaced P (x ∷ l) (suc i) zero a b is f p = p
   replaced P (x ∷ l) (suc i) (suc j) a b is f p = replaced P l i j a b is f p
-
-  -- and is there as before
-  pub still_there : (l : List (Option O)) (i j : ℕ) (a b : O) → slice_index_or l i None ≡ Some a → is_some (slice_index_or (slice_set l i (Some b)) j None) ≡ is_some (slice_index_or l j None)
-  still_there [] i j a b is = absurd (none-some a is)
-  still_there (x ∷ l) zero zero a b is = ap is_some (sym is)
-  still_there (x ∷ l) zero (suc j) a b is = refl
-  still_there (x ∷ l) (suc i) zero a b is = refl
-  still_there (x ∷ l) (suc i) (suc j) a b is = still_there l i j a b is
 
   -- an outbox is taken out
   pub taken_out : (P : O → Type 0) (l : List (Option O)) (i j : ℕ) → IfSome (slice_index_or l j None) P → IfSome (slice_index_or (slice_set l i None) j None) P

@@ -2,5 +2,4 @@ pub mod Outcomes
 pub mod Boxes
 pub mod Unopened
 pub mod Ties
-pub mod Places
 pub mod Turns

@@ -18,7 +18,6 @@ use crate::baton::Baton;
 use crate::lasting::Lasting;
 use crate::left::Left;
 use crate::namesake::Namesake;
-use crate::presence::Presence;
 use crate::told::Told;
 use book::{
     BookFault, Done, HangRefusal, Hung, LineRefusal, OpenRefusal, Plan, ReapRefusal, Step,
@@ -39,21 +38,19 @@ use std::marker::{Model, PhantomData};
 pub struct Book<L: Naming, O: Outbox> {
     book: book::Book<O>,
     register: Register<O::Name>,
-    presence: Presence,
     of: PhantomData<L>,
 }
 
 impl<L: Naming, O: Outbox> Model for Book<L, O> {
-    ghost use Rattle.std.specs.Prelude.{◌≡◌, nat_eq};
-    ghost use Rattle.std.specs.HashMap.{get};
+    ghost use Rattle.std.specs.Prelude.{◌≡◌};
     ghost use Rattle.book.specs.Book.{Shown};
-    ghost use Rattle.hall.specs.Tied.{IsTied, IsPresent};
+    ghost use Rattle.hall.specs.Tied.{IsTied};
 
     ghost Value = { Shown O };
 
     ghost view = { λ a. a.book };
 
-    ghost invariant = { λ a. (a.register.table ≡ L.table) × IsTied O.name a.book a.register.rows × IsPresent (get nat_eq a.presence.sessions) a.book };
+    ghost invariant = { λ a. (a.register.table ≡ L.table) × IsTied O.name a.book a.register.rows };
 }
 
 /// Has the line done that the newest record says, whose number this is.
@@ -99,7 +96,6 @@ impl<L: Naming, O: Lasting> Book<L, O> {
         Ok(Book {
             book,
             register,
-            presence: Presence::new(alloc),
             of: PhantomData,
         })
     }
@@ -133,12 +129,8 @@ impl<L: Naming, O: Lasting> Book<L, O> {
         if let Err(refusal) = self.book.may_open(moment) {
             return Err((refusal, outbox));
         }
-        if self.presence.make_room().is_err() {
-            return Err((OpenRefusal::Memory, outbox));
-        }
         let namesake = Namesake::of(&outbox);
         let (session, turn) = self.book.open(host, moment, outbox)?;
-        self.presence.enter(session);
         let (mark, stub) = self.register.admit::<L, Namesake<O>>(session, &namesake);
         let front = Snapshot::of(&self.book);
         Ok((session, Baton { turn, mark, front }, stub))
@@ -287,12 +279,7 @@ impl<L: Naming, O: Lasting> Book<L, O> {
         ensures refusal { IfErr result (λ e. IsSweepRefusal self.old moment e) }
         ensures err { OnErr result (self.new ≡ self.old) }
     {
-        self.book.sound();
-        let Some(plan) = self.book.begin_sweep(moment)? else {
-            return Ok(None);
-        };
-        self.presence.leave(plan.session());
-        Ok(Some(plan))
+        self.book.begin_sweep(moment)
     }
 
     /// Gives back the plan of a sweep, with nothing left in it. It takes no memory.
@@ -325,34 +312,18 @@ impl<L: Naming, O: Lasting> Book<L, O> {
         Ok(Some(self.finish_sweep(plan)))
     }
 
-    /// Whether a plan is out.
-    fn is_busy(&self) -> bool
-        ensures { result ≡ self.now.busy }
-    {
-        matches!(
-            self.book.may_open(self.book.last_moment()),
-            Err(OpenRefusal::Busy)
-        )
-    }
-
     /// Whether tokens of these sessions may be given up now.
     fn check_reap(&self, baton: SessionId, stub: SessionId) -> Result<(), ReapRefusal>
         ensures ok { OnOk result (MayReap self.now baton stub) }
         ensures err { IfErr result (λ e. IsReapRefusal self.now baton stub e) }
     {
-        if self.is_busy() {
-            return Err(ReapRefusal::Busy);
+        match self.book.may_reap(baton) {
+            Err(ReapRefusal::Busy) => Err(ReapRefusal::Busy),
+            Err(ReapRefusal::Stranger) => Err(ReapRefusal::Stranger),
+            Err(ReapRefusal::NotGone) if stub == baton => Err(ReapRefusal::NotGone),
+            Ok(()) if stub == baton => Ok(()),
+            _ => Err(ReapRefusal::Stranger),
         }
-        let Some(gone) = self.presence.is_gone(baton) else {
-            return Err(ReapRefusal::Stranger);
-        };
-        if stub != baton {
-            return Err(ReapRefusal::Stranger);
-        }
-        if !gone {
-            return Err(ReapRefusal::NotGone);
-        }
-        Ok(())
     }
 
     /// Gives up a session that is gone, with its tokens and with what is left in its outbox, whose taker is given up with it. The
@@ -400,7 +371,6 @@ impl<L: Naming, O: Lasting> Book<L, O> {
         let Ok(left) = self.book.reap(turn, taker) else {
             unreachable!();
         };
-        self.presence.remove(session);
         Left {
             left,
             of: PhantomData,

@@ -7,7 +7,6 @@ mod hall;
 mod lasting;
 mod left;
 mod namesake;
-mod presence;
 mod rings;
 mod told;
 

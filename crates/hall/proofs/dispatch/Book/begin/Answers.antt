@@ -1,9 +1,9 @@
-use Rattle.std.proofs.Common.{◌≡◌, ℕ, sym, ap, ◌∙◌, subst}
+use Rattle.std.proofs.Common.{◌≡◌, sym, subst}
 use Rattle.chronicle.specs.declared.record.Kind.TheVariants.{Said}
 use Rattle.std.specs.Prelude.{OnOk}
 use Rattle.batons.specs.Turn.{Turn}
 use Rattle.book.specs.Book.{MayBegin, begun}
-use Rattle.hall.specs.Tied.{IsTied, place_of}
+use Rattle.hall.specs.Tied.{IsTied}
 use Rattle.hall.proofs.Outcomes.{by_result}
 use Rattle.hall.proofs.Ties.{said_ties}
 use Rattle.hall.proofs.dispatch.Book.begin.Goals as goal
@@ -19,9 +19,8 @@ invariant_of-self g c =
     (λ is may. (
       i.0,
       subst (λ m. IsTied g.O.Outbox.name m a.register.rows) (sym is) (said_ties g.O.Outbox.name a.book b.session b.next p c.args.moment a.register.rows may.idle i.1),
-      λ t. i.2 t ∙ sym (ap (λ m. place_of m t) is),
     ))
-    (λ is. (i.0, subst (λ m. IsTied g.O.Outbox.name m a.register.rows) (sym is) i.1, λ t. i.2 t ∙ sym (ap (λ m. place_of m t) is)))
+    (λ is. (i.0, subst (λ m. IsTied g.O.Outbox.name m a.register.rows) (sym is) i.1))
 
 pub returns-clause-ok : goal.returns-clause-ok
 returns-clause-ok g c =

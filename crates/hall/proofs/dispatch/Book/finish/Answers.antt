@@ -6,7 +6,7 @@ use Rattle.register.specs.Rows.{with_piece, pieces_at}
 use Rattle.register.specs.Shown.{with_done, longer_mark}
 use Rattle.batons.specs.Turn.{Turn}
 use Rattle.book.specs.Book.{IsOut, finished}
-use Rattle.hall.specs.Tied.{newest_line, begun_of, IsTied, place_of}
+use Rattle.hall.specs.Tied.{newest_line, begun_of, IsTied}
 use Rattle.hall.proofs.Outcomes.{at_some}
 use Rattle.hall.proofs.Ties.{out_line, line_ties, done_accepts}
 use Rattle.hall.proofs.dispatch.Book.finish.Given as given
@@ -64,7 +64,6 @@ invariant_of-self g c =
     let rows = ap (λ r. r.rows) t.register ∙ ap (λ (s : ℕ). with_piece a.register.rows s t.said) c.baton.invariant.0 in (
       ap (λ r. r.table) t.register ∙ i.0,
       subst (λ m. IsTied g.O.Outbox.name m c.advance.new.register.rows) (sym is) (subst (λ (xs : List (Row g.row.O-Name.Denot)). IsTied g.O.Outbox.name (finished a.book) xs) (sym rows) (tied g c)),
-      λ u. i.2 u ∙ sym (ap (λ m. place_of m u) is),
     )
 
 pub invariant_of-baton : goal.invariant_of-baton

@@ -1,10 +1,9 @@
-use Rattle.std.proofs.Common.{◌≡◌, ℕ, sym, ap, ◌∙◌, subst}
+use Rattle.std.proofs.Common.{◌≡◌, sym, subst}
 use Rattle.chronicle.specs.declared.record.Kind.TheVariants.{Hung}
 use Rattle.book.specs.Book.{MayHang, IsDone}
-use Rattle.hall.specs.Tied.{IsTied, place_of}
+use Rattle.hall.specs.Tied.{IsTied}
 use Rattle.hall.proofs.Outcomes.{by_result}
 use Rattle.hall.proofs.Ties.{hung_done_ties}
-use Rattle.hall.proofs.Places.{done_places}
 use Rattle.hall.proofs.dispatch.Book.hang.Goals as goal
 
 pub invariant_of-self : goal.invariant_of-self
@@ -18,6 +17,5 @@ invariant_of-self g c =
     (λ done may. (
       i.0,
       hung_done_ties g.O.Outbox.name g.O.Outbox.accepts g.O.Outbox.refuses g.met.O.Lasting.stays a.book k s w c.args.moment a.register.rows may.idle done i.1,
-      λ t. i.2 t ∙ sym (done_places g.O.Outbox.accepts g.O.Outbox.refuses a.book k (Hung s w) c.args.moment t done),
     ))
-    (λ is. (i.0, subst (λ m. IsTied g.O.Outbox.name m a.register.rows) (sym is) i.1, λ t. i.2 t ∙ sym (ap (λ m. place_of m t) is)))
+    (λ is. (i.0, subst (λ m. IsTied g.O.Outbox.name m a.register.rows) (sym is) i.1))

@@ -1,13 +1,11 @@
-use Rattle.std.proofs.Common.{◌≡◌, ◌+◌, ◌<◌, ℕ, Bool, false, cond, nat_eq, List, [], ◌∷◌, length, Option, Some, sym, ap, ◌∙◌, subst, append-nil, arith}
-use Rattle.std.specs.HashMap.{get}
+use Rattle.std.proofs.Common.{◌≡◌, ◌+◌, ◌<◌, ℕ, List, [], ◌∷◌, length, sym, ap, ◌∙◌, subst, append-nil, arith}
 use Rattle.chronicle.specs.History.{Rec, sessions, accepted}
 use Rattle.register.specs.declared.claims.Row.{Row}
 use Rattle.register.specs.Rows.{new_row}
 use Rattle.book.specs.Book.{Shown, opened}
-use Rattle.hall.specs.Tied.{IsTied, place_of}
-use Rattle.hall.proofs.Unopened.{silent, not_gone}
+use Rattle.hall.specs.Tied.{IsTied}
+use Rattle.hall.proofs.Unopened.{silent}
 use Rattle.hall.proofs.Ties.{opened_ties}
-use Rattle.hall.proofs.Places.{opened_places}
 use Rattle.hall.proofs.dispatch.Book.open.Goals as goal
 
 pub invariant_of-result : goal.invariant_of-result
@@ -46,8 +44,4 @@ invariant_of-self-2 g c =
     let tied = opened_ties name m c.args.host c.args.moment c.args.outbox a.register.rows may.idle c.sound.ensures.sessions none i.1 in (
       ap (λ r. r.table) c.admit-mark.ensures.register ∙ i.0,
       subst (λ b. IsTied name b c.admit-mark.new.self.rows) (sym ok) (subst (λ (xs : List (Row g.row.O-Name.Denot)). IsTied name (opened m c.args.host c.args.moment c.args.outbox) xs) (sym rows) tied),
-      λ t.
-          c.enter.ensures t ∙ ap (λ (s : ℕ). cond (nat_eq s t) (Some false) (get nat_eq c.make_room.new.self.sessions t)) session
-          ∙ ap (λ (o : Option Bool). cond (nat_eq n t) (Some false) o) (c.make_room.ensures.same t ∙ i.2 t)
-          ∙ sym (opened_places m c.args.host c.args.moment c.args.outbox t c.sound.ensures.sessions (not_gone m.settings m.history n c.sound.ensures.legal late)) ∙ sym (ap (λ b. place_of b t) ok),
     )

@@ -1,6 +1,4 @@
-use Rattle.std.proofs.Common.{◌≡◌, sym, ◌∙◌}
 use Rattle.hall.proofs.Ties.{put_ties}
-use Rattle.hall.proofs.Places.{put_places}
 use Rattle.hall.proofs.dispatch.Book.put_next.Goals as goal
 
 pub invariant_of-self : goal.invariant_of-self
@@ -11,5 +9,4 @@ invariant_of-self g c =
     let put = c.put_next.ensures.put in (
       i.0,
       put_ties g.O.Outbox.accepts g.O.Outbox.refuses g.O.Outbox.name g.met.O.Lasting.stays a.book k a.book.plan c.put_next.result a.register.rows put i.1,
-      λ t. i.2 t ∙ sym (put_places g.O.Outbox.accepts g.O.Outbox.refuses a.book k a.book.plan c.put_next.result t put),
     )
