@@ -9,7 +9,7 @@ use Rattle.deliveries.specs.declared.delivery.Delivery.{Delivery}
 use Rattle.deliveries.specs.declared.item.Item.{Item}
 use Rattle.deliveries.specs.Items.{deliveries}
 use Rattle.deliveries.specs.declared.delivery.Delivery.TheVariants.{Lines, Last}
-use Rattle.deliveries.specs.Owed.{item, told, reason, delivery, owed}
+use Rattle.deliveries.specs.Owed.{number_of, item, told, reason, delivery, owed}
 use Rattle.line_grammar.specs.declared.splitter.Piece.{Piece}
 use Rattle.line_grammar.specs.Lines.{lines}
 use Rattle.chronicle.specs.History.{accepted}
