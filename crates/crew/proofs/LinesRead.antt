@@ -1,5 +1,5 @@
 -- Lines are done as they are read.
-use Rattle.std.proofs.Common.{◌≡◌, ℕ, Bool, true, false, not, cond, List, [], ◌∷◌, ◌++◌, take, drop, Option, Some, None, refl, ap, sym, ◌∙◌, subst, append_assoc, append-nil}
+use Rattle.std.proofs.Common.{◌≡◌, ℕ, Bool, true, false, not, cond, List, [], ◌∷◌, ◌++◌, take, drop, Option, Some, None, refl, ap, sym, ◌∙◌, subst, append_assoc, append-nil, ◌⊎◌, inl, inr}
 use Rattle.std.proofs.KnownBytes.{Consumes-nil, Consumes-trans}
 use Rattle.std.proofs.lemmas.List.{take-append-drop}
 use Rattle.std.specs.Prelude.{Result, Ok, Err, OnOk}
@@ -7,7 +7,9 @@ use Rattle.std.specs.Io.KnownBytes.{Consumes}
 use Rattle.std.specs.List.{flat_map}
 use Rattle.line_grammar.specs.declared.splitter.Piece.{Piece}
 use Rattle.line_grammar.specs.Lines.{is_line_end, longer, ended, piece_of, lines, left_by, Feeds}
-use Rattle.crew.specs.Doing.{DoesFront, DoesLines}
+use Rattle.crew.specs.declared.reading.Next.{Next}
+use Rattle.crew.specs.declared.reading.Next.TheVariants.{More, Short, Nothing}
+use Rattle.crew.specs.Doing.{DoesFront, DoesLines, DoesNext, DoesAllNext, DoesRead, is_over}
 use Rattle.crew.specs.Taking.{TakesIn, HasDone}
 
 -- what is done of pieces of which so many were done
@@ -26,17 +28,17 @@ takes_nothing before after kept now read same = record {
 pub begins : (known : Option (List ℕ)) (done : List Piece) → HasDone known known done done (left_by [])
 begins known done = record { octets = []; read = Consumes-nil known; done = sym (append-nil done); kept = refl }
 
--- octets come, and all their lines are done
-pub goes_on : (a b c : Option (List ℕ)) (old mid new pieces : List Piece) (kept now : Option (List ℕ)) → HasDone a b old mid kept → TakesIn b c kept now pieces → new ≡ mid ++ pieces → HasDone a c old new now
-goes_on a b c old mid new pieces kept now done takes grown =
-    let f = takes.feeds done.octets done.kept in
+-- octets come by a read, and all their lines are done
+pub goes_on : (a b c : Option (List ℕ)) (old mid new : List Piece) (kept now : Option (List ℕ)) → HasDone a b old mid kept → DoesRead b c kept now mid new true → HasDone a c old new now
+goes_on a b c old mid new kept now done read =
+    let all = read.whole refl done.octets done.kept in
     record {
-      octets = done.octets ++ takes.octets;
-      read = Consumes-trans a b c done.octets takes.octets done.read takes.read;
+      octets = done.octets ++ read.octets;
+      read = Consumes-trans a b c done.octets read.octets done.read read.read;
       done =
-          grown ∙ ap (λ l. l ++ pieces) done.done ∙ append_assoc old (lines done.octets) pieces
-          ∙ ap (λ l. old ++ (lines done.octets ++ l)) f.grows ∙ ap (λ l. old ++ l) (sym f.adds);
-      kept = f.keeps;
+          all.grown ∙ ap (λ l. l ++ all.pieces) done.done ∙ append_assoc old (lines done.octets) all.pieces
+          ∙ ap (λ l. old ++ l) (sym all.adds);
+      kept = all.keeps;
     }
 
 -- all lines are done
@@ -48,22 +50,33 @@ ends_whole a b old new kept all done = record {
   whole = λ e. done.done;
 }
 
--- octets come, and of their lines only the first are done
-pub ends_within : (a b c : Option (List ℕ)) (old mid new pieces : List Piece) (kept now : Option (List ℕ)) → HasDone a b old mid kept → TakesIn b c kept now pieces → DoesFront mid new pieces → DoesLines a c old new false
-ends_within a b c old mid new pieces kept now done takes front =
-    let f = takes.feeds done.octets done.kept in
-    let of_pieces = front in
+-- octets come by a read, and the first of their lines are done
+pub ends_by : (a b c : Option (List ℕ)) (old mid new : List Piece) (kept now : Option (List ℕ)) (all : Bool) → HasDone a b old mid kept → DoesRead b c kept now mid new all → DoesLines a c old new all
+ends_by a b c old mid new kept now true done read = ends_whole a c old new now true (goes_on a b c old mid new kept now done read)
+ends_by a b c old mid new kept now false done read =
+    let n = read.next done.octets done.kept in
     record {
-      octets = done.octets ++ takes.octets;
-      read = Consumes-trans a b c done.octets takes.octets done.read takes.read;
+      octets = done.octets ++ read.octets;
+      read = Consumes-trans a b c done.octets read.octets done.read read.read;
       front = record {
-        done = lines done.octets ++ front.done;
-        left = front.left;
-        parts = f.adds ∙ ap (λ l. lines done.octets ++ l) (sym f.grows ∙ front.parts) ∙ sym (append_assoc (lines done.octets) front.done front.left);
-        grown = front.grown ∙ ap (λ l. l ++ front.done) done.done ∙ append_assoc old (lines done.octets) front.done;
+        done = lines done.octets ++ n.front.done;
+        left = n.front.left;
+        parts = n.adds ∙ ap (λ l. lines done.octets ++ l) n.front.parts ∙ sym (append_assoc (lines done.octets) n.front.done n.front.left);
+        grown = n.front.grown ∙ ap (λ l. l ++ n.front.done) done.done ∙ append_assoc old (lines done.octets) n.front.done;
       };
       whole = λ e. absurd (let f : false ≡ true = e in cc);
     }
+
+-- ---- one read
+
+-- the pieces that end in what was read, of which the first were done
+pub reads : (a b : Option (List ℕ)) (kept now : Option (List ℕ)) (old new pieces : List Piece) (all : Bool) → TakesIn a b kept now pieces → DoesFront old new pieces → (all ≡ true → new ≡ old ++ pieces) → DoesRead a b kept now old new all
+reads a b kept now old new pieces all takes front whole = record {
+  octets = takes.octets;
+  read = takes.read;
+  next = λ stream is. let f = takes.feeds stream is in record { pieces = pieces; adds = f.adds ∙ ap (λ l. lines stream ++ l) (sym f.grows); front = front };
+  whole = λ e stream is. let f = takes.feeds stream is in record { pieces = pieces; adds = f.adds ∙ ap (λ l. lines stream ++ l) (sym f.grows); grown = whole e; keeps = f.keeps };
+}
 
 -- ---- octets come that aren't split
 
@@ -87,25 +100,21 @@ pieces_more (x ∷ xs) ys = ap (λ l. piece_of x ++ l) (pieces_more xs ys) ∙ s
 lines_more : (xs ys : List ℕ) → (zs : List Piece) × (lines (xs ++ ys) ≡ lines xs ++ zs)
 lines_more xs ys = let more = ended_more xs ys in (flat_map piece_of more.0, ap (flat_map piece_of) more.1 ∙ pieces_more (ended xs) more.0)
 
-pub runs_out : (a b c : Option (List ℕ)) (old new : List Piece) (kept : Option (List ℕ)) (octets : List ℕ) → HasDone a b old new kept → Consumes b c octets → DoesLines a c old new false
-runs_out a b c old new kept octets done read =
-    let more = lines_more done.octets octets in
-    record {
-      octets = done.octets ++ octets;
-      read = Consumes-trans a b c done.octets octets done.read read;
-      front = record { done = lines done.octets; left = more.0; parts = more.1; grown = done.done };
-      whole = λ e. absurd (let f : false ≡ true = e in cc);
-    }
+-- no octets come, or octets that aren't split: none of their lines is done
+pub reads_none : (a b : Option (List ℕ)) (kept now : Option (List ℕ)) (old : List Piece) (all : Bool) → (all ≡ true → TakesIn a b kept now []) → ((octets : List ℕ) × Consumes a b octets) → DoesRead a b kept now old old all
+reads_none a b kept now old true takes read = reads a b kept now old old [] true (takes refl) (record { done = []; left = []; parts = refl; grown = sym (append-nil old) }) (λ e. sym (append-nil old))
+reads_none a b kept now old false takes read = record {
+  octets = read.0;
+  read = read.1;
+  next = λ stream is. let more = lines_more stream read.0 in record { pieces = more.0; adds = more.1; front = record { done = []; left = more.0; parts = refl; grown = sym (append-nil old) } };
+  whole = λ e. absurd (let f : false ≡ true = e in cc);
+}
 
--- no more octets come, or octets that aren't split
-pub ends_by : (a b c : Option (List ℕ)) (old new : List Piece) (kept now : Option (List ℕ)) (all : Bool) → HasDone a b old new kept → (all ≡ true → TakesIn b c kept now []) → ((octets : List ℕ) × Consumes b c octets) → DoesLines a c old new all
-ends_by a b c old new kept now true done takes read = ends_whole a c old new now true (goes_on a b c old new new [] kept now done (takes refl) (sym (append-nil new)))
-ends_by a b c old new kept now false done takes read = runs_out a b c old new kept read.0 done read.1
-
--- the first of some pieces, where that is told to be not all
-pub ends_early : (a b c : Option (List ℕ)) (old mid new pieces : List Piece) (kept now : Option (List ℕ)) (all : Bool) → not all ≡ true → HasDone a b old mid kept → TakesIn b c kept now pieces → DoesFront mid new pieces → DoesLines a c old new all
-ends_early a b c old mid new pieces kept now true not_all done takes front = absurd (let f : false ≡ true = not_all in cc)
-ends_early a b c old mid new pieces kept now false not_all done takes front = ends_within a b c old mid new pieces kept now done takes front
+-- reading goes on
+pub not_over : (n : Next) → (n ≡ More) ⊎ ((n ≡ Short) ⊎ (n ≡ Nothing)) → is_over n ≡ false
+not_over n (inl e) = ap is_over e
+not_over n (inr (inl e)) = ap is_over e
+not_over n (inr (inr e)) = ap is_over e
 
 -- what is so of an answer that is no error
 pub unless_err : {A E : Type 0} (r : Result A E) (P : Type 0) → ((e : E) → r ≡ Err e → ⊥) → OnOk r P → P

@@ -4,6 +4,11 @@ use Rattle.std.specs.Io.KnownBytes.{Consumes}
 use Rattle.line_grammar.specs.declared.splitter.Piece.{Piece}
 use Rattle.line_grammar.specs.Lines.{lines, left_by, Feeds}
 
+-- what a clause sees of an intake: what is kept of the unfinished line, and the pieces of the last read
+pub record Taken : Type 0 where
+  pub kept : Option (List ℕ)
+  pub pieces : List Piece
+
 -- the next octets were read, and these are the pieces that end in them
 pub record TakesIn (before after : Option (List ℕ)) (kept now : Option (List ℕ)) (pieces : List Piece) : Type 0 where
   pub octets : List ℕ

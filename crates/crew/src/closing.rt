@@ -1,21 +1,16 @@
 //! The end of a session.
-ghost use Rattle.std.specs.Prelude.{◌≡◌, Some, IfSome};
+ghost use Rattle.std.specs.Prelude.{◌≡◌, Some, IfOk, IfErr};
 
 use crate::server::{Clock, Gate, Server, Sockets, later};
-use crate::working::ring_for;
-use chronicle::SessionId;
+use crate::working::{tell, tell_many};
 use hall::{Baton, Left, Naming, Stub, Told};
 use outbox::{ChannelName, Sender, Writer};
-use std::alloc::Global;
-use std::io::Write;
-use std::sync::{Mutex, Wait};
-use wire::Wire;
+use std::sync::Wait;
 
 /// Sweeps one session, and answers whether there may be more.
 fn sweep_one<L: Naming, R: Wait + Drop, G: Gate, S: Sockets, C: Clock>(
     rt: &R,
     server: &Server<'_, L, R, G, S, C>,
-    by: SessionId,
     told: &mut Told,
 ) -> bool {
     let moment = server.clock.now();
@@ -26,10 +21,10 @@ fn sweep_one<L: Naming, R: Wait + Drop, G: Gate, S: Sockets, C: Clock>(
     let swept = hall.sweep(moment);
     hall.swap_told(told);
     drop(hall);
-    ring_for(server.sockets, by, told);
     let Ok(Some(done)) = swept else {
         return false;
     };
+    tell_many(server, told);
     for missed in done.missed.as_slice() {
         server.sockets.shut(*missed);
     }
@@ -40,43 +35,36 @@ fn sweep_one<L: Naming, R: Wait + Drop, G: Gate, S: Sockets, C: Clock>(
 fn sweep_all<L: Naming, R: Wait + Drop, G: Gate, S: Sockets, C: Clock>(
     rt: &R,
     server: &Server<'_, L, R, G, S, C>,
-    by: SessionId,
     told: &mut Told,
 ) {
     for _ in rt.forever() {
-        if !sweep_one(rt, server, by, told) {
-            return;
+        if !sweep_one(rt, server, told) {
+            break;
         }
     }
+    tell(server, told);
 }
 
-/// Sweeps all who are shut, and gives a session up with its tokens, which are all of that session. Where it isn't gone yet, or
-/// memory was wanting, it pauses and tries again.
+/// Sweeps all who are shut, and gives a session up with its tokens, which are all of that session. It doesn't wait: where the
+/// session isn't gone yet, or memory was wanting, the tokens come back, to be tried with again.
 ///
 /// What comes back is of the baton's session, which so was swept and reaped.
 pub fn close_up<L: Naming, R: Wait + Drop, G: Gate, S: Sockets, C: Clock>(
     rt: &R,
-    alloc: Global,
     server: &Server<'_, L, R, G, S, C>,
     baton: Baton<L, Sender<R>>,
     stub: Stub<L, ChannelName>,
     writer: Writer,
-) -> Left<L>
+    told: &mut Told,
+) -> Result<Left<L>, (Baton<L, Sender<R>>, Stub<L, ChannelName>, Writer)>
     requires one { stub.session ≡ baton.session }
     requires own { stub.outbox ≡ Some writer.channel }
-    ensures session { result.session ≡ baton.session }
+    ensures session { IfOk result (λ left. left.session ≡ baton.session) }
+    ensures back { IfErr result (λ tokens. (tokens.0 ≡ baton) × (tokens.1 ≡ stub) × (tokens.2 ≡ writer)) }
 {
-    let session = baton.session();
-    let mut told = Told::new(alloc);
-    let mut tokens = (baton, stub, writer);
-    for _ in rt.forever() {
-        sweep_all(rt, server, session, &mut told);
-        let (baton, stub, writer) = tokens;
-        match server.hall.lock(rt).reap(baton, stub, writer) {
-            Ok(left) => return left,
-            Err((_, baton, stub, writer)) => tokens = (baton, stub, writer),
-        }
-        server.sockets.pause();
+    sweep_all(rt, server, told);
+    match server.hall.lock(rt).reap(baton, stub, writer) {
+        Ok(left) => Ok(left),
+        Err((_, baton, stub, writer)) => Err((baton, stub, writer)),
     }
-    unreachable!()
 }

@@ -1,5 +1,5 @@
 //! What is read of a session's input.
-ghost use Rattle.std.specs.Prelude.{◌≡◌, ℕ, List, [], true, OnOk, OnErr, IfOk, IfErr};
+ghost use Rattle.std.specs.Prelude.{◌≡◌, ℕ, List, [], true, None, OnOk, OnErr, IfOk, IfErr};
 ghost use Rattle.std.specs.Io.KnownBytes.{Consumes};
 ghost use Rattle.line_grammar.specs.Lines.{left_by};
 ghost use Rattle.crew.specs.Taking.{TakesIn};
@@ -7,7 +7,8 @@ ghost use Rattle.crew.specs.Taking.{TakesIn};
 use chronicle::Why;
 use line_grammar::{Piece, Splitter};
 use std::alloc::{AllocError, Global};
-use std::io::{ErrorKind, Read};
+use std::io::{Error, ErrorKind, Read};
+use std::marker::Model;
 
 /// Octets that are read at a time from a client that sends little.
 const LITTLE: usize = 512;
@@ -18,27 +19,44 @@ const MUCH: usize = 4096;
 /// Lines of one read for which room is kept.
 const LINES: usize = 16;
 
-/// The lines of a stream as they come, and room for what is read: for much after a read that filled the room, and for little again
+/// What is read of a session's input and isn't done: the lines as they come, and room for what is read: for much after a read that filled the room, and for little again
 /// after one that brought little.
 #[derive(Drop)]
-pub(crate) struct Intake {
+pub struct Intake {
     splitter: Splitter,
     pieces: Vec<Piece>,
     buffer: Vec<u8>,
     last: usize,
 }
 
-/// Why no more is read of a stream, and whether all that was read was cut.
+impl Model for Intake {
+    ghost use Rattle.crew.specs.Taking.{Taken};
+
+    ghost Value = { Taken };
+
+    ghost view = { λ a. record { kept = a.splitter; pieces = a.pieces.items } };
+}
+
+/// Why nothing was read, or nothing more can be, and whether all that was read was cut.
 #[derive(Clone, Copy, Drop)]
 pub(crate) struct Ending {
-    pub(crate) why: Why,
+    /// The reason for which the session is to be ended; `None` where nothing comes now.
+    pub(crate) why: Option<Why>,
     pub(crate) all: bool,
+}
+
+/// The reason for which an error of a read ends a session; `None` where it only means that nothing comes now.
+fn why_of(error: &Error) -> Option<Why> {
+    match error.kind() {
+        ErrorKind::WouldBlock | ErrorKind::TimedOut | ErrorKind::Interrupted => None,
+        _ => Some(Why::ReadFailed),
+    }
 }
 
 impl Intake {
     /// Nothing is read yet.
-    pub(crate) fn new(alloc: Global) -> Result<Intake, AllocError>
-        ensures { IfOk result (λ i. i.splitter ≡ left_by []) }
+    pub fn new(alloc: Global) -> Result<Intake, AllocError>
+        ensures { IfOk result (λ i. i.kept ≡ left_by []) }
     {
         Ok(Intake {
             splitter: Splitter::new(alloc),
@@ -50,19 +68,24 @@ impl Intake {
 
     /// The lines that ended in what was read last.
     pub(crate) fn pieces(&self) -> &[Piece]
-        ensures { result.now ≡ self.now.pieces.items }
+        ensures { result.now ≡ self.now.pieces }
     {
         &self.pieces
     }
 
+    /// Whether the last read filled the room, so that more may be there at once.
+    pub(crate) fn is_full(&self) -> bool {
+        self.buffer.len() <= self.last
+    }
+
     /// Makes ready for the next read, by how much the last one brought. Where more room is refused there is as much as before.
     fn make_ready(&mut self)
-        ensures splitter { self.new.splitter ≡ self.old.splitter }
-        ensures none { self.new.pieces.items ≡ [] }
+        ensures kept { self.new.kept ≡ self.old.kept }
+        ensures none { self.new.pieces ≡ [] }
     {
         self.pieces.clear();
         self.pieces.shrink_to(LINES);
-        if self.buffer.len() <= self.last {
+        if self.is_full() {
             let _ = self.buffer.resize(MUCH, 0);
         } else if self.last <= LITTLE {
             self.buffer.truncate(LITTLE);
@@ -72,14 +95,15 @@ impl Intake {
 
     /// Reads once, and cuts what that brings into lines.
     pub(crate) fn take_in<I: Read>(&mut self, input: &mut I) -> Result<(), Ending>
-        ensures ok { OnOk result (TakesIn (I.remaining input.old) (I.remaining input.new) self.old.splitter self.new.splitter self.new.pieces.items) }
-        ensures all { IfErr result (λ e. e.all ≡ true → TakesIn (I.remaining input.old) (I.remaining input.new) self.old.splitter self.new.splitter []) }
+        ensures ok { OnOk result (TakesIn (I.remaining input.old) (I.remaining input.new) self.old.kept self.new.kept self.new.pieces) }
+        ensures all { IfErr result (λ e. e.all ≡ true → TakesIn (I.remaining input.old) (I.remaining input.new) self.old.kept self.new.kept []) }
+        ensures nothing { IfErr result (λ e. e.why ≡ None → e.all ≡ true) }
         ensures some { OnErr result ((octets : List ℕ) × Consumes (I.remaining input.old) (I.remaining input.new) octets) }
     {
         self.make_ready();
         match input.read(&mut self.buffer) {
             Ok(0) => Err(Ending {
-                why: Why::ReadEnded,
+                why: Some(Why::ReadEnded),
                 all: true,
             }),
             Ok(count) => {
@@ -87,14 +111,13 @@ impl Intake {
                 match self.splitter.feed(&self.buffer[..count], &mut self.pieces) {
                     Ok(()) => Ok(()),
                     Err(AllocError) => Err(Ending {
-                        why: Why::Memory,
+                        why: Some(Why::Memory),
                         all: false,
                     }),
                 }
             }
-            Err(error) if error.kind() == ErrorKind::Interrupted => Ok(()),
-            Err(_) => Err(Ending {
-                why: Why::ReadFailed,
+            Err(error) => Err(Ending {
+                why: why_of(&error),
                 all: true,
             }),
         }

@@ -4,7 +4,6 @@
 #![tactic(auto)]
 
 mod closing;
-mod desk;
 mod intake;
 mod outlet;
 mod reading;
@@ -13,9 +12,9 @@ mod working;
 mod writing;
 
 pub use closing::close_up;
-pub use desk::Desk;
+pub use intake::Intake;
 pub use outlet::Outlet;
-pub use reading::read_on;
+pub use reading::{Next, Took, read_on, read_some};
 pub use server::{Clock, Gate, Server, Sockets, moment_in};
-pub use working::{Back, Job, Outcome, Worked, hang, work, work_one};
-pub use writing::write_on;
+pub use working::{Back, Job, Outcome, Worked, hang, tell, work, work_one};
+pub use writing::{Standing, write_some};

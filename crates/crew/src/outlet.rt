@@ -4,80 +4,91 @@ ghost use Rattle.std.specs.Prelude.{◌≡◌, IfSome};
 use chronicle::SessionId;
 use deliveries::WriteFault;
 use hall::Naming;
-use outbox::Bell;
 use std::io::Write;
 use std::sync::atomic::{AtomicBool, Ordering};
 use std::sync::{Mutex, Wait};
-use std::time::Duration;
 use wire::{Flow, Wire};
 
-/// A session's wire, on which whoever put something into the session's outbox writes at once, and its writer's thread what is left.
+/// A session's wire, on which whoever put something into the session's outbox writes at once. No call waits for another that
+/// writes: it leaves word instead, and the other writes once more. A stream that didn't take all is left alone until it is told to
+/// take more (`go_on`).
 #[derive(Drop)]
 pub struct Outlet<L: Naming, W: Write + Drop> {
     wire: Mutex<Option<Wire<L, W>>>,
-    bell: Bell,
+    // Somebody wants what waits to be written.
+    is_wanted: AtomicBool,
+    // Somebody writes.
+    is_busy: AtomicBool,
+    // The stream didn't take all.
     is_behind: AtomicBool,
 }
 
 impl<L: Naming, W: Write + Drop> Outlet<L, W> {
-    /// The outlet of a session whose writer's thread rests by this bell. It has no wire yet.
-    pub fn new(bell: Bell) -> Outlet<L, W> {
+    /// An outlet that has no wire yet.
+    pub fn new() -> Outlet<L, W> {
         Outlet {
             wire: Mutex::new(None),
-            bell,
+            is_wanted: AtomicBool::new(false),
+            is_busy: AtomicBool::new(false),
             is_behind: AtomicBool::new(false),
         }
     }
 
-    /// Gives it its wire. What was put before is written by the writer's thread, which looks before it rests.
+    /// Gives it its wire. What was put before is written by the next `write_now`.
     pub fn open<R: Wait>(&self, rt: &R, wire: Wire<L, W>) {
         *self.wire.lock(rt) = Some(wire);
     }
 
-    /// Has the writer's thread look for something to write.
-    pub fn ring(&self) {
-        self.bell.ring();
-    }
-
-    /// Writes what waits, where no other thread does and the stream takes it, and else has the writer's thread do so. A stream that
-    /// didn't take all is left to that thread until it has caught up.
-    pub fn write_now<R: Wait>(&self, rt: &R) {
-        if self.is_behind.load(Ordering::SeqCst) || !self.has_written(rt) {
-            self.bell.ring();
+    /// Writes what waits, as far as the stream takes it, and answers how the wire stands then; or `None` where another thread writes,
+    /// which so writes once more, or there is no wire. Where the stream didn't take all before, nothing is tried.
+    pub fn write_now<R: Wait>(&self, rt: &R) -> Option<Result<Flow, WriteFault>> {
+        if self.is_behind.load(Ordering::SeqCst) {
+            return Some(Ok(Flow::Behind));
         }
+        self.write(rt)
     }
 
-    /// Writes what waits, and answers whether nothing is left for the writer's thread.
-    fn has_written<R: Wait>(&self, rt: &R) -> bool {
-        let Some(mut wire) = self.wire.try_lock() else {
-            return false;
-        };
-        let Some(wire) = &mut *wire else {
-            return true;
-        };
-        match wire.pump(rt) {
-            Ok(Flow::Idle) => true,
-            Ok(Flow::Behind) => {
-                self.is_behind.store(true, Ordering::SeqCst);
-                false
-            }
-            Ok(Flow::More | Flow::Ended) | Err(_) => false,
+    /// The stream takes more: writes what waits, if it didn't take all before, or if a write is under way that may find so.
+    pub fn go_on<R: Wait>(&self, rt: &R) -> Option<Result<Flow, WriteFault>> {
+        // In this order: who writes says first that it is behind, and then that it is done.
+        if !self.is_busy.load(Ordering::SeqCst) && !self.is_behind.load(Ordering::SeqCst) {
+            return None;
         }
-    }
-
-    /// Writes what waits, as the writer's thread.
-    pub(crate) fn pump<R: Wait>(&self, rt: &R) -> Result<Flow, WriteFault> {
-        let mut wire = self.wire.lock(rt);
-        let Some(wire) = &mut *wire else {
-            return Ok(Flow::Ended);
-        };
-        wire.pump(rt)
-    }
-
-    /// Rests, as the writer's thread, until something waits, or for so long at most.
-    pub(crate) fn rest<R: Wait>(&self, rt: &R, most: Duration) {
         self.is_behind.store(false, Ordering::SeqCst);
-        self.bell.rest(rt, most);
+        self.write(rt)
+    }
+
+    fn write<R: Wait>(&self, rt: &R) -> Option<Result<Flow, WriteFault>> {
+        let mut flow = None;
+        self.is_wanted.store(true, Ordering::SeqCst);
+        for _ in rt.forever() {
+            // Looked at after the lock was given back: who didn't get it has said so before.
+            if !self.is_wanted.load(Ordering::SeqCst) {
+                break;
+            }
+            let Some(mut wire) = self.wire.try_lock() else {
+                return None;
+            };
+            self.is_wanted.store(false, Ordering::SeqCst);
+            let Some(wire) = &mut *wire else {
+                return None;
+            };
+            flow = Some(self.pump(rt, wire));
+        }
+        flow
+    }
+
+    /// Writes what waits on the wire, which this thread has.
+    fn pump<R: Wait>(&self, rt: &R, wire: &mut Wire<L, W>) -> Result<Flow, WriteFault> {
+        self.is_busy.store(true, Ordering::SeqCst);
+        let flow = wire.pump(rt);
+        match flow {
+            Ok(Flow::Behind) => self.is_behind.store(true, Ordering::SeqCst),
+            Ok(Flow::More) => self.is_wanted.store(true, Ordering::SeqCst),
+            Ok(Flow::Idle | Flow::Ended) | Err(_) => {}
+        }
+        self.is_busy.store(false, Ordering::SeqCst);
+        flow
     }
 
     /// Ends the outlet of a session, and gives back its wire, which tells what went out (`Wire::in_step`), and from which its writer

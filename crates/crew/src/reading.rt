@@ -1,16 +1,76 @@
 //! Reading a session's lines.
-ghost use Rattle.std.specs.Prelude.{◌≡◌};
-ghost use Rattle.crew.specs.Doing.{DoesLines};
+ghost use Rattle.std.specs.Prelude.{◌≡◌, true, false};
+ghost use Rattle.crew.specs.Doing.{DoesLines, DoesRead, is_over};
 
 use crate::intake::Intake;
 use crate::server::{Clock, Gate, Server, Sockets};
-use crate::working::{Worked, hang, work};
+use crate::working::{Worked, hang, tell, work};
 use chronicle::Why;
 use hall::{Baton, Naming, Told};
 use outbox::Sender;
 use std::alloc::Global;
 use std::io::Read;
 use std::sync::Wait;
+
+/// How a session's reading goes on after a read.
+#[derive(Clone, Copy, Debug, Drop, PartialEq)]
+pub enum Next {
+    /// More may be there.
+    More,
+    /// All that was there was read.
+    Short,
+    /// Nothing was there.
+    Nothing,
+    /// No more is read. The session, if it is still open, is to be ended for this reason.
+    Over(Why),
+}
+
+/// What comes back of a read: the session's baton, whether all lines were done, and how its reading goes on.
+#[derive(Drop)]
+pub struct Took<L: Naming, R: Wait + Drop> {
+    pub baton: Baton<L, Sender<R>>,
+    pub all: bool,
+    pub next: Next,
+}
+
+/// Reads once, and has the lines done that end in what that brings, by `work`. Who got something stands in `told`, as after that. A
+/// stream that has nothing now is no fault: `Next::Nothing`.
+///
+/// Whatever stream came before, of which the intake kept what is unfinished: of the pieces that end in the octets that were read, the
+/// first were done with the baton that comes back, in order, and all of them where `all` is true, which it is where reading goes on.
+pub fn read_some<L: Naming, I: Read, R: Wait + Drop, G: Gate, S: Sockets, C: Clock>(
+    rt: &R,
+    server: &Server<'_, L, R, G, S, C>,
+    intake: &mut Intake,
+    baton: Baton<L, Sender<R>>,
+    input: &mut I,
+    told: &mut Told,
+) -> Took<L, R>
+    ensures lines { DoesRead (I.remaining input.old) (I.remaining input.new) intake.old.kept intake.new.kept baton.pieces result.baton.pieces result.all }
+    ensures goes_on { is_over result.next ≡ false → result.all ≡ true }
+    ensures session { result.baton.session ≡ baton.session }
+{
+    if let Err(ending) = intake.take_in(input) {
+        let next = match ending.why {
+            Some(why) => Next::Over(why),
+            None => Next::Nothing,
+        };
+        return Took {
+            baton,
+            all: ending.all,
+            next,
+        };
+    }
+    let Worked { baton, all } = work(rt, server, baton, intake.pieces(), told);
+    let next = if !all {
+        Next::Over(Why::ReadFailed)
+    } else if intake.is_full() {
+        Next::More
+    } else {
+        Next::Short
+    };
+    Took { baton, all, next }
+}
 
 /// Has lines done as they come, until no more come, one is refused or the session is shut. It answers why the session is ended
 /// then, if it is still open.
@@ -34,21 +94,18 @@ fn read_lines<L: Naming, I: Read, R: Wait + Drop, G: Gate, S: Sockets, C: Clock>
         if server.sockets.is_shut(session) {
             break;
         }
-        match intake.take_in(input) {
-            Ok(()) => {}
-            Err(ending) => return (
+        let took = read_some(rt, server, &mut intake, baton, input, told);
+        tell(server, told);
+        match took.next {
+            Next::Over(why) => return (
                 Worked {
-                    baton,
-                    all: ending.all,
+                    baton: took.baton,
+                    all: took.all,
                 },
-                ending.why,
+                why,
             ),
+            Next::More | Next::Short | Next::Nothing => baton = took.baton,
         }
-        let worked = work(rt, server, baton, intake.pieces(), told);
-        if !worked.all {
-            return (worked, Why::ReadFailed);
-        }
-        baton = worked.baton;
     }
     (Worked { baton, all: true }, Why::ReadFailed)
 }
@@ -73,5 +130,6 @@ pub fn read_on<L: Naming, I: Read, R: Wait + Drop, G: Gate, S: Sockets, C: Clock
     let mut told = Told::new(alloc);
     let (worked, why) = read_lines(rt, alloc, server, baton, input, &mut told);
     hang(rt, server, session, why, &mut told);
+    tell(server, &mut told);
     worked
 }

@@ -2,7 +2,6 @@
 ghost use Rattle.std.specs.Prelude.{◌≡◌, ◌≤ℤ◌, ◌⊎◌};
 ghost use Rattle.chronicle.specs.History.{last_moment};
 
-use crate::desk::Desk;
 use chronicle::{Moment, SessionId};
 use hall::{Hall, Naming, Told};
 use outbox::Sender;
@@ -10,26 +9,23 @@ use std::sync::{Mutex, Wait};
 
 /// Stands before the lock of the hall.
 pub trait Gate {
-    /// A line of this session is about to ask for the lock.
+    /// Lines of this session are about to ask for the lock.
     fn enter(&self, session: SessionId);
 
-    /// A line of this session has given the lock back.
+    /// Lines of this session have given the lock back.
     fn leave(&self, session: SessionId);
 }
 
 /// The connections of a server's sessions.
 pub trait Sockets {
-    /// A session is shut: what waits for it is still written, and nothing is read of it any more. Its bell is rung.
+    /// A session is shut: what waits for it is still written, and nothing is read of it any more.
     fn shut(&self, session: SessionId);
 
     /// Whether a session was shut here.
     fn is_shut(&self, session: SessionId) -> bool;
 
-    /// Sees to it that what waits for all who are told is written, by a call on the thread of the session `by`.
-    fn tell(&self, by: SessionId, told: &Told);
-
-    /// Waits a little.
-    fn pause(&self);
+    /// Sees to it that what waits for all who are told is written.
+    fn tell(&self, told: &Told);
 
     /// Asks the server to stop.
     fn stop(&self);
@@ -45,11 +41,10 @@ pub trait Clock {
 #[derive(Drop)]
 pub struct Server<'a, L: Naming, R: Wait + Drop, G: Gate, S: Sockets, C: Clock> {
     pub hall: &'a Mutex<Hall<L, Sender<R>>>,
-    pub desk: &'a Desk,
     pub gate: &'a G,
     pub sockets: &'a S,
     pub clock: &'a C,
-    /// How many lines of a session may be done before what they put is written.
+    /// How many lines a thread may do before what they put is written.
     pub burst: usize,
 }
 

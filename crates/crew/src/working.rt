@@ -2,7 +2,6 @@
 ghost use Rattle.std.specs.Prelude.{◌≡◌, ◌++◌, ◌∷◌, [], true, false};
 ghost use Rattle.crew.specs.Doing.{OnDone, OnRefused, DoesFront};
 
-use crate::desk::Held;
 use crate::server::{Clock, Gate, Server, Sockets, later};
 use chronicle::{Moment, SessionId, Why};
 use hall::{Baton, Done, Hall, LineRefusal, Naming, Told};
@@ -41,7 +40,7 @@ pub struct Worked<L: Naming, R: Wait + Drop> {
     pub all: bool,
 }
 
-/// How many are told at least before what waits for them is written.
+/// So many who are told are not kept waiting.
 const MANY: usize = 4096;
 
 /// How often a thread looks whether the hall is free before it sleeps.
@@ -51,7 +50,7 @@ const LOOKS: u32 = 50;
 const PAUSES: u32 = 8;
 
 /// Takes the lock of the hall. It looks for a while whether it is free before it sleeps until it is, since a line is done in less
-/// time than it takes to wake a thread, and only as many threads as there are slots ask for the lock at a time.
+/// time than it takes to wake a thread, and only as many threads as there are workers ask for the lock at a time.
 fn lock_soon<'a, L: Naming, R: Wait + Drop>(
     rt: &R,
     hall: &'a Mutex<Hall<L, Sender<R>>>,
@@ -67,10 +66,9 @@ fn lock_soon<'a, L: Naming, R: Wait + Drop>(
     hall.lock(rt)
 }
 
-/// Does a line under the lock, and adds who got something.
-fn under_lock<L: Naming, R: Wait + Drop>(
-    rt: &R,
-    hall: &Mutex<Hall<L, Sender<R>>>,
+/// Does a line in the hall, and adds who got something.
+fn line_in<L: Naming, R: Wait + Drop>(
+    hall: &mut Hall<L, Sender<R>>,
     baton: &mut Baton<L, Sender<R>>,
     piece: &Piece,
     moment: Moment,
@@ -80,7 +78,6 @@ fn under_lock<L: Naming, R: Wait + Drop>(
     ensures refused { OnRefused result (baton.new ≡ baton.old) }
     ensures session { baton.new.session ≡ baton.old.session }
 {
-    let mut hall = lock_soon(rt, hall);
     let moment = later(moment, hall.last_moment());
     told.begin();
     hall.swap_told(told);
@@ -92,8 +89,8 @@ fn under_lock<L: Naming, R: Wait + Drop>(
     outcome
 }
 
-/// Does a line, at this moment or at that of the newest record where that is later. It adds to `told` who got something, whose
-/// bells are still to be rung.
+/// Does a line, at this moment or at that of the newest record where that is later. It adds to `told` who got something, for whom
+/// what waits is still to be written.
 ///
 /// Where the line was done, its piece is the newest of those done with the baton that comes back. Where it was refused, the baton
 /// is the one that was given, unchanged.
@@ -112,18 +109,38 @@ pub fn work_one<L: Naming, R: Wait + Drop, G: Gate>(
     let Job { mut baton, piece } = job;
     let session = baton.session();
     gate.enter(session);
-    let outcome = under_lock(rt, hall, &mut baton, &piece, moment, told);
+    let outcome = line_in(&mut *lock_soon(rt, hall), &mut baton, &piece, moment, told);
     gate.leave(session);
     Back { baton, outcome }
 }
 
-/// Rings for all who are told, and for none of them again.
-pub(crate) fn ring_for<S: Sockets>(sockets: &S, by: SessionId, told: &mut Told) {
-    sockets.tell(by, told);
-    told.clear();
+/// Sees to it that what waits for all who are told is written, and for none of them again.
+pub fn tell<L: Naming, R: Wait + Drop, G: Gate, S: Sockets, C: Clock>(
+    server: &Server<'_, L, R, G, S, C>,
+    told: &mut Told,
+) {
+    if told.records() != 0 {
+        server.sockets.tell(told);
+        told.clear();
+    }
 }
 
-/// Ends a session for a reason, where it is open, rings for who is told, and shuts its connection.
+/// Whether so many are to be told that they aren't kept waiting.
+fn are_many(told: &Told, burst: usize) -> bool {
+    burst <= told.records() || MANY <= told.sessions().len()
+}
+
+/// Tells where many are to be told.
+pub(crate) fn tell_many<L: Naming, R: Wait + Drop, G: Gate, S: Sockets, C: Clock>(
+    server: &Server<'_, L, R, G, S, C>,
+    told: &mut Told,
+) {
+    if are_many(told, server.burst) {
+        tell(server, told);
+    }
+}
+
+/// Ends a session for a reason, where it is open, and shuts its connection. Who got something is added to `told`.
 pub fn hang<L: Naming, R: Wait + Drop, G: Gate, S: Sockets, C: Clock>(
     rt: &R,
     server: &Server<'_, L, R, G, S, C>,
@@ -139,7 +156,7 @@ pub fn hang<L: Naming, R: Wait + Drop, G: Gate, S: Sockets, C: Clock>(
     let hung = hall.hang(session, why, moment);
     hall.swap_told(told);
     drop(hall);
-    ring_for(server.sockets, session, told);
+    tell_many(server, told);
     if hung.is_ok() {
         server.sockets.shut(session);
     }
@@ -174,39 +191,87 @@ fn after_refusal<L: Naming, R: Wait + Drop, G: Gate, S: Sockets, C: Clock>(
     }
 }
 
-/// Does one piece under the slot that is held, or under one that it takes, and shuts who was shut. Where many are told by then it
-/// gives the slot back and rings. All says whether the piece was done.
-fn work_next<L: Naming, R: Wait + Drop, G: Gate, S: Sockets, C: Clock>(
+/// The hall while a thread has it, from one line of a session to the next.
+#[derive(Drop)]
+struct Held<'a, L: Naming, R: Wait + Drop> {
+    hall: Option<MutexGuard<'a, Hall<L, Sender<R>>>>,
+    moment: Moment,
+}
+
+impl<'a, L: Naming, R: Wait + Drop> Held<'a, L, R> {
+    /// The thread has it not.
+    fn none() -> Held<'a, L, R> {
+        Held {
+            hall: None,
+            moment: Moment::new(0),
+        }
+    }
+
+    /// Does a line in the hall, which it takes where the thread has it not, and adds who got something.
+    fn line<G: Gate, S: Sockets, C: Clock>(
+        &mut self,
+        rt: &R,
+        server: &Server<'a, L, R, G, S, C>,
+        baton: &mut Baton<L, Sender<R>>,
+        piece: &Piece,
+        told: &mut Told,
+    ) -> Outcome
+        ensures done { OnDone result (baton.new.pieces ≡ baton.old.pieces ++ piece.now ∷ []) }
+        ensures refused { OnRefused result (baton.new ≡ baton.old) }
+        ensures session { baton.new.session ≡ baton.old.session }
+    {
+        if let Some(hall) = &mut self.hall {
+            return line_in(&mut **hall, baton, piece, self.moment, told);
+        }
+        server.gate.enter(baton.session());
+        self.moment = server.clock.now();
+        let mut hall = lock_soon(rt, server.hall);
+        let outcome = line_in(&mut *hall, baton, piece, self.moment, told);
+        self.hall = Some(hall);
+        outcome
+    }
+
+    /// Gives the hall back, where the thread has it.
+    fn give_back<G: Gate, S: Sockets, C: Clock>(
+        &mut self,
+        server: &Server<'a, L, R, G, S, C>,
+        session: SessionId,
+    ) {
+        if let Some(hall) = self.hall.take() {
+            drop(hall);
+            server.gate.leave(session);
+        }
+    }
+}
+
+/// Does one piece, in the hall that is held or that it takes. Where the line shut somebody, many are to be told, or it was refused,
+/// it gives the hall back and sees to that. All says whether the piece was done.
+fn work_next<'a, L: Naming, R: Wait + Drop, G: Gate, S: Sockets, C: Clock>(
     rt: &R,
-    server: &Server<'_, L, R, G, S, C>,
-    job: Job<L, R>,
+    server: &Server<'a, L, R, G, S, C>,
+    baton: Baton<L, Sender<R>>,
+    piece: &Piece,
     told: &mut Told,
-    held: &mut Held,
+    held: &mut Held<'a, L, R>,
 ) -> Worked<L, R>
-    ensures done { result.all ≡ true → result.baton.pieces ≡ job.baton.pieces ++ job.piece ∷ [] }
-    ensures not_done { result.all ≡ false → result.baton.pieces ≡ job.baton.pieces }
-    ensures session { result.baton.session ≡ job.baton.session }
+    ensures done { result.all ≡ true → result.baton.pieces ≡ baton.pieces ++ piece.now ∷ [] }
+    ensures not_done { result.all ≡ false → result.baton.pieces ≡ baton.pieces }
+    ensures session { result.baton.session ≡ baton.session }
 {
-    let session = job.baton.session();
-    if !held.take(rt, server.desk) {
-        return Worked {
-            baton: job.baton,
-            all: false,
-        };
-    }
-    let back = work_one(rt, server.hall, job, server.clock.now(), server.gate, told);
-    if server.burst <= told.records() || MANY <= told.sessions().len() {
-        held.give_back(rt, server.desk);
-        ring_for(server.sockets, session, told);
-    }
-    let Back { baton, outcome } = back;
-    match outcome {
+    let mut baton = baton;
+    let session = baton.session();
+    match held.line(rt, server, &mut baton, piece, told) {
         Outcome::Done(done) => {
-            shut_those(server.sockets, session, &done);
+            let shuts = done.shut || !done.missed.as_slice().is_empty();
+            if shuts || are_many(told, server.burst) {
+                held.give_back(server, session);
+                tell_many(server, told);
+                shut_those(server.sockets, session, &done);
+            }
             Worked { baton, all: true }
         }
         Outcome::Refused(refusal) => {
-            held.give_back(rt, server.desk);
+            held.give_back(server, session);
             after_refusal(rt, server, session, refusal, told);
             Worked { baton, all: false }
         }
@@ -214,13 +279,13 @@ fn work_next<L: Naming, R: Wait + Drop, G: Gate, S: Sockets, C: Clock>(
 }
 
 /// Does pieces of a session in turn, until one isn't done.
-fn work_all<L: Naming, R: Wait + Drop, G: Gate, S: Sockets, C: Clock>(
+fn work_all<'a, L: Naming, R: Wait + Drop, G: Gate, S: Sockets, C: Clock>(
     rt: &R,
-    server: &Server<'_, L, R, G, S, C>,
+    server: &Server<'a, L, R, G, S, C>,
     baton: Baton<L, Sender<R>>,
     pieces: &[Piece],
     told: &mut Told,
-    held: &mut Held,
+    held: &mut Held<'a, L, R>,
 ) -> Worked<L, R>
     ensures front { DoesFront baton.pieces result.baton.pieces pieces.now }
     ensures whole { result.all ≡ true → result.baton.pieces ≡ baton.pieces ++ pieces.now }
@@ -228,12 +293,7 @@ fn work_all<L: Naming, R: Wait + Drop, G: Gate, S: Sockets, C: Clock>(
 {
     let mut baton = baton;
     for piece in pieces {
-        let Ok(copy) = piece.copy() else {
-            held.give_back(rt, server.desk);
-            hang(rt, server, baton.session(), Why::Memory, told);
-            return Worked { baton, all: false };
-        };
-        let worked = work_next(rt, server, Job { baton, piece: copy }, told, held);
+        let worked = work_next(rt, server, baton, piece, told, held);
         if !worked.all {
             return worked;
         }
@@ -242,11 +302,10 @@ fn work_all<L: Naming, R: Wait + Drop, G: Gate, S: Sockets, C: Clock>(
     Worked { baton, all: true }
 }
 
-/// Does pieces of a session in turn, each under a slot, until one is refused or no slot comes. After each it shuts who was shut.
-/// A slot is held from one piece to the next, and given back before anybody is rung for. Who got something is rung for when all are
-/// done, and before where many are told; so is whoever stood in `told`, which is empty then. Where memory is wanting, for the copy
-/// of a piece too, the session is ended with that reason; where there is no room for a record, it is ended with Shutdown, and the
-/// server is asked to stop.
+/// Does pieces of a session in turn, until one is refused, under one hold of the lock but where somebody is to be shut or many are to
+/// be told, which is done with the lock given back. Who got something and wasn't told stands in `told` at the end, with those who
+/// stood there before, for the caller to tell them (`tell`) when it has no more lines to do. Where memory is wanting the session is
+/// ended with that reason; where there is no room for a record, it is ended with Shutdown, and the server is asked to stop.
 ///
 /// The pieces done with the baton that comes back are those done before, then the first of these pieces, in order; all of them
 /// where `all` is true.
@@ -264,7 +323,6 @@ pub fn work<L: Naming, R: Wait + Drop, G: Gate, S: Sockets, C: Clock>(
     let session = baton.session();
     let mut held = Held::none();
     let worked = work_all(rt, server, baton, pieces, told, &mut held);
-    held.give_back(rt, server.desk);
-    ring_for(server.sockets, session, told);
+    held.give_back(server, session);
     worked
 }

@@ -107,11 +107,7 @@ impl Sockets for Noted {
         self.shut.load(Ordering::SeqCst) & bit_of(session) != 0
     }
 
-    fn tell(&self, _by: SessionId, _told: &Told) {}
-
-    fn pause(&self) {
-        thread::yield_now();
-    }
+    fn tell(&self, _told: &Told) {}
 
     fn stop(&self) {
         self.is_stopped.store(true, Ordering::SeqCst);
@@ -141,6 +137,27 @@ impl Read for Torn<'_> {
             return Err(io::Error::from(ErrorKind::ConnectionReset));
         }
         let count = self.octets.len().min(buf.len()).min(self.most);
+        let (front, rest) = self.octets.split_at(count);
+        buf[..count].copy_from_slice(front);
+        self.octets = rest;
+        Ok(count)
+    }
+}
+
+/// A client's input that has nothing now at each second read, and ends after what it has.
+#[derive(Drop)]
+pub struct Waits<'a> {
+    pub octets: &'a [u8],
+    pub is_there: bool,
+}
+
+impl Read for Waits<'_> {
+    fn read(&mut self, buf: &mut [u8]) -> io::Result<usize> {
+        self.is_there = !self.is_there;
+        if self.is_there {
+            return Err(io::Error::from(ErrorKind::WouldBlock));
+        }
+        let count = self.octets.len().min(buf.len());
         let (front, rest) = self.octets.split_at(count);
         buf[..count].copy_from_slice(front);
         self.octets = rest;

@@ -1,11 +1,11 @@
 //! A session is read to the end of its input.
 ghost use Rattle.std.specs.Prelude.{◌≡◌, []};
 
-use crate::fakes::{Noted, Open, Still, Torn};
+use crate::fakes::{Noted, Open, Still, Torn, Waits};
 use crate::making::{Tokens, hall, hung_for, open};
 use chronicle::{RecordNumber, Why};
-use crew::{Desk, Server, Sockets, close_up, read_on};
-use hall::{Hall, Naming, Register};
+use crew::{Intake, Next, Server, Sockets, close_up, read_on, read_some};
+use hall::{Hall, Naming, Register, Told};
 use line_grammar::Octets;
 use outbox::{ChannelName, Sender};
 use std::alloc::{AllocError, Global};
@@ -22,8 +22,8 @@ const INPUT: &[u8; 24] = b"PING x\r\nPING y\r\nPING zzz";
 const OUTPUT: &[u8; 104] =
     b":irc.example PONG irc.example x\r\n:irc.example PONG irc.example y\r\nERROR :Closing Link: h1 (Read error)\r\n";
 
-/// An input fails: the lines before that are done and told so, the session is hung by the record of this number, and the only slot
-/// is there again.
+/// An input fails: the lines before that are done and told so, the session is hung by the record of this number, and the hall is
+/// given back.
 fn torn<L: Naming, R: Wait + Abort + Copy + Drop>(
     rt: &R,
     alloc: Global,
@@ -43,11 +43,9 @@ fn torn<L: Naming, R: Wait + Abort + Copy + Drop>(
         writer,
     } = open(rt, alloc, &lock).ok_or("a session")?;
     let session = baton.session();
-    let desk = Desk::new(rt, alloc, 1)?;
     let sockets = Noted::new();
     let server = Server {
         hall: &lock,
-        desk: &desk,
         gate: &Open,
         sockets: &sockets,
         clock: &Still,
@@ -59,7 +57,7 @@ fn torn<L: Naming, R: Wait + Abort + Copy + Drop>(
     };
     let worked = read_on(rt, alloc, &server, baton, &mut input);
     assert!(rt; worked.all, "all lines are done");
-    assert!(rt; desk.slot(rt).is_some(), "the slot is there");
+    assert!(rt; lock.try_lock().is_some(), "the hall is given back");
     assert_eq!(rt; wire.pump(rt), Ok(Flow::Ended));
     assert_eq!(rt; wire.stream().as_slice(), output);
     assert_eq!(rt; lock.lock(rt).len() as u64, records);
@@ -70,9 +68,62 @@ fn torn<L: Naming, R: Wait + Abort + Copy + Drop>(
         return Err("another's wire".into());
     }
     let (writer, stub) = wire.apart();
-    let left = close_up(rt, alloc, &server, worked.baton, stub, writer);
+    let mut told = Told::new(alloc);
+    let Ok(left) = close_up(rt, &server, worked.baton, stub, writer, &mut told) else {
+        return Err("it isn't gone".into());
+    };
     assert_eq!(rt; (left.session(), left.count()), (session, 0));
     Ok(())
+}
+
+/// An input that has nothing for now between its lines: what comes is done, and reading goes on.
+fn waits<L: Naming, R: Wait + Abort + Copy + Drop>(
+    rt: &R,
+    alloc: Global,
+    register: Register<ChannelName>,
+) -> Result<(), Fail>
+    requires named { register.table ≡ L.table }
+    requires empty { register.rows ≡ [] }
+{
+    let made: Hall<L, Sender<R>> = hall(alloc, register).ok_or("a hall")?;
+    let lock = Mutex::new(made);
+    let Tokens {
+        baton,
+        stub,
+        writer,
+    } = open(rt, alloc, &lock).ok_or("a session")?;
+    let sockets = Noted::new();
+    let server = Server {
+        hall: &lock,
+        gate: &Open,
+        sockets: &sockets,
+        clock: &Still,
+        burst: 4,
+    };
+    let mut input = Waits {
+        octets: b"PING x\r\nPING y\r\n",
+        is_there: false,
+    };
+    let mut intake = Intake::new(alloc)?;
+    let mut told = Told::new(alloc);
+    let took = read_some(rt, &server, &mut intake, baton, &mut input, &mut told);
+    assert_eq!(rt; (took.all, took.next), (true, Next::Nothing));
+    let took = read_some(rt, &server, &mut intake, took.baton, &mut input, &mut told);
+    assert_eq!(rt; (took.all, took.next), (true, Next::Short));
+    assert_eq!(rt; told.records(), 2);
+    let took = read_some(rt, &server, &mut intake, took.baton, &mut input, &mut told);
+    assert_eq!(rt; (took.all, took.next), (true, Next::Nothing));
+    let took = read_some(rt, &server, &mut intake, took.baton, &mut input, &mut told);
+    assert_eq!(rt; (took.all, took.next), (true, Next::Over(Why::ReadEnded)));
+    assert_eq!(rt; lock.lock(rt).len(), 3);
+    drop((stub, writer));
+    Ok(())
+}
+
+#[test]
+fn a_client_that_says_nothing_now_is_read_on(rt: HostRuntime) -> Result<(), Fail> {
+    let register = Register::new(rt.alloc())?;
+    waits::<Brand, _>(&rt, rt.alloc(), register)
 }
 
 #[test]

@@ -3,7 +3,7 @@ ghost use Rattle.std.specs.Prelude.{◌≡◌, []};
 
 use crate::fakes::{Noted, Open, Still};
 use crate::making::{Tokens, hall, line, open};
-use crew::{Desk, Server, Sockets, work};
+use crew::{Server, Sockets, work};
 use hall::{Hall, Naming, Register, Told};
 use outbox::{ChannelName, Sender};
 use std::alloc::Global;
@@ -12,7 +12,7 @@ use std::process::Abort;
 use std::sync::{Mutex, Wait};
 use std::test::Fail;
 
-/// A session quits, and its line after that is refused: that isn't all, the session is shut, and the only slot is there again.
+/// A session quits, and its line after that is refused: that isn't all, the session is shut, and the hall is given back.
 fn refused<L: Naming, R: Wait + Abort + Copy + Drop>(
     rt: &R,
     alloc: Global,
@@ -25,11 +25,9 @@ fn refused<L: Naming, R: Wait + Abort + Copy + Drop>(
     let lock = Mutex::new(made);
     let Tokens { baton, .. } = open(rt, alloc, &lock).ok_or("a session")?;
     let session = baton.session();
-    let desk = Desk::new(rt, alloc, 1)?;
     let sockets = Noted::new();
     let server = Server {
         hall: &lock,
-        desk: &desk,
         gate: &Open,
         sockets: &sockets,
         clock: &Still,
@@ -40,13 +38,13 @@ fn refused<L: Naming, R: Wait + Abort + Copy + Drop>(
     let worked = work(rt, &server, baton, &lines, &mut told);
     assert!(rt; !worked.all, "a line is refused");
     assert!(rt; sockets.is_shut(session), "it is shut");
-    assert!(rt; desk.slot(rt).is_some(), "the slot is there");
+    assert!(rt; lock.try_lock().is_some(), "the hall is given back");
     assert_eq!(rt; lock.lock(rt).len(), 2);
     Ok(())
 }
 
 #[test]
-fn a_slot_comes_back_where_a_line_is_refused(rt: HostRuntime) -> Result<(), Fail> {
+fn the_hall_is_given_back_where_a_line_is_refused(rt: HostRuntime) -> Result<(), Fail> {
     let register = Register::new(rt.alloc())?;
     refused::<Brand, _>(&rt, rt.alloc(), register)
 }

@@ -3,7 +3,7 @@ use chronicle::Moment;
 use crew::Clock;
 use line_grammar::Octets;
 use registration::{AccountFault, Accounts, Motd, Settings, is_well_set};
-use serving::{OpenGate, ServeFault, SystemClock, serve_on};
+use serving::{OpenGate, ServeFault, SystemClock, listen, serve_on};
 use serving_options::{FileFault, ServeOptions, accounts_of, content_of, motd_of};
 use std::alloc::{AllocError, Global};
 use std::fmt;
@@ -146,7 +146,7 @@ where
     let alloc = rt.alloc();
     let accounts = accounts(rt, options.accounts)?;
     let motd = message_of_the_day(rt, options.motd)?;
-    let Ok(listener) = TcpListener::bind(rt, options.tcp) else {
+    let Ok(listener) = listen(rt, options.tcp) else {
         return Err(Ended::NotListening(options.tcp));
     };
     let settings = settings(rt, options.name, accounts, motd)?;

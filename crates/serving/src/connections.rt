@@ -1,19 +1,19 @@
 //! The connections of all sessions, as the threads of others know them.
+use crate::post::{Arrival, Post};
 use crate::stopping::Stopping;
 use chronicle::SessionId;
 use crew::{Outlet, Sockets};
+use deliveries::WriteFault;
 use hall::{Naming, Told};
 use indexmap::IndexMap;
+use mio::net::TcpStream;
 use std::alloc::{AllocError, Global};
+use std::io;
 use std::io::Write;
-use std::net::{Shutdown, TcpStream};
+use std::net::Shutdown;
 use std::sync::atomic::{AtomicBool, Ordering};
 use std::sync::{Arc, RwLock, Wait};
-use std::time::{Clock, Duration};
-use std::{io, thread};
-
-/// Milliseconds of a pause.
-const PAUSE: u64 = 20;
+use wire::Flow;
 
 /// A stream that several threads may write to, one at a time.
 #[derive(Drop)]
@@ -41,21 +41,27 @@ impl Write for Shared {
     }
 }
 
-/// A session's connection.
+/// A session's connection, which one worker reads and ends, at a place of its own, and any thread may write to.
 #[derive(Drop)]
 pub(crate) struct Connection<L: Naming> {
     pub(crate) outlet: Outlet<L, Shared>,
     pub(crate) stream: Arc<TcpStream>,
+    worker: usize,
+    place: usize,
     is_shut: AtomicBool,
+    is_called: AtomicBool,
 }
 
 impl<L: Naming> Connection<L> {
-    /// The connection of a session that has this outlet, over this stream.
-    pub(crate) fn new(outlet: Outlet<L, Shared>, stream: Arc<TcpStream>) -> Connection<L> {
+    /// A connection over this stream, at this place of this worker.
+    pub(crate) fn new(stream: Arc<TcpStream>, worker: usize, place: usize) -> Connection<L> {
         Connection {
-            outlet,
+            outlet: Outlet::new(),
             stream,
+            worker,
+            place,
             is_shut: AtomicBool::new(false),
+            is_called: AtomicBool::new(false),
         }
     }
 
@@ -64,27 +70,60 @@ impl<L: Naming> Connection<L> {
         let _ = self.stream.shutdown(Shutdown::Both);
     }
 
-    fn shut(&self) {
-        self.is_shut.store(true, Ordering::SeqCst);
-        self.outlet.ring();
+    /// Whether nothing is read any more.
+    pub(crate) fn is_shut(&self) -> bool {
+        self.is_shut.load(Ordering::SeqCst)
+    }
+
+    /// Its worker looks at it now: who finds something new from here on calls again.
+    pub(crate) fn begin_look(&self) {
+        self.is_called.store(false, Ordering::SeqCst);
     }
 }
 
-/// The connections of all sessions.
+/// The connections of all sessions, and the workers that serve them.
 #[derive(Drop)]
-pub(crate) struct Connections<L: Naming, R: Wait + Clock + Copy + Drop> {
+pub(crate) struct Connections<L: Naming, R: Wait + Copy + Drop> {
     rt: R,
     by_session: RwLock<IndexMap<u64, Arc<Connection<L>>>>,
+    posts: Vec<Post>,
     stopping: Arc<Stopping>,
+    is_closed: AtomicBool,
 }
 
-impl<L: Naming, R: Wait + Clock + Copy + Drop> Connections<L, R> {
-    /// No connection, of a server that is asked to stop in this way.
-    pub(crate) fn new(rt: R, alloc: Global, stopping: Arc<Stopping>) -> Connections<L, R> {
+impl<L: Naming, R: Wait + Copy + Drop> Connections<L, R> {
+    /// No connection, of a server with these workers that is asked to stop in this way.
+    pub(crate) fn new(
+        rt: R,
+        alloc: Global,
+        posts: Vec<Post>,
+        stopping: Arc<Stopping>,
+    ) -> Connections<L, R> {
         Connections {
             rt,
             by_session: RwLock::new(IndexMap::new(alloc)),
+            posts,
             stopping,
+            is_closed: AtomicBool::new(false),
+        }
+    }
+
+    /// The post of a worker.
+    pub(crate) fn post(&self, worker: usize) -> Option<&Post> {
+        self.posts.get(worker)
+    }
+
+    /// Leaves a connection to the worker that has the fewest.
+    pub(crate) fn bring(&self, arrival: Arrival) {
+        let mut best: Option<&Post> = None;
+        for post in self.posts.iter() {
+            match best {
+                Some(found) if found.clients() <= post.clients() => {}
+                _ => best = Some(post),
+            }
+        }
+        if let Some(post) = best {
+            post.bring(&self.rt, arrival);
         }
     }
 
@@ -109,38 +148,29 @@ impl<L: Naming, R: Wait + Clock + Copy + Drop> Connections<L, R> {
             .swap_remove(&session.number());
     }
 
-    /// Writes what waits for a session, or has its writer do so.
-    fn write_to(&self, session: SessionId) {
-        let connections = self.by_session.read(&self.rt);
-        let Some(found) = connections.get(&session.number()) else {
-            return;
-        };
-        match Arc::try_clone(found) {
-            Ok(connection) => {
-                drop(connections);
-                connection.outlet.write_now(&self.rt);
-            }
-            Err(_) => found.outlet.ring(),
-        }
-    }
-
-    /// Has all writers look for something to write.
-    fn ring_all(&self) {
-        for (_, connection) in self.by_session.read(&self.rt).iter() {
-            connection.outlet.ring();
-        }
-    }
-
     /// Whether the server was asked to stop.
     pub(crate) fn is_stopping(&self) -> bool {
         self.stopping.is_asked()
+    }
+
+    /// Whether nobody is to connect any more, and who was connected is shut.
+    pub(crate) fn is_closed(&self) -> bool {
+        self.is_closed.load(Ordering::SeqCst)
+    }
+
+    /// Nobody is to connect any more, and who was connected is shut: the workers may end.
+    pub(crate) fn close(&self) {
+        self.is_closed.store(true, Ordering::SeqCst);
+        for post in self.posts.iter() {
+            post.wake();
+        }
     }
 
     /// A session of those that aren't shut.
     pub(crate) fn any_open(&self) -> Option<SessionId> {
         let connections = self.by_session.read(&self.rt);
         for (number, connection) in connections.iter() {
-            if !connection.is_shut.load(Ordering::SeqCst) {
+            if !connection.is_shut() {
                 return Some(SessionId::new(*number));
             }
         }
@@ -148,34 +178,105 @@ impl<L: Naming, R: Wait + Clock + Copy + Drop> Connections<L, R> {
     }
 }
 
-impl<L: Naming, R: Wait + Clock + Copy + Drop> Sockets for Connections<L, R> {
+/// The connections of all sessions, as one thread works with them.
+#[derive(Drop)]
+pub(crate) struct View<'a, L: Naming, R: Wait + Copy + Drop> {
+    pub(crate) all: &'a Connections<L, R>,
+    /// Which worker it is; of no worker where it is beyond their number.
+    pub(crate) worker: usize,
+}
+
+impl<L: Naming, R: Wait + Copy + Drop> View<'_, L, R> {
+    /// Has a connection's worker look at it.
+    fn call(&self, connection: &Connection<L>) {
+        if connection.is_called.swap(true, Ordering::SeqCst) {
+            return;
+        }
+        if let Some(post) = self.all.post(connection.worker) {
+            let is_own = connection.worker == self.worker;
+            post.call(&self.all.rt, connection.place, is_own);
+        }
+    }
+
+    /// Has a connection's worker look at it where it is to be ended.
+    fn call_after(&self, connection: &Connection<L>, flow: Option<Result<Flow, WriteFault>>) {
+        let is_over = matches!(flow, Some(Ok(Flow::Ended) | Err(_)));
+        if is_over || connection.is_shut() {
+            self.call(connection);
+        }
+    }
+
+    /// Writes what waits for a connection.
+    fn write_on(&self, connection: &Connection<L>) {
+        let flow = connection.outlet.write_now(&self.all.rt);
+        self.call_after(connection, flow);
+    }
+
+    /// Writes what waits for a connection whose stream takes more.
+    pub(crate) fn go_on(&self, connection: &Connection<L>) {
+        if let Some(flow) = connection.outlet.go_on(&self.all.rt) {
+            self.call_after(connection, Some(flow));
+        }
+    }
+
+    /// Writes what waits for a session.
+    fn write_to(&self, session: SessionId) {
+        let connections = self.all.by_session.read(&self.all.rt);
+        let Some(found) = connections.get(&session.number()) else {
+            return;
+        };
+        match Arc::try_clone(found) {
+            Ok(connection) => {
+                drop(connections);
+                self.write_on(&connection);
+            }
+            Err(_) => self.write_on(found),
+        }
+    }
+
+    /// Writes what waits for all.
+    fn write_to_all(&self) {
+        for (_, connection) in self.all.by_session.read(&self.all.rt).iter() {
+            self.write_on(connection);
+        }
+    }
+}
+
+impl<L: Naming, R: Wait + Copy + Drop> Sockets for View<'_, L, R> {
     fn shut(&self, session: SessionId) {
-        if let Some(connection) = self.by_session.read(&self.rt).get(&session.number()) {
-            connection.shut();
+        if let Some(connection) = self
+            .all
+            .by_session
+            .read(&self.all.rt)
+            .get(&session.number())
+        {
+            connection.is_shut.store(true, Ordering::SeqCst);
+            self.call(connection);
         }
     }
 
     fn is_shut(&self, session: SessionId) -> bool {
-        match self.by_session.read(&self.rt).get(&session.number()) {
-            Some(connection) => connection.is_shut.load(Ordering::SeqCst),
+        match self
+            .all
+            .by_session
+            .read(&self.all.rt)
+            .get(&session.number())
+        {
+            Some(connection) => connection.is_shut(),
             None => true,
         }
     }
 
-    fn tell(&self, _by: SessionId, told: &Told) {
+    fn tell(&self, told: &Told) {
         for session in told.sessions() {
             self.write_to(*session);
         }
         if told.is_all() {
-            self.ring_all();
+            self.write_to_all();
         }
     }
 
-    fn pause(&self) {
-        thread::sleep(&self.rt, Duration::from_millis(PAUSE));
-    }
-
     fn stop(&self) {
-        self.stopping.ask_full();
+        self.all.stopping.ask_full();
     }
 }

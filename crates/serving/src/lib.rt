@@ -1,12 +1,14 @@
-//! A server on sockets: who connects is a session, whose lines are done and whose items are written by threads of its own.
+//! A server on sockets: who connects is a session, whose lines one of a few threads does; whoever puts something for it writes it.
 #![tactic(auto)]
 
 mod clock;
 mod connections;
 mod hosts;
+mod opening;
+mod post;
 mod serve;
-mod session;
 mod stopping;
+mod worker;
 
 pub use clock::SystemClock;
-pub use serve::{OpenGate, ServeFault, serve_on};
+pub use serve::{OpenGate, ServeFault, listen, serve_on};

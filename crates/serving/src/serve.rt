@@ -1,23 +1,33 @@
 //! Accepting connections.
-ghost use Rattle.std.specs.Prelude.{◌≡◌, ◌<◌, ◌≤◌, []};
+ghost use Rattle.std.specs.Prelude.{◌≡◌, []};
 ghost use Rattle.serving.specs.declared.serve.ServeFault.TheVariants.{Memory};
 
 use crate::clock::SystemClock;
-use crate::connections::Connections;
-use crate::session::{STACK, Serving, serve};
+use crate::connections::{Connections, View};
+use crate::opening::Serving;
+use crate::post::{Arrival, Post, WAKE};
 use crate::stopping::{Stopping, read_to_end};
+use crate::worker::{Worker, events};
 use chronicle::{SessionId, Why};
-use crew::{Desk, Gate, Server, Sockets, moment_in};
+use crew::{Gate, Server, Sockets, moment_in};
 use hall::{BookFault, Hall, Naming, Register, Settings};
+use mio::net::TcpListener;
+use mio::{Events, Interest, Poll, Token, Waker};
 use outbox::{ChannelName, Sender};
 use std::alloc::{AllocError, Global};
-use std::io::Read;
+use std::io::{ErrorKind, Read};
 use std::marker::Brand;
-use std::net::TcpListener;
+use std::net::{Net, SocketAddr};
 use std::sync::{Arc, Mutex, Wait};
-use std::thread;
 use std::thread::{Builder, Threads};
-use std::time::Clock;
+use std::time::{Clock, Duration};
+use std::{io, net, thread};
+
+/// Octets of a worker's stack.
+const STACK: usize = 1_048_576;
+
+/// Milliseconds after which a connection is accepted that the system refused.
+const PAUSE: u64 = 20;
 
 /// Why a server didn't start, or ended by itself.
 #[derive(Clone, Copy, Debug, PartialEq)]
@@ -69,7 +79,7 @@ fn hang_next<L: Naming, R: Wait + Clock + Copy + Drop, G: Gate>(
     server: &Serving<'_, L, R, G>,
 ) -> bool {
     let mut hall = server.hall.lock(rt);
-    let Some(session) = server.sockets.any_open() else {
+    let Some(session) = server.sockets.all.any_open() else {
         return false;
     };
     let moment = moment_in(&*hall, crew::Clock::now(server.clock));
@@ -79,41 +89,172 @@ fn hang_next<L: Naming, R: Wait + Clock + Copy + Drop, G: Gate>(
     true
 }
 
-/// Accepts connections until the server is asked to stop; then ends all sessions, and waits for their threads.
-fn accept_on<
+/// Accepts all who wait to connect, and answers whether that is all: where it isn't, the system refuses one for now.
+fn accept_all<L: Naming, R: Wait + Copy + Drop>(
+    rt: &R,
+    connections: &Connections<L, R>,
+    listener: &TcpListener,
+) -> bool {
+    for _ in rt.forever() {
+        if connections.is_stopping() {
+            break;
+        }
+        match listener.accept() {
+            Ok((stream, peer)) => connections.bring(Arrival { stream, peer }),
+            Err(error) => match error.kind() {
+                ErrorKind::WouldBlock => break,
+                ErrorKind::Interrupted | ErrorKind::ConnectionAborted => {}
+                _ => return false,
+            },
+        }
+    }
+    true
+}
+
+/// Accepts connections until the server is asked to stop.
+fn accept_on<L: Naming, R: Wait + Clock + Copy + Drop>(
+    rt: &R,
+    alloc: Global,
+    connections: &Connections<L, R>,
+    poll: &mut Poll,
+    listener: &TcpListener,
+) {
+    let Ok(mut events) = Events::with_capacity(alloc, 4) else {
+        return;
+    };
+    for _ in rt.forever() {
+        let is_all = accept_all(rt, connections, listener);
+        if connections.is_stopping() {
+            break;
+        }
+        let wait = if is_all {
+            None
+        } else {
+            Some(Duration::from_millis(PAUSE))
+        };
+        if poll.poll(&mut events, wait).is_err() {
+            thread::sleep(rt, Duration::from_millis(PAUSE));
+        }
+    }
+}
+
+/// Serves as one of the workers.
+fn work_on<L: Naming, R: Wait + Clock + Copy + Drop, G: Gate>(
+    rt: &R,
+    alloc: Global,
+    server: &Serving<'_, L, R, G>,
+    sendq: usize,
+    poll: Poll,
+) {
+    let Ok(mut events) = events(alloc) else {
+        return;
+    };
+    let Some(post) = server.sockets.all.post(server.sockets.worker) else {
+        return;
+    };
+    let mut worker = Worker::new(alloc, poll, sendq);
+    worker.serve(rt, server, post, &mut events);
+}
+
+/// Has a thread for each of the workers, accepts connections until the server is asked to stop, then ends all sessions, and waits
+/// for the threads. It answers whether all could be started.
+fn run_on<
     L: Naming + Send + Sync,
     R: Threads + Wait + Clock + Copy + Drop + Send + Sync,
     G: Gate + Sync,
->(rt: &R, alloc: Global, server: &Serving<'_, L, R, G>, sendq: usize, listener: &TcpListener) {
+>(
+    rt: &R,
+    alloc: Global,
+    hall: &Mutex<Hall<L, Sender<R>>>,
+    connections: &Connections<L, R>,
+    gate: &G,
+    sendq: usize,
+    polls: Vec<Poll>,
+    poll: &mut Poll,
+    listener: &TcpListener,
+) -> bool {
     thread::scope(thread::scope_env(), rt, |scope| {
+        let mut are_started = true;
+        for (worker, poll) in polls.into_iter().enumerate() {
+            let started = Builder::new()
+                .stack_size(STACK)
+                .spawn_scoped(scope, move || {
+                    let view = View {
+                        all: connections,
+                        worker,
+                    };
+                    let clock = SystemClock { rt: *rt };
+                    let server = Server {
+                        hall,
+                        gate,
+                        sockets: &view,
+                        clock: &clock,
+                        burst: burst_of(sendq),
+                    };
+                    work_on(rt, alloc, &server, sendq, poll)
+                });
+            are_started = are_started && started.is_ok();
+            drop(started);
+        }
+        if are_started {
+            accept_on(rt, alloc, connections, poll, listener);
+        }
+        let view = View {
+            all: connections,
+            worker: usize::MAX,
+        };
+        let clock = SystemClock { rt: *rt };
+        let server = Server {
+            hall,
+            gate,
+            sockets: &view,
+            clock: &clock,
+            burst: burst_of(sendq),
+        };
         for _ in rt.forever() {
-            let accepted = listener.accept();
-            if server.sockets.is_stopping() {
+            if !hang_next(rt, &server) {
                 break;
             }
-            match accepted {
-                Ok((stream, peer)) => {
-                    let started = Builder::new().stack_size(STACK).spawn_scoped(
-                        scope,
-                        move || serve(rt, alloc, server, sendq, stream, peer),
-                    );
-                    drop(started);
-                }
-                Err(_) => server.sockets.pause(),
-            }
         }
-        for _ in rt.forever() {
-            if !hang_next(rt, server) {
-                break;
-            }
-        }
-    });
+        connections.close();
+        are_started
+    })
+}
+
+/// What the workers wait by, and where others leave something for them.
+fn workers_of<R: Net>(rt: &R, alloc: Global, workers: usize) -> io::Result<(Vec<Poll>, Vec<Post>)> {
+    let mut polls = Vec::new(alloc);
+    let mut posts = Vec::new(alloc);
+    for _ in 0..workers {
+        let poll = Poll::new(rt)?;
+        posts.push(Post::new(alloc, poll.registry())?)?;
+        polls.push(poll)?;
+    }
+    Ok((polls, posts))
+}
+
+/// What a thread waits by that accepts from a listener, and how it is asked to stop.
+fn door_of<R: Net>(rt: &R, listener: &mut TcpListener) -> io::Result<(Poll, Stopping)> {
+    let poll = Poll::new(rt)?;
+    poll.registry()
+        .register(listener, Token(0), Interest::READABLE)?;
+    let stopping = Stopping::new(Waker::new(poll.registry(), WAKE)?);
+    Ok((poll, stopping))
+}
+
+/// Listens on an address, for as many at once who connect as the system lets wait.
+///
+/// # Errors
+///
+/// Those of the system.
+pub fn listen<R: Net>(rt: &R, address: SocketAddr) -> io::Result<net::TcpListener> {
+    Ok(net::TcpListener::from(TcpListener::bind(rt, address)?))
 }
 
 /// Serves by a register of its own.
 fn serve_named<
     L: Naming + Send + Sync,
-    R: Threads + Wait + Clock + Copy + Drop + Send + Sync + 'static,
+    R: Threads + Wait + Clock + Net + Copy + Drop + Send + Sync + 'static,
     G: Gate + Sync,
     I: Read + Send + Drop + 'static,
 >(
@@ -130,29 +271,21 @@ fn serve_named<
 ) -> Result<(), ServeFault>
     requires named { register.table ≡ L.table }
     requires new { register.rows ≡ [] }
-    requires some { 0 < workers }
-    requires most { workers ≤ 64 }
 {
     let hall: Hall<L, Sender<R>> = Hall::new(alloc, register, settings, limit)?;
     let hall = Mutex::new(hall);
-    let desk = Desk::new(rt, alloc, workers as u64)?;
-    let Ok(stopping) = Stopping::new(&listener) else {
+    let mut listener = listener;
+    let Ok((polls, posts)) = workers_of(rt, alloc, workers) else {
+        return Err(ServeFault::Memory);
+    };
+    let Ok((mut poll, stopping)) = door_of(rt, &mut listener) else {
         return Err(ServeFault::Memory);
     };
     let Ok(stopping) = Arc::new(alloc, stopping) else {
         return Err(ServeFault::Memory);
     };
     let asked = Arc::try_clone(&stopping)?;
-    let sockets = Connections::new(*rt, alloc, Arc::try_clone(&stopping)?);
-    let clock = SystemClock { rt: *rt };
-    let server = Server {
-        hall: &hall,
-        desk: &desk,
-        gate,
-        sockets: &sockets,
-        clock: &clock,
-        burst: burst_of(sendq),
-    };
+    let connections = Connections::new(*rt, alloc, posts, Arc::try_clone(&stopping)?);
     let Ok(waiting) = thread::spawn(rt, move || {
         read_to_end(stop);
         asked.ask();
@@ -160,11 +293,24 @@ fn serve_named<
         return Err(ServeFault::Memory);
     };
     drop(waiting);
-    accept_on(rt, alloc, &server, sendq, &listener);
+    let are_started = run_on(
+        rt,
+        alloc,
+        &hall,
+        &connections,
+        gate,
+        sendq,
+        polls,
+        &mut poll,
+        &listener,
+    );
     if stopping.is_full() {
-        return Err(ServeFault::JournalFull);
+        Err(ServeFault::JournalFull)
+    } else if are_started {
+        Ok(())
+    } else {
+        Err(ServeFault::Memory)
     }
-    Ok(())
 }
 
 /// Serves whoever connects to a listener, until `stop` ends or fails.
@@ -178,13 +324,13 @@ fn serve_named<
 ///
 /// Where settings or numbers are beyond their limits, where the journal is full, and where a growth was refused at the start.
 pub fn serve_on<
-    R: Threads + Wait + Clock + Copy + Drop + Send + Sync + 'static,
+    R: Threads + Wait + Clock + Net + Copy + Drop + Send + Sync + 'static,
     G: Gate + Sync,
     I: Read + Send + Drop + 'static,
 >(
     rt: &R,
     alloc: Global,
-    listener: TcpListener,
+    listener: net::TcpListener,
     settings: Settings,
     limit: usize,
     workers: usize,
@@ -195,6 +341,10 @@ pub fn serve_on<
     if workers < 1 || 64 < workers || sendq < 1 || 4096 < sendq {
         return Err(ServeFault::BadSettings);
     }
+    if listener.set_nonblocking(true).is_err() {
+        return Err(ServeFault::Memory);
+    }
+    let listener = TcpListener::from_std(listener);
     let register = Register::new(alloc)?;
     serve_named::<Brand, R, G, I>(
         rt, alloc, register, listener, settings, limit, workers, sendq, gate, stop,

@@ -1,8 +1,6 @@
 //! How a server is asked to stop.
-use std::io;
+use mio::Waker;
 use std::io::Read;
-use std::net::{Shutdown, TcpListener, TcpStream};
-use std::os::fd::OwnedFd;
 use std::sync::atomic::{AtomicBool, Ordering};
 
 /// Whether a server was asked to stop, and why. Asking wakes the thread that accepts.
@@ -10,24 +8,23 @@ use std::sync::atomic::{AtomicBool, Ordering};
 pub(crate) struct Stopping {
     is_asked: AtomicBool,
     is_full: AtomicBool,
-    // The listener once more, as what can be shut down.
-    door: TcpStream,
+    waker: Waker,
 }
 
 impl Stopping {
-    /// Nobody asked yet.
-    pub(crate) fn new(listener: &TcpListener) -> io::Result<Stopping> {
-        Ok(Stopping {
+    /// Nobody asked yet. This wakes the thread that accepts.
+    pub(crate) fn new(waker: Waker) -> Stopping {
+        Stopping {
             is_asked: AtomicBool::new(false),
             is_full: AtomicBool::new(false),
-            door: TcpStream::from(OwnedFd::from(listener.try_clone()?)),
-        })
+            waker,
+        }
     }
 
     /// Asks the server to stop.
     pub(crate) fn ask(&self) {
         self.is_asked.store(true, Ordering::SeqCst);
-        let _ = self.door.shutdown(Shutdown::Both);
+        let _ = self.waker.wake();
     }
 
     /// Asks the server to stop, since its journal is full.

@@ -2,8 +2,8 @@ use Rattle.std.proofs.Common.{◌∙◌}
 use Rattle.crew.proofs.LinesRead.{front_of, fails}
 use Rattle.crew.proofs.working.work_all.Goals as goal
 
-pub returns-in_default-clause-front : goal.returns-in_default-clause-front
-returns-in_default-clause-front g c = front_of c.args.baton.pieces c.loop-piece.baton.pieces c.args.pieces.now c.loop-piece.piece-index c.loop-piece.invariant.grown
+pub returns-clause-front : goal.returns-clause-front
+returns-clause-front g c = front_of c.args.baton.pieces c.loop-piece.baton.pieces c.args.pieces.now c.loop-piece.piece-index c.loop-piece.invariant.grown
 
 pub returns-then-not-worked-clause-front : goal.returns-then-not-worked-clause-front
 returns-then-not-worked-clause-front g c =

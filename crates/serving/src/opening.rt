@@ -1,0 +1,146 @@
+//! How a session is opened for a connection.
+ghost use Rattle.std.specs.Prelude.{◌≡◌, true, Some, IfSome};
+ghost use Rattle.casemapping.specs.Names.{host_shape};
+
+use crate::clock::SystemClock;
+use crate::connections::{Connection, Shared, View};
+use crate::hosts::host_of;
+use crew::{Gate, Server, moment_in};
+use hall::{Baton, Naming, Stub};
+use line_grammar::Octets;
+use mio::net::TcpStream;
+use outbox::{ChannelName, Sender, Writer, pair};
+use std::alloc::Global;
+use std::net::SocketAddr;
+use std::sync::{Arc, Wait};
+use std::time::Clock;
+use wire::Wire;
+
+/// The server as one of its threads knows it.
+pub(crate) type Serving<'a, L, R, G> = Server<'a, L, R, G, View<'a, L, R>, SystemClock<R>>;
+
+/// A session's three tokens.
+#[derive(Drop)]
+pub(crate) struct Tokens<L: Naming, R: Wait + Drop> {
+    pub(crate) baton: Baton<L, Sender<R>>,
+    pub(crate) stub: Stub<L, ChannelName>,
+    pub(crate) writer: Writer,
+    ghost one: { stub.session ≡ baton.session },
+    ghost own: { stub.outbox ≡ Some writer.channel },
+}
+
+/// A session that was just opened.
+#[derive(Drop)]
+pub(crate) struct Opened<L: Naming, R: Wait + Drop> {
+    pub(crate) tokens: Tokens<L, R>,
+    pub(crate) connection: Arc<Connection<L>>,
+    pub(crate) host: Octets,
+}
+
+/// A session whose connection has its wire, or one that there was no memory to connect.
+#[derive(Drop)]
+pub(crate) enum Connected<L: Naming, R: Wait + Drop> {
+    Wired(Baton<L, Sender<R>>, Arc<Connection<L>>),
+    Refused(Tokens<L, R>),
+}
+
+/// The host of a peer, twice.
+fn host_twice(alloc: Global, peer: SocketAddr) -> Option<(Octets, Octets)>
+    ensures { IfSome result (λ hosts. host_shape hosts.0 ≡ true) }
+{
+    let host = host_of(alloc, peer)?;
+    match host.clone() {
+        Ok(again) => Some((host, again)),
+        Err(_) => None,
+    }
+}
+
+/// Opens a session for a peer, where the server takes one, whose connection is at this place.
+fn open<L: Naming, R: Wait + Clock + Copy + Drop, G: Gate>(
+    rt: &R,
+    alloc: Global,
+    server: &Serving<'_, L, R, G>,
+    sendq: usize,
+    stream: Arc<TcpStream>,
+    place: usize,
+    peer: SocketAddr,
+) -> Option<Opened<L, R>> {
+    let Ok((sender, writer)) = pair(*rt, alloc, sendq.max(1)) else {
+        return None;
+    };
+    let connection = Connection::new(stream, server.sockets.worker, place);
+    let Ok(connection) = Arc::new(alloc, connection) else {
+        return None;
+    };
+    let Ok(again) = Arc::try_clone(&connection) else {
+        return None;
+    };
+    let (host, told) = host_twice(alloc, peer)?;
+    let all = server.sockets.all;
+    let mut hall = server.hall.lock(rt);
+    if all.is_stopping() || all.make_room().is_err() {
+        return None;
+    }
+    let moment = moment_in(&*hall, crew::Clock::now(server.clock));
+    match hall.open(host, moment, sender) {
+        Ok((session, baton, stub)) => {
+            all.add(session, again);
+            Some(Opened {
+                tokens: Tokens {
+                    baton,
+                    stub,
+                    writer,
+                },
+                connection,
+                host: told,
+            })
+        }
+        Err(_) => None,
+    }
+}
+
+/// Gives a session's connection its wire.
+fn connect<L: Naming, R: Wait + Drop>(
+    rt: &R,
+    alloc: Global,
+    opened: Opened<L, R>,
+) -> Connected<L, R> {
+    let Opened {
+        tokens,
+        connection,
+        host,
+    } = opened;
+    let Some(shared) = Shared::of(&connection.stream) else {
+        return Connected::Refused(tokens);
+    };
+    let Tokens {
+        baton,
+        stub,
+        writer,
+    } = tokens;
+    match Wire::new(alloc, writer, stub, shared, host) {
+        Ok(wire) => {
+            connection.outlet.open(rt, wire);
+            Connected::Wired(baton, connection)
+        }
+        Err((writer, stub)) => Connected::Refused(Tokens {
+            baton,
+            stub,
+            writer,
+        }),
+    }
+}
+
+/// Opens a session for a peer, where the server takes one, whose connection is at this place, with its wire.
+pub(crate) fn open_connected<L: Naming, R: Wait + Clock + Copy + Drop, G: Gate>(
+    rt: &R,
+    alloc: Global,
+    server: &Serving<'_, L, R, G>,
+    sendq: usize,
+    stream: Arc<TcpStream>,
+    place: usize,
+    peer: SocketAddr,
+) -> Option<Connected<L, R>> {
+    let opened = open(rt, alloc, server, sendq, stream, place, peer)?;
+    Some(connect(rt, alloc, opened))
+}

@@ -1,0 +1,111 @@
+//! What other threads leave for a worker.
+use mio::net::TcpStream;
+use mio::{Registry, Token, Waker};
+use std::alloc::Global;
+use std::net::SocketAddr;
+use std::sync::atomic::{AtomicU64, Ordering};
+use std::sync::{Mutex, Wait};
+use std::{io, mem};
+
+/// The token by which a thread is woken.
+pub(crate) const WAKE: Token = Token(usize::MAX);
+
+/// A connection that was just accepted.
+#[derive(Drop)]
+pub(crate) struct Arrival {
+    pub(crate) stream: TcpStream,
+    pub(crate) peer: SocketAddr,
+}
+
+/// What was left for a worker.
+#[derive(Drop)]
+pub(crate) struct Mail {
+    /// Connections that it is to serve.
+    pub(crate) arrivals: Vec<Arrival>,
+    /// Places of clients at which it is to look.
+    pub(crate) calls: Vec<usize>,
+    /// It is to look at all, since there was no memory for the list.
+    pub(crate) is_all: bool,
+}
+
+impl Mail {
+    /// Nothing.
+    pub(crate) fn new(alloc: Global) -> Mail {
+        Mail {
+            arrivals: Vec::new(alloc),
+            calls: Vec::new(alloc),
+            is_all: false,
+        }
+    }
+
+    fn is_empty(&self) -> bool {
+        self.arrivals.is_empty() && self.calls.is_empty() && !self.is_all
+    }
+}
+
+/// Where other threads leave something for a worker, which empties it each time before it waits. So who finds it empty wakes the
+/// worker, and nobody else needs to.
+#[derive(Drop)]
+pub(crate) struct Post {
+    waker: Waker,
+    mail: Mutex<Mail>,
+    clients: AtomicU64,
+}
+
+impl Post {
+    /// The post of a worker that waits by this registry.
+    pub(crate) fn new(alloc: Global, registry: &Registry) -> io::Result<Post> {
+        Ok(Post {
+            waker: Waker::new(registry, WAKE)?,
+            mail: Mutex::new(Mail::new(alloc)),
+            clients: AtomicU64::new(0),
+        })
+    }
+
+    /// Wakes the worker.
+    pub(crate) fn wake(&self) {
+        let _ = self.waker.wake();
+    }
+
+    /// Leaves a connection. Where there is no memory for it, it is closed.
+    pub(crate) fn bring<R: Wait>(&self, rt: &R, arrival: Arrival) {
+        let mut mail = self.mail.lock(rt);
+        let was_empty = mail.is_empty();
+        let is_left = mail.arrivals.push(arrival).is_ok();
+        drop(mail);
+        if is_left {
+            self.clients.fetch_add(1, Ordering::SeqCst);
+        }
+        if was_empty {
+            self.wake();
+        }
+    }
+
+    /// Has the worker look at a client, by another thread or by itself.
+    pub(crate) fn call<R: Wait>(&self, rt: &R, place: usize, is_own: bool) {
+        let mut mail = self.mail.lock(rt);
+        let was_empty = mail.is_empty();
+        if mail.calls.push(place).is_err() {
+            mail.is_all = true;
+        }
+        drop(mail);
+        if was_empty && !is_own {
+            self.wake();
+        }
+    }
+
+    /// Takes what was left, and leaves an empty list.
+    pub(crate) fn swap<R: Wait>(&self, rt: &R, other: &mut Mail) {
+        mem::swap(&mut *self.mail.lock(rt), other);
+    }
+
+    /// How many connections it was left that aren't given up.
+    pub(crate) fn clients(&self) -> u64 {
+        self.clients.load(Ordering::SeqCst)
+    }
+
+    /// One of them is given up.
+    pub(crate) fn one_less(&self) {
+        self.clients.fetch_sub(1, Ordering::SeqCst);
+    }
+}

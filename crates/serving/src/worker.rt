@@ -1,0 +1,566 @@
+//! A worker: a thread that does the lines of its clients, and opens and ends their sessions.
+ghost use Rattle.std.specs.Prelude.{◌≡◌};
+
+use crate::connections::Connection;
+use crate::opening::{Connected, Serving, Tokens, open_connected};
+use crate::post::{Arrival, Mail, Post, WAKE};
+use chronicle::Why;
+use crew::{Gate, Intake, Next, Standing, close_up, hang, read_some, tell, write_some};
+use hall::{Baton, Naming, Told};
+use mio::net::TcpStream;
+use mio::{Events, Interest, Poll, Token};
+use outbox::Sender;
+use std::alloc::{AllocError, Global};
+use std::sync::{Arc, Wait};
+use std::time::{Clock, Duration, Instant};
+use std::{io, mem, thread};
+
+/// How many events are looked at before what was put is written.
+const EVENTS: usize = 256;
+
+/// How often a client is read before others have their turn.
+const READS: u32 = 1;
+
+/// How many sessions are opened before others have their turn.
+const OPENS: u32 = 16;
+
+/// Milliseconds between two tries to end a session that can't be ended yet.
+const PAUSE: u64 = 20;
+
+/// How many of them a shut session may take whose client takes nothing: five seconds.
+const TRIES: u32 = 250;
+
+/// A client, whose session is open or whose last lines still go out.
+#[derive(Drop)]
+struct Client<L: Naming, R: Wait + Drop> {
+    baton: Baton<L, Sender<R>>,
+    connection: Arc<Connection<L>>,
+    intake: Intake,
+    /// It is shut, and is looked at again at each pause.
+    is_waiting: bool,
+    tries: u32,
+}
+
+/// A place for a client.
+#[derive(Drop)]
+enum Place<L: Naming, R: Wait + Drop> {
+    /// Nobody's, if it stands in the list of free places; else of a client that is just seen to.
+    Empty,
+    /// A client's.
+    Held(Client<L, R>),
+    /// Of a session that isn't given up yet.
+    Leaving(Tokens<L, R>),
+}
+
+/// What a worker has for itself.
+#[derive(Drop)]
+pub(crate) struct Worker<L: Naming, R: Wait + Drop> {
+    alloc: Global,
+    poll: Poll,
+    sendq: usize,
+    places: Vec<Place<L, R>>,
+    free: Vec<usize>,
+    /// How many places are held or leaving.
+    live: u64,
+    told: Told,
+    mail: Mail,
+    /// Who connected and isn't served yet, the first last.
+    arrivals: Vec<Arrival>,
+    /// Who may have more to be read.
+    more: Vec<usize>,
+    /// Whose session is to be given up now.
+    closing: Vec<usize>,
+    /// Who is looked at again after a pause; all where there was no memory for the list.
+    again: Vec<usize>,
+    is_all_again: bool,
+    paused: Option<Instant>,
+}
+
+/// Has lines of a client done until no more are there, and answers whether more may be. `has_ended` says that its input has an end,
+/// up to which it is read.
+fn read_client<L: Naming, R: Wait + Clock + Copy + Drop, G: Gate>(
+    rt: &R,
+    server: &Serving<'_, L, R, G>,
+    client: Client<L, R>,
+    has_ended: bool,
+    told: &mut Told,
+) -> (Client<L, R>, bool) {
+    let mut client = client;
+    for _ in 0..READS {
+        if client.connection.is_shut() {
+            return (client, false);
+        }
+        let session = client.baton.session();
+        let Client {
+            baton,
+            connection,
+            mut intake,
+            is_waiting,
+            tries,
+        } = client;
+        let mut input = &*connection.stream;
+        let took = read_some(rt, server, &mut intake, baton, &mut input, told);
+        client = Client {
+            baton: took.baton,
+            connection,
+            intake,
+            is_waiting,
+            tries,
+        };
+        match took.next {
+            Next::More => {}
+            Next::Short if has_ended => {}
+            Next::Short | Next::Nothing => return (client, false),
+            Next::Over(why) => {
+                hang(rt, server, session, why, told);
+                return (client, false);
+            }
+        }
+    }
+    (client, true)
+}
+
+/// Whether a place stands in a list.
+fn is_listed(list: &Vec<usize>, at: usize) -> bool {
+    for it in list.iter() {
+        if *it == at {
+            return true;
+        }
+    }
+    false
+}
+
+impl<L: Naming, R: Wait + Clock + Copy + Drop> Worker<L, R> {
+    /// A worker without clients, that waits here.
+    pub(crate) fn new(alloc: Global, poll: Poll, sendq: usize) -> Worker<L, R> {
+        Worker {
+            alloc,
+            poll,
+            sendq,
+            places: Vec::new(alloc),
+            free: Vec::new(alloc),
+            live: 0,
+            told: Told::new(alloc),
+            mail: Mail::new(alloc),
+            arrivals: Vec::new(alloc),
+            more: Vec::new(alloc),
+            closing: Vec::new(alloc),
+            again: Vec::new(alloc),
+            is_all_again: false,
+            paused: None,
+        }
+    }
+
+    /// Takes what stands at a place, for one who puts it there again.
+    fn take(&mut self, at: usize) -> Place<L, R> {
+        match self.places.get_mut(at) {
+            Some(place) => mem::replace(place, Place::Empty),
+            None => Place::Empty,
+        }
+    }
+
+    fn put(&mut self, at: usize, what: Place<L, R>) {
+        if let Some(place) = self.places.get_mut(at) {
+            *place = what;
+        }
+    }
+
+    /// A place is free for another client.
+    fn free_place(&mut self, at: usize, post: &Post) {
+        self.live = self.live.saturating_sub(1);
+        post.one_less();
+        let _ = self.free.push(at);
+    }
+
+    /// Has a place looked at again after a pause.
+    fn look_again(&mut self, at: usize) {
+        if self.again.push(at).is_err() {
+            self.is_all_again = true;
+        }
+    }
+
+    /// Has the session at a place given up.
+    fn leave(&mut self, at: usize, tokens: Tokens<L, R>) {
+        self.put(at, Place::Leaving(tokens));
+        if self.closing.push(at).is_err() {
+            self.look_again(at);
+        }
+    }
+
+    /// Reads a client, and has it read again after others where more may be there.
+    fn read_at<G: Gate>(
+        &mut self,
+        rt: &R,
+        server: &Serving<'_, L, R, G>,
+        at: usize,
+        client: Client<L, R>,
+        has_ended: bool,
+    ) {
+        let session = client.baton.session();
+        let (client, is_more) = read_client(rt, server, client, has_ended, &mut self.told);
+        self.put(at, Place::Held(client));
+        if is_more && !is_listed(&self.more, at) && self.more.push(at).is_err() {
+            hang(rt, server, session, Why::Memory, &mut self.told);
+        }
+    }
+
+    /// Sees to a client that something happened to.
+    fn see_to<G: Gate>(
+        &mut self,
+        rt: &R,
+        server: &Serving<'_, L, R, G>,
+        at: usize,
+        is_writable: bool,
+        is_readable: bool,
+        has_ended: bool,
+    ) {
+        match self.take(at) {
+            Place::Held(client) => {
+                if is_writable {
+                    server.sockets.go_on(&client.connection);
+                }
+                if is_readable {
+                    self.read_at(rt, server, at, client, has_ended);
+                } else {
+                    self.put(at, Place::Held(client));
+                }
+            }
+            other => self.put(at, other),
+        }
+    }
+
+    /// Reads those again who may have more to be read.
+    fn read_more<G: Gate>(&mut self, rt: &R, server: &Serving<'_, L, R, G>) {
+        let more = mem::replace(&mut self.more, Vec::new(self.alloc));
+        for at in more.iter() {
+            self.see_to(rt, server, *at, false, true, true);
+        }
+    }
+
+    /// Ends the connection of a session that nothing more is written for.
+    fn end<G: Gate>(
+        &mut self,
+        rt: &R,
+        server: &Serving<'_, L, R, G>,
+        post: &Post,
+        at: usize,
+        client: Client<L, R>,
+    ) {
+        let Client {
+            baton,
+            connection,
+            ..
+        } = client;
+        let session = baton.session();
+        connection.end();
+        server.sockets.all.remove(session);
+        // It has its wire, since nobody else ends it.
+        let Some(wire) = connection.outlet.end(rt, session) else {
+            return self.free_place(at, post);
+        };
+        let (writer, stub) = wire.apart();
+        let tokens = Tokens {
+            baton,
+            stub,
+            writer,
+        };
+        self.leave(at, tokens);
+    }
+
+    /// Looks at a client: whether its session's writing is over, and so it is to be ended.
+    fn look<G: Gate>(
+        &mut self,
+        rt: &R,
+        server: &Serving<'_, L, R, G>,
+        post: &Post,
+        at: usize,
+        is_pause: bool,
+    ) {
+        let Place::Held(mut client) = self.take_held(at) else {
+            return;
+        };
+        client.connection.begin_look();
+        let is_shut = client.connection.is_shut();
+        let session = client.baton.session();
+        let outlet = &client.connection.outlet;
+        let standing = write_some(rt, server, session, outlet, is_shut, &mut self.told);
+        if is_pause && client.is_waiting {
+            client.tries = client.tries.saturating_add(1);
+        }
+        if standing == Standing::Over || TRIES <= client.tries {
+            return self.end(rt, server, post, at, client);
+        }
+        if is_shut && (is_pause || !client.is_waiting) {
+            client.is_waiting = true;
+            self.look_again(at);
+        }
+        self.put(at, Place::Held(client));
+    }
+
+    /// Takes a client from its place, if there is one.
+    fn take_held(&mut self, at: usize) -> Place<L, R> {
+        match self.take(at) {
+            Place::Held(client) => Place::Held(client),
+            other => {
+                self.put(at, other);
+                Place::Empty
+            }
+        }
+    }
+
+    /// Gives a session up, or tries that again after a pause.
+    fn close<G: Gate>(&mut self, rt: &R, server: &Serving<'_, L, R, G>, post: &Post, at: usize) {
+        match self.take(at) {
+            Place::Leaving(tokens) => {
+                let Tokens {
+                    baton,
+                    stub,
+                    writer,
+                } = tokens;
+                match close_up(rt, server, baton, stub, writer, &mut self.told) {
+                    Ok(_) => self.free_place(at, post),
+                    Err((baton, stub, writer)) => {
+                        let tokens = Tokens {
+                            baton,
+                            stub,
+                            writer,
+                        };
+                        self.put(at, Place::Leaving(tokens));
+                        self.look_again(at);
+                    }
+                }
+            }
+            other => self.put(at, other),
+        }
+    }
+
+    /// Gives up all sessions that are to be given up now.
+    fn close_those<G: Gate>(&mut self, rt: &R, server: &Serving<'_, L, R, G>, post: &Post) {
+        let closing = mem::replace(&mut self.closing, Vec::new(self.alloc));
+        for at in closing.iter() {
+            self.close(rt, server, post, *at);
+        }
+    }
+
+    /// A place for another client.
+    fn free_one(&mut self) -> Result<usize, AllocError> {
+        if let Some(at) = self.free.pop() {
+            return Ok(at);
+        }
+        let at = self.places.len();
+        self.places.push(Place::Empty)?;
+        Ok(at)
+    }
+
+    /// Has events of a stream come with this place, and answers what several threads may hold of it.
+    fn watch(&mut self, at: usize, stream: TcpStream) -> io::Result<Arc<TcpStream>> {
+        let mut stream = stream;
+        let _ = stream.set_nodelay(true);
+        let both = Interest::READABLE | Interest::WRITABLE;
+        self.poll.registry().register(&mut stream, Token(at), both)?;
+        match Arc::new(self.alloc, stream) {
+            Ok(stream) => Ok(stream),
+            Err(_) => Err(io::Error::from(io::ErrorKind::OutOfMemory)),
+        }
+    }
+
+    /// Opens a session for who connected, at a place. It answers whether the place is taken now.
+    fn open_at<G: Gate>(
+        &mut self,
+        rt: &R,
+        server: &Serving<'_, L, R, G>,
+        at: usize,
+        arrival: Arrival,
+    ) -> bool {
+        let Arrival { stream, peer } = arrival;
+        let Ok(intake) = Intake::new(self.alloc) else {
+            return false;
+        };
+        let Ok(stream) = self.watch(at, stream) else {
+            return false;
+        };
+        match open_connected(rt, self.alloc, server, self.sendq, stream, at, peer) {
+            Some(Connected::Wired(baton, connection)) => {
+                let client = Client {
+                    baton,
+                    connection,
+                    intake,
+                    is_waiting: false,
+                    tries: 0,
+                };
+                self.put(at, Place::Held(client));
+                true
+            }
+            Some(Connected::Refused(tokens)) => {
+                let session = tokens.baton.session();
+                hang(rt, server, session, Why::Memory, &mut self.told);
+                server.sockets.all.remove(session);
+                self.leave(at, tokens);
+                true
+            }
+            None => false,
+        }
+    }
+
+    /// Serves who connected, where the server takes one.
+    fn open<G: Gate>(
+        &mut self,
+        rt: &R,
+        server: &Serving<'_, L, R, G>,
+        post: &Post,
+        arrival: Arrival,
+    ) {
+        let Ok(at) = self.free_one() else {
+            post.one_less();
+            return;
+        };
+        self.live = self.live.saturating_add(1);
+        if self.open_at(rt, server, at, arrival) {
+            // Somebody may have put something before the connection had its wire.
+            self.look(rt, server, post, at, false);
+        } else {
+            self.free_place(at, post);
+        }
+    }
+
+    /// Does what others left, and answers whether there was anything.
+    fn do_mail<G: Gate>(&mut self, rt: &R, server: &Serving<'_, L, R, G>, post: &Post) -> bool {
+        let mut mail = mem::replace(&mut self.mail, Mail::new(self.alloc));
+        post.swap(rt, &mut mail);
+        let mut is_any = mail.is_all;
+        for at in mail.calls.iter() {
+            is_any = true;
+            self.look(rt, server, post, *at, false);
+        }
+        if mail.is_all {
+            for at in 0..self.places.len() {
+                self.look(rt, server, post, at, false);
+            }
+        }
+        mail.calls.clear();
+        mail.is_all = false;
+        // The last first, so that the first is served first.
+        for _ in 0..mail.arrivals.len() {
+            if let Some(arrival) = mail.arrivals.pop() {
+                if self.arrivals.push(arrival).is_err() {
+                    post.one_less();
+                }
+            }
+        }
+        self.mail = mail;
+        is_any
+    }
+
+    /// Opens sessions for some who connected.
+    fn open_some<G: Gate>(&mut self, rt: &R, server: &Serving<'_, L, R, G>, post: &Post) {
+        for _ in 0..OPENS {
+            let Some(arrival) = self.arrivals.pop() else {
+                return;
+            };
+            self.open(rt, server, post, arrival);
+        }
+    }
+
+    /// Does what others left and gives up whose session is to be, until nothing is left to do now.
+    fn settle<G: Gate>(&mut self, rt: &R, server: &Serving<'_, L, R, G>, post: &Post) {
+        for _ in rt.forever() {
+            tell(server, &mut self.told);
+            if !self.do_mail(rt, server, post) && self.closing.is_empty() {
+                break;
+            }
+            self.close_those(rt, server, post);
+        }
+    }
+
+    /// Whether somebody is to be looked at again after a pause.
+    fn is_waiting(&self) -> bool {
+        self.is_all_again || !self.again.is_empty()
+    }
+
+    /// Whether a pause is over.
+    fn is_pause_over(&mut self, rt: &R) -> bool {
+        let Ok(now) = Instant::now(rt) else {
+            return true;
+        };
+        let is_over = match self.paused {
+            Some(since) => now.duration_since(since) >= Duration::from_millis(PAUSE),
+            None => true,
+        };
+        if is_over {
+            self.paused = Some(now);
+        }
+        is_over
+    }
+
+    /// Looks again at those who were to be after a pause.
+    fn try_again<G: Gate>(&mut self, rt: &R, server: &Serving<'_, L, R, G>, post: &Post) {
+        if !self.is_waiting() || !self.is_pause_over(rt) {
+            return;
+        }
+        let again = mem::replace(&mut self.again, Vec::new(self.alloc));
+        for at in again.iter() {
+            self.look(rt, server, post, *at, true);
+            self.close(rt, server, post, *at);
+        }
+        if self.is_all_again {
+            self.is_all_again = false;
+            for at in 0..self.places.len() {
+                self.look(rt, server, post, at, true);
+                self.close(rt, server, post, at);
+            }
+        }
+    }
+
+    /// How long to wait for an event.
+    fn wait(&self) -> Option<Duration> {
+        if !self.more.is_empty() || !self.arrivals.is_empty() {
+            Some(Duration::from_millis(0))
+        } else if self.is_waiting() {
+            Some(Duration::from_millis(PAUSE))
+        } else {
+            None
+        }
+    }
+
+    /// Serves until the server is closed and no client is left.
+    pub(crate) fn serve<G: Gate>(
+        &mut self,
+        rt: &R,
+        server: &Serving<'_, L, R, G>,
+        post: &Post,
+        events: &mut Events,
+    ) {
+        for _ in rt.forever() {
+            self.open_some(rt, server, post);
+            self.try_again(rt, server, post);
+            self.settle(rt, server, post);
+            if server.sockets.all.is_closed() && self.live == 0 {
+                return;
+            }
+            let wait = self.wait();
+            if self.poll.poll(events, wait).is_err() {
+                thread::sleep(rt, Duration::from_millis(PAUSE));
+            }
+            self.read_more(rt, server);
+            for event in events.iter() {
+                if event.token() == WAKE {
+                    continue;
+                }
+                let has_ended = event.is_read_closed() || event.is_error();
+                self.see_to(
+                    rt,
+                    server,
+                    event.token().0,
+                    event.is_writable(),
+                    event.is_readable() || has_ended,
+                    has_ended,
+                );
+            }
+        }
+    }
+}
+
+/// An empty buffer for the events of a worker.
+pub(crate) fn events(alloc: Global) -> Result<Events, AllocError> {
+    Events::with_capacity(alloc, EVENTS)
+}
