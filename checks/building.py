@@ -51,10 +51,15 @@ def link(kit, room, program):
     run([*words, *[f"{libraries}/{it}" for it in ends]], room)
 
 
+def kit_of():
+    """The toolchain's folder."""
+    rt = shutil.which("rt") or sys.exit(f"{os.path.basename(sys.argv[0])}: there is no rt on the path")
+    return os.path.dirname(os.path.dirname(os.path.realpath(rt)))
+
+
 def build(room, root, crate, program):
     """Builds a crate's program to this file, in a room of its own."""
-    rt = shutil.which("rt") or sys.exit(f"{os.path.basename(sys.argv[0])}: there is no rt on the path")
-    kit = os.path.dirname(os.path.dirname(os.path.realpath(rt)))
+    kit = kit_of()
     kit_that_keeps(kit, room)
     # (what the program itself ends with doesn't matter)
     how = {"stdin": subprocess.DEVNULL, "capture_output": True, "text": True, "errors": "replace"}

@@ -1,11 +1,11 @@
 //! Readers and writers that give or take little, or fail.
+use crate::again::{room, twice};
 use halld::{PlayFault, play};
 use std::alloc::{AllocError, Global};
 use std::io;
 use std::io::{ErrorKind, Read, Write};
 use std::process::Abort;
 use std::test::Fail;
-use talks::{room, twice};
 
 // Gives one octet at a time, and fails in place of each read after the first `left`.
 #[derive(Drop)]

@@ -3,11 +3,15 @@
 #![tactic(auto)]
 
 #[cfg(test)]
+mod again;
+#[cfg(test)]
 mod deciding;
 #[cfg(test)]
 mod enrolling;
 #[cfg(test)]
 mod finding;
+#[cfg(test)]
+mod growths;
 #[cfg(test)]
 mod lines;
 #[cfg(test)]

@@ -1,0 +1,59 @@
+"""The stories of crates/test_talks, as they stand in its files, and the program that plays them, without its proof."""
+import os
+import re
+import tempfile
+
+from building import build
+
+ROOT = os.path.dirname(os.path.dirname(os.path.realpath(__file__)))
+FOLDER = f"{ROOT}/crates/test_talks"
+PROGRAM = f"{FOLDER}/out/unproved"
+
+
+def read(path):
+    with open(path, encoding="utf-8") as it:
+        return it.read()
+
+
+def files():
+    """The files in the order in which they are played: first those of parts."""
+    return sorted(os.listdir(f"{FOLDER}/data"), key=lambda it: (not it.endswith(".parts"), it))
+
+
+def stories(file):
+    """The stories of a file: (name, rows), where a story without rows has None."""
+    found = []
+    for block in read(f"{FOLDER}/data/{file}").split("\n== ")[1:]:
+        name, _, lines = block.partition("\n")
+        if not name.startswith("part "):
+            _, *rows = re.split(r"^each ", lines, maxsplit=1, flags=re.M) if file.endswith(".script") else [lines]
+            said = [it for it in rows[0].split("\n")[1:] if it and not re.match("#|each ", it)] if rows else []
+            found.append((name, len(said) if rows else None))
+    return found
+
+
+def printed():
+    """What the program is to print: a line for each story."""
+    lines = []
+    for file in files():
+        for name, rows in stories(file):
+            lines.append(f"passed {file}: {name}" + (f" ({rows} rows)" if rows else "") + "\n")
+    return "".join(lines)
+
+
+def youngest():
+    """When the last file of code was written."""
+    found = [os.path.getmtime(f"{ROOT}/crates.txt")]
+    for name in os.listdir(f"{ROOT}/crates"):
+        for at, _, names in os.walk(f"{ROOT}/crates/{name}/src"):
+            found += [os.path.getmtime(f"{at}/{it}") for it in names]
+    return max(found)
+
+
+def program():
+    """The program, built anew where a file of code is younger than it."""
+    if not os.path.isfile(PROGRAM) or os.path.getmtime(PROGRAM) < youngest():
+        os.makedirs(os.path.dirname(PROGRAM), exist_ok=True)
+        with tempfile.TemporaryDirectory(prefix="talks-") as room:
+            build(room, ROOT, "test_talks", PROGRAM)
+    return PROGRAM

@@ -1,0 +1,12 @@
+//! Calls that are made again where a growth was refused: one is refused at most.
+use std::alloc::AllocError;
+
+/// Calls again where the first call finds no memory.
+pub(crate) fn twice<T, F: Fn() -> Result<T, AllocError>>(call: F) -> Result<T, AllocError>
+    requires { F.IsAlwaysCallable call }
+{
+    match call() {
+        Ok(value) => Ok(value),
+        Err(_) => call(),
+    }
+}
