@@ -2,7 +2,7 @@
 use Rattle.std.proofs.Common.{◌≡◌, ℕ, true, List, [], ◌∷◌, ◌++◌, codes, refl}
 use Rattle.channel_state.specs.declared.change.Change.TheVariants.{Joined, Left, FlagSet}
 use Rattle.channel_state.specs.declared.modes.Flag.TheVariants.{InviteOnly}
-use Rattle.commands.specs.declared.join_targets.JoinTarget.{JoinTarget}
+use Rattle.command_params.specs.declared.join_targets.JoinTarget.{JoinTarget}
 use Rattle.registration.specs.declared.settings.Settings.{Settings}
 use Rattle.roster.specs.declared.deed.Deed.{Deed}
 use Rattle.roster.specs.declared.deed.Deed.TheVariants.{Opened, NickSet, UserSet, Enrolled, ChannelMade, Changed}

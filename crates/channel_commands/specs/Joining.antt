@@ -4,7 +4,7 @@ use Rattle.std.specs.Str.{bytes_eq}
 use Rattle.casemapping.specs.Names.{channel_shape}
 use Rattle.channel_state.specs.declared.change.Change.TheVariants.{Joined}
 use Rattle.channel_state.specs.State.{State, among, is_banned, made_by, changed}
-use Rattle.commands.specs.declared.join_targets.JoinTarget.{JoinTarget}
+use Rattle.command_params.specs.declared.join_targets.JoinTarget.{JoinTarget}
 use Rattle.numerics.specs.declared.numeric.Numeric.{Numeric}
 use Rattle.numerics.specs.declared.numeric.Numeric.TheVariants.{NoSuchChannel, TooManyChannels, Topic}
 use Rattle.registration.specs.declared.settings.Settings.{Settings}

@@ -14,7 +14,7 @@ use crate::members::show_members;
 use casemapping::is_channel;
 use channel_state::Change;
 use chronicle::SessionId;
-use commands::JoinTarget;
+use command_params::JoinTarget;
 use drafts::{Denial, Draft, Seen, deny, join_line, prefix_of, tell_all};
 use line_grammar::Octets;
 use numerics::Numeric;

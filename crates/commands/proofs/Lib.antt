@@ -1,5 +1,4 @@
-pub mod Distinct
-pub mod Cuts
+pub mod Named
 pub mod Quitting
 pub mod UserNames
 mod Examples

@@ -2,7 +2,7 @@
 use Rattle.std.proofs.Common.{◌≡◌, ℕ, suc, true, not, eqb, List, [], ◌∷◌, length, take, refl, sym, ap, inl, inr, arith}
 use Rattle.std.specs.List.{filter, list_any}
 use Rattle.std.proofs.lemmas.Bool.{cases_Bool, ne_eqb}
-use Rattle.commands.specs.Lists.{is_present}
+use Rattle.command_params.specs.Lists.{is_present}
 use Rattle.commands.specs.Registering.{is_user_octet, user_name}
 
 more_than_none : (n : ℕ) → true ≡ not (eqb (suc n) 0)

@@ -7,8 +7,10 @@ use Rattle.line_grammar.specs.Reading.{reading}
 use Rattle.commands.specs.declared.asked.Asked.{Asked}
 use Rattle.commands.specs.declared.asked.Asked.TheVariants.{Nothing, TooLong, Command as Asks, Fault as Fails}
 use Rattle.commands.specs.declared.command.Command.{Command}
-use Rattle.commands.specs.declared.command.Command.TheVariants.{Quit}
-use Rattle.commands.specs.declared.command.ReadFault.{ReadFault}
+use Rattle.commands.specs.declared.command.Command.TheVariants.{Session, Channel, Talk, Query}
+use Rattle.commands.specs.declared.registering.SessionCommand.{SessionCommand}
+use Rattle.commands.specs.declared.registering.SessionCommand.TheVariants.{Cap, Authenticate, Pass, Nick, User, Ping, Pong, Quit}
+use Rattle.command_params.specs.declared.fault.ReadFault.{ReadFault}
 use Rattle.commands.specs.Commands.{command_of}
 
 abbrev pub read_as : Result Command ReadFault → Asked
@@ -34,9 +36,21 @@ asks_for_command (Asks command) = true
 asks_for_command asked = false
 
 -- whether the command is QUIT
+abbrev pub is_quit_of_session : SessionCommand → Bool
+is_quit_of_session (Cap subcommand) = false
+is_quit_of_session (Authenticate piece) = false
+is_quit_of_session Pass = false
+is_quit_of_session (Nick nick) = false
+is_quit_of_session (User user real) = false
+is_quit_of_session (Ping token) = false
+is_quit_of_session Pong = false
+is_quit_of_session (Quit text) = true
+
 abbrev pub is_quit_command : Command → Bool
-is_quit_command (Quit text) = true
-is_quit_command command = false
+is_quit_command (Session command) = is_quit_of_session command
+is_quit_command (Channel command) = false
+is_quit_command (Talk command) = false
+is_quit_command (Query command) = false
 
 abbrev pub asks_for_quit : Asked → Bool
 asks_for_quit (Asks command) = is_quit_command command

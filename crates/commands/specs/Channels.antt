@@ -1,32 +1,55 @@
 -- What the commands about channels ask for: RFC 2812, sections 3.1.5, 3.2.1 to 3.2.4, 3.2.7 and 3.2.8.
-use Rattle.std.specs.Prelude.{ℕ, List, [], ◌∷◌, Result, Ok}
-use Rattle.commands.specs.declared.names.CommandName.TheVariants as name
-use Rattle.commands.specs.declared.command.Command.{Command}
-use Rattle.commands.specs.declared.command.Command.TheVariants.{Join, Part, Kick, Invite, Topic, Mode}
-use Rattle.commands.specs.declared.command.ReadFault.{ReadFault}
-use Rattle.commands.specs.Lists.{names_of, targets_of}
-use Rattle.commands.specs.Params.{first_or_empty, first_or_none, needs_more}
+use Rattle.std.specs.Prelude.{◌≡◌, ℕ, List, [], ◌∷◌, codes, Result, Ok, Option, Some, true, is_some, None, if◌then◌else◌}
+use Rattle.commands.specs.declared.channels.ChannelCommand.{ChannelCommand}
+use Rattle.commands.specs.declared.channels.ChannelCommand.TheVariants.{Join, Part, Kick, Invite, Topic, Mode}
+use Rattle.command_params.specs.declared.fault.ReadFault.{ReadFault}
+use Rattle.command_params.specs.Lists.{names_of, targets_of}
+use Rattle.command_params.specs.Params.{first_or_empty, first_or_none, needs_more}
+use Rattle.std.specs.Str.{str_eq_ignore_ascii_case}
 
-abbrev pub join_command : List (List ℕ) → Result Command ReadFault
-join_command [] = needs_more name.Join
+abbrev pub join_command : List (List ℕ) → Result ChannelCommand ReadFault
+join_command [] = needs_more (codes "JOIN")
 join_command (list ∷ ps) = Ok (Join (targets_of list (first_or_empty ps)))
 
-abbrev pub part_command : List (List ℕ) → Result Command ReadFault
-part_command [] = needs_more name.Part
+abbrev pub part_command : List (List ℕ) → Result ChannelCommand ReadFault
+part_command [] = needs_more (codes "PART")
 part_command (list ∷ ps) = Ok (Part (names_of list) (first_or_empty ps))
 
-abbrev pub kick_command : List (List ℕ) → Result Command ReadFault
+abbrev pub kick_command : List (List ℕ) → Result ChannelCommand ReadFault
 kick_command (channel ∷ list ∷ ps) = Ok (Kick channel (names_of list) (first_or_empty ps))
-kick_command ps = needs_more name.Kick
+kick_command ps = needs_more (codes "KICK")
 
-abbrev pub invite_command : List (List ℕ) → Result Command ReadFault
+abbrev pub invite_command : List (List ℕ) → Result ChannelCommand ReadFault
 invite_command (nick ∷ channel ∷ ps) = Ok (Invite nick channel)
-invite_command ps = needs_more name.Invite
+invite_command ps = needs_more (codes "INVITE")
 
-abbrev pub topic_command : List (List ℕ) → Result Command ReadFault
-topic_command [] = needs_more name.Topic
+abbrev pub topic_command : List (List ℕ) → Result ChannelCommand ReadFault
+topic_command [] = needs_more (codes "TOPIC")
 topic_command (channel ∷ ps) = Ok (Topic channel (first_or_none ps))
 
-abbrev pub mode_command : List (List ℕ) → Result Command ReadFault
-mode_command [] = needs_more name.Mode
+abbrev pub mode_command : List (List ℕ) → Result ChannelCommand ReadFault
+mode_command [] = needs_more (codes "MODE")
 mode_command (target ∷ ps) = Ok (Mode target ps)
+
+-- what is asked by a name, which is taken in either case, or the fault of its shape
+unfoldable pub channel_of : List ℕ → List (List ℕ) → Option (Result ChannelCommand ReadFault)
+channel_of n ps =
+    if str_eq_ignore_ascii_case n (codes "JOIN") then Some (join_command ps) else
+    if str_eq_ignore_ascii_case n (codes "PART") then Some (part_command ps) else
+    if str_eq_ignore_ascii_case n (codes "KICK") then Some (kick_command ps) else
+    if str_eq_ignore_ascii_case n (codes "INVITE") then Some (invite_command ps) else
+    if str_eq_ignore_ascii_case n (codes "TOPIC") then Some (topic_command ps) else
+    if str_eq_ignore_ascii_case n (codes "MODE") then Some (mode_command ps) else None
+
+-- the name of a command
+abbrev pub channel_text : ChannelCommand → List ℕ
+channel_text (Join targets) = codes "JOIN"
+channel_text (Part channels text) = codes "PART"
+channel_text (Kick channel nicks text) = codes "KICK"
+channel_text (Invite nick channel) = codes "INVITE"
+channel_text (Topic channel text) = codes "TOPIC"
+channel_text (Mode target changes) = codes "MODE"
+
+-- none is left out
+abbrev pub EachChannelIsNamed : Type 0
+EachChannelIsNamed = (k : ChannelCommand) (ps : List (List ℕ)) → is_some (channel_of (channel_text k) ps) ≡ true

@@ -1,10 +1,5 @@
-pub mod Lists
-pub mod ListSteps
-pub mod Names
-pub mod Params
 pub mod Registering
 pub mod Channels
 pub mod Talking
-pub mod Queries
 pub mod Commands
 pub mod Asked

@@ -1,14 +1,14 @@
 -- What the commands that send texts ask for: RFC 2812, sections 3.3.1, 3.3.2 and 4.1, and IRCv3 message-tags.
-use Rattle.std.specs.Prelude.{ℕ, ◌||◌, cond, List, [], ◌∷◌, Result, Ok, Err}
+use Rattle.std.specs.Prelude.{◌≡◌, ℕ, ◌||◌, cond, List, [], ◌∷◌, codes, Result, Ok, Err, Option, Some, true, is_some, None, if◌then◌else◌}
 use Rattle.message_tags.specs.Tags.{counting_tags}
 use Rattle.message_tags.specs.ClientOnly.{client_only_data}
-use Rattle.commands.specs.declared.names.CommandName.TheVariants as name
-use Rattle.commands.specs.declared.command.Command.{Command}
-use Rattle.commands.specs.declared.command.Command.TheVariants.{Privmsg, Notice, Tagmsg, Away}
-use Rattle.commands.specs.declared.command.ReadFault.{ReadFault}
-use Rattle.commands.specs.declared.command.ReadFault.TheVariants.{NoRecipient, NoTextToSend}
-use Rattle.commands.specs.Lists.{is_empty, names_of}
-use Rattle.commands.specs.Params.{first_or_empty}
+use Rattle.commands.specs.declared.talking.TalkCommand.{TalkCommand}
+use Rattle.commands.specs.declared.talking.TalkCommand.TheVariants.{Privmsg, Notice, Tagmsg, Away}
+use Rattle.command_params.specs.declared.fault.ReadFault.{ReadFault}
+use Rattle.command_params.specs.declared.fault.ReadFault.TheVariants.{NoRecipient, NoTextToSend}
+use Rattle.command_params.specs.Lists.{is_empty, names_of}
+use Rattle.command_params.specs.Params.{first_or_empty}
+use Rattle.std.specs.Str.{str_eq_ignore_ascii_case}
 
 -- the second parameter, which is empty where there is none
 abbrev pub second_or_empty : List (List ℕ) → List ℕ
@@ -19,19 +19,38 @@ second_or_empty (p ∷ ps) = first_or_empty ps
 abbrev pub relayed : List ℕ → List ℕ
 relayed tag_data = client_only_data (counting_tags tag_data)
 
-abbrev pub privmsg_command : List ℕ → List (List ℕ) → Result Command ReadFault
+abbrev pub privmsg_command : List ℕ → List (List ℕ) → Result TalkCommand ReadFault
 privmsg_command tag_data ps =
-    cond (is_empty (first_or_empty ps)) (Err (NoRecipient name.Privmsg))
+    cond (is_empty (first_or_empty ps)) (Err (NoRecipient (codes "PRIVMSG")))
     (cond (is_empty (second_or_empty ps)) (Err NoTextToSend) (Ok (Privmsg (names_of (first_or_empty ps)) (second_or_empty ps) (relayed tag_data))))
 
 -- never answered with a numeric: where PRIVMSG would be, it is for nobody
-abbrev pub notice_command : List ℕ → List (List ℕ) → Result Command ReadFault
+abbrev pub notice_command : List ℕ → List (List ℕ) → Result TalkCommand ReadFault
 notice_command tag_data ps =
     cond (is_empty (first_or_empty ps) || is_empty (second_or_empty ps)) (Ok (Notice [] [] []))
     (Ok (Notice (names_of (first_or_empty ps)) (second_or_empty ps) (relayed tag_data)))
 
-abbrev pub tagmsg_command : List ℕ → List (List ℕ) → Result Command ReadFault
-tagmsg_command tag_data ps = cond (is_empty (first_or_empty ps)) (Err (NoRecipient name.Tagmsg)) (Ok (Tagmsg (names_of (first_or_empty ps)) (relayed tag_data)))
+abbrev pub tagmsg_command : List ℕ → List (List ℕ) → Result TalkCommand ReadFault
+tagmsg_command tag_data ps = cond (is_empty (first_or_empty ps)) (Err (NoRecipient (codes "TAGMSG"))) (Ok (Tagmsg (names_of (first_or_empty ps)) (relayed tag_data)))
 
-abbrev pub away_command : List (List ℕ) → Result Command ReadFault
+abbrev pub away_command : List (List ℕ) → Result TalkCommand ReadFault
 away_command ps = Ok (Away (first_or_empty ps))
+
+-- what is asked by a name, which is taken in either case, or the fault of its shape
+unfoldable pub talk_of : List ℕ → List ℕ → List (List ℕ) → Option (Result TalkCommand ReadFault)
+talk_of n tag_data ps =
+    if str_eq_ignore_ascii_case n (codes "PRIVMSG") then Some (privmsg_command tag_data ps) else
+    if str_eq_ignore_ascii_case n (codes "NOTICE") then Some (notice_command tag_data ps) else
+    if str_eq_ignore_ascii_case n (codes "TAGMSG") then Some (tagmsg_command tag_data ps) else
+    if str_eq_ignore_ascii_case n (codes "AWAY") then Some (away_command ps) else None
+
+-- the name of a command
+abbrev pub talk_text : TalkCommand → List ℕ
+talk_text (Privmsg targets text tags) = codes "PRIVMSG"
+talk_text (Notice targets text tags) = codes "NOTICE"
+talk_text (Tagmsg targets tags) = codes "TAGMSG"
+talk_text (Away text) = codes "AWAY"
+
+-- none is left out
+abbrev pub EachTalkIsNamed : Type 0
+EachTalkIsNamed = (k : TalkCommand) (tag_data : List ℕ) (ps : List (List ℕ)) → is_some (talk_of (talk_text k) tag_data ps) ≡ true

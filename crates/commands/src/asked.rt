@@ -4,7 +4,8 @@ ghost use Rattle.chronicle.specs.History.{is_quit};
 ghost use Rattle.commands.specs.Asked.{asked_by, asked_of, asks_for_command, asks_for_quit, message_of};
 ghost use Rattle.line_grammar.specs.Reading.{reading};
 
-use crate::{Command, ReadFault, read};
+use crate::{Command, SessionCommand, read};
+use command_params::ReadFault;
 use line_grammar::{LineFault, Message, Piece, parse};
 use std::alloc::{AllocError, Global};
 
@@ -26,7 +27,10 @@ impl Asked {
     pub fn is_quit(&self) -> bool
         ensures { result ≡ asks_for_quit self.now }
     {
-        matches!(self, Asked::Command(Command::Quit { .. }))
+        matches!(
+            self,
+            Asked::Command(Command::Session(SessionCommand::Quit { .. }))
+        )
     }
 }
 

@@ -1,103 +1,143 @@
 //! The commands about channels (RFC 2812, sections 3.1.5, 3.2.1 to 3.2.4, 3.2.7 and 3.2.8).
-ghost use Rattle.std.specs.Prelude.{◌≡◌, ◌⊎◌, IfOk, IfErr, IsErrOf, IsOk};
-ghost use Rattle.commands.specs.Channels.{join_command, part_command, kick_command, invite_command, topic_command, mode_command};
+ghost use Rattle.std.specs.Prelude.{◌≡◌};
+ghost use Rattle.command_params.specs.Params.{IsRead, IsReadByName};
+ghost use Rattle.commands.specs.Channels.{EachChannelIsNamed, channel_of, join_command, part_command, kick_command, invite_command, topic_command, mode_command};
 
-use crate::lists::{read_names, read_targets};
-use crate::params::{copied, copied_first, first};
-use crate::{Command, CommandName, ReadFault};
+use command_params::{
+    JoinTargets, ReadFault, Texts, copied, copied_first, first, is_named, needs_more, read_names,
+    read_targets,
+};
 use line_grammar::Octets;
 use std::alloc::Global;
 
-pub(crate) fn read_join(alloc: Global, params: &[Octets]) -> Result<Command, ReadFault>
-    ensures ok { IfOk result (λ command. join_command params.now ≡ Ok command) }
-    ensures err { IfErr result (λ fault. (fault ≡ ReadFault.Memory) ⊎ (join_command params.now ≡ Err fault)) }
-    ensures memory { IsErrOf result ReadFault.Memory → IsOk (join_command params.now) }
-{
-    let [list, params @ ..] = params else {
-        return Err(ReadFault::NeedMoreParams {
-            command: CommandName::Join,
-        });
-    };
-    let targets = read_targets(alloc, list.as_slice(), first(params))?;
-    Ok(Command::Join { targets })
+/// What is asked about channels. Names and texts are as given. A list of names has no empty one, and none that
+/// repeats another in either case.
+#[derive(Drop)]
+pub enum ChannelCommand {
+    /// To join channels (section 3.2.1).
+    Join {
+        targets: JoinTargets,
+    },
+    /// To leave channels, with a text that may be empty (section 3.2.2).
+    Part {
+        channels: Texts,
+        text: Octets,
+    },
+    /// To put users out of a channel, with a text that may be empty (section 3.2.8).
+    Kick {
+        channel: Octets,
+        nicks: Texts,
+        text: Octets,
+    },
+    /// To invite a user to a channel (section 3.2.7).
+    Invite {
+        nick: Octets,
+        channel: Octets,
+    },
+    /// The topic of a channel, or a new one, which may be empty (section 3.2.4).
+    Topic {
+        channel: Octets,
+        text: Option<Octets>,
+    },
+    /// The modes of a channel or a user, or changes of them: the parameters after the target (sections
+    /// 3.1.5 and 3.2.3).
+    Mode {
+        target: Octets,
+        changes: Texts,
+    },
 }
 
-pub(crate) fn read_part(alloc: Global, params: &[Octets]) -> Result<Command, ReadFault>
-    ensures ok { IfOk result (λ command. part_command params.now ≡ Ok command) }
-    ensures err { IfErr result (λ fault. (fault ≡ ReadFault.Memory) ⊎ (part_command params.now ≡ Err fault)) }
-    ensures memory { IsErrOf result ReadFault.Memory → IsOk (part_command params.now) }
+fn read_join(alloc: Global, params: &[Octets]) -> Result<ChannelCommand, ReadFault>
+    ensures { IsRead (join_command params.now) result }
 {
     let [list, params @ ..] = params else {
-        return Err(ReadFault::NeedMoreParams {
-            command: CommandName::Part,
-        });
+        return Err(needs_more(b"JOIN"));
+    };
+    let targets = read_targets(alloc, list.as_slice(), first(params))?;
+    Ok(ChannelCommand::Join { targets })
+}
+
+fn read_part(alloc: Global, params: &[Octets]) -> Result<ChannelCommand, ReadFault>
+    ensures { IsRead (part_command params.now) result }
+{
+    let [list, params @ ..] = params else {
+        return Err(needs_more(b"PART"));
     };
     let channels = read_names(alloc, list.as_slice())?;
     let text = Octets::copied(alloc, first(params))?;
-    Ok(Command::Part { channels, text })
+    Ok(ChannelCommand::Part { channels, text })
 }
 
-pub(crate) fn read_kick(alloc: Global, params: &[Octets]) -> Result<Command, ReadFault>
-    ensures ok { IfOk result (λ command. kick_command params.now ≡ Ok command) }
-    ensures err { IfErr result (λ fault. (fault ≡ ReadFault.Memory) ⊎ (kick_command params.now ≡ Err fault)) }
-    ensures memory { IsErrOf result ReadFault.Memory → IsOk (kick_command params.now) }
+fn read_kick(alloc: Global, params: &[Octets]) -> Result<ChannelCommand, ReadFault>
+    ensures { IsRead (kick_command params.now) result }
 {
     let [channel, list, params @ ..] = params else {
-        return Err(ReadFault::NeedMoreParams {
-            command: CommandName::Kick,
-        });
+        return Err(needs_more(b"KICK"));
     };
     let channel = channel.clone()?;
     let nicks = read_names(alloc, list.as_slice())?;
     let text = Octets::copied(alloc, first(params))?;
-    Ok(Command::Kick {
+    Ok(ChannelCommand::Kick {
         channel,
         nicks,
         text,
     })
 }
 
-pub(crate) fn read_invite(params: &[Octets]) -> Result<Command, ReadFault>
-    ensures ok { IfOk result (λ command. invite_command params.now ≡ Ok command) }
-    ensures err { IfErr result (λ fault. (fault ≡ ReadFault.Memory) ⊎ (invite_command params.now ≡ Err fault)) }
-    ensures memory { IsErrOf result ReadFault.Memory → IsOk (invite_command params.now) }
+fn read_invite(params: &[Octets]) -> Result<ChannelCommand, ReadFault>
+    ensures { IsRead (invite_command params.now) result }
 {
     let [nick, channel, ..] = params else {
-        return Err(ReadFault::NeedMoreParams {
-            command: CommandName::Invite,
-        });
+        return Err(needs_more(b"INVITE"));
     };
     let nick = nick.clone()?;
     let channel = channel.clone()?;
-    Ok(Command::Invite { nick, channel })
+    Ok(ChannelCommand::Invite { nick, channel })
 }
 
-pub(crate) fn read_topic(params: &[Octets]) -> Result<Command, ReadFault>
-    ensures ok { IfOk result (λ command. topic_command params.now ≡ Ok command) }
-    ensures err { IfErr result (λ fault. (fault ≡ ReadFault.Memory) ⊎ (topic_command params.now ≡ Err fault)) }
-    ensures memory { IsErrOf result ReadFault.Memory → IsOk (topic_command params.now) }
+fn read_topic(params: &[Octets]) -> Result<ChannelCommand, ReadFault>
+    ensures { IsRead (topic_command params.now) result }
 {
     let [channel, params @ ..] = params else {
-        return Err(ReadFault::NeedMoreParams {
-            command: CommandName::Topic,
-        });
+        return Err(needs_more(b"TOPIC"));
     };
     let channel = channel.clone()?;
     let text = copied_first(params)?;
-    Ok(Command::Topic { channel, text })
+    Ok(ChannelCommand::Topic { channel, text })
 }
 
-pub(crate) fn read_mode(alloc: Global, params: &[Octets]) -> Result<Command, ReadFault>
-    ensures ok { IfOk result (λ command. mode_command params.now ≡ Ok command) }
-    ensures err { IfErr result (λ fault. (fault ≡ ReadFault.Memory) ⊎ (mode_command params.now ≡ Err fault)) }
-    ensures memory { IsErrOf result ReadFault.Memory → IsOk (mode_command params.now) }
+fn read_mode(alloc: Global, params: &[Octets]) -> Result<ChannelCommand, ReadFault>
+    ensures { IsRead (mode_command params.now) result }
 {
     let [target, params @ ..] = params else {
-        return Err(ReadFault::NeedMoreParams {
-            command: CommandName::Mode,
-        });
+        return Err(needs_more(b"MODE"));
     };
     let target = target.clone()?;
     let changes = copied(alloc, params)?;
-    Ok(Command::Mode { target, changes })
+    Ok(ChannelCommand::Mode { target, changes })
 }
+
+/// What is asked by a name, or the numeric that answers it by what it says alone. `None` where it is no such command's.
+#[tactic(auto, unfolding(crate::specs::Channels::channel_of))]
+pub(crate) fn read_channel(
+    alloc: Global,
+    name: &[u8],
+    params: &[Octets],
+) -> Option<Result<ChannelCommand, ReadFault>>
+    ensures { IsReadByName (channel_of name.now params.now) result }
+{
+    match name {
+        name if is_named(name, b"JOIN") => Some(read_join(alloc, params)),
+        name if is_named(name, b"PART") => Some(read_part(alloc, params)),
+        name if is_named(name, b"KICK") => Some(read_kick(alloc, params)),
+        name if is_named(name, b"INVITE") => Some(read_invite(params)),
+        name if is_named(name, b"TOPIC") => Some(read_topic(params)),
+        name if is_named(name, b"MODE") => Some(read_mode(alloc, params)),
+        _ => None,
+    }
+}
+
+/// That each such command has a name by which it is read.
+pub fn each_channel_is_named()
+    ensures { EachChannelIsNamed }
+{}

@@ -4,19 +4,13 @@
 mod asked;
 mod channels;
 mod command;
-mod join_targets;
-mod lists;
-mod names;
-mod params;
-mod queries;
 mod reading;
 mod registering;
 mod talking;
-mod texts;
 
 pub use asked::{Asked, read_message, read_piece};
-pub use command::{CapSubcommand, Command, ReadFault};
-pub use join_targets::{JoinTarget, JoinTargets};
-pub use names::CommandName;
+pub use channels::{ChannelCommand, each_channel_is_named};
+pub use command::Command;
 pub use reading::read;
-pub use texts::Texts;
+pub use registering::{CapSubcommand, SessionCommand, SessionName, each_session_is_named};
+pub use talking::{TalkCommand, each_talk_is_named};

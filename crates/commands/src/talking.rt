@@ -1,13 +1,40 @@
 //! The commands that send texts (RFC 2812, sections 3.3.1, 3.3.2 and 4.1; IRCv3 message-tags).
-ghost use Rattle.std.specs.Prelude.{◌≡◌, ◌⊎◌, IfOk, IfErr, IsErrOf, IsOk};
-ghost use Rattle.commands.specs.Talking.{privmsg_command, notice_command, tagmsg_command, away_command, relayed, second_or_empty};
+ghost use Rattle.std.specs.Prelude.{◌≡◌, IfOk};
+ghost use Rattle.command_params.specs.Params.{IsRead, IsReadByName};
+ghost use Rattle.commands.specs.Talking.{EachTalkIsNamed, talk_of, privmsg_command, notice_command, tagmsg_command, away_command, relayed, second_or_empty};
 
-use crate::lists::read_names;
-use crate::params::first;
-use crate::{Command, CommandName, ReadFault, Texts};
+use command_params::{CommandName, ReadFault, Texts, first, is_named, read_names};
 use line_grammar::Octets;
 use message_tags::{client_only, tags_of};
 use std::alloc::{AllocError, Global};
+
+/// What is sent, and whether somebody is there to be sent it. Names and texts are as given. A list of names has no empty
+/// one, and none that repeats another in either case.
+#[derive(Drop)]
+pub enum TalkCommand {
+    /// A text, which isn't empty, for users and channels (section 3.3.1).
+    Privmsg {
+        targets: Texts,
+        text: Octets,
+        tags: Octets,
+    },
+    /// The same, never answered with a numeric. For nobody, where the targets or the text were missing or
+    /// empty (section 3.3.2).
+    Notice {
+        targets: Texts,
+        text: Octets,
+        tags: Octets,
+    },
+    /// Tags alone, for users and channels (IRCv3 message-tags).
+    Tagmsg {
+        targets: Texts,
+        tags: Octets,
+    },
+    /// To be away with this text, or here again where it is empty (section 4.1).
+    Away {
+        text: Octets,
+    },
+}
 
 /// The second parameter. Empty where there is none.
 fn second(params: &[Octets]) -> &[u8]
@@ -27,19 +54,13 @@ fn relayed(alloc: Global, tag_data: &[u8]) -> Result<Octets, AllocError>
     client_only(alloc, &tags)
 }
 
-pub(crate) fn read_privmsg(
-    alloc: Global,
-    tag_data: &[u8],
-    params: &[Octets],
-) -> Result<Command, ReadFault>
-    ensures ok { IfOk result (λ command. privmsg_command tag_data.now params.now ≡ Ok command) }
-    ensures err { IfErr result (λ fault. (fault ≡ ReadFault.Memory) ⊎ (privmsg_command tag_data.now params.now ≡ Err fault)) }
-    ensures memory { IsErrOf result ReadFault.Memory → IsOk (privmsg_command tag_data.now params.now) }
+fn read_privmsg(alloc: Global, tag_data: &[u8], params: &[Octets]) -> Result<TalkCommand, ReadFault>
+    ensures { IsRead (privmsg_command tag_data.now params.now) result }
 {
     let list = first(params);
     if list.is_empty() {
         return Err(ReadFault::NoRecipient {
-            command: CommandName::Privmsg,
+            command: CommandName::new(b"PRIVMSG"),
         });
     }
     let text = second(params);
@@ -49,26 +70,20 @@ pub(crate) fn read_privmsg(
     let targets = read_names(alloc, list)?;
     let text = Octets::copied(alloc, text)?;
     let tags = relayed(alloc, tag_data)?;
-    Ok(Command::Privmsg {
+    Ok(TalkCommand::Privmsg {
         targets,
         text,
         tags,
     })
 }
 
-pub(crate) fn read_notice(
-    alloc: Global,
-    tag_data: &[u8],
-    params: &[Octets],
-) -> Result<Command, ReadFault>
-    ensures ok { IfOk result (λ command. notice_command tag_data.now params.now ≡ Ok command) }
-    ensures err { IfErr result (λ fault. (fault ≡ ReadFault.Memory) ⊎ (notice_command tag_data.now params.now ≡ Err fault)) }
-    ensures memory { IsErrOf result ReadFault.Memory → IsOk (notice_command tag_data.now params.now) }
+fn read_notice(alloc: Global, tag_data: &[u8], params: &[Octets]) -> Result<TalkCommand, ReadFault>
+    ensures { IsRead (notice_command tag_data.now params.now) result }
 {
     let list = first(params);
     let text = second(params);
     if list.is_empty() || text.is_empty() {
-        return Ok(Command::Notice {
+        return Ok(TalkCommand::Notice {
             targets: Texts::from_vec(Vec::new(alloc)),
             text: Octets::from_vec(Vec::new(alloc)),
             tags: Octets::from_vec(Vec::new(alloc)),
@@ -77,38 +92,54 @@ pub(crate) fn read_notice(
     let targets = read_names(alloc, list)?;
     let text = Octets::copied(alloc, text)?;
     let tags = relayed(alloc, tag_data)?;
-    Ok(Command::Notice {
+    Ok(TalkCommand::Notice {
         targets,
         text,
         tags,
     })
 }
 
-pub(crate) fn read_tagmsg(
-    alloc: Global,
-    tag_data: &[u8],
-    params: &[Octets],
-) -> Result<Command, ReadFault>
-    ensures ok { IfOk result (λ command. tagmsg_command tag_data.now params.now ≡ Ok command) }
-    ensures err { IfErr result (λ fault. (fault ≡ ReadFault.Memory) ⊎ (tagmsg_command tag_data.now params.now ≡ Err fault)) }
-    ensures memory { IsErrOf result ReadFault.Memory → IsOk (tagmsg_command tag_data.now params.now) }
+fn read_tagmsg(alloc: Global, tag_data: &[u8], params: &[Octets]) -> Result<TalkCommand, ReadFault>
+    ensures { IsRead (tagmsg_command tag_data.now params.now) result }
 {
     let list = first(params);
     if list.is_empty() {
         return Err(ReadFault::NoRecipient {
-            command: CommandName::Tagmsg,
+            command: CommandName::new(b"TAGMSG"),
         });
     }
     let targets = read_names(alloc, list)?;
     let tags = relayed(alloc, tag_data)?;
-    Ok(Command::Tagmsg { targets, tags })
+    Ok(TalkCommand::Tagmsg { targets, tags })
 }
 
-pub(crate) fn read_away(alloc: Global, params: &[Octets]) -> Result<Command, ReadFault>
-    ensures ok { IfOk result (λ command. away_command params.now ≡ Ok command) }
-    ensures err { IfErr result (λ fault. (fault ≡ ReadFault.Memory) ⊎ (away_command params.now ≡ Err fault)) }
-    ensures memory { IsErrOf result ReadFault.Memory → IsOk (away_command params.now) }
+fn read_away(alloc: Global, params: &[Octets]) -> Result<TalkCommand, ReadFault>
+    ensures { IsRead (away_command params.now) result }
 {
     let text = Octets::copied(alloc, first(params))?;
-    Ok(Command::Away { text })
+    Ok(TalkCommand::Away { text })
 }
+
+/// What is asked by a name, or the numeric that answers it by what it says alone. `None` where it is no such command's.
+#[tactic(auto, unfolding(crate::specs::Talking::talk_of))]
+pub(crate) fn read_talk(
+    alloc: Global,
+    name: &[u8],
+    tag_data: &[u8],
+    params: &[Octets],
+) -> Option<Result<TalkCommand, ReadFault>>
+    ensures { IsReadByName (talk_of name.now tag_data.now params.now) result }
+{
+    match name {
+        name if is_named(name, b"PRIVMSG") => Some(read_privmsg(alloc, tag_data, params)),
+        name if is_named(name, b"NOTICE") => Some(read_notice(alloc, tag_data, params)),
+        name if is_named(name, b"TAGMSG") => Some(read_tagmsg(alloc, tag_data, params)),
+        name if is_named(name, b"AWAY") => Some(read_away(alloc, params)),
+        _ => None,
+    }
+}
+
+/// That each such command has a name by which it is read.
+pub fn each_talk_is_named()
+    ensures { EachTalkIsNamed }
+{}

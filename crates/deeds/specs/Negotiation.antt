@@ -11,8 +11,8 @@ use Rattle.registration.specs.declared.enrol.SaslAnswer.{SaslAnswer}
 use Rattle.registration.specs.declared.enrol.SaslAnswer.TheVariants.{AlreadyLoggedIn, Failed, Opened, UnknownMechanism, Aborted, TooLong, Waits, LoggedIn}
 use Rattle.registration.specs.Caps.{all_caps, cap_name, list_of}
 use Rattle.registration.specs.Enrol.{cap_answer, holds, sasl_answer}
-use Rattle.commands.specs.declared.command.CapSubcommand.{CapSubcommand}
-use Rattle.commands.specs.declared.command.CapSubcommand.TheVariants.{Ls, List as ListCaps, Req, End}
+use Rattle.commands.specs.declared.registering.CapSubcommand.{CapSubcommand}
+use Rattle.commands.specs.declared.registering.CapSubcommand.TheVariants.{Ls, List as ListCaps, Req, End}
 use Rattle.roster.specs.declared.deed.Deed.{Deed}
 use Rattle.roster.specs.declared.deed.Deed.TheVariants as deed
 use Rattle.roster.specs.LookBack.{nick, caps, enrol}

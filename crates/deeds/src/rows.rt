@@ -5,25 +5,23 @@ ghost use Rattle.roster.specs.Legal.{IsOpened, AreNext};
 ghost use Rattle.drafts.specs.declared.effect.Effect.TheVariants.{Answer};
 ghost use Rattle.drafts.specs.Drafted.{grown};
 ghost use Rattle.drafts.specs.Lines.{pong_line};
-ghost use Rattle.drafts.specs.Replies.{tells_all};
 ghost use Rattle.talk_commands.specs.declared.verb.Verb.TheVariants.{Tagmsg};
 ghost use Rattle.talk_commands.specs.Talking.{sends};
-ghost use Rattle.deeds.specs.Welcome.{motd_asked};
-ghost use Rattle.deeds.specs.Rows.{asked, converses, fault_numeric, is_for_registered, of_asked, of_command, queries, refused, served, turned_away};
+ghost use Rattle.deeds.specs.Rows.{asked, fault_numeric, is_for_registered, is_silent, is_unanswered, of_asked, of_command, refused, served, serves_channel, serves_session, serves_talk, turned_away};
 ghost use Rattle.deeds.specs.Verdicts.{IsVerdict};
 
 use crate::enrolling::{complete, introduce, pass, quit, take_nick};
 use crate::negotiation::{authenticate, negotiate};
 use crate::verdict::{Verdict, verdict_of};
-use crate::welcome::motd_asked;
 use channel_commands::{invite, join, kick, part, set_topic};
 use chronicle::{Moment, SessionId};
-use commands::{Asked, Command, ReadFault, Texts};
-use drafts::{Draft, pong_line, tell, tell_all};
+use command_params::{ReadFault, Texts};
+use commands::{Asked, ChannelCommand, Command, SessionCommand, TalkCommand};
+use drafts::{Draft, pong_line, tell};
 use line_grammar::Octets;
 use mode_commands::change_modes;
 use numerics::Numeric;
-use query_commands::{ask_who, ask_whois, list, names};
+use query_commands::ask;
 use roster::Roster;
 use std::alloc::{AllocError, Global};
 use talk_commands::{Sending, Verb, go_away, send};
@@ -35,50 +33,6 @@ fn pong(draft: &mut Draft, token: &[u8]) -> Result<(), AllocError>
     let server = draft.before().settings().server.as_slice();
     let line = pong_line(draft.alloc(), server, token)?;
     draft.answer(line)
-}
-
-/// Answers MOTD.
-fn show_motd(
-    draft: &mut Draft,
-    session: SessionId,
-    server: &Option<Octets>,
-) -> Result<(), AllocError>
-    ensures { OnOk result (draft.new ≡ grown draft.old (tells_all draft.old.settings draft.old.facts session (motd_asked draft.old.settings server.now))) }
-{
-    let numerics = motd_asked(draft.alloc(), draft.before().settings(), server)?;
-    tell_all(draft, session, &numerics)
-}
-
-/// Whether a command is for those alone who are registered.
-fn is_for_registered(command: &Command) -> bool
-    ensures { result ≡ is_for_registered command.now }
-{
-    !matches!(
-        command,
-        Command::Cap(_)
-            | Command::Authenticate { .. }
-            | Command::Pass
-            | Command::Nick { .. }
-            | Command::User { .. }
-            | Command::Ping { .. }
-            | Command::Pong
-            | Command::Quit { .. }
-    )
-}
-
-/// Does what a command asks for that only asks.
-fn query(draft: &mut Draft, session: SessionId, command: &Command) -> Result<(), AllocError>
-    requires { draft.old.facts ≡ draft.old.base }
-    ensures { OnOk result (draft.new ≡ grown draft.old (queries draft.old.settings draft.old.facts session command.now)) }
-{
-    match command {
-        Command::Names { channels } => names(draft, session, channels),
-        Command::List { channels } => list(draft, session, channels),
-        Command::Who { name } => ask_who(draft, session, name),
-        Command::Whois { nick } => ask_whois(draft, session, nick),
-        Command::Motd { server } => show_motd(draft, session, server),
-        _ => Ok(()),
-    }
 }
 
 /// Sends a text to targets.
@@ -122,38 +76,77 @@ fn send_tags(
     )
 }
 
-/// Does what a command about channels and texts asks for.
-fn converse(draft: &mut Draft, session: SessionId, command: &Command) -> Result<(), AllocError>
+/// Does what a session's own command asks for.
+fn serve_session(
+    draft: &mut Draft,
+    session: SessionId,
+    command: &SessionCommand,
+) -> Result<(), AllocError>
     requires opened { IsOpened draft.old.facts session }
     requires first { draft.old.facts ≡ draft.old.base }
-    ensures { OnOk result (draft.new ≡ grown draft.old (converses draft.old.settings draft.old.facts session command.now)) }
+    ensures { OnOk result (draft.new ≡ grown draft.old (serves_session draft.old.settings draft.old.facts session command.now)) }
 {
     match command {
-        Command::Join { targets } => join(draft, session, targets.as_slice()),
-        Command::Part { channels, text } => part(draft, session, channels.as_slice(), text),
-        Command::Kick {
+        SessionCommand::Cap(subcommand) => negotiate(draft, session, subcommand),
+        SessionCommand::Authenticate { piece } => authenticate(draft, session, piece.as_slice()),
+        SessionCommand::Pass => pass(draft, session),
+        SessionCommand::Nick { nick } => take_nick(draft, session, nick),
+        SessionCommand::User { user, real } => introduce(draft, session, user, real),
+        SessionCommand::Ping { token } => pong(draft, token.as_slice()),
+        SessionCommand::Pong => Ok(()),
+        SessionCommand::Quit { text } => quit(draft, session, text),
+    }
+}
+
+/// Does what a command about channels asks for.
+fn serve_channel(
+    draft: &mut Draft,
+    session: SessionId,
+    command: &ChannelCommand,
+) -> Result<(), AllocError>
+    requires opened { IsOpened draft.old.facts session }
+    requires first { draft.old.facts ≡ draft.old.base }
+    ensures { OnOk result (draft.new ≡ grown draft.old (serves_channel draft.old.settings draft.old.facts session command.now)) }
+{
+    match command {
+        ChannelCommand::Join { targets } => join(draft, session, targets.as_slice()),
+        ChannelCommand::Part { channels, text } => part(draft, session, channels.as_slice(), text),
+        ChannelCommand::Kick {
             channel,
             nicks,
             text,
         } => kick(draft, session, channel, nicks.as_slice(), text),
-        Command::Invite { nick, channel } => invite(draft, session, nick, channel),
-        Command::Topic { channel, text } => set_topic(draft, session, channel, text),
-        Command::Mode { target, changes } => {
+        ChannelCommand::Invite { nick, channel } => invite(draft, session, nick, channel),
+        ChannelCommand::Topic { channel, text } => set_topic(draft, session, channel, text),
+        ChannelCommand::Mode { target, changes } => {
             change_modes(draft, session, target, changes.as_slice())
         }
-        Command::Privmsg {
+    }
+}
+
+/// Does what a command asks for that sends something.
+fn serve_talk(
+    draft: &mut Draft,
+    session: SessionId,
+    command: &TalkCommand,
+) -> Result<(), AllocError>
+    requires opened { IsOpened draft.old.facts session }
+    requires first { draft.old.facts ≡ draft.old.base }
+    ensures { OnOk result (draft.new ≡ grown draft.old (serves_talk draft.old.settings draft.old.facts session command.now)) }
+{
+    match command {
+        TalkCommand::Privmsg {
             targets,
             text,
             tags,
         } => send_text(draft, session, Verb::Privmsg, targets, text, tags),
-        Command::Notice {
+        TalkCommand::Notice {
             targets,
             text,
             tags,
         } => send_text(draft, session, Verb::Notice, targets, text, tags),
-        Command::Tagmsg { targets, tags } => send_tags(draft, session, targets, tags),
-        Command::Away { text } => go_away(draft, session, text),
-        other => query(draft, session, other),
+        TalkCommand::Tagmsg { targets, tags } => send_tags(draft, session, targets, tags),
+        TalkCommand::Away { text } => go_away(draft, session, text),
     }
 }
 
@@ -164,14 +157,41 @@ fn serve(draft: &mut Draft, session: SessionId, command: &Command) -> Result<(),
     ensures { OnOk result (draft.new ≡ grown draft.old (served draft.old.settings draft.old.facts session command.now)) }
 {
     match command {
-        Command::Cap(subcommand) => negotiate(draft, session, subcommand),
-        Command::Authenticate { piece } => authenticate(draft, session, piece.as_slice()),
-        Command::Pass => pass(draft, session),
-        Command::Nick { nick } => take_nick(draft, session, nick),
-        Command::User { user, real } => introduce(draft, session, user, real),
-        Command::Ping { token } => pong(draft, token.as_slice()),
-        Command::Quit { text } => quit(draft, session, text),
-        other => converse(draft, session, other),
+        Command::Session(command) => serve_session(draft, session, command),
+        Command::Channel(command) => serve_channel(draft, session, command),
+        Command::Talk(command) => serve_talk(draft, session, command),
+        Command::Query(query) => ask(draft, session, query),
+    }
+}
+
+/// Whether a command is for those alone who are registered.
+fn is_for_registered(command: &Command) -> bool
+    ensures { result ≡ is_for_registered command.now }
+{
+    match command {
+        Command::Session(_) => false,
+        Command::Channel(_) | Command::Talk(_) | Command::Query(_) => true,
+    }
+}
+
+/// Whether nothing answers a command in any case.
+fn is_unanswered(command: &TalkCommand) -> bool
+    ensures { result ≡ is_unanswered command.now }
+{
+    match command {
+        TalkCommand::Notice { .. } => true,
+        TalkCommand::Privmsg { .. } | TalkCommand::Tagmsg { .. } | TalkCommand::Away { .. } => {
+            false
+        }
+    }
+}
+
+fn is_silent(command: &Command) -> bool
+    ensures { result ≡ is_silent command.now }
+{
+    match command {
+        Command::Talk(command) => is_unanswered(command),
+        Command::Session(_) | Command::Channel(_) | Command::Query(_) => false,
     }
 }
 
@@ -179,10 +199,10 @@ fn serve(draft: &mut Draft, session: SessionId, command: &Command) -> Result<(),
 fn turn_away(draft: &mut Draft, session: SessionId, command: &Command) -> Result<(), AllocError>
     ensures { OnOk result (draft.new ≡ grown draft.old (turned_away draft.old.settings draft.old.facts session command.now)) }
 {
-    match command {
-        Command::Notice { .. } => Ok(()),
-        _ => tell(draft, session, Numeric::NotRegistered),
+    if is_silent(command) {
+        return Ok(());
     }
+    tell(draft, session, Numeric::NotRegistered)
 }
 
 /// Does what a command asks for by itself, where its session may.

@@ -16,7 +16,7 @@ use Rattle.roster.specs.LookBack.{after, found}
 use Rattle.query_commands.specs.Visible.{channel_for, members_for}
 use Rattle.query_commands.specs.Names.{member_name, names_asked}
 use Rattle.query_commands.specs.Listing.{channels_asked, lists_told}
-use Rattle.query_commands.specs.Asking.{who_asked}
+use Rattle.query_commands.specs.Who.{who_asked}
 use Rattle.query_commands.specs.Whois.{whois_found}
 
 abbrev user : ℕ → List ℕ → List Deed

@@ -1,5 +1,5 @@
 -- A channel at a place, as LIST tells it.
-use Rattle.std.proofs.Common.{◌≡◌, ℕ, Bool, true, false, cond, List, slice_get, Option, Some, None, refl, sym, ap, ◌∙◌}
+use Rattle.std.proofs.Common.{◌≡◌, ℕ, Bool, true, false, cond, List, slice_get, Option, Some, None, sym, ap, ◌∙◌}
 use Rattle.channel_state.specs.State.{State}
 use Rattle.roster.specs.declared.deed.Deed.{Deed}
 use Rattle.roster.specs.LookBack.{channels, has_member, name, name_of, state}

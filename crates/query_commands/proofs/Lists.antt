@@ -1,5 +1,5 @@
 -- What is left of a list as it is taken one by one.
-use Rattle.std.proofs.Common.{◌≡◌, ℕ, zero, suc, ◌+◌, ◌<◌, ◌≤◌, true, false, cond, List, [], ◌∷◌, ◌++◌, filter, map, flat_map, length, get_or, drop, slice_get, arith, Option, Some, None, option_to_list, if◌then◌else◌, refl, sym, ap, ◌∙◌}
+use Rattle.std.proofs.Common.{◌≡◌, ℕ, zero, suc, ◌+◌, ◌<◌, ◌≤◌, List, [], ◌∷◌, ◌++◌, flat_map, length, drop, slice_get, arith, Option, Some, None, refl, sym, ap}
 use Rattle.std.proofs.lemmas.Option.{get_or_from_slice_get}
 use Rattle.drafts.proofs.Turns.{dropped, none_left}
 use Rattle.query_commands.specs.Visible.{of_one}

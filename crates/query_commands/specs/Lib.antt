@@ -1,5 +1,7 @@
 pub mod Visible
 pub mod Names
 pub mod Listing
-pub mod Asking
+pub mod Who
 pub mod Whois
+pub mod Motd
+pub mod Query

@@ -1,15 +1,19 @@
 -- Which channels there are: RFC 2812, section 3.2.6 (LIST).
-use Rattle.std.specs.Prelude.{ℕ, List, [], ◌∷◌, ◌++◌, length, unwrap_or, Option, Some, None}
+use Rattle.std.specs.Prelude.{ℕ, List, [], ◌∷◌, ◌++◌, length, unwrap_or, Option, Some, None, Result, Ok}
 use Rattle.std.specs.List.{flat_map}
 use Rattle.numerics.specs.declared.numeric.Numeric.{Numeric}
 use Rattle.numerics.specs.declared.numeric.Numeric.TheVariants.{ListReply, ListEnd}
-use Rattle.registration.specs.declared.settings.Settings.{Settings}
 use Rattle.roster.specs.declared.deed.Deed.{Deed}
 use Rattle.roster.specs.LookBack.{channels}
-use Rattle.drafts.specs.declared.effect.Effect.{Effect}
-use Rattle.drafts.specs.Replies.{tells_all}
 use Rattle.drafts.specs.Seen.{Seen}
+use Rattle.command_params.specs.declared.fault.ReadFault.{ReadFault}
+use Rattle.command_params.specs.Lists.{list_given}
+use Rattle.query_commands.specs.declared.query.Query.{Query}
+use Rattle.query_commands.specs.declared.query.Query.TheVariants as query
 use Rattle.query_commands.specs.Visible.{channel_for}
+
+abbrev pub list_query : List (List ℕ) → Result Query ReadFault
+list_query ps = Ok (query.List (list_given ps))
 
 -- a channel, how many are on it, and its topic
 abbrev pub listed_seen : Option Seen → List Numeric
@@ -26,6 +30,3 @@ channels_asked fs (Some cs) = cs
 
 abbrev pub lists_told : List Deed → ℕ → List (List ℕ) → List Numeric
 lists_told fs s cs = flat_map (listed fs s) cs ++ ListEnd ∷ []
-
-abbrev pub lists : Settings → List Deed → ℕ → Option (List (List ℕ)) → List Effect
-lists g fs s cs = tells_all g fs s (lists_told fs s (channels_asked fs cs))

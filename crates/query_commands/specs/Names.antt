@@ -1,5 +1,5 @@
 -- Who is on a channel, as it is told: RFC 2812, section 3.2.5 (NAMES, with which JOIN ends).
-use Rattle.std.specs.Prelude.{ℕ, List, [], ◌∷◌, ◌++◌, map, codes, length, Option, Some, None, if◌then◌else◌}
+use Rattle.std.specs.Prelude.{ℕ, List, [], ◌∷◌, ◌++◌, map, codes, length, Option, Some, None, Result, Ok, if◌then◌else◌}
 use Rattle.std.specs.List.{flat_map}
 use Rattle.channel_state.specs.State.{State, among}
 use Rattle.numerics.specs.declared.numeric.Numeric.{Numeric}
@@ -12,11 +12,16 @@ use Rattle.numerics.specs.Outgoing.{room}
 use Rattle.registration.specs.declared.settings.Settings.{Settings}
 use Rattle.roster.specs.declared.deed.Deed.{Deed}
 use Rattle.roster.specs.LookBack.{nick}
-use Rattle.drafts.specs.declared.effect.Effect.{Effect}
-use Rattle.drafts.specs.Replies.{tells_all}
 use Rattle.drafts.specs.Seen.{Seen}
 use Rattle.drafts.specs.Lines.{title}
+use Rattle.command_params.specs.declared.fault.ReadFault.{ReadFault}
+use Rattle.command_params.specs.Lists.{list_given}
+use Rattle.query_commands.specs.declared.query.Query.{Query}
+use Rattle.query_commands.specs.declared.query.Query.TheVariants as query
 use Rattle.query_commands.specs.Visible.{channel_for, members_for}
+
+abbrev pub names_query : List (List ℕ) → Result Query ReadFault
+names_query ps = Ok (query.Names (list_given ps))
 
 -- the higher of a member's ranks
 abbrev pub rank_of : State → ℕ → Option Prefix
@@ -54,6 +59,3 @@ names_of g fs s c = names_seen g fs s c (channel_for fs s c)
 abbrev pub names_asked : Settings → List Deed → ℕ → Option (List (List ℕ)) → List Numeric
 names_asked g fs s None = EndOfNames (codes "*") ∷ []
 names_asked g fs s (Some cs) = flat_map (names_of g fs s) cs
-
-abbrev pub names : Settings → List Deed → ℕ → Option (List (List ℕ)) → List Effect
-names g fs s cs = tells_all g fs s (names_asked g fs s cs)

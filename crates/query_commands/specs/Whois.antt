@@ -1,5 +1,5 @@
 -- Who has a nickname: RFC 2812, section 3.6.2 (WHOIS).
-use Rattle.std.specs.Prelude.{ℕ, List, [], ◌∷◌, ◌++◌, map, length, unwrap_or, Option, Some, None}
+use Rattle.std.specs.Prelude.{ℕ, cond, List, [], ◌∷◌, ◌++◌, map, length, unwrap_or, Option, Some, None, Result, Ok, Err}
 use Rattle.std.specs.List.{flat_map}
 use Rattle.numerics.specs.declared.numeric.Numeric.{Numeric}
 use Rattle.numerics.specs.declared.numeric.Numeric.TheVariants.{NoSuchNick, WhoisUser, WhoisChannels, WhoisServer, EndOfWhois, Away}
@@ -9,12 +9,24 @@ use Rattle.numerics.specs.Outgoing.{room}
 use Rattle.registration.specs.declared.settings.Settings.{Settings}
 use Rattle.roster.specs.declared.deed.Deed.{Deed}
 use Rattle.roster.specs.LookBack.{host, nick, user, real, away, found, channels_on}
-use Rattle.drafts.specs.declared.effect.Effect.{Effect}
-use Rattle.drafts.specs.Replies.{tells_all}
 use Rattle.drafts.specs.Seen.{Seen}
 use Rattle.drafts.specs.Lines.{title}
+use Rattle.command_params.specs.declared.fault.ReadFault.{ReadFault}
+use Rattle.command_params.specs.declared.fault.ReadFault.TheVariants.{NoNicknameGiven}
+use Rattle.command_params.specs.Lists.{is_empty}
+use Rattle.command_params.specs.Params.{first_or_empty}
+use Rattle.query_commands.specs.declared.query.Query.{Query}
+use Rattle.query_commands.specs.declared.query.Query.TheVariants as query
 use Rattle.query_commands.specs.Visible.{channel_for}
 use Rattle.query_commands.specs.Names.{rank_of}
+
+-- of two parameters the second counts
+abbrev pub nick_asked : List (List ℕ) → List ℕ
+nick_asked (server ∷ nick ∷ ps) = nick
+nick_asked ps = first_or_empty ps
+
+abbrev pub whois_query : List (List ℕ) → Result Query ReadFault
+whois_query ps = cond (is_empty (nick_asked ps)) (Err NoNicknameGiven) (Ok (query.Whois (nick_asked ps)))
 
 -- a channel's name as it was first spelled, with the mark of the user's rank there
 abbrev pub title_seen : ℕ → Option Seen → List (List ℕ)
@@ -50,5 +62,5 @@ abbrev pub whois_found : Settings → List Deed → ℕ → List ℕ → Option 
 whois_found g fs s n None = NoSuchNick n ∷ EndOfWhois n ∷ []
 whois_found g fs s n (Some t) = user_told g fs s t (title (nick fs t))
 
-abbrev pub asks_whois : Settings → List Deed → ℕ → List ℕ → List Effect
-asks_whois g fs s n = tells_all g fs s (whois_found g fs s n (found fs n))
+abbrev pub whois_asked : Settings → List Deed → ℕ → List ℕ → List Numeric
+whois_asked g fs s n = whois_found g fs s n (found fs n)

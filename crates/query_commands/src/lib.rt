@@ -1,13 +1,15 @@
-//! The commands that only ask: NAMES, LIST, WHO and WHOIS (RFC 2812, sections 3.2.5, 3.2.6, 3.6.1 and 3.6.2).
+//! The commands that only ask: NAMES, LIST, WHO, WHOIS and MOTD (RFC 2812, sections 3.2.5, 3.2.6, 3.4.1, 3.6.1
+//! and 3.6.2).
 #![tactic(auto)]
 
-mod asking;
 mod listing;
-mod naming;
+mod motd;
+mod names;
+mod query;
 mod visible;
+mod who;
 mod whois;
 
-pub use asking::ask_who;
-pub use listing::list;
-pub use naming::{names, push_members};
-pub use whois::ask_whois;
+pub use motd::push_motd;
+pub use names::push_members;
+pub use query::{Query, ask, each_query_is_named, read_query};

@@ -2,19 +2,28 @@
 ghost use Rattle.std.specs.Prelude.{◌≡◌, ◌++◌, [], slice_get, unwrap_or, option_copied, Some, IfOk, OnOk};
 ghost use Rattle.std.specs.List.{flat_map};
 ghost use Rattle.roster.specs.LookBack.{channels as all_channels};
-ghost use Rattle.drafts.specs.Drafted.{grown};
+ghost use Rattle.command_params.specs.Params.{IsRead};
 ghost use Rattle.query_commands.specs.Visible.{of_one, seen_by};
-ghost use Rattle.query_commands.specs.Listing.{channels_asked, listed, listed_seen, lists, lists_told};
+ghost use Rattle.query_commands.specs.Listing.{channels_asked, list_query, listed, listed_seen, lists_told};
 
+use crate::Query;
 use crate::visible::sees;
 use channel_state::ChannelState;
 use chronicle::SessionId;
-use commands::Texts;
-use drafts::{Draft, tell_all};
+use command_params::{ReadFault, Texts, read_list_given};
+use drafts::Draft;
 use line_grammar::Octets;
 use numerics::Numeric;
 use roster::Roster;
 use std::alloc::{AllocError, Global};
+
+/// What LIST asks for.
+pub(crate) fn read(alloc: Global, params: &[Octets]) -> Result<Query, ReadFault>
+    ensures { IsRead (list_query params.now) result }
+{
+    let channels = read_list_given(alloc, params)?;
+    Ok(Query::List { channels })
+}
 
 /// A topic, empty where there is none.
 fn topic_of(alloc: Global, topic: Option<&Octets>) -> Result<Octets, AllocError>
@@ -116,15 +125,15 @@ fn push_all(
     Ok(())
 }
 
-/// What a session is told that asks which channels there are.
-fn lists_told(
-    alloc: Global,
-    roster: &Roster,
+/// LIST: the channels of a list, or all, as far as the session is let see.
+pub(crate) fn answer(
+    draft: &Draft<'_>,
     session: SessionId,
     channels: &Option<Texts>,
 ) -> Result<Vec<Numeric>, AllocError>
-    ensures { IfOk result (λ v. v.items ≡ lists_told roster.now.facts session (channels_asked roster.now.facts channels.now)) }
+    ensures { IfOk result (λ v. v.items ≡ lists_told draft.now.base session (channels_asked draft.now.base channels.now)) }
 {
+    let (alloc, roster) = (draft.alloc(), draft.before());
     let mut numerics = Vec::new(alloc);
     match channels {
         Some(channels) => push_given(alloc, roster, &mut numerics, session, channels.as_slice())?,
@@ -132,17 +141,4 @@ fn lists_told(
     }
     numerics.push(Numeric::ListEnd)?;
     Ok(numerics)
-}
-
-/// LIST: the channels of a list, or all, as far as the session is let see (RFC 2812, section 3.2.6).
-pub fn list(
-    draft: &mut Draft,
-    session: SessionId,
-    channels: &Option<Texts>,
-) -> Result<(), AllocError>
-    requires { draft.old.facts ≡ draft.old.base }
-    ensures { OnOk result (draft.new ≡ grown draft.old (lists draft.old.settings draft.old.facts session channels.now)) }
-{
-    let numerics = lists_told(draft.alloc(), draft.before(), session, channels)?;
-    tell_all(draft, session, &numerics)
 }

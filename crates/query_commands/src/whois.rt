@@ -2,21 +2,45 @@
 ghost use Rattle.std.specs.Prelude.{◌≡◌, ◌∷◌, ◌++◌, [], map, option_copied, IfOk, OnOk};
 ghost use Rattle.std.specs.List.{flat_map};
 ghost use Rattle.numerics.specs.declared.numeric.Numeric.TheVariants.{EndOfWhois, NoSuchNick, WhoisChannels, WhoisServer};
-ghost use Rattle.roster.specs.LookBack.{found, nick};
-ghost use Rattle.drafts.specs.Drafted.{grown};
+ghost use Rattle.roster.specs.LookBack.{nick};
 ghost use Rattle.drafts.specs.Lines.{title};
+ghost use Rattle.command_params.specs.Params.{IsRead};
 ghost use Rattle.query_commands.specs.Visible.{channel_for};
-ghost use Rattle.query_commands.specs.Whois.{asks_whois, away_told, channel_titles, channels_room, channels_told, title_seen, user_line, user_told, whois_found};
+ghost use Rattle.query_commands.specs.Whois.{away_told, channel_titles, channels_room, channels_told, nick_asked, title_seen, user_line, user_told, whois_asked, whois_query};
 
-use crate::asking::real_of;
-use crate::naming::{rank_of, room_of};
+use crate::Query;
+use crate::names::{rank_of, room_of};
 use crate::visible::channel_for;
+use crate::who::real_of;
 use chronicle::SessionId;
-use drafts::{Draft, tell_all, title_of};
+use command_params::{ReadFault, first};
+use drafts::{Draft, title_of};
 use line_grammar::Octets;
 use numerics::{Numeric, Words, prefixed, split_names};
 use roster::Roster;
 use std::alloc::{AllocError, Global};
+
+/// The nickname that is asked for: of two parameters the second.
+fn nick_asked(params: &[Octets]) -> &[u8]
+    ensures { result.now ≡ nick_asked params.now }
+{
+    match params {
+        [_, nick, ..] => nick.as_slice(),
+        _ => first(params),
+    }
+}
+
+/// What WHOIS asks for.
+pub(crate) fn read(alloc: Global, params: &[Octets]) -> Result<Query, ReadFault>
+    ensures { IsRead (whois_query params.now) result }
+{
+    let nick = nick_asked(params);
+    if nick.is_empty() {
+        return Err(ReadFault::NoNicknameGiven);
+    }
+    let nick = Octets::copied(alloc, nick)?;
+    Ok(Query::Whois { nick })
+}
 
 /// Adds a channel's name, as it was first spelled, with the mark of a user's rank there, where the session sees the channel.
 fn push_title(
@@ -199,25 +223,16 @@ fn nobody_told(alloc: Global, nick: &Octets) -> Result<Vec<Numeric>, AllocError>
     Ok(numerics)
 }
 
-/// What a session is told that asks who has a nickname.
-fn whois_told(
+/// WHOIS: who has a nickname, with the channels that the session is let see.
+pub(crate) fn answer(
     draft: &Draft<'_>,
     session: SessionId,
     nick: &Octets,
 ) -> Result<Vec<Numeric>, AllocError>
-    ensures { IfOk result (λ v. v.items ≡ whois_found draft.now.settings draft.now.base session nick.now (found draft.now.base nick.now)) }
+    ensures { IfOk result (λ v. v.items ≡ whois_asked draft.now.settings draft.now.base session nick.now) }
 {
     match draft.before().find(nick.as_slice()) {
         Some(user) => user_told(draft, session, user),
         None => nobody_told(draft.alloc(), nick),
     }
-}
-
-/// WHOIS: who has a nickname, with the channels that the session is let see (RFC 2812, section 3.6.2).
-pub fn ask_whois(draft: &mut Draft, session: SessionId, nick: &Octets) -> Result<(), AllocError>
-    requires { draft.old.facts ≡ draft.old.base }
-    ensures { OnOk result (draft.new ≡ grown draft.old (asks_whois draft.old.settings draft.old.facts session nick.now)) }
-{
-    let numerics = whois_told(draft, session, nick)?;
-    tell_all(draft, session, &numerics)
 }

@@ -5,7 +5,7 @@ use Rattle.std.specs.List.{list_any}
 use Rattle.casemapping.specs.Names.{channel_shape}
 use Rattle.channel_state.specs.declared.change.Change.TheVariants.{Joined, Left, Invited, TopicSet}
 use Rattle.channel_state.specs.State.{State, among, changed, made_by}
-use Rattle.commands.specs.declared.join_targets.JoinTarget.{JoinTarget}
+use Rattle.command_params.specs.declared.join_targets.JoinTarget.{JoinTarget}
 use Rattle.numerics.specs.declared.numeric.Numeric.TheVariants.{Away, ChanOPrivsNeeded, Inviting, NoSuchChannel, NoSuchNick, NotOnChannel, NoTopic, TooManyChannels, TooManyTargets, Topic, UModeIs, UModeUnknownFlag, UserNotInChannel, UserOnChannel, UsersDontMatch}
 use Rattle.numerics.specs.declared.outgoing.Out.{Out}
 use Rattle.registration.specs.declared.settings.Settings.{Settings}

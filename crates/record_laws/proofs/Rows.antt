@@ -17,7 +17,14 @@ use Rattle.commands.specs.Asked.{asked_of}
 use Rattle.commands.specs.declared.asked.Asked.{Asked}
 use Rattle.commands.specs.declared.asked.Asked.TheVariants.{Nothing, TooLong, Command as Asks, Fault as Fails}
 use Rattle.commands.specs.declared.command.Command.{Command}
-use Rattle.commands.specs.declared.command.Command.TheVariants.{Cap, Authenticate, Pass, Nick, User, Ping, Pong, Quit, Join, Part, Kick, Invite, Topic, Mode, Privmsg, Notice, Tagmsg, Away, Names, List as ListChannels, Who, Whois, Motd}
+use Rattle.commands.specs.declared.command.Command.TheVariants.{Session, Channel, Talk, Query}
+use Rattle.commands.specs.declared.registering.SessionCommand.{SessionCommand}
+use Rattle.commands.specs.declared.registering.SessionCommand.TheVariants as session
+use Rattle.commands.specs.declared.channels.ChannelCommand.{ChannelCommand}
+use Rattle.commands.specs.declared.channels.ChannelCommand.TheVariants as channel
+use Rattle.commands.specs.declared.talking.TalkCommand.{TalkCommand}
+use Rattle.commands.specs.declared.talking.TalkCommand.TheVariants as talk
+use Rattle.query_commands.specs.Query.{told as query_told}
 use Rattle.drafts.specs.declared.effect.Effect.{Effect}
 use Rattle.drafts.specs.declared.effect.Effect.TheVariants.{Establish, Answer, Show, Copy}
 use Rattle.drafts.specs.Effects.{deeds_of, heard, replied, reply}
@@ -26,7 +33,7 @@ use Rattle.drafts.specs.Replies.{tells}
 use Rattle.deeds.specs.Deeds.{effects}
 use Rattle.deeds.specs.Departure.{departs}
 use Rattle.deeds.specs.Registration.{completed}
-use Rattle.deeds.specs.Rows.{asked, fault_numeric, is_for_registered, of_asked, of_command, refused, served, turned_away}
+use Rattle.deeds.specs.Rows.{asked, fault_numeric, is_for_registered, is_silent, of_asked, of_command, refused, served, serves_channel, serves_session, serves_talk, turned_away}
 use Rattle.talk_commands.specs.declared.verb.Verb.TheVariants as verb
 use Rattle.record_laws.specs.Laws.{AllShowOnce, HearersStandOnce, IsEachOnce, NoLineOpensABatch, RecordsOpenNoOthers, ShowsOnce}
 use Rattle.record_laws.proofs.Times.{once-sharers}
@@ -35,34 +42,39 @@ use Rattle.record_laws.proofs.Sessions.{authenticating, completing, introducing,
 use Rattle.record_laws.proofs.Channels.{inviting, joining, kicking, moding, parting, topic}
 use Rattle.record_laws.proofs.Talks.{gone_away, sent}
 
+of_session : (g : Settings) (fs : List Deed) (s : ℕ) (k : SessionCommand) → IsEachOnce (opened fs) → Fit (serves_session g fs s k)
+of_session g fs s (session.Cap subcommand) once = negotiating g fs s subcommand
+of_session g fs s (session.Authenticate piece) once = authenticating g fs s piece
+of_session g fs s session.Pass once = passing g fs s
+of_session g fs s (session.Nick n) once = taking_nick g fs s n once
+of_session g fs s (session.User u r) once = introducing g fs s u r
+of_session g fs s (session.Ping token) once = only (Answer (pong_line g.server token)) refl
+of_session g fs s session.Pong once = none
+of_session g fs s (session.Quit text) once = quitting s text
+
+of_channel : (g : Settings) (fs : List Deed) (s : ℕ) (k : ChannelCommand) → Fit (serves_channel g fs s k)
+of_channel g fs s (channel.Join targets) = joining g fs s targets
+of_channel g fs s (channel.Part channels text) = parting g fs s channels text
+of_channel g fs s (channel.Kick channel nicks text) = kicking g fs s channel nicks text
+of_channel g fs s (channel.Invite nick channel) = inviting g fs s nick channel
+of_channel g fs s (channel.Topic channel text) = topic g fs s channel text
+of_channel g fs s (channel.Mode target changes) = moding g fs s target changes
+
+of_talk : (g : Settings) (fs : List Deed) (s : ℕ) (k : TalkCommand) → Fit (serves_talk g fs s k)
+of_talk g fs s (talk.Privmsg targets text tags) = sent g fs s (record { verb = verb.Privmsg; text = Some text; tags = tags }) targets
+of_talk g fs s (talk.Notice targets text tags) = sent g fs s (record { verb = verb.Notice; text = Some text; tags = tags }) targets
+of_talk g fs s (talk.Tagmsg targets tags) = sent g fs s (record { verb = verb.Tagmsg; text = None; tags = tags }) targets
+of_talk g fs s (talk.Away text) = gone_away g fs s text
+
+-- a query does nothing but tell, whatever it tells
 serving : (g : Settings) (fs : List Deed) (s : ℕ) (k : Command) → IsEachOnce (opened fs) → Fit (served g fs s k)
-serving g fs s (Cap subcommand) once = negotiating g fs s subcommand
-serving g fs s (Authenticate piece) once = authenticating g fs s piece
-serving g fs s Pass once = passing g fs s
-serving g fs s (Nick n) once = taking_nick g fs s n once
-serving g fs s (User u r) once = introducing g fs s u r
-serving g fs s (Ping token) once = only (Answer (pong_line g.server token)) refl
-serving g fs s (Quit text) once = quitting s text
-serving g fs s Pong once = none
-serving g fs s (Join targets) once = joining g fs s targets
-serving g fs s (Part channels text) once = parting g fs s channels text
-serving g fs s (Kick channel nicks text) once = kicking g fs s channel nicks text
-serving g fs s (Invite nick channel) once = inviting g fs s nick channel
-serving g fs s (Topic channel text) once = topic g fs s channel text
-serving g fs s (Mode target changes) once = moding g fs s target changes
-serving g fs s (Privmsg targets text tags) once = sent g fs s (record { verb = verb.Privmsg; text = Some text; tags = tags }) targets
-serving g fs s (Notice targets text tags) once = sent g fs s (record { verb = verb.Notice; text = Some text; tags = tags }) targets
-serving g fs s (Tagmsg targets tags) once = sent g fs s (record { verb = verb.Tagmsg; text = None; tags = tags }) targets
-serving g fs s (Away text) once = gone_away g fs s text
-serving g fs s (Names channels) once = told_all g fs s _
-serving g fs s (ListChannels channels) once = told_all g fs s _
-serving g fs s (Who name) once = told_all g fs s _
-serving g fs s (Whois nick) once = told_all g fs s _
-serving g fs s (Motd server) once = told_all g fs s _
+serving g fs s (Session k) once = of_session g fs s k once
+serving g fs s (Channel k) once = of_channel g fs s k
+serving g fs s (Talk k) once = of_talk g fs s k
+serving g fs s (Query k) once = told_all g fs s (query_told g fs s k)
 
 turning_away : (g : Settings) (fs : List Deed) (s : ℕ) (k : Command) → Fit (turned_away g fs s k)
-turning_away g fs s (Notice targets text tags) = none
-turning_away g fs s _ = told_only g fs s numeric.NotRegistered
+turning_away g fs s k = either (is_silent k) [] (tells g fs s numeric.NotRegistered ∷ []) none (told_only g fs s numeric.NotRegistered)
 
 asking : (g : Settings) (fs : List Deed) (s : ℕ) (k : Command) → IsEachOnce (opened fs) → Fit (asked g fs s k)
 asking g fs s k once = either (is_for_registered k && not (registered fs s)) (turned_away g fs s k) (served g fs s k) (turning_away g fs s k) (serving g fs s k once)

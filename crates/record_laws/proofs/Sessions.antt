@@ -15,8 +15,8 @@ use Rattle.registration.specs.declared.enrol.UserAnswer.{UserAnswer}
 use Rattle.registration.specs.declared.enrol.UserAnswer.TheVariants.{AlreadyTold, Accepted}
 use Rattle.registration.specs.Caps.{all_caps, list_of}
 use Rattle.registration.specs.Enrol.{cap_answer, holds, is_ready, nick_answer, sasl_answer, user_answer}
-use Rattle.commands.specs.declared.command.CapSubcommand.{CapSubcommand}
-use Rattle.commands.specs.declared.command.CapSubcommand.TheVariants.{Ls, List as ListCaps, Req, End}
+use Rattle.commands.specs.declared.registering.CapSubcommand.{CapSubcommand}
+use Rattle.commands.specs.declared.registering.CapSubcommand.TheVariants.{Ls, List as ListCaps, Req, End}
 use Rattle.roster.specs.declared.deed.Deed.{Deed}
 use Rattle.roster.specs.declared.deed.Deed.TheVariants as deed
 use Rattle.roster.specs.LookBack.{after, caps, enrol, exchange, opened, registered, sharers}

@@ -1,0 +1,10 @@
+use Rattle.std.proofs.Common.{◌≡◌, []}
+use Rattle.std.specs.List.{fold}
+use Rattle.command_params.specs.ListSteps.{parts, parts_left, with_word, octets_left}
+use Rattle.command_params.proofs.lists.read_words.Given as goal
+
+abbrev pub invariant-loop-rest : goal.invariant-loop-rest
+invariant-loop-rest l = fold with_word l.words.items (parts_left 32 l.rest) ≡ fold with_word [] (parts 32 l.fn.list)
+
+abbrev pub decreases-loop-rest : goal.decreases-loop-rest
+decreases-loop-rest l = octets_left l.rest

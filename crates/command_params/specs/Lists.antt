@@ -1,0 +1,52 @@
+-- Lists in one parameter: RFC 2812, section 2.3.1 (names are parted by commas), and IRCv3 Capability Negotiation (words are parted by spaces).
+-- Empty names, and what repeats a name in either case, are left out (this project's own choice).
+use Rattle.std.specs.Prelude.{ℕ, Bool, not, ◌==◌, List, [], ◌∷◌, filter, length, Option, Some, None}
+use Rattle.std.specs.List.{slice_split}
+use Rattle.std.specs.Str.{bytes_eq}
+use Rattle.casemapping.specs.Fold.{folded}
+use Rattle.command_params.specs.declared.join_targets.JoinTarget.{JoinTarget}
+
+abbrev pub is_comma : ℕ → Bool
+is_comma b = b == 44
+
+abbrev pub is_space : ℕ → Bool
+is_space b = b == 32
+
+abbrev pub is_empty : List ℕ → Bool
+is_empty text = length text == 0
+
+abbrev pub is_present : List ℕ → Bool
+is_present text = not (is_empty text)
+
+-- the same name in either case
+unfoldable pub is_same : List ℕ → List ℕ → Bool
+is_same a b = bytes_eq (folded a) (folded b)
+
+-- each name once, where it comes first
+abbrev pub distinct : {X : Type 0} → (X → List ℕ) → List X → List X
+distinct name [] = []
+distinct name (x ∷ xs) = x ∷ filter (λ y. not (is_same (name x) (name y))) (distinct name xs)
+
+-- the names between commas
+abbrev pub names_of : List ℕ → List (List ℕ)
+names_of list = distinct (λ name. name) (filter is_present (slice_split is_comma list))
+
+-- the names of the first parameter, where there is one
+abbrev pub list_given : List (List ℕ) → Option (List (List ℕ))
+list_given [] = None
+list_given (list ∷ ps) = Some (names_of list)
+
+-- each channel with the key at its place; where the keys end, with none
+abbrev pub paired : List (List ℕ) → List (List ℕ) → List JoinTarget
+paired [] keys = []
+paired (channel ∷ channels) [] = record { channel = channel; key = [] } ∷ paired channels []
+paired (channel ∷ channels) (key ∷ keys) = record { channel = channel; key = key } ∷ paired channels keys
+
+-- the channels to join, with their keys: the places in both lists are counted before any name is left out
+abbrev pub targets_of : List ℕ → List ℕ → List JoinTarget
+targets_of channels keys =
+    distinct (λ target. target.channel) (filter (λ target. is_present target.channel) (paired (slice_split is_comma channels) (slice_split is_comma keys)))
+
+-- the words between spaces
+abbrev pub words_of : List ℕ → List (List ℕ)
+words_of list = filter is_present (slice_split is_space list)

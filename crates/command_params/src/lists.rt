@@ -1,0 +1,148 @@
+//! Lists in one parameter (RFC 2812, section 2.3.1; IRCv3 Capability Negotiation).
+ghost use Rattle.std.specs.Prelude.{◌≡◌, ◌↔◌, ◌==◌, ◌&&◌, ◌++◌, ◌∷◌, ◌+◌, ◌<◌, [], length, not, cond, position, IfOk, OnOk, IsTrue};
+ghost use Rattle.std.specs.List.{slice_split, list_any};
+ghost use Rattle.command_params.specs.Lists.{is_comma, is_empty, is_same, list_given, names_of, targets_of, words_of};
+ghost use Rattle.command_params.specs.ListSteps.{octets_left, parts, parts_left, first_of, others_of, with_name, with_target, with_word};
+
+use crate::{JoinTarget, JoinTargets, Texts};
+use casemapping::same;
+use line_grammar::Octets;
+use std::alloc::{AllocError, Global};
+
+fn first_place(list: &[u8], separator: u8) -> Option<usize>
+    ensures { result ≡ position (λ b. b == separator) list.now }
+{
+    list.iter().position(|octet| *octet == separator)
+}
+
+/// What stands before the first separator, and what after it.
+#[tactic(auto, using(crate::proofs::Cuts::cuts))]
+fn split_first(list: &[u8], separator: u8) -> (&[u8], Option<&[u8]>)
+    ensures shorter { octets_left result.1 < length list.now + 1 }
+    ensures parts { parts separator list.now ≡ result.0.now ∷ parts_left separator result.1 }
+{
+    match first_place(list, separator) {
+        Some(place) => (&list[..place], Some(&list[place + 1..])),
+        None => (list, None),
+    }
+}
+
+/// The first of the keys that are left, which is empty where there is none, and those after it.
+fn take_key(keys: Option<&[u8]>) -> (&[u8], Option<&[u8]>)
+    ensures key { result.0.now ≡ first_of (parts_left 44 keys.entry) }
+    ensures others { parts_left 44 result.1 ≡ others_of (parts_left 44 keys.entry) }
+{
+    match keys {
+        Some(keys) => split_first(keys, b','),
+        None => (&[], None),
+    }
+}
+
+fn is_same(a: &[u8], b: &[u8]) -> bool
+    ensures { result ≡ is_same a.now b.now }
+{
+    same(a, b)
+}
+
+fn is_among(names: &[Octets], name: &[u8]) -> bool
+    ensures { result ≡ list_any (λ other. is_same other name.now) names.now }
+{
+    names.iter().any(|other| is_same(other.as_slice(), name))
+}
+
+fn is_target(targets: &[JoinTarget], channel: &[u8]) -> bool
+    ensures { result ≡ list_any (λ target. is_same target.channel channel.now) targets.now }
+{
+    targets
+        .iter()
+        .any(|target| is_same(target.channel.as_slice(), channel))
+}
+
+fn add_name(names: &mut Vec<Octets>, alloc: Global, name: &[u8]) -> Result<(), AllocError>
+    ensures { OnOk result (names.new.items ≡ with_name names.old.items name.now) }
+{
+    if !name.is_empty() && !is_among(names, name) {
+        names.push(Octets::copied(alloc, name)?)?;
+    }
+    Ok(())
+}
+
+fn add_word(words: &mut Vec<Octets>, alloc: Global, word: &[u8]) -> Result<(), AllocError>
+    ensures { OnOk result (words.new.items ≡ with_word words.old.items word.now) }
+{
+    if !word.is_empty() {
+        words.push(Octets::copied(alloc, word)?)?;
+    }
+    Ok(())
+}
+
+fn add_target(
+    targets: &mut Vec<JoinTarget>,
+    alloc: Global,
+    channel: &[u8],
+    key: &[u8],
+) -> Result<(), AllocError>
+    ensures { OnOk result (targets.new.items ≡ with_target targets.old.items (record { channel = channel.now; key = key.now })) }
+{
+    if !channel.is_empty() && !is_target(targets, channel) {
+        let channel = Octets::copied(alloc, channel)?;
+        let key = Octets::copied(alloc, key)?;
+        targets.push(JoinTarget { channel, key })?;
+    }
+    Ok(())
+}
+
+/// The names between commas. Empty ones are left out, and so is what repeats a name in either case.
+pub fn read_names(alloc: Global, list: &[u8]) -> Result<Texts, AllocError>
+    ensures { IfOk result (λ names. names ≡ names_of list.now) }
+{
+    let mut names = Vec::new(alloc);
+    let mut rest = Some(list);
+    while let Some(left) = rest {
+        let (name, more) = split_first(left, b',');
+        add_name(&mut names, alloc, name)?;
+        rest = more;
+    }
+    Ok(Texts::from_vec(names))
+}
+
+/// The names of the first parameter, where there is one.
+pub fn read_list_given(alloc: Global, params: &[Octets]) -> Result<Option<Texts>, AllocError>
+    ensures { IfOk result (λ names. names ≡ list_given params.now) }
+{
+    match params.first() {
+        Some(list) => Ok(Some(read_names(alloc, list.as_slice())?)),
+        None => Ok(None),
+    }
+}
+
+/// The words between spaces.
+pub fn read_words(alloc: Global, list: &[u8]) -> Result<Texts, AllocError>
+    ensures { IfOk result (λ words. words ≡ words_of list.now) }
+{
+    let mut words = Vec::new(alloc);
+    let mut rest = Some(list);
+    while let Some(left) = rest {
+        let (word, more) = split_first(left, b' ');
+        add_word(&mut words, alloc, word)?;
+        rest = more;
+    }
+    Ok(Texts::from_vec(words))
+}
+
+/// The channels between commas, each with the key at its place.
+pub fn read_targets(alloc: Global, channels: &[u8], keys: &[u8]) -> Result<JoinTargets, AllocError>
+    ensures { IfOk result (λ targets. targets ≡ targets_of channels.now keys.now) }
+{
+    let mut targets = Vec::new(alloc);
+    let mut rest = Some(channels);
+    let mut keys_left = Some(keys);
+    while let Some(left) = rest {
+        let (channel, more) = split_first(left, b',');
+        let (key, others) = take_key(keys_left);
+        add_target(&mut targets, alloc, channel, key)?;
+        rest = more;
+        keys_left = others;
+    }
+    Ok(JoinTargets::from_vec(targets))
+}

@@ -1,6 +1,0 @@
-use Rattle.std.proofs.Common.{◌∙◌}
-use Rattle.commands.proofs.Distinct.{words_end}
-use Rattle.commands.proofs.lists.read_words.Goals as goal
-
-pub returns : goal.returns
-returns c = c.from_vec.ensures ∙ words_end c.args.list.now c.loop-rest.words.items c.loop-rest.rest c.in_default.is c.loop-rest.invariant
