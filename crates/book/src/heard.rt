@@ -5,8 +5,7 @@ ghost use Rattle.book.specs.Heard.{heard_by, all_heard, text_for, rises};
 
 use chronicle::{Moment, SessionId};
 use deeds::Shown;
-use labels_batches::Spellings;
-use line_grammar::Octets;
+use labels_batches::{Spellings, Text};
 use roster::Roster;
 use std::alloc::{AllocError, Global};
 
@@ -14,28 +13,21 @@ use std::alloc::{AllocError, Global};
 #[derive(Drop)]
 pub(crate) struct Heard {
     pub(crate) session: SessionId,
-    pub(crate) text: Octets,
+    pub(crate) text: Text,
 }
 
 /// A line as a session takes it.
-fn hear_one(
-    alloc: Global,
-    roster: &Roster,
-    session: SessionId,
-    line: &mut Spellings,
-) -> Result<Heard, AllocError>
+fn hear_one(roster: &Roster, session: SessionId, line: &mut Spellings) -> Result<Heard, AllocError>
     ensures same { line.new ≡ line.old }
     ensures heard { IfOk result (λ x. x ≡ heard_by roster.now.facts line.old.moment line.old.line session) }
 {
-    let caps = roster.enrol_of(session).caps;
-    let mut text = Octets::from_vec(Vec::new(alloc));
-    line.push_to(&mut text, caps)?;
+    let caps = roster.caps_of(session);
+    let text = line.text_for(caps)?;
     Ok(Heard { session, text })
 }
 
 /// Adds a line as each of some sessions takes it.
 fn hear_each(
-    alloc: Global,
     roster: &Roster,
     heard: &mut Vec<Heard>,
     hearers: &[SessionId],
@@ -43,8 +35,9 @@ fn hear_each(
 ) -> Result<(), AllocError>
     ensures { OnOk result (heard.new.items ≡ heard.old.items ++ map (heard_by roster.now.facts line.old.moment line.old.line) hearers.now) }
 {
+    heard.reserve(hearers.len())?;
     for hearer in hearers {
-        heard.push(hear_one(alloc, roster, *hearer, line)?)?;
+        heard.push(hear_one(roster, *hearer, line)?)?;
     }
     Ok(())
 }
@@ -54,28 +47,28 @@ fn hear_line(
     alloc: Global,
     roster: &Roster,
     heard: &mut Vec<Heard>,
-    shown: &Shown,
+    shown: Shown,
     moment: Moment,
 ) -> Result<(), AllocError>
     requires from_1970 { pos 0 ≤ℤ moment }
     requires to_9998 { moment ≤ℤ pos 253370764799999 }
-    ensures { OnOk result (heard.new.items ≡ heard.old.items ++ map (heard_by roster.now.facts moment shown.now.line) shown.now.hearers) }
+    ensures { OnOk result (heard.new.items ≡ heard.old.items ++ map (heard_by roster.now.facts moment shown.line) shown.hearers) }
 {
-    let mut line = Spellings::new(alloc, &shown.line, moment)?;
-    hear_each(alloc, roster, heard, shown.hearers.as_slice(), &mut line)?;
-    Ok(())
+    let Shown { hearers, line } = shown;
+    let mut line = Spellings::new(alloc, line, moment)?;
+    hear_each(roster, heard, hearers.as_slice(), &mut line)
 }
 
 /// Lines as each of their hearers takes them, line by line. Each line is spelled once.
 fn hear_all(
     alloc: Global,
     roster: &Roster,
-    shown: &[Shown],
+    shown: Vec<Shown>,
     moment: Moment,
 ) -> Result<Vec<Heard>, AllocError>
     requires from_1970 { pos 0 ≤ℤ moment }
     requires to_9998 { moment ≤ℤ pos 253370764799999 }
-    ensures { IfOk result (λ v. v.items ≡ all_heard roster.now.facts moment shown.now) }
+    ensures { IfOk result (λ v. v.items ≡ all_heard roster.now.facts moment shown.items) }
 {
     let mut heard = Vec::new(alloc);
     for one in shown {
@@ -101,12 +94,12 @@ fn sort_by_session(heard: &mut Vec<Heard>) -> Result<(), AllocError>
 pub(crate) fn heard_in_order(
     alloc: Global,
     roster: &Roster,
-    shown: &[Shown],
+    shown: Vec<Shown>,
     moment: Moment,
 ) -> Result<Vec<Heard>, AllocError>
     requires from_1970 { pos 0 ≤ℤ moment }
     requires to_9998 { moment ≤ℤ pos 253370764799999 }
-    ensures texts { IfOk result (λ v. (t : ℕ) → text_for v.items t ≡ heard_text roster.now.facts moment shown.now t) }
+    ensures texts { IfOk result (λ v. (t : ℕ) → text_for v.items t ≡ heard_text roster.now.facts moment shown.items t) }
     ensures order { IfOk result (λ v. rises 0 v.items) }
 {
     let mut heard = hear_all(alloc, roster, shown, moment)?;

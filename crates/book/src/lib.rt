@@ -16,7 +16,7 @@ mod settings;
 
 pub use baton::Baton;
 pub use book::Book;
-pub use deliveries::{Delivery, Item};
+pub use deliveries::{Delivery, Item, Text};
 pub use laws::{rings_take_each_record, rings_take_what_fits};
 pub use out::{Done, Hung, Left, Plan, Step};
 pub use outbox::{Outbox, PutFault, Ring};

@@ -22,9 +22,9 @@ use chronicle::{Moment, RecordNumber, SessionId, Why};
 use commands::read_piece;
 use deeds::{Shown, Verdict, decide, decide_gone};
 use deliveries::Delivery;
-use labels_batches::{label_of, render, wrap};
+use labels_batches::{Receiver, Text, answer_text, label_of};
 use line_grammar::{Octets, Piece};
-use numerics::Out;
+use numerics::Line;
 use roster::{Deed, Roster};
 use std::alloc::{AllocError, Global};
 use std::collections::VecDeque;
@@ -50,19 +50,20 @@ fn own_text(
     alloc: Global,
     roster: &Roster,
     actor: SessionId,
-    label: &Option<Octets>,
+    label: Option<Octets>,
     number: RecordNumber,
     moment: Moment,
-    reply: Vec<Out>,
-    copies: Vec<Out>,
+    reply: Vec<Line>,
+    copies: &[Line],
 ) -> Result<Octets, AllocError>
     requires from_1970 { pos 0 ≤ℤ moment }
     requires to_9998 { moment ≤ℤ pos 253370764799999 }
-    ensures { IfOk result (λ t. t ≡ rendered (caps roster.now.facts actor) moment (answered roster.now.settings.server label.now number reply.items copies.items)) }
+    ensures { IfOk result (λ t. t ≡ rendered (caps roster.now.facts actor) moment (answered roster.now.settings.server label number reply.items copies.now)) }
 {
     let server = roster.settings().server.as_slice();
-    let lines = wrap(alloc, server, label.as_ref(), number, reply, copies)?;
-    render(alloc, &lines, roster.enrol_of(actor).caps, moment)
+    let caps = roster.caps_of(actor);
+    let to = Receiver { caps, moment };
+    answer_text(alloc, server, label, number, reply, copies, &to)
 }
 
 /// Plans, after all others, the delivery of a text to a session that isn't the actor.
@@ -86,6 +87,15 @@ fn plan_one(
     Ok(())
 }
 
+/// What a session hears, and what it hears next.
+fn joined_with(alloc: Global, heard: Heard, next: &Heard) -> Result<Heard, AllocError>
+    ensures { IfOk result (λ x. x ≡ record { session = heard.session; text = heard.text ++ next.now.text }) }
+{
+    let Heard { session, text } = heard;
+    let text = text.followed(alloc, &next.text)?;
+    Ok(Heard { session, text })
+}
+
 /// The deliveries of texts, which stand by the numbers of their sessions: one a session, but for the actor's.
 fn plan_others(
     alloc: Global,
@@ -97,13 +107,15 @@ fn plan_others(
     ensures { IfOk result (λ plan. plan.items ≡ deliveries_of seats.now actor number (joined heard.items)) }
 {
     let mut plan = VecDeque::new(alloc);
+    let room = heard.len().saturating_add(1);
     let mut rest = heard.into_iter();
     let Some(mut current) = rest.next() else {
         return Ok(plan);
     };
+    plan.reserve(room)?;
     for next in rest {
         if next.session == current.session {
-            current.text.extend_from_slice(next.text.as_slice())?;
+            current = joined_with(alloc, current, &next)?;
         } else {
             let whole = replace(&mut current, next);
             plan_one(&mut plan, seats, actor, number, whole)?;
@@ -115,6 +127,7 @@ fn plan_others(
 
 /// Plans, before all others, what the actor is told: where it quits by the record, its last item.
 fn plan_own(
+    alloc: Global,
     plan: &mut VecDeque<Planned>,
     seats: &Seats,
     session: SessionId,
@@ -133,7 +146,10 @@ fn plan_own(
             why: Why::Quit,
         }
     } else {
-        Delivery::Lines { number, text }
+        Delivery::Lines {
+            number,
+            text: Text::new(alloc, text)?,
+        }
     };
     plan.push_front(Planned { session, delivery })?;
     Ok(())
@@ -148,16 +164,16 @@ fn plan_for(
     number: RecordNumber,
     moment: Moment,
     own: Octets,
-    shown: &[Shown],
+    shown: Vec<Shown>,
     quits: bool,
 ) -> Result<VecDeque<Planned>, AllocError>
     requires from_1970 { pos 0 ≤ℤ moment }
     requires to_9998 { moment ≤ℤ pos 253370764799999 }
-    ensures { IfOk result (λ plan. plan.items ≡ planned_with seats.now actor number own (heard_text roster.now.facts moment shown.now) quits) }
+    ensures { IfOk result (λ plan. plan.items ≡ planned_with seats.now actor number own (heard_text roster.now.facts moment shown.items) quits) }
 {
     let heard = heard_in_order(alloc, roster, shown, moment)?;
     let mut plan = plan_others(alloc, seats, heard, actor, number)?;
-    plan_own(&mut plan, seats, actor, number, own, quits)?;
+    plan_own(alloc, &mut plan, seats, actor, number, own, quits)?;
     Ok(plan)
 }
 
@@ -169,14 +185,14 @@ fn with_room(
     actor: SessionId,
     number: RecordNumber,
     moment: Moment,
-    label: &Option<Octets>,
+    label: Option<Octets>,
     verdict: Verdict,
     quits: bool,
 ) -> Result<Prepared, AllocError>
     requires from_1970 { pos 0 ≤ℤ moment }
     requires to_9998 { moment ≤ℤ pos 253370764799999 }
     ensures deeds { IfOk result (λ p. p.deeds.items ≡ verdict.deeds.items) }
-    ensures plan { IfOk result (λ p. p.plan.items ≡ planned_with seats.now actor number (rendered (caps roster.now.facts actor) moment (answered roster.now.settings.server label.now number verdict.reply.items verdict.copies.items)) (heard_text roster.now.facts moment verdict.others.items) quits) }
+    ensures plan { IfOk result (λ p. p.plan.items ≡ planned_with seats.now actor number (rendered (caps roster.now.facts actor) moment (answered roster.now.settings.server label number verdict.reply.items verdict.copies.items)) (heard_text roster.now.facts moment verdict.others.items) quits) }
     ensures missed { IfOk result (λ p. (p.missed.items ≡ []) × (length p.plan.items ≤ vec_capacity p.missed)) }
 {
     let Verdict {
@@ -185,9 +201,9 @@ fn with_room(
         copies,
         others,
     } = verdict;
-    let own = own_text(alloc, roster, actor, label, number, moment, reply, copies)?;
+    let own = own_text(alloc, roster, actor, label, number, moment, reply, &copies)?;
     let plan = plan_for(
-        alloc, roster, seats, actor, number, moment, own, &others, quits,
+        alloc, roster, seats, actor, number, moment, own, others, quits,
     )?;
     let missed = Vec::with_capacity(alloc, plan.len())?;
     Ok(Prepared {
@@ -239,9 +255,9 @@ pub(crate) fn prepare_line(
     ensures missed { IfOk result (λ p. (p.0.missed.items ≡ []) × (length p.0.plan.items ≤ vec_capacity p.0.missed)) }
 {
     let (verdict, quits) = decide_piece(alloc, roster, session, piece, moment)?;
-    let label = label_of(alloc, roster.enrol_of(session).caps, piece)?;
+    let label = label_of(alloc, roster.caps_of(session), piece)?;
     let prepared = with_room(
-        alloc, roster, seats, session, number, moment, &label, verdict, quits,
+        alloc, roster, seats, session, number, moment, label, verdict, quits,
     )?;
     Ok((prepared, quits))
 }
@@ -266,7 +282,7 @@ pub(crate) fn prepare_gone(
 {
     let verdict = decide_gone(alloc, roster, session)?;
     with_room(
-        alloc, roster, seats, session, number, moment, &None, verdict, false,
+        alloc, roster, seats, session, number, moment, None, verdict, false,
     )
 }
 

@@ -12,7 +12,7 @@ use crate::members::show_members;
 use chronicle::SessionId;
 use drafts::{Denial, Draft, Seen, deny, prefix_of};
 use line_grammar::Octets;
-use numerics::Out;
+use numerics::Line;
 use std::alloc::AllocError;
 
 /// A member leaves a channel: all members before it are shown a line.
@@ -21,7 +21,7 @@ pub(crate) fn leave(
     draft: &mut Draft,
     seen: &Seen,
     member: SessionId,
-    line: Out,
+    line: Line,
 ) -> Result<(), AllocError>
     requires seen { IsSeen draft.old.facts seen.now }
     requires member { among member seen.now.state.members ≡ true }

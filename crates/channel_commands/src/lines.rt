@@ -3,7 +3,7 @@ ghost use Rattle.std.specs.Prelude.{◌≡◌, take, IfOk};
 ghost use Rattle.channel_commands.specs.Lines.{part_line, kick_line, invite_line, topic_line};
 
 use line_grammar::Octets;
-use numerics::{Out, copied_all};
+use numerics::Line;
 use std::alloc::{AllocError, Global};
 
 /// The first octets of a text.
@@ -21,14 +21,13 @@ pub(crate) fn part_line(
     from: &[u8],
     channel: &[u8],
     text: &[u8],
-) -> Result<Out, AllocError>
+) -> Result<Line, AllocError>
     ensures { IfOk result (λ l. l ≡ part_line from.now channel.now text.now) }
 {
     if text.is_empty() {
-        return Out::new(alloc, from, b"PART", copied_all(alloc, &[channel])?, false);
+        return Line::new(alloc, from, b"PART", &[channel]);
     }
-    let params = copied_all(alloc, &[channel, text])?;
-    Out::new(alloc, from, b"PART", params, true)
+    Line::telling(alloc, from, b"PART", &[channel], text)
 }
 
 /// The line that shows that a member is put out of a channel.
@@ -38,11 +37,10 @@ pub(crate) fn kick_line(
     channel: &[u8],
     nick: &[u8],
     text: &[u8],
-) -> Result<Out, AllocError>
+) -> Result<Line, AllocError>
     ensures { IfOk result (λ l. l ≡ kick_line from.now channel.now nick.now text.now) }
 {
-    let params = copied_all(alloc, &[channel, nick, text])?;
-    Out::new(alloc, from, b"KICK", params, true)
+    Line::telling(alloc, from, b"KICK", &[channel, nick], text)
 }
 
 /// The line that shows a user that it is invited.
@@ -51,11 +49,10 @@ pub(crate) fn invite_line(
     from: &[u8],
     nick: &[u8],
     channel: &[u8],
-) -> Result<Out, AllocError>
+) -> Result<Line, AllocError>
     ensures { IfOk result (λ l. l ≡ invite_line from.now nick.now channel.now) }
 {
-    let params = copied_all(alloc, &[nick, channel])?;
-    Out::new(alloc, from, b"INVITE", params, false)
+    Line::new(alloc, from, b"INVITE", &[nick, channel])
 }
 
 /// The line that shows the topic of a channel that was set just now.
@@ -64,9 +61,8 @@ pub(crate) fn topic_line(
     from: &[u8],
     channel: &[u8],
     text: &[u8],
-) -> Result<Out, AllocError>
+) -> Result<Line, AllocError>
     ensures { IfOk result (λ l. l ≡ topic_line from.now channel.now text.now) }
 {
-    let params = copied_all(alloc, &[channel, text])?;
-    Out::new(alloc, from, b"TOPIC", params, true)
+    Line::telling(alloc, from, b"TOPIC", &[channel], text)
 }

@@ -4,12 +4,12 @@ ghost use Rattle.drafts.specs.declared.effect.Effect.TheVariants.{Show};
 ghost use Rattle.drafts.specs.Drafted.{grown};
 
 use drafts::{Draft, Seen};
-use numerics::Out;
+use numerics::Line;
 use roster::Sessions;
 use std::alloc::AllocError;
 
 /// Shows all members of a channel a line.
-pub(crate) fn show_members(draft: &mut Draft, seen: &Seen, line: Out) -> Result<(), AllocError>
+pub(crate) fn show_members(draft: &mut Draft, seen: &Seen, line: Line) -> Result<(), AllocError>
     ensures { OnOk result (draft.new ≡ grown draft.old (Show seen.now.state.members line ∷ [])) }
 {
     let hearers = Sessions::copied(draft.alloc(), seen.state().members())?;

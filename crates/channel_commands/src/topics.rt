@@ -16,7 +16,7 @@ use channel_state::Change;
 use chronicle::SessionId;
 use drafts::{Denial, Draft, Seen, deny, prefix_of, tell};
 use line_grammar::Octets;
-use numerics::{Numeric, Out};
+use numerics::{Line, Numeric};
 use std::alloc::AllocError;
 
 /// Octets of a topic, at most.
@@ -61,7 +61,7 @@ fn shown_topic(
     session: SessionId,
     seen: &Seen,
     text: &Octets,
-) -> Result<Out, AllocError>
+) -> Result<Line, AllocError>
     ensures { IfOk result (λ l. l ≡ topic_line (prefix draft.now.facts session) seen.now.name text.now) }
 {
     let from = prefix_of(draft, session)?;

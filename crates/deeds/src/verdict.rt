@@ -5,7 +5,7 @@ ghost use Rattle.deeds.specs.Verdicts.{shown, IsVerdict};
 
 use chronicle::SessionId;
 use drafts::Effect;
-use numerics::Out;
+use numerics::Line;
 use roster::{Deed, Sessions};
 use std::alloc::{AllocError, Global};
 
@@ -13,7 +13,7 @@ use std::alloc::{AllocError, Global};
 #[derive(Drop)]
 pub struct Shown {
     pub hearers: Sessions,
-    pub line: Out,
+    pub line: Line,
 }
 
 /// What comes of a record.
@@ -22,18 +22,18 @@ pub struct Verdict {
     /// The facts that it establishes, in order.
     pub deeds: Vec<Deed>,
     /// The lines to its own session.
-    pub reply: Vec<Out>,
+    pub reply: Vec<Line>,
     /// What its session sent to itself, which it is given besides.
-    pub copies: Vec<Out>,
+    pub copies: Vec<Line>,
     /// The lines that others are shown, in order. Its own session may be among their hearers.
     pub others: Vec<Shown>,
 }
 
 /// Adds a line where a hearer is this session.
 fn push_for(
-    lines: &mut Vec<Out>,
+    lines: &mut Vec<Line>,
     hearer: SessionId,
-    line: &Out,
+    line: &Line,
     session: SessionId,
 ) -> Result<(), AllocError>
     ensures { OnOk result (lines.new.items ≡ lines.old.items ++ cond (hearer == session) (line.now ∷ []) []) }
@@ -46,9 +46,9 @@ fn push_for(
 
 /// Adds a line as often as a session is among its hearers.
 fn push_heard(
-    lines: &mut Vec<Out>,
+    lines: &mut Vec<Line>,
     hearers: &[SessionId],
-    line: &Out,
+    line: &Line,
     session: SessionId,
 ) -> Result<(), AllocError>
     ensures { OnOk result (lines.new.items ≡ lines.old.items ++ heard hearers.now line.now session) }

@@ -7,4 +7,5 @@ mod writing;
 
 pub use delivery::Delivery;
 pub use item::Item;
+pub use labels_batches::Text;
 pub use writing::{WriteFault, write_out};

@@ -14,7 +14,7 @@ use crate::seen::Seen;
 use channel_state::{Change, ChannelState};
 use chronicle::SessionId;
 use line_grammar::Octets;
-use numerics::Out;
+use numerics::Line;
 use registration::{Caps, Enrol};
 use roster::{Deed, Roster, Sessions, channels_have_one_name, spelled_names_are_names};
 use std::alloc::{AllocError, Global};
@@ -116,21 +116,21 @@ impl<'a> Draft<'a> {
     }
 
     /// Shows sessions a line, the record's own perhaps among them.
-    pub fn show(&mut self, hearers: Sessions, line: Out) -> Result<(), AllocError>
+    pub fn show(&mut self, hearers: Sessions, line: Line) -> Result<(), AllocError>
         ensures { OnOk result (self.new ≡ grown self.old (Show hearers line ∷ [])) }
     {
         self.add(Effect::Show { hearers, line })
     }
 
     /// Answers the record's session with a line.
-    pub fn answer(&mut self, line: Out) -> Result<(), AllocError>
+    pub fn answer(&mut self, line: Line) -> Result<(), AllocError>
         ensures { OnOk result (self.new ≡ grown self.old (Answer line ∷ [])) }
     {
         self.add(Effect::Answer { line })
     }
 
     /// Gives the record's session what it sent to itself, besides the answer.
-    pub fn copy(&mut self, line: Out) -> Result<(), AllocError>
+    pub fn copy(&mut self, line: Line) -> Result<(), AllocError>
         ensures { OnOk result (self.new ≡ grown self.old (Copy line ∷ [])) }
     {
         self.add(Effect::Copy { line })

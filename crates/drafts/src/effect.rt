@@ -7,7 +7,7 @@ ghost use Rattle.drafts.specs.Tells.{effect_host, effect_enrolled, effect_name, 
 use channel_state::ChannelState;
 use chronicle::SessionId;
 use line_grammar::Octets;
-use numerics::Out;
+use numerics::Line;
 use registration::Enrol;
 use roster::{Deed, Sessions};
 use std::alloc::AllocError;
@@ -18,11 +18,11 @@ pub enum Effect {
     /// A fact is established, and known to the effects after it.
     Establish { deed: Deed },
     /// The record's session is answered.
-    Answer { line: Out },
+    Answer { line: Line },
     /// Sessions are shown a line, the record's own perhaps among them.
-    Show { hearers: Sessions, line: Out },
+    Show { hearers: Sessions, line: Line },
     /// The record's session is given what it sent to itself, besides the answer.
-    Copy { line: Out },
+    Copy { line: Line },
 }
 
 impl Effect {

@@ -5,8 +5,8 @@ ghost use Rattle.drafts.specs.Lines.{title, prefix, join_line, quit_line, nick_l
 
 use crate::draft::Draft;
 use chronicle::SessionId;
-use line_grammar::{Octets, Parameters, needs_colon};
-use numerics::{Out, copied_all};
+use line_grammar::{Octets, needs_colon};
+use numerics::Line;
 use std::alloc::{AllocError, Global};
 
 /// Adds a name, or a star before it is known.
@@ -38,32 +38,34 @@ pub fn prefix_of(draft: &Draft<'_>, session: SessionId) -> Result<Octets, AllocE
 }
 
 /// The line that shows a join of a channel.
-pub fn join_line(alloc: Global, from: &[u8], channel: &[u8]) -> Result<Out, AllocError>
+pub fn join_line(alloc: Global, from: &[u8], channel: &[u8]) -> Result<Line, AllocError>
     ensures { IfOk result (λ l. l ≡ join_line from.now channel.now) }
 {
-    Out::new(alloc, from, b"JOIN", copied_all(alloc, &[channel])?, false)
+    Line::new(alloc, from, b"JOIN", &[channel])
 }
 
 /// The line that shows that a session is gone.
-pub fn quit_line(alloc: Global, from: &[u8], text: &[u8]) -> Result<Out, AllocError>
+pub fn quit_line(alloc: Global, from: &[u8], text: &[u8]) -> Result<Line, AllocError>
     ensures { IfOk result (λ l. l ≡ quit_line from.now text.now) }
 {
-    Out::new(alloc, from, b"QUIT", copied_all(alloc, &[text])?, true)
+    Line::telling(alloc, from, b"QUIT", &[], text)
 }
 
 /// The line that shows a change of nickname.
-pub fn nick_line(alloc: Global, from: &[u8], new: &[u8]) -> Result<Out, AllocError>
+pub fn nick_line(alloc: Global, from: &[u8], new: &[u8]) -> Result<Line, AllocError>
     ensures { IfOk result (λ l. l ≡ nick_line from.now new.now) }
 {
-    Out::new(alloc, from, b"NICK", copied_all(alloc, &[new])?, false)
+    Line::new(alloc, from, b"NICK", &[new])
 }
 
 /// The line that answers PING with its token.
-pub fn pong_line(alloc: Global, server: &[u8], token: &[u8]) -> Result<Out, AllocError>
+pub fn pong_line(alloc: Global, server: &[u8], token: &[u8]) -> Result<Line, AllocError>
     ensures { IfOk result (λ l. l ≡ pong_line server.now token.now) }
 {
-    let params = copied_all(alloc, &[server, token])?;
-    Out::new(alloc, server, b"PONG", params, needs_colon(token))
+    if needs_colon(token) {
+        return Line::telling(alloc, server, b"PONG", &[server], token);
+    }
+    Line::new(alloc, server, b"PONG", &[server, token])
 }
 
 /// The line that answers CAP with a list of capabilities, after the subcommand that it belongs to.
@@ -73,22 +75,15 @@ pub fn cap_line(
     to: &[u8],
     subcommand: &[u8],
     list: &[u8],
-) -> Result<Out, AllocError>
+) -> Result<Line, AllocError>
     ensures { IfOk result (λ l. l ≡ cap_line server.now to.now subcommand.now list.now) }
 {
-    let params = copied_all(alloc, &[to, subcommand, list])?;
-    Out::new(alloc, server, b"CAP", params, true)
+    Line::telling(alloc, server, b"CAP", &[to, subcommand], list)
 }
 
 /// The line by which a client is to go on with its exchange of SASL.
-pub fn go_on_line(alloc: Global) -> Result<Out, AllocError>
+pub fn go_on_line(alloc: Global) -> Result<Line, AllocError>
     ensures { IfOk result (λ l. l ≡ go_on_line) }
 {
-    Ok(Out {
-        tags: Octets::from_vec(Vec::new(alloc)),
-        source: None,
-        command: Octets::copied(alloc, b"AUTHENTICATE")?,
-        params: Parameters::from_vec(copied_all(alloc, &[b"+"])?),
-        colon: false,
-    })
+    Line::nameless(alloc, b"AUTHENTICATE", b"+")
 }

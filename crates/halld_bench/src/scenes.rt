@@ -88,7 +88,7 @@ const THOUSAND: Scene = Scene {
     ..PAIR
 };
 
-pub(crate) const SCENES: [Scene; 14] = [
+pub(crate) const SCENES: [Scene; 15] = [
     HUNDRED,
     Scene {
         name: "100 sessions with server-time",
@@ -162,6 +162,16 @@ pub(crate) const SCENES: [Scene; 14] = [
     Scene {
         name: "2 sessions after 10,000 came and went",
         gone: 10_000,
+        ..PAIR
+    },
+    Scene {
+        name: "PINGs",
+        members: 1,
+        start: ALONE,
+        line: "PING x\r\n",
+        told: 1,
+        last: 1,
+        lines: 100_000,
         ..PAIR
     },
 ];

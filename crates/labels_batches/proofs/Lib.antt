@@ -1,3 +1,4 @@
 mod Examples
 pub mod Alike
 pub mod Once
+pub mod AnswerTexts

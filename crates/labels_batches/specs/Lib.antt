@@ -3,3 +3,4 @@ pub mod Answers
 pub mod Rendered
 pub mod Spellings
 pub mod Whole
+pub mod Headed

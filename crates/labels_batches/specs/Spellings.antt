@@ -22,9 +22,10 @@ spelled_with time tags m l =
     ended (cond tags (with_tag timed l.tags) timed) ++ octets l
 
 -- the spellings that are kept are those of the line, whose moment has a text
-pub record AreOf (l : Out) (m : ℤ) (plain : List ℕ) (timed tagged both : Option (List ℕ)) : Type 0 where
+pub record AreOf (l : Out) (m : ℤ) (tags plain : List ℕ) (timed tagged both : Option (List ℕ)) : Type 0 where
   pub from_1970 : pos 0 ≤ℤ m
   pub to_9998 : m ≤ℤ pos 253370764799999
+  pub are_tags : tags ≡ l.tags
   pub is_plain : plain ≡ octets l
   pub is_timed : IfSome timed (λ t. t ≡ spelled_with true false m l)
   pub is_tagged : IfSome tagged (λ t. t ≡ spelled_with false true m l)

@@ -5,7 +5,7 @@ ghost use Rattle.labels_batches.specs.Answers.{ack, answered, batch_ends, batch_
 
 use chronicle::RecordNumber;
 use line_grammar::Octets;
-use numerics::{Out, copied_all};
+use numerics::Line;
 use std::alloc::{AllocError, Global};
 
 /// Which tag a line has of the answer that it is a part of.
@@ -20,7 +20,7 @@ pub enum AnswerTag {
 /// An outgoing line, and the tag that it has of an answer.
 #[derive(Drop)]
 pub struct Tagged {
-    pub line: Out,
+    pub line: Line,
     pub tag: Option<AnswerTag>,
 }
 
@@ -28,7 +28,7 @@ pub struct Tagged {
 fn push_all(
     tagged: &mut Vec<Tagged>,
     tag: &Option<AnswerTag>,
-    lines: Vec<Out>,
+    lines: Vec<Line>,
 ) -> Result<(), AllocError>
     ensures { OnOk result (tagged.new.items ≡ tagged.old.items ++ map (tagged_as tag.now) lines.items) }
 {
@@ -47,7 +47,7 @@ fn label_tag(label: &Octets) -> Result<Option<AnswerTag>, AllocError>
 }
 
 /// Adds a line that has a label.
-fn push_labelled(tagged: &mut Vec<Tagged>, label: &Octets, line: Out) -> Result<(), AllocError>
+fn push_labelled(tagged: &mut Vec<Tagged>, label: &Octets, line: Line) -> Result<(), AllocError>
     ensures { OnOk result (tagged.new.items ≡ tagged.old.items ++ tagged_as (Some (Label label.now)) line ∷ []) }
 {
     let tag = label_tag(label)?;
@@ -56,30 +56,37 @@ fn push_labelled(tagged: &mut Vec<Tagged>, label: &Octets, line: Out) -> Result<
 }
 
 /// The line that answers what has no other answer.
-fn ack(alloc: Global, server: &[u8]) -> Result<Out, AllocError>
+pub(crate) fn ack(alloc: Global, server: &[u8]) -> Result<Line, AllocError>
     ensures { IfOk result (λ o. o ≡ ack server.now) }
 {
-    Out::new(alloc, server, b"ACK", Vec::new(alloc), false)
+    Line::new(alloc, server, b"ACK", &[])
 }
 
 /// The line that opens the batch of an answer.
-fn batch_opens(alloc: Global, server: &[u8], number: RecordNumber) -> Result<Out, AllocError>
+pub(crate) fn batch_opens(
+    alloc: Global,
+    server: &[u8],
+    number: RecordNumber,
+) -> Result<Line, AllocError>
     ensures { IfOk result (λ o. o ≡ batch_opens server.now number) }
 {
     let number = number.number();
     let reference = format!(in alloc; "+{number}")?;
-    let params = copied_all(alloc, &[reference.as_bytes(), b"labeled-response"])?;
-    Out::new(alloc, server, b"BATCH", params, false)
+    let words: [&[u8]; 2] = [reference.as_bytes(), b"labeled-response"];
+    Line::new(alloc, server, b"BATCH", &words)
 }
 
 /// The line that ends it.
-fn batch_ends(alloc: Global, server: &[u8], number: RecordNumber) -> Result<Out, AllocError>
+pub(crate) fn batch_ends(
+    alloc: Global,
+    server: &[u8],
+    number: RecordNumber,
+) -> Result<Line, AllocError>
     ensures { IfOk result (λ o. o ≡ batch_ends server.now number) }
 {
     let number = number.number();
     let reference = format!(in alloc; "-{number}")?;
-    let params = copied_all(alloc, &[reference.as_bytes()])?;
-    Out::new(alloc, server, b"BATCH", params, false)
+    Line::new(alloc, server, b"BATCH", &[reference.as_bytes()])
 }
 
 /// Opens the batch of an answer.
@@ -117,7 +124,7 @@ fn push_batch(
     server: &[u8],
     label: &Octets,
     number: RecordNumber,
-    lines: Vec<Out>,
+    lines: Vec<Line>,
 ) -> Result<(), AllocError>
     ensures { OnOk result (tagged.new.items ≡ tagged.old.items ++ batched server.now label.now number lines.items) }
 {
@@ -133,7 +140,7 @@ fn push_answer(
     server: &[u8],
     label: &Octets,
     number: RecordNumber,
-    lines: Vec<Out>,
+    lines: Vec<Line>,
 ) -> Result<(), AllocError>
     ensures { OnOk result (tagged.new.items ≡ tagged.old.items ++ labelled server.now label.now number lines.items) }
 {
@@ -151,7 +158,7 @@ fn push_reply(
     server: &[u8],
     label: Option<&Octets>,
     number: RecordNumber,
-    reply: Vec<Out>,
+    reply: Vec<Line>,
 ) -> Result<(), AllocError>
     ensures { OnOk result (tagged.new.items ≡ tagged.old.items ++ wrapped server.now (option_copied label.entry) number reply.items) }
 {
@@ -169,8 +176,8 @@ pub fn wrap(
     server: &[u8],
     label: Option<&Octets>,
     number: RecordNumber,
-    reply: Vec<Out>,
-    copies: Vec<Out>,
+    reply: Vec<Line>,
+    copies: Vec<Line>,
 ) -> Result<Vec<Tagged>, AllocError>
     ensures { IfOk result (λ v. v.items ≡ answered server.now (option_copied label.entry) number reply.items copies.items) }
 {

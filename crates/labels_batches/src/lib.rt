@@ -7,6 +7,8 @@ mod labels;
 mod laws;
 mod rendering;
 mod spellings;
+mod text;
+mod texts;
 
 pub use answers::{AnswerTag, Tagged, wrap};
 pub use labels::label_of;
@@ -14,3 +16,5 @@ pub use laws::{label_stands_first, lone_line_opens_no_batch, several_lines_are_a
 pub use numerics::{TimeFault, time_text};
 pub use rendering::render;
 pub use spellings::Spellings;
+pub use text::Text;
+pub use texts::{Receiver, answer_text};

@@ -1,12 +1,13 @@
 //! Lines with their tags, as a receiver takes them (IRCv3 message-tags; IRCv3 server-time).
-ghost use Rattle.std.specs.Prelude.{◌≡◌, ◌++◌, ◌≤ℤ◌, codes, pos, IfOk, OnOk};
+ghost use Rattle.std.specs.Prelude.{◌≡◌, ◌++◌, ◌≤ℤ◌, codes, decimal, pos, IfOk, OnOk};
+ghost use Rattle.message_tags.specs.Value.{escaped};
 ghost use Rattle.numerics.specs.CivilTime.{time_text};
-ghost use Rattle.labels_batches.specs.Rendered.{answered_tag, ended, relayed_tags, rendered, spelled_line, tag_block, tag_text, timed, with_tag};
+ghost use Rattle.labels_batches.specs.Rendered.{answered_tag, ended, relayed_tags, rendered, spelled_line, tag_block, timed, with_tag};
 
 use crate::{AnswerTag, Tagged};
-use chronicle::Moment;
+use chronicle::{Moment, RecordNumber};
 use line_grammar::Octets;
-use message_tags::escape;
+use message_tags::push_escaped;
 use numerics::{TimeFault, time_text};
 use registration::Caps;
 use std::alloc::{AllocError, Global};
@@ -20,32 +21,37 @@ pub(crate) fn push_tag(block: &mut Octets, tag: &[u8]) -> Result<(), AllocError>
     block.extend_from_slice(tag)
 }
 
-/// A tag of an answer.
-fn tag_text(alloc: Global, tag: &AnswerTag) -> Result<Octets, AllocError>
-    ensures { IfOk result (λ t. t ≡ tag_text tag.now) }
+/// Room for the tags that may follow a label, and for their end.
+pub(crate) const MORE_TAGS: usize = 32;
+
+/// The tag of a label, with room for so many octets more.
+fn label_tag(alloc: Global, label: &[u8], more: usize) -> Result<Octets, AllocError>
+    ensures { IfOk result (λ t. t ≡ codes "@label=" ++ escaped label.now) }
 {
-    match tag {
-        AnswerTag::Label(label) => {
-            let mut text = Octets::copied(alloc, b"label=")?;
-            text.extend_from_slice(escape(alloc, label.as_slice())?.as_slice())?;
-            Ok(text)
-        }
-        AnswerTag::Batch(number) => {
-            let number = number.number();
-            Octets::copied(alloc, format!(in alloc; "batch={number}")?.as_bytes())
-        }
-    }
+    let room = label.len().saturating_mul(2).saturating_add(MORE_TAGS);
+    let mut tag = Vec::with_capacity(alloc, room.saturating_add(more))?;
+    tag.extend_from_slice(b"@label=")?;
+    push_escaped(&mut tag, label)?;
+    Ok(Octets::from_vec(tag))
 }
 
-/// The tags of an answer.
-fn answered_tag(alloc: Global, tag: &Option<AnswerTag>) -> Result<Octets, AllocError>
+/// The tag of a batch.
+fn batch_tag(alloc: Global, number: RecordNumber) -> Result<Octets, AllocError>
+    ensures { IfOk result (λ t. t ≡ codes "@batch=" ++ decimal number) }
+{
+    let number = number.number();
+    Octets::copied(alloc, format!(in alloc; "@batch={number}")?.as_bytes())
+}
+
+/// The tags of an answer, with room for so many octets more.
+fn answered_tag(alloc: Global, tag: &Option<AnswerTag>, more: usize) -> Result<Octets, AllocError>
     ensures { IfOk result (λ b. b ≡ answered_tag tag.now) }
 {
-    let mut block = Octets::from_vec(Vec::new(alloc));
-    if let Some(tag) = tag {
-        push_tag(&mut block, tag_text(alloc, tag)?.as_slice())?;
+    match tag {
+        None => Ok(Octets::from_vec(Vec::with_capacity(alloc, more)?)),
+        Some(AnswerTag::Label(label)) => label_tag(alloc, label.as_slice(), more),
+        Some(AnswerTag::Batch(number)) => batch_tag(alloc, *number),
     }
-    Ok(block)
 }
 
 /// The text of a record's moment.
@@ -71,9 +77,14 @@ pub(crate) fn push_moment(
     requires to_9998 { moment ≤ℤ pos 253370764799999 }
     ensures { OnOk result (block.new ≡ with_tag block.old (codes "time=" ++ time_text moment)) }
 {
-    let mut tag = Octets::copied(alloc, b"time=")?;
-    tag.extend_from_slice(moment_text(alloc, moment)?.as_slice())?;
-    push_tag(block, tag.as_slice())
+    let text = moment_text(alloc, moment)?;
+    let mark: &[u8] = if block.is_empty() {
+        b"@time="
+    } else {
+        b";time="
+    };
+    block.extend_from_slice(mark)?;
+    block.extend_from_slice(text.as_slice())
 }
 
 /// Adds the moment, where the receiver takes it.
@@ -94,13 +105,30 @@ fn push_time(
 }
 
 /// Adds the tags of another client, where the receiver takes them.
-fn push_relayed(block: &mut Octets, caps: Caps, tags: &Octets) -> Result<(), AllocError>
+pub(crate) fn push_relayed(block: &mut Octets, caps: Caps, tags: &[u8]) -> Result<(), AllocError>
     ensures { OnOk result (block.new ≡ relayed_tags caps tags.now block.old) }
 {
     if !caps.message_tags || tags.is_empty() {
         return Ok(());
     }
-    push_tag(block, tags.as_slice())
+    push_tag(block, tags)
+}
+
+/// The tags of a line but for those of another client, with room for so many octets more.
+pub(crate) fn head_of(
+    alloc: Global,
+    tag: &Option<AnswerTag>,
+    caps: Caps,
+    moment: Moment,
+    more: usize,
+) -> Result<Octets, AllocError>
+    requires from_1970 { pos 0 ≤ℤ moment }
+    requires to_9998 { moment ≤ℤ pos 253370764799999 }
+    ensures { IfOk result (λ b. b ≡ timed caps moment (answered_tag tag.now)) }
+{
+    let mut block = answered_tag(alloc, tag, more)?;
+    push_time(alloc, &mut block, caps, moment)?;
+    Ok(block)
 }
 
 /// The tags of a line.
@@ -109,9 +137,8 @@ fn tag_block(alloc: Global, line: &Tagged, caps: Caps, moment: Moment) -> Result
     requires to_9998 { moment ≤ℤ pos 253370764799999 }
     ensures { IfOk result (λ b. b ≡ tag_block caps moment line.now) }
 {
-    let mut block = answered_tag(alloc, &line.tag)?;
-    push_time(alloc, &mut block, caps, moment)?;
-    push_relayed(&mut block, caps, &line.line.tags)?;
+    let mut block = head_of(alloc, &line.tag, caps, moment, 0)?;
+    push_relayed(&mut block, caps, line.line.tags())?;
     Ok(block)
 }
 
@@ -141,7 +168,7 @@ fn push_line(
     let mut block = tag_block(alloc, line, caps, moment)?;
     end(&mut block)?;
     text.extend_from_slice(block.as_slice())?;
-    text.extend_from_slice(line.line.octets(alloc)?.as_slice())
+    text.extend_from_slice(line.line.octets())
 }
 
 /// Lines as a receiver of these capabilities takes them, at their record's moment, each cut to 510 octets without its tags and

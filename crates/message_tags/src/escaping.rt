@@ -84,7 +84,7 @@ fn push_octet(line: &mut Vec<u8>, octet: u8) -> Result<(), AllocError>
 }
 
 /// Adds a value at the end as it may stand in a line.
-pub(crate) fn push_escaped(line: &mut Vec<u8>, value: &[u8]) -> Result<(), AllocError>
+pub fn push_escaped(line: &mut Vec<u8>, value: &[u8]) -> Result<(), AllocError>
     ensures { OnOk result (line.new.items ≡ line.old.items ++ escaped value.now) }
 {
     for octet in value {

@@ -9,7 +9,7 @@ mod reading;
 mod tag;
 
 pub use client::client_only;
-pub use escaping::{escape, unescape, unescape_undoes_escape, unescaped_len};
+pub use escaping::{escape, push_escaped, unescape, unescape_undoes_escape, unescaped_len};
 pub use list::Tags;
 pub use reading::{last_raw_value, tags_of};
 pub use tag::Tag;

@@ -6,7 +6,7 @@ use crate::letters::ModeChange;
 use crate::steps::{agree, decimal};
 use channel_state::Modes;
 use line_grammar::Octets;
-use numerics::Out;
+use numerics::Line;
 use std::alloc::{AllocError, Global};
 
 fn sign(on: bool) -> &'static [u8]
@@ -73,14 +73,14 @@ pub(crate) fn mode_line(
     from: &[u8],
     target: &[u8],
     changes: &[ModeChange],
-) -> Result<Out, AllocError>
+) -> Result<Line, AllocError>
     ensures { IfOk result (λ l. l ≡ mode_line from.now target.now changes.now) }
 {
     let mut params = Vec::new(alloc);
     params.push(Octets::copied(alloc, target)?)?;
     params.push(letters_of(alloc, changes)?)?;
     push_params(&mut params, changes)?;
-    Out::new(alloc, from, b"MODE", params, false)
+    Line::listing(alloc, from, b"MODE", &params)
 }
 
 // ---- what is set on a channel

@@ -17,7 +17,7 @@ use crate::steps::agree;
 use chronicle::SessionId;
 use drafts::{Draft, prefix_of, tell, title_of};
 use line_grammar::Octets;
-use numerics::{Numeric, Out};
+use numerics::{Line, Numeric};
 use roster::Deed;
 use std::alloc::{AllocError, Global};
 
@@ -64,7 +64,7 @@ fn tell_unknown(
 }
 
 /// The line that shows a session its own mode.
-fn own_line(draft: &Draft, session: SessionId, is: bool) -> Result<Out, AllocError>
+fn own_line(draft: &Draft, session: SessionId, is: bool) -> Result<Line, AllocError>
     ensures { IfOk result (λ l. l ≡ mode_line (prefix draft.now.facts session) (title (nick draft.now.facts session)) (asks is 105 None)) }
 {
     let alloc = draft.alloc();

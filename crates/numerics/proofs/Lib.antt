@@ -1,3 +1,4 @@
+pub mod Built
 pub mod Cuts
 pub mod Dates
 pub mod Rooms

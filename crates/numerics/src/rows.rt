@@ -3,14 +3,14 @@ ghost use Rattle.std.specs.Prelude.{◌≡◌, ℕ, [], ◌∷◌, List, false, 
 ghost use Rattle.numerics.specs.Numerics.{is_about, is_fixed, is_of_channel, numeric, row, row_line, says};
 
 use crate::heading::Heading;
-use crate::{Numeric, Out};
+use crate::{Line, Numeric};
 use line_grammar::Octets;
 use std::alloc::{AllocError, Global};
 
 impl Numeric {
     /// The line from a server to a nickname, or to `*`.
     #[tactic(auto, unfolding(crate::specs::Numerics::numeric))]
-    pub fn line(&self, alloc: Global, server: &[u8], to: &[u8]) -> Result<Out, AllocError>
+    pub fn line(&self, alloc: Global, server: &[u8], to: &[u8]) -> Result<Line, AllocError>
         ensures { IfOk result (λ o. o ≡ numeric server.now to.now self.now) }
     {
         let from = Heading { alloc, server, to };
@@ -89,7 +89,7 @@ fn about(numeric: &Numeric) -> Option<(&'static [u8], &Octets, &'static [u8])>
 }
 
 /// The line of a numeric of another form.
-fn other(from: &Heading, numeric: &Numeric) -> Result<Out, AllocError>
+fn other(from: &Heading, numeric: &Numeric) -> Result<Line, AllocError>
     requires fixed { is_fixed numeric.now ≡ false }
     requires about { is_about numeric.now ≡ false }
     ensures { IfOk result (λ o. o ≡ row_line from.now.server.now from.now.to.now (row from.now.server.now numeric.now)) }
@@ -120,7 +120,7 @@ fn other(from: &Heading, numeric: &Numeric) -> Result<Out, AllocError>
 }
 
 /// The line of a numeric that tells of a channel, where it has a form of its own.
-fn of_channel(from: &Heading, numeric: &Numeric) -> Result<Out, AllocError>
+fn of_channel(from: &Heading, numeric: &Numeric) -> Result<Line, AllocError>
     requires { is_of_channel numeric.now ≡ true }
     ensures { IfOk result (λ o. o ≡ row_line from.now.server.now from.now.to.now (row from.now.server.now numeric.now)) }
 {

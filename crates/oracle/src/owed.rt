@@ -4,7 +4,7 @@ use crate::obeying::{end, is_quit, obey};
 use crate::rendering::{Style, label_of, text_of};
 use crate::replies::TOO_LONG;
 use crate::world::{World, new_client};
-use book::{Book, Delivery, Outbox};
+use book::{Book, Delivery, Outbox, Text};
 use chronicle::{Kind, Record, RecordNumber, SessionId, Why};
 use line_grammar::{LineFault, Message, Octets, Piece, parse};
 use std::alloc::{AllocError, Global};
@@ -103,7 +103,7 @@ fn told_by(world: &mut World, record: &Record) -> Option<Delivery> {
     if text.is_empty() {
         return None;
     }
-    let text = Octets::from_vec(text);
+    let text = Text::new(world.alloc, Octets::from_vec(text)).ok()?;
     Some(Delivery::Lines { number, text })
 }
 

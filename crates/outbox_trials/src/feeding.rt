@@ -5,7 +5,7 @@ ghost use Rattle.chronicle.specs.Journal.{fresh_record};
 ghost use Rattle.outbox_trials.specs.Fed.{opens, says, next, server_name};
 
 use chronicle::{Journal, Kind, Moment, RecordNumber, SessionId};
-use deliveries::{Delivery, Item};
+use deliveries::{Delivery, Item, Text};
 use line_grammar::{Octets, Piece};
 use outbox::{Outbox, PutFault, Ring};
 use registration::{Accounts, Settings};
@@ -129,7 +129,7 @@ impl<O: Outbox> Feed<O> {
         };
         let delivery = Delivery::Lines {
             number: RecordNumber::new(number),
-            text: Octets::copied(alloc, TOLD)?,
+            text: Text::new(alloc, Octets::copied(alloc, TOLD)?)?,
         };
         self.journal.reserve(1, 0).map_err(|_| AllocError)?;
         let item = Item::new(delivery, SessionId::new(1), &self.journal, &self.settings);

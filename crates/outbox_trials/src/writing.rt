@@ -1,6 +1,6 @@
 //! What goes out of a delivery, octet by octet, also where a writer fails, takes nothing or takes little at a time.
 use chronicle::{RecordNumber, Why};
-use deliveries::{Delivery, WriteFault, write_out};
+use deliveries::{Delivery, Text, WriteFault, write_out};
 use line_grammar::Octets;
 use std::alloc::{AllocError, Global};
 use std::io;
@@ -72,7 +72,7 @@ const ENDS: [(Why, &str); 7] = [
 fn lines(alloc: Global) -> Result<Delivery, AllocError> {
     Ok(Delivery::Lines {
         number: RecordNumber::new(1),
-        text: Octets::copied(alloc, JOINED)?,
+        text: Text::new(alloc, Octets::copied(alloc, JOINED)?)?,
     })
 }
 

@@ -91,8 +91,7 @@ pub(crate) fn room_of(
 ) -> Result<usize, AllocError>
     ensures { IfOk result (λ n. n ≡ room (numeric_line server.now to.now numeric.now)) }
 {
-    let line = numeric.line(alloc, server, to)?;
-    line.room(alloc)
+    Ok(numeric.line(alloc, server, to)?.room())
 }
 
 /// How many octets of names a line has room for.

@@ -21,7 +21,7 @@ use channel_state::ChannelState;
 use chronicle::{SessionId, Why};
 use ghosts::{Change, Snapshot, append_all, apply, blank};
 use line_grammar::Octets;
-use registration::{Enrol, Settings};
+use registration::{Caps, Enrol, Settings};
 use std::alloc::{AllocError, Global};
 use std::collections::{LinkedList, VecDeque};
 use std::marker::Model;
@@ -74,7 +74,7 @@ impl Roster {
     ghost use Rattle.registration.specs.Settings.{IsWellSet};
     ghost use Rattle.roster.specs.Legal.{IsOpened, AreNext};
     ghost use Rattle.registration.specs.Enrol.{enrolment};
-    ghost use Rattle.roster.specs.LookBack.{opened, host, nick, user, real, enrol, registered, away, invisible, why, parting, holder, found, on, state, members, name_of, channels, channel_count, channels_on, sharers};
+    ghost use Rattle.roster.specs.LookBack.{opened, host, nick, user, real, caps, enrol, registered, away, invisible, why, parting, holder, found, on, state, members, name_of, channels, channel_count, channels_on, sharers};
     ghost use Rattle.channel_state.specs.State.{nothing};
 
     /// The roster of no facts, on a server whose settings are within their limits.
@@ -252,6 +252,16 @@ impl Roster {
         match find_person(&self.people, session) {
             Some(person) => enrol_of(person),
             None => blank_enrol(),
+        }
+    }
+
+    /// The capabilities of a session.
+    pub fn caps_of(&self, session: SessionId) -> Caps
+        ensures { result ≡ caps self.now.facts session }
+    {
+        match find_person(&self.people, session) {
+            Some(person) => person.caps,
+            None => Caps::none(),
         }
     }
 

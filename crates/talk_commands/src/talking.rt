@@ -15,7 +15,7 @@ use channel_state::ChannelState;
 use chronicle::SessionId;
 use drafts::{Denial, Draft, deny, prefix_of, tell, title_of};
 use line_grammar::Octets;
-use numerics::{Numeric, Out};
+use numerics::{Line, Numeric};
 use roster::{Roster, Sessions};
 use std::alloc::{AllocError, Global};
 
@@ -45,7 +45,7 @@ fn reaches(roster: &Roster, sending: &Sending<'_>, session: SessionId) -> bool
     ensures { result ≡ reaches roster.now.facts sending.now session }
 {
     match sending.verb {
-        Verb::Tagmsg => !sending.tags.is_empty() && roster.enrol_of(session).caps.message_tags,
+        Verb::Tagmsg => !sending.tags.is_empty() && roster.caps_of(session).message_tags,
         Verb::Privmsg | Verb::Notice => true,
     }
 }
@@ -74,7 +74,7 @@ fn reached(
 ) -> Result<Sessions, AllocError>
     ensures { IfOk result (λ v. v ≡ filter (reaches roster.now.facts sending.now) sessions.now) }
 {
-    let mut hearers = Sessions::from_vec(Vec::new(alloc));
+    let mut hearers = Sessions::from_vec(Vec::with_capacity(alloc, sessions.len())?);
     for session in sessions {
         push_reached(roster, sending, &mut hearers, *session)?;
     }
@@ -92,7 +92,7 @@ fn echo(
     requires first { draft.old.facts ≡ draft.old.base }
     ensures { OnOk result (draft.new ≡ grown draft.old (echoes draft.old.facts session sending.now (sent_line sending.now from.now target.now))) }
 {
-    let wants = draft.before().enrol_of(session).caps.echo_message;
+    let wants = draft.before().caps_of(session).echo_message;
     if !wants || !reaches(draft.before(), sending, session) {
         return Ok(());
     }
@@ -122,7 +122,7 @@ fn show(
     draft: &mut Draft,
     sending: &Sending<'_>,
     sessions: &[SessionId],
-    line: Out,
+    line: Line,
 ) -> Result<(), AllocError>
     requires { draft.old.facts ≡ draft.old.base }
     ensures { OnOk result (draft.new ≡ grown draft.old (Show (filter (reaches draft.old.facts sending.now) sessions.now) line ∷ [])) }
@@ -198,7 +198,7 @@ fn hand(
     session: SessionId,
     sending: &Sending<'_>,
     user: SessionId,
-    line: Out,
+    line: Line,
 ) -> Result<(), AllocError>
     requires { draft.old.facts ≡ draft.old.base }
     ensures { OnOk result (draft.new ≡ grown draft.old (cond (user == session) (keeps draft.old.facts session sending.now line) (Show (filter (reaches draft.old.facts sending.now) (user ∷ [])) line ∷ []))) }

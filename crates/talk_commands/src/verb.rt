@@ -1,9 +1,10 @@
 //! The commands that carry a text or tags.
-ghost use Rattle.std.specs.Prelude.{◌≡◌, ◌∷◌, option_copied, option_to_list, IfOk};
+ghost use Rattle.std.specs.Prelude.{◌≡◌, ◌∷◌, is_some, option_copied, option_to_list, IfOk};
+ghost use Rattle.numerics.specs.Outgoing.{line};
 ghost use Rattle.talk_commands.specs.Lines.{sent_line, verb_text};
 
 use line_grammar::Octets;
-use numerics::{Out, copied_all};
+use numerics::Line;
 use std::alloc::{AllocError, Global};
 use std::marker::Model;
 
@@ -50,24 +51,28 @@ impl<'a> Model for Sending<'a> {
     ghost view = { λ a. record { verb = a.verb; text = option_copied a.text; tags = a.tags.now } };
 }
 
-/// The parameters of a line to a target.
-fn params_to(alloc: Global, target: &[u8], text: Option<&Octets>) -> Result<Vec<Octets>, AllocError>
-    ensures { IfOk result (λ v. v.items ≡ target.now ∷ option_to_list (option_copied text.entry)) }
+/// A line to a target, without a client's tags.
+fn line_to(
+    alloc: Global,
+    from: &[u8],
+    verb: Verb,
+    target: &[u8],
+    text: Option<&Octets>,
+) -> Result<Line, AllocError>
+    ensures { IfOk result (λ l. l ≡ line from.now (verb_text verb) (target.now ∷ option_to_list (option_copied text.entry)) (is_some (option_copied text.entry))) }
 {
     match text {
-        Some(text) => copied_all(alloc, &[target, text.as_slice()]),
-        None => copied_all(alloc, &[target]),
+        Some(text) => Line::telling(alloc, from, verb.text(), &[target], text.as_slice()),
+        None => Line::new(alloc, from, verb.text(), &[target]),
     }
 }
 
 impl Sending<'_> {
     /// The line that carries it to a target.
-    pub(crate) fn line(&self, alloc: Global, from: &[u8], target: &[u8]) -> Result<Out, AllocError>
+    pub(crate) fn line(&self, alloc: Global, from: &[u8], target: &[u8]) -> Result<Line, AllocError>
         ensures { IfOk result (λ l. l ≡ sent_line self.now from.now target.now) }
     {
-        let params = params_to(alloc, target, self.text)?;
-        let mut line = Out::new(alloc, from, self.verb.text(), params, self.text.is_some())?;
-        line.tags = self.tags.clone()?;
-        Ok(line)
+        let line = line_to(alloc, from, self.verb, target, self.text)?;
+        Ok(line.with_tags(self.tags.clone()?))
     }
 }

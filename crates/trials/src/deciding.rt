@@ -8,7 +8,7 @@ use chronicle::{Moment, SessionId};
 use commands::{Asked, read_piece};
 use deeds::{Verdict, decide};
 use line_grammar::{Octets, Piece};
-use numerics::Out;
+use numerics::Line;
 use registration::{Accounts, Settings, is_well_set};
 use roster::{Deed, Roster};
 use std::alloc::{AllocError, Global};
@@ -95,20 +95,16 @@ fn decided(
     decided_asked(alloc, roster, session, &asked)
 }
 
-/// Whether a line is spelled so, once more where a growth was refused.
-fn is_spelled(alloc: Global, line: &Out, want: &[u8]) -> Result<bool, AllocError> {
-    let octets = match line.octets(alloc) {
-        Ok(octets) => octets,
-        Err(_) => line.octets(alloc)?,
-    };
-    Ok(octets.as_slice() == want)
+/// Whether a line is spelled so.
+fn is_spelled(line: &Line, want: &[u8]) -> bool {
+    line.octets() == want
 }
 
 /// Whether an answer begins with this line, or is none where the line is empty.
-fn is_answered(alloc: Global, reply: &[Out], want: &[u8]) -> Result<bool, AllocError> {
+fn is_answered(reply: &[Line], want: &[u8]) -> bool {
     match reply {
-        [] => Ok(want.is_empty()),
-        [first, ..] => is_spelled(alloc, first, want),
+        [] => want.is_empty(),
+        [first, ..] => is_spelled(first, want),
     }
 }
 
@@ -167,7 +163,7 @@ fn deal(rt: &impl Abort, roster: &mut Roster, alloc: Global, row: &Deal) -> Resu
         ..
     } = verdict;
     establish(roster, deeds)?;
-    assert!(rt; others.len() == shown && is_answered(alloc, &reply, want)?);
+    assert!(rt; others.len() == shown && is_answered(&reply, want));
     Ok(())
 }
 

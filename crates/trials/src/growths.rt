@@ -2,24 +2,21 @@
 //! to.
 use crate::again::twice;
 use chronicle::{Moment, RecordNumber};
-use labels_batches::{Tagged, render, wrap};
+use labels_batches::{Receiver, Tagged, answer_text, render, wrap};
 use line_grammar::Octets;
-use numerics::{Out, TimeFault, time_text};
+use numerics::{Line, TimeFault, time_text};
 use registration::{Cap, Caps};
 use std::alloc::{AllocError, Global};
 use std::test::Fail;
 
 /// A line `:x PONG y` with a tag of another client.
-fn line(alloc: Global) -> Result<Out, AllocError> {
-    let mut params = Vec::new(alloc);
-    params.push(Octets::copied(alloc, b"y")?)?;
-    let mut line = Out::new(alloc, b"x", b"PONG", params, false)?;
-    line.tags = Octets::copied(alloc, b"+k=v")?;
-    Ok(line)
+fn line(alloc: Global) -> Result<Line, AllocError> {
+    let line = Line::new(alloc, b"x", b"PONG", &[b"y"])?;
+    Ok(line.with_tags(Octets::copied(alloc, b"+k=v")?))
 }
 
 /// So many of it.
-fn lines(alloc: Global, count: usize) -> Result<Vec<Out>, AllocError> {
+fn lines(alloc: Global, count: usize) -> Result<Vec<Line>, AllocError> {
     let mut lines = Vec::new(alloc);
     for _ in 0..count {
         lines.push(line(alloc)?)?;
@@ -72,6 +69,28 @@ fn text(alloc: Global, reply: usize, copies: usize) -> Result<Octets, AllocError
     let caps = Caps::none().with(Cap::ServerTime).with(Cap::MessageTags);
     let tagged = twice(|| wrapped(alloc, reply, copies))?;
     twice(|| render(alloc, &tagged, caps, Moment::new(951782400123)))
+}
+
+/// The same, spelled from its lines.
+fn spelled(alloc: Global, reply: usize, copies: usize) -> Result<Octets, AllocError> {
+    let to = Receiver {
+        caps: Caps::none().with(Cap::ServerTime).with(Cap::MessageTags),
+        moment: Moment::new(951782400123),
+    };
+    let label = Octets::copied(alloc, b"l;")?;
+    let reply = lines(alloc, reply)?;
+    let copies = lines(alloc, copies)?;
+    let number = RecordNumber::new(10);
+    answer_text(alloc, b"x", Some(label), number, reply, &copies, &to)
+}
+
+#[test]
+fn answers_are_spelled_whole(rt: HostRuntime) -> Result<(), Fail> {
+    for (reply, copies, want) in &ANSWERS {
+        let text = twice(|| spelled(rt.alloc(), *reply, *copies))?;
+        assert_eq!(rt; text.as_slice(), want.as_bytes(), "{reply} {copies}");
+    }
+    Ok(())
 }
 
 #[test]

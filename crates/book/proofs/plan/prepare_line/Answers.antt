@@ -1,6 +1,5 @@
 use Rattle.std.proofs.Common.{ℕ, List, Option, ap, ◌≡◌, ◌∙◌}
 use Rattle.registration.specs.declared.caps.Caps.{Caps}
-use Rattle.registration.specs.Enrol.{Enrolment}
 use Rattle.roster.specs.LookBack.{caps}
 use Rattle.labels_batches.specs.Labels.{label_of}
 use Rattle.labels_batches.specs.Answers.{answered}
@@ -19,7 +18,7 @@ returns-clause-plan c =
     let s = c.args.session in let fs = c.args.roster.now.facts in let g = c.args.roster.now.settings in let k = asked_of c.args.piece.now in
     let v = c.in_ok-verdict.verdict in let seats = c.args.seats.now in let n = c.args.number in let m = c.args.moment in let q = c.in_ok-verdict.quits in
     let label : c.in_ok-label.label ≡ label_of (caps fs s) c.args.piece.now =
-    c.in_ok-label.ensures.label ∙ ap (λ (cs : Caps). label_of cs c.args.piece.now) (ap (λ (e : Enrolment). e.caps) c.enrol_of.ensures) in
+    c.in_ok-label.ensures.label ∙ ap (λ (cs : Caps). label_of cs c.args.piece.now) c.caps_of.ensures in
     c.in_ok-prepared.ensures.plan
     ∙ ap (λ (l : Option (List ℕ)). planned_with seats s n (rendered (caps fs s) m (answered g.server l n v.reply.items v.copies.items)) (heard_text fs m v.others.items) q) label
     ∙ planned_same seats g fs s n (label_of (caps fs s) c.args.piece.now) v (of_asked g fs s k) m q c.in_ok-verdict.ensures.verdict

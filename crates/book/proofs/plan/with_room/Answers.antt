@@ -1,10 +1,13 @@
 use Rattle.std.proofs.Common.{ℕ, List, ap, ◌∙◌}
-use Rattle.deeds.specs.declared.verdict.Shown.{Shown}
+use Rattle.numerics.specs.declared.outgoing.Out.{Out}
+use Rattle.roster.specs.LookBack.{caps}
+use Rattle.labels_batches.specs.Answers.{answered}
+use Rattle.labels_batches.specs.Rendered.{rendered}
 use Rattle.book.specs.Seats.{heard_text, planned_with}
 use Rattle.book.proofs.plan.with_room.Goals as goal
 
 pub returns-clause-plan : goal.returns-clause-plan
 returns-clause-plan c =
-    let seats = c.args.seats.now in let s = c.args.actor in let n = c.args.number in let fs = c.args.roster.now.facts in let m = c.args.moment in let v = c.args.verdict in let q = c.args.quits in
-    c.in_ok-plan.ensures ∙ ap (λ (xs : List Shown). planned_with seats s n c.in_ok-own.own (heard_text fs m xs) q) c.deref.ensures.value
-    ∙ ap (λ (bs : List ℕ). planned_with seats s n bs (heard_text fs m v.others.items) q) c.in_ok-own.ensures
+    let seats = c.args.seats.now in let s = c.args.actor in let n = c.args.number in let g = c.args.roster.now.settings in let fs = c.args.roster.now.facts in let m = c.args.moment in let v = c.args.verdict in let q = c.args.quits in
+    let own = c.in_ok-own.ensures ∙ ap (λ (ls : List Out). rendered (caps fs s) m (answered g.server c.args.label n v.reply.items ls)) c.deref.ensures.value in
+    c.in_ok-plan.ensures ∙ ap (λ (bs : List ℕ). planned_with seats s n bs (heard_text fs m v.others.items) q) own
