@@ -27,6 +27,15 @@ impl Model for Folded {
     ghost invariant = { λ a. folded a.octets.items ≡ a.octets.items };
 }
 
+/// Puts octets into lower case.
+fn fold_all(octets: &mut Vec<u8>)
+    ensures { octets.new.items ≡ folded octets.old.items }
+{
+    for octet in octets.iter_mut() {
+        *octet = fold(*octet);
+    }
+}
+
 impl Folded {
     /// The lower case of a name.
     pub fn new(alloc: Global, name: &[u8]) -> Result<Folded, AllocError>
@@ -35,6 +44,15 @@ impl Folded {
         Ok(Folded {
             octets: name.iter().map(|octet| fold(*octet)).collect(alloc)?,
         })
+    }
+
+    /// The lower case of a name, in the place of its octets. It takes no memory.
+    pub fn from_vec(octets: Vec<u8>) -> Folded
+        ensures { result ≡ folded octets.items }
+    {
+        let mut lower = octets;
+        fold_all(&mut lower);
+        Folded { octets: lower }
     }
 
     /// The octets of the lower case.

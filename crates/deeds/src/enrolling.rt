@@ -1,7 +1,7 @@
 //! NICK, USER, PASS and QUIT, and when a session is registered (RFC 2812, section 3.1).
 ghost use Rattle.std.specs.Prelude.{◌≡◌, ◌∷◌, [], OnOk};
 ghost use Rattle.roster.specs.LookBack.{exchange};
-ghost use Rattle.roster.specs.Legal.{IsOpened};
+ghost use Rattle.roster.specs.Legal.{IsFree, IsOpened};
 ghost use Rattle.drafts.specs.Drafted.{grown};
 ghost use Rattle.drafts.specs.Lines.{prefix};
 ghost use Rattle.drafts.specs.Replies.{tells_all};
@@ -45,6 +45,7 @@ fn show_nick(draft: &mut Draft, session: SessionId, nick: &Octets) -> Result<(),
 #[tactic(auto, using(drafts::proofs::Replay::grown_grown))]
 fn rename(draft: &mut Draft, session: SessionId, nick: &Octets) -> Result<(), AllocError>
     requires opened { IsOpened draft.old.facts session }
+    requires free { IsFree draft.old.facts session nick.now }
     requires first { draft.old.facts ≡ draft.old.base }
     ensures { OnOk result (draft.new ≡ grown draft.old (renames draft.old.facts session nick.now)) }
 {

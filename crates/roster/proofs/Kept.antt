@@ -1,38 +1,33 @@
 -- What holds of every roster is kept by each deed.
-use Rattle.std.proofs.Common.{◌≡◌, inl, inr, ℕ, zero, suc, ◌+◌, ◌<◌, ◌≤◌, Bool, true, false, cond, Option, List, [], ◌∷◌, ◌++◌, length, drop, slice_get, count_by, vec_len, vec_capacity, Some, None, arith, refl, sym, ap, ◌∙◌, subst}
-use Rattle.std.specs.declared.vec.Vec.{Vec}
-use Rattle.std.specs.declared.alloc.Global.{Global}
+use Rattle.std.proofs.Common.{◌≡◌, inl, inr, ℕ, suc, ◌+◌, ◌-◌, ◌<◌, ◌≤◌, Bool, true, false, ◌==◌, cond, List, [], ◌∷◌, ◌++◌, length, drop, slice_get, count_by, unwrap_or, Some, None, arith, refl, sym, ap, ◌∙◌, subst}
+use Rattle.std.specs.List.{flat_map}
+use Rattle.std.specs.Str.{bytes_eq}
+use Rattle.casemapping.specs.Fold.{folded, is_same}
 use Rattle.casemapping.proofs.SameNames.{is_same-sym}
-use Rattle.registration.specs.declared.caps.Caps.{Caps}
+use Rattle.channel_state.specs.declared.change.Change.{Change}
+use Rattle.channel_state.specs.Held.{Held}
+use Rattle.chronicle.specs.declared.why.Why.{Why}
 use Rattle.roster.specs.declared.deed.Deed.{Deed}
 use Rattle.roster.specs.declared.deed.Deed.TheVariants.{Opened, NickSet, UserSet, HoldSet, CapsSet, ExchangeSet, LoggedIn, Enrolled, AwaySet, InvisibleSet, ChannelMade, Changed, Ended, Gone}
 use Rattle.roster.specs.declared.tables.Person.{Person}
+use Rattle.roster.specs.declared.tables.Card.{Card}
 use Rattle.roster.specs.declared.tables.Channel.{Channel}
-use Rattle.casemapping.specs.Fold.{is_same}
-use Rattle.channel_state.specs.declared.change.Change.{Change}
-use Rattle.channel_state.specs.Held.{Held}
-use Rattle.roster.specs.LookBack.{numbers, opened, on, members, has_member}
-use Rattle.roster.specs.Tables.{nobody, person_at, with_person, room_in, with_held, Changes, Makes, LeavesAll}
-use Rattle.roster.specs.Legal.{IsOpened}
-use Rattle.chronicle.specs.declared.why.Why.{Why}
-use Rattle.roster.specs.Stands.{changes, is_making, HaveSeats, AreSpare, Stands, HasRoom, IsKept}
+use Rattle.roster.specs.LookBack.{opened, nick, why, tells_why}
+use Rattle.roster.specs.Legal.{IsOpened, IsNext, AreNext}
+use Rattle.roster.specs.Table.{Table}
+use Rattle.roster.specs.Tables.{nobody, heard, is_about, is_plain, is_tame, is_opening, person_at, why_at, held_by, Frees, IsOf, room_in, with_held, Changes, Makes, LeavesAll}
+use Rattle.roster.specs.Lists.{keyed_name, BeginWith}
+use Rattle.roster.specs.Stands.{person, Alike, changes, is_making, HaveSeats, AreSpare, AreHolders, HoldPeople, HasRoom, IsKept}
 use Rattle.roster.proofs.Bools.{either}
-use Rattle.roster.proofs.OnChannels.{among-members, someone}
 use Rattle.roster.proofs.ChannelTable.{seats-populated}
 use Rattle.roster.proofs.Leaving.{seats_without}
-use Rattle.roster.proofs.MadeRoom.{changes-cons, makings-cons, seats_less, changes_few, seats-push, spare_less, room_none}
-use Rattle.roster.proofs.Steps.{stranger, stands_opened, stands_renamed, stands_introduced, stands_held, stands_equipped, stands_exchanging, stands_logged_in, stands_enrolled, stands_away, stands_hidden, stands_ended, stands_changed, stands_gone, stands_made}
+use Rattle.roster.proofs.MadeRoom.{changes-cons, makings-cons, seats_none, seats_less, changes_few, seats-push, spare_less}
+use Rattle.roster.proofs.Persons.{person_after, opened_after, of_next, length-numbers, holders_plain, holders_gone, holders_renamed}
+use Rattle.roster.proofs.SameTables.{channels_alike}
+use Rattle.roster.proofs.ChannelSteps.{channels_plain, channels_changed, channels_gone, channels_made}
 
-length-numbers : (k n : ℕ) → length (numbers k n) ≡ n
-length-numbers k zero = refl
-length-numbers k (suc n) = ap suc (length-numbers (k + 1) n)
-
-pub opened_count : (ps : List Person) (ks : List Channel) (fs : List Deed) → Stands ps ks fs → length (opened fs) ≡ length ps
-opened_count ps ks fs i = ap length i.opened ∙ length-numbers 1 (length ps)
-
--- who is on a channel is a member
-pub on_member : (fs : List Deed) (t : ℕ) (n : List ℕ) → on fs t n ≡ true → has_member fs n ≡ true
-on_member fs t n e = someone t (members fs n) (among-members fs t n ∙ e)
+pub opened_count : (es : List (ℕ × Card)) (ws : List Why) (hs : List (List ℕ × ℕ)) (fs : List Deed) → HoldPeople es ws hs fs → length (opened fs) ≡ length ws
+opened_count es ws hs fs i = ap length i.opened ∙ length-numbers 1 (length ws)
 
 -- ---- seats
 
@@ -57,122 +52,252 @@ seats_taken x n ds (k ∷ ks) m h l = elim (either (is_same k.name n)) [
 
 -- ---- the deed that is next
 
-ready_first : (ds : List Deed) (d : Deed) → slice_get ds 0 ≡ Some d → ds ≡ d ∷ drop 1 ds
+pub ready_first : (ds : List Deed) (d : Deed) → slice_get ds 0 ≡ Some d → ds ≡ d ∷ drop 1 ds
 ready_first [] d e = absurd (let f : None ≡ Some d = e in cc)
 ready_first (x ∷ ds) d e = let f : Some x ≡ Some d = e in let g : x ≡ d = cc in ap (λ y. y ∷ ds) g
 
-module _ (d e : Deed) (is : d ≡ e) (fs ds : List Deed) where
+module _ (d e : Deed) (is : d ≡ e) (fs ds : List Deed) (es : Table (ℕ × Card)) (ws : Table Why) (hs : Table (List ℕ × ℕ)) (ks : Table Channel) (spare : List Held) (folds : List (List ℕ)) where
   -- what holds before it, by its variant
-  pub before : (ps : Vec Person Global) (ks : Vec Channel Global) (spare : Vec Held Global) → slice_get ds 0 ≡ Some d → IsKept ps ks spare fs ds → IsKept ps ks spare fs (e ∷ drop 1 ds)
-  before ps ks spare first i = subst (IsKept ps ks spare fs) (ready_first ds d first ∙ ap (λ x. x ∷ drop 1 ds) is) i
+  pub before : slice_get ds 0 ≡ Some d → IsKept es ws hs ks spare folds fs ds → IsKept es ws hs ks spare folds fs (e ∷ drop 1 ds)
+  before first i = subst (IsKept es ws hs ks spare folds fs) (ready_first ds d first ∙ ap (λ x. x ∷ drop 1 ds) is) i
 
   -- and after it
-  pub done : (ps : Vec Person Global) (ks : Vec Channel Global) (spare : Vec Held Global) (gs es : List Deed) → gs ≡ d ∷ fs → es ≡ drop 1 ds → IsKept ps ks spare (e ∷ fs) (drop 1 ds) → IsKept ps ks spare gs es
-  done ps ks spare gs es eg ee i =
-      subst (λ (xs : List Deed). IsKept ps ks spare xs es) (sym (eg ∙ ap (λ x. x ∷ fs) is)) (subst (IsKept ps ks spare (e ∷ fs)) (sym ee) i)
+  pub done : (gs rs : List Deed) → gs ≡ d ∷ fs → rs ≡ drop 1 ds → IsKept es ws hs ks spare folds (e ∷ fs) (drop 1 ds) → IsKept es ws hs ks spare folds gs rs
+  done gs rs eg er i = subst (λ (xs : List Deed). IsKept es ws hs ks spare folds xs rs) (sym (eg ∙ ap (λ x. x ∷ fs) is)) (subst (IsKept es ws hs ks spare folds (e ∷ fs)) (sym er) i)
+
+-- ---- the tables of sessions
+
+plain_tame : (d : Deed) → is_plain d ≡ true → is_tame d ≡ true
+plain_tame (Opened u h) p = refl
+plain_tame (NickSet u n) p = absurd (let f : false ≡ true = p in cc)
+plain_tame (UserSet u n r) p = refl
+plain_tame (HoldSet u x) p = refl
+plain_tame (CapsSet u x) p = refl
+plain_tame (ExchangeSet u x) p = refl
+plain_tame (LoggedIn u x) p = refl
+plain_tame (Enrolled u) p = refl
+plain_tame (AwaySet u x) p = refl
+plain_tame (InvisibleSet u x) p = refl
+plain_tame (ChannelMade u k) p = absurd (let f : false ≡ true = p in cc)
+plain_tame (Changed k x) p = absurd (let f : false ≡ true = p in cc)
+plain_tame (Ended u w x) p = refl
+plain_tame (Gone u) p = absurd (let f : false ≡ true = p in cc)
+
+plain_unmade : (d : Deed) → is_plain d ≡ true → is_making d ≡ false
+plain_unmade (Opened u h) p = refl
+plain_unmade (NickSet u n) p = absurd (let f : false ≡ true = p in cc)
+plain_unmade (UserSet u n r) p = refl
+plain_unmade (HoldSet u x) p = refl
+plain_unmade (CapsSet u x) p = refl
+plain_unmade (ExchangeSet u x) p = refl
+plain_unmade (LoggedIn u x) p = refl
+plain_unmade (Enrolled u) p = refl
+plain_unmade (AwaySet u x) p = refl
+plain_unmade (InvisibleSet u x) p = refl
+plain_unmade (ChannelMade u k) p = absurd (let f : false ≡ true = p in cc)
+plain_unmade (Changed k x) p = absurd (let f : false ≡ true = p in cc)
+plain_unmade (Ended u w x) p = refl
+plain_unmade (Gone u) p = absurd (let f : false ≡ true = p in cc)
+
+plain_unkeyed : (d : Deed) → is_plain d ≡ true → keyed_name d ≡ []
+plain_unkeyed (Opened u h) p = refl
+plain_unkeyed (NickSet u n) p = absurd (let f : false ≡ true = p in cc)
+plain_unkeyed (UserSet u n r) p = refl
+plain_unkeyed (HoldSet u x) p = refl
+plain_unkeyed (CapsSet u x) p = refl
+plain_unkeyed (ExchangeSet u x) p = refl
+plain_unkeyed (LoggedIn u x) p = refl
+plain_unkeyed (Enrolled u) p = refl
+plain_unkeyed (AwaySet u x) p = refl
+plain_unkeyed (InvisibleSet u x) p = refl
+plain_unkeyed (ChannelMade u k) p = absurd (let f : false ≡ true = p in cc)
+plain_unkeyed (Changed k x) p = absurd (let f : false ≡ true = p in cc)
+plain_unkeyed (Ended u w x) p = refl
+plain_unkeyed (Gone u) p = absurd (let f : false ≡ true = p in cc)
+
+module _ (es : List (ℕ × Card)) (ws : List Why) (hs : List (List ℕ × ℕ)) (fs : List Deed) (i : HoldPeople es ws hs fs) where
+  -- what is known of each after a fact
+  people_told : (d : Deed) (qs : List (ℕ × Card)) → ((t : ℕ) → person_at qs t ≡ cond (is_about t d) (heard d (person_at es t)) (person_at es t)) → (s : ℕ) → person_at qs s ≡ person (d ∷ fs) s
+  people_told d qs h s = h s ∙ ap (λ (p : Person). cond (is_about s d) (heard d p) p) (i.people s) ∙ sym (person_after d fs s)
+
+  -- why each ended
+  whys_told : (d : Deed) (vs : List Why) → ((t : ℕ) → why_at vs t ≡ unwrap_or (tells_why t d) (why_at ws t)) → (s : ℕ) → why_at vs s ≡ why (d ∷ fs) s
+  whys_told d vs h s = h s ∙ ap (unwrap_or (tells_why s d)) (i.whys s)
+
+  pub hold_told : (d : Deed) (qs : List (ℕ × Card)) (vs : List Why) (ls : List (List ℕ × ℕ)) → IsNext fs d
+      → ((t : ℕ) → person_at qs t ≡ cond (is_about t d) (heard d (person_at es t)) (person_at es t))
+      → ((t : ℕ) → why_at vs t ≡ unwrap_or (tells_why t d) (why_at ws t)) → length vs ≡ length ws + cond (is_opening d) 1 0 → AreHolders ls (d ∷ fs) → HoldPeople qs vs ls (d ∷ fs)
+  hold_told d qs vs ls x hp hw n hh = record {
+    people = people_told d qs hp;
+    whys = whys_told d vs hw;
+    opened = opened_after d fs (length ws) (length vs) i.opened x n;
+    holders = hh;
+  }
+
+  -- tables that show the same
+  pub hold_same : (qs : List (ℕ × Card)) (vs : List Why) (ls : List (List ℕ × ℕ)) → ((t : ℕ) → person_at qs t ≡ person_at es t) → vs ≡ ws → ls ≡ hs → HoldPeople qs vs ls fs
+  hold_same qs vs ls h ew eh =
+      subst (λ (xs : List (List ℕ × ℕ)). HoldPeople qs vs xs fs) (sym eh) (subst (λ (xs : List Why). HoldPeople qs xs hs fs) (sym ew)
+      (record { people = λ s. h s ∙ i.people s; whys = i.whys; opened = i.opened; holders = i.holders }))
+
+  pub of_deed : (d : Deed) → IsNext fs d → IsOf (length ws) d
+  of_deed d x = of_next d fs (length ws) i.opened x
+
+-- room for nothing
+pub room_none : (es : Table (ℕ × Card)) (ws : Table Why) (hs : Table (List ℕ × ℕ)) (ks : Table Channel) (spare : List Held) (folds : List (List ℕ)) → AreSpare 0 spare → HasRoom es ws hs ks spare folds []
+room_none es ws hs ks spare folds a = record { people = omega arith; whys = omega arith; nicks = omega arith; channels = omega arith; seats = seats_none ks.list; enough = omega arith; empty = a; keys = tt }
 
 -- ---- each deed
 
-module _ (ps : Vec Person Global) (ks : Vec Channel Global) (spare : Vec Held Global) (fs ds : List Deed) where
-  -- room for one deed fewer, where no list is taken
-  less : (d : Deed) (qs : Vec Person Global) (ls : Vec Channel Global) → is_making d ≡ false → HasRoom ps ks spare (d ∷ ds) → vec_len qs ≤ vec_len ps + 1 → vec_capacity qs ≡ vec_capacity ps → vec_len ls ≤ vec_len ks + 1 → vec_capacity ls ≡ vec_capacity ks → HaveSeats ds ls.items → HasRoom qs ls spare ds
-  less d qs ls other r lp cp lk ck seats = record {
-    people = let h = r.people in omega arith;
-    channels = let h = r.channels in omega arith;
-    seats = seats;
-    enough = let h = r.enough in let e = makings-cons d ds ∙ ap (λ b. cond b 1 0 + count_by is_making ds) other in omega arith;
-    empty = spare_less (length (d ∷ ds)) (length ds) spare.items (omega arith) r.empty;
-  }
+rest_of : (ks fs ms : List (List ℕ)) → ks ≡ [] → BeginWith (ks ++ fs) ms → BeginWith fs ms
+rest_of ks fs ms e b = subst (λ (xs : List (List ℕ)). BeginWith (xs ++ fs) ms) e b
 
-  -- the session of a fact was opened
-  within : (t : ℕ) → Stands ps.items ks.items fs → IsOpened fs t → t ≤ length ps.items
-  within t i o = let c = opened_count ps.items ks.items fs i in let to = o.1 in omega arith
+module _ (es : Table (ℕ × Card)) (ws : Table Why) (hs : Table (List ℕ × ℕ)) (ks : Table Channel) (spare : List Held) (folds : List (List ℕ)) (fs ds : List Deed) where
+  -- there is room for it
+  pub some_room : (d : Deed) → HasRoom es ws hs ks spare folds (d ∷ ds) → (0 < es.room) × (0 < ws.room) × (0 < hs.room) × (0 < ks.room)
+  some_room d r = ((let a = r.people in omega arith), (let a = r.whys in omega arith), (let a = r.nicks in omega arith), (let a = r.channels in omega arith))
 
-  pub kept_opened : (qs : Vec Person Global) (t : ℕ) (h : List ℕ) → IsKept ps ks spare fs (Opened t h ∷ ds) → qs.items ≡ ps.items ++ stranger h ∷ [] → vec_len qs ≡ vec_len ps + 1 → vec_capacity qs ≡ vec_capacity ps → IsKept qs ks spare (Opened t h ∷ fs) ds
-  kept_opened qs t h i e l c = record {
-    stands = subst (λ (xs : List Person). Stands xs ks.items (Opened t h ∷ fs)) (sym e) (stands_opened ps.items ks.items fs t h i.next.0 (opened_count ps.items ks.items fs i.stands) i.stands);
+  -- a fact of one session alone
+  pub kept_plain : (d : Deed) (qs : Table (ℕ × Card)) (vs : Table Why) → is_plain d ≡ true → IsKept es ws hs ks spare folds fs (d ∷ ds)
+      → ((t : ℕ) → person_at qs.list t ≡ cond (is_about t d) (heard d (person_at es.list t)) (person_at es.list t)) → es.room ≤ qs.room + 1
+      → ((t : ℕ) → why_at vs.list t ≡ unwrap_or (tells_why t d) (why_at ws.list t)) → length vs.list ≡ length ws.list + cond (is_opening d) 1 0 → ws.room - 1 ≤ vs.room
+      → IsKept qs vs hs ks spare folds (d ∷ fs) ds
+  kept_plain d qs vs p i hp rp hw n rw = record {
+    people = hold_told es.list ws.list hs.list fs i.people d qs.list vs.list hs.list i.next.0 hp hw n (holders_plain hs.list fs i.people.holders d p i.next.0);
+    channels = channels_plain d ks.list fs (plain_tame d p) i.channels;
     next = i.next.1;
-    room = less (Opened t h) qs ks refl i.room (omega arith) c (omega arith) refl (seats_less (Opened t h) ds ks.items i.room.seats);
+    room = record {
+      people = let a = i.room.people in omega arith;
+      whys = let a = i.room.whys in omega arith;
+      nicks = let a = i.room.nicks in omega arith;
+      channels = let a = i.room.channels in omega arith;
+      seats = seats_less d ds ks.list i.room.seats;
+      enough = let a = i.room.enough in let e = makings-cons d ds ∙ ap (λ b. cond b 1 0 + count_by is_making ds) (plain_unmade d p) in omega arith;
+      empty = spare_less (length (d ∷ ds)) (length ds) spare (omega arith) i.room.empty;
+      keys = rest_of (keyed_name d) (flat_map keyed_name ds) folds (plain_unkeyed d p) i.room.keys;
+    };
   }
 
-  -- a fact that tells of a session alone
-  told : (d : Deed) (qs : Vec Person Global) (after : List Person) → is_making d ≡ false → IsKept ps ks spare fs (d ∷ ds) → Stands after ks.items (d ∷ fs) → qs.items ≡ after → vec_len qs ≡ vec_len ps → vec_capacity qs ≡ vec_capacity ps → IsKept qs ks spare (d ∷ fs) ds
-  told d qs after other i stands e l c = record {
-    stands = subst (λ (xs : List Person). Stands xs ks.items (d ∷ fs)) (sym e) stands;
+  -- a nickname
+  pub kept_renamed : (t : ℕ) (n : List ℕ) (qs : Table (ℕ × Card)) (vs : Table Why) (mid ls : Table (List ℕ × ℕ)) (left : List (List ℕ)) → IsKept es ws hs ks spare folds fs (NickSet t n ∷ ds)
+      → ((s : ℕ) → person_at qs.list s ≡ cond (t == s) (record (person_at es.list s) { nick = Some n }) (person_at es.list s)) → es.room ≤ qs.room + 1
+      → ((s : ℕ) → why_at vs.list s ≡ unwrap_or (tells_why s (NickSet t n)) (why_at ws.list s)) → length vs.list ≡ length ws.list + 0 → ws.room - 1 ≤ vs.room
+      → Frees hs.list mid.list (nick fs t) → hs.room ≤ mid.room → ((j : List ℕ) → held_by ls.list j ≡ cond (bytes_eq (folded n) j) (Some t) (held_by mid.list j)) → mid.room ≤ ls.room + 1
+      → BeginWith (flat_map keyed_name ds) left → IsKept qs vs ls ks spare left (NickSet t n ∷ fs) ds
+  kept_renamed t n qs vs mid ls left i hp rp hw c rw hf rf ht rt b = record {
+    people = hold_told es.list ws.list hs.list fs i.people (NickSet t n) qs.list vs.list ls.list i.next.0 hp hw c
+        (holders_renamed hs.list fs i.people.holders mid.list t hf ls.list (length ws.list) n i.people.opened i.next.0.0 i.next.0.1 ht);
+    channels = channels_plain (NickSet t n) ks.list fs refl i.channels;
     next = i.next.1;
-    room = less d qs ks other i.room (omega arith) c (omega arith) refl (seats_less d ds ks.items i.room.seats);
+    room = record {
+      people = let a = i.room.people in omega arith;
+      whys = let a = i.room.whys in omega arith;
+      nicks = let a = i.room.nicks in omega arith;
+      channels = let a = i.room.channels in omega arith;
+      seats = seats_less (NickSet t n) ds ks.list i.room.seats;
+      enough = let a = i.room.enough in let e = makings-cons (NickSet t n) ds in omega arith;
+      empty = spare_less (length (NickSet t n ∷ ds)) (length ds) spare (omega arith) i.room.empty;
+      keys = b;
+    };
   }
 
-  pub kept_renamed : (qs : Vec Person Global) (t : ℕ) (n : List ℕ) → IsKept ps ks spare fs (NickSet t n ∷ ds) → qs.items ≡ with_person ps.items t (record (person_at ps.items t) { nick = Some n }) → vec_len qs ≡ vec_len ps → vec_capacity qs ≡ vec_capacity ps → IsKept qs ks spare (NickSet t n ∷ fs) ds
-  kept_renamed qs t n i e l c = told (NickSet t n) qs _ refl i (stands_renamed ps.items ks.items fs i.stands t n i.next.0.0 (within t i.stands i.next.0)) e l c
-
-  pub kept_introduced : (qs : Vec Person Global) (t : ℕ) (u r : List ℕ) → IsKept ps ks spare fs (UserSet t u r ∷ ds) → qs.items ≡ with_person ps.items t (record (person_at ps.items t) { user = Some u; real = Some r }) → vec_len qs ≡ vec_len ps → vec_capacity qs ≡ vec_capacity ps → IsKept qs ks spare (UserSet t u r ∷ fs) ds
-  kept_introduced qs t u r i e l c = told (UserSet t u r) qs _ refl i (stands_introduced ps.items ks.items fs i.stands t u r i.next.0.0 (within t i.stands i.next.0)) e l c
-
-  pub kept_held : (qs : Vec Person Global) (t : ℕ) (v : Bool) → IsKept ps ks spare fs (HoldSet t v ∷ ds) → qs.items ≡ with_person ps.items t (record (person_at ps.items t) { held = v }) → vec_len qs ≡ vec_len ps → vec_capacity qs ≡ vec_capacity ps → IsKept qs ks spare (HoldSet t v ∷ fs) ds
-  kept_held qs t v i e l c = told (HoldSet t v) qs _ refl i (stands_held ps.items ks.items fs i.stands t v i.next.0.0 (within t i.stands i.next.0)) e l c
-
-  pub kept_equipped : (qs : Vec Person Global) (t : ℕ) (k : Caps) → IsKept ps ks spare fs (CapsSet t k ∷ ds) → qs.items ≡ with_person ps.items t (record (person_at ps.items t) { caps = k }) → vec_len qs ≡ vec_len ps → vec_capacity qs ≡ vec_capacity ps → IsKept qs ks spare (CapsSet t k ∷ fs) ds
-  kept_equipped qs t k i e l c = told (CapsSet t k) qs _ refl i (stands_equipped ps.items ks.items fs i.stands t k i.next.0.0 (within t i.stands i.next.0)) e l c
-
-  pub kept_exchanging : (qs : Vec Person Global) (t : ℕ) (x : Option (List ℕ)) → IsKept ps ks spare fs (ExchangeSet t x ∷ ds) → qs.items ≡ with_person ps.items t (record (person_at ps.items t) { exchange = x }) → vec_len qs ≡ vec_len ps → vec_capacity qs ≡ vec_capacity ps → IsKept qs ks spare (ExchangeSet t x ∷ fs) ds
-  kept_exchanging qs t x i e l c = told (ExchangeSet t x) qs _ refl i (stands_exchanging ps.items ks.items fs i.stands t x i.next.0.0 (within t i.stands i.next.0)) e l c
-
-  pub kept_logged_in : (qs : Vec Person Global) (t : ℕ) (a : List ℕ) → IsKept ps ks spare fs (LoggedIn t a ∷ ds) → qs.items ≡ with_person ps.items t (record (person_at ps.items t) { account = Some a }) → vec_len qs ≡ vec_len ps → vec_capacity qs ≡ vec_capacity ps → IsKept qs ks spare (LoggedIn t a ∷ fs) ds
-  kept_logged_in qs t a i e l c = told (LoggedIn t a) qs _ refl i (stands_logged_in ps.items ks.items fs i.stands t a i.next.0.0 (within t i.stands i.next.0)) e l c
-
-  pub kept_enrolled : (qs : Vec Person Global) (t : ℕ) → IsKept ps ks spare fs (Enrolled t ∷ ds) → qs.items ≡ with_person ps.items t (record (person_at ps.items t) { registered = true }) → vec_len qs ≡ vec_len ps → vec_capacity qs ≡ vec_capacity ps → IsKept qs ks spare (Enrolled t ∷ fs) ds
-  kept_enrolled qs t i e l c = told (Enrolled t) qs _ refl i (stands_enrolled ps.items ks.items fs i.stands t i.next.0.0 (within t i.stands i.next.0)) e l c
-
-  pub kept_ended : (qs : Vec Person Global) (t : ℕ) (w : Why) (x : List ℕ) → IsKept ps ks spare fs (Ended t w x ∷ ds) → qs.items ≡ with_person ps.items t (record (person_at ps.items t) { why = w; parting = x }) → vec_len qs ≡ vec_len ps → vec_capacity qs ≡ vec_capacity ps → IsKept qs ks spare (Ended t w x ∷ fs) ds
-  kept_ended qs t w x i e l c = told (Ended t w x) qs _ refl i (stands_ended ps.items ks.items fs i.stands t w x i.next.0.0 (within t i.stands i.next.0)) e l c
-
-  pub kept_away : (qs : Vec Person Global) (t : ℕ) (x : Option (List ℕ)) → IsKept ps ks spare fs (AwaySet t x ∷ ds) → qs.items ≡ with_person ps.items t (record (person_at ps.items t) { away = x }) → vec_len qs ≡ vec_len ps → vec_capacity qs ≡ vec_capacity ps → IsKept qs ks spare (AwaySet t x ∷ fs) ds
-  kept_away qs t x i e l c = told (AwaySet t x) qs _ refl i (stands_away ps.items ks.items fs i.stands t x i.next.0.0 (within t i.stands i.next.0)) e l c
-
-  pub kept_hidden : (qs : Vec Person Global) (t : ℕ) (v : Bool) → IsKept ps ks spare fs (InvisibleSet t v ∷ ds) → qs.items ≡ with_person ps.items t (record (person_at ps.items t) { invisible = v }) → vec_len qs ≡ vec_len ps → vec_capacity qs ≡ vec_capacity ps → IsKept qs ks spare (InvisibleSet t v ∷ fs) ds
-  kept_hidden qs t v i e l c = told (InvisibleSet t v) qs _ refl i (stands_hidden ps.items ks.items fs i.stands t v i.next.0.0 (within t i.stands i.next.0)) e l c
-
-  pub kept_changed : (ls : Vec Channel Global) (n : List ℕ) (x : Change) → IsKept ps ks spare fs (Changed n x ∷ ds) → Changes ks.items ls.items n x → vec_len ls ≤ vec_len ks → vec_capacity ls ≡ vec_capacity ks → IsKept ps ls spare (Changed n x ∷ fs) ds
-  kept_changed ls n x i v l c = record {
-    stands = stands_changed ps.items ks.items fs i.stands ls.items n x i.next.0.0 v;
+  -- a session is gone
+  pub kept_gone : (t : ℕ) (qs : Table (ℕ × Card)) (vs : Table Why) (ls : Table (List ℕ × ℕ)) (ms : Table Channel) → IsKept es ws hs ks spare folds fs (Gone t ∷ ds)
+      → ((s : ℕ) → person_at qs.list s ≡ cond (t == s) nobody (person_at es.list s)) → es.room ≤ qs.room
+      → ((s : ℕ) → why_at vs.list s ≡ unwrap_or (tells_why s (Gone t)) (why_at ws.list s)) → length vs.list ≡ length ws.list + 0 → ws.room - 1 ≤ vs.room
+      → Frees hs.list ls.list (nick fs t) → hs.room ≤ ls.room → LeavesAll ks.list ms.list t → ks.room ≤ ms.room → IsKept qs vs ls ms spare folds (Gone t ∷ fs) ds
+  kept_gone t qs vs ls ms i hp rp hw c rw hf rf v rk = record {
+    people = hold_told es.list ws.list hs.list fs i.people (Gone t) qs.list vs.list ls.list i.next.0 hp hw c (holders_gone hs.list fs i.people.holders ls.list t hf);
+    channels = channels_gone ks.list fs i.channels ms.list t v;
     next = i.next.1;
-    room = less (Changed n x) ps ls refl i.room (omega arith) refl (omega arith) c (subst (HaveSeats ds) (sym v.ended) (seats-populated ds v.between (subst (HaveSeats ds) (sym v.reholds.changed) (seats_taken x n ds ks.items v.reholds.held i.room.seats v.reholds.room))));
+    room = record {
+      people = let a = i.room.people in omega arith;
+      whys = let a = i.room.whys in omega arith;
+      nicks = let a = i.room.nicks in omega arith;
+      channels = let a = i.room.channels in omega arith;
+      seats = subst (HaveSeats ds) (sym v.ended) (seats-populated ds v.between (seats_without t ds ks.list v.between v.left (seats_less (Gone t) ds ks.list i.room.seats)));
+      enough = let a = i.room.enough in let e = makings-cons (Gone t) ds in omega arith;
+      empty = spare_less (length (Gone t ∷ ds)) (length ds) spare (omega arith) i.room.empty;
+      keys = i.room.keys;
+    };
   }
 
-  pub kept_gone : (qs : Vec Person Global) (ls : Vec Channel Global) (t : ℕ) → IsKept ps ks spare fs (Gone t ∷ ds) → qs.items ≡ with_person ps.items t nobody → vec_len qs ≡ vec_len ps → vec_capacity qs ≡ vec_capacity ps → LeavesAll ks.items ls.items t → vec_len ls ≤ vec_len ks → vec_capacity ls ≡ vec_capacity ks → IsKept qs ls spare (Gone t ∷ fs) ds
-  kept_gone qs ls t i e ql qc v ll lc = record {
-    stands = subst (λ (xs : List Person). Stands xs ls.items (Gone t ∷ fs)) (sym e) (stands_gone ps.items ks.items fs i.stands ls.items t i.next.0.0 (within t i.stands i.next.0) v);
+  -- a channel changed
+  pub kept_changed : (n : List ℕ) (x : Change) (qs : Table (ℕ × Card)) (vs : Table Why) (ms : Table Channel) (left : List (List ℕ)) → IsKept es ws hs ks spare folds fs (Changed n x ∷ ds)
+      → ((s : ℕ) → person_at qs.list s ≡ person_at es.list s) → qs.room ≡ es.room
+      → ((s : ℕ) → why_at vs.list s ≡ unwrap_or (tells_why s (Changed n x)) (why_at ws.list s)) → length vs.list ≡ length ws.list + 0 → ws.room - 1 ≤ vs.room
+      → Changes ks.list ms.list n x → ks.room ≤ ms.room → BeginWith (flat_map keyed_name ds) left → IsKept qs vs hs ms spare left (Changed n x ∷ fs) ds
+  kept_changed n x qs vs ms left i hp rp hw c rw v rk b = record {
+    people = hold_told es.list ws.list hs.list fs i.people (Changed n x) qs.list vs.list hs.list i.next.0 hp hw c (record { found = i.people.holders.found; named = i.people.holders.named; opened = i.people.holders.opened });
+    channels = channels_changed ks.list fs i.channels ms.list n x i.next.0.0 v;
     next = i.next.1;
-    room = less (Gone t) qs ls refl i.room (omega arith) qc (omega arith) lc (subst (HaveSeats ds) (sym v.ended) (seats-populated ds v.between (seats_without t ds ks.items v.between v.left (seats_less (Gone t) ds ks.items i.room.seats))));
+    room = record {
+      people = let a = i.room.people in omega arith;
+      whys = let a = i.room.whys in omega arith;
+      nicks = let a = i.room.nicks in omega arith;
+      channels = let a = i.room.channels in omega arith;
+      seats = subst (HaveSeats ds) (sym v.ended) (seats-populated ds v.between (subst (HaveSeats ds) (sym v.reholds.changed) (seats_taken x n ds ks.list v.reholds.held i.room.seats v.reholds.room)));
+      enough = let a = i.room.enough in let e = makings-cons (Changed n x) ds in omega arith;
+      empty = spare_less (length (Changed n x ∷ ds)) (length ds) spare (omega arith) i.room.empty;
+      keys = b;
+    };
   }
 
-  pub kept_made : (ls : Vec Channel Global) (left : Vec Held Global) (t : ℕ) (n : List ℕ) → IsKept ps ks spare fs (ChannelMade t n ∷ ds) → ((k : ℕ) → AreSpare (suc k) spare.items → Makes ks.items ls.items n t k × AreSpare k left.items) → length left.items + 1 ≡ length spare.items → vec_len ls ≤ vec_len ks + 1 → vec_capacity ls ≡ vec_capacity ks → IsKept ps ls left (ChannelMade t n ∷ fs) ds
-  kept_made ls left t n i make fewer l c =
+  -- a channel was made
+  pub kept_made : (t : ℕ) (n : List ℕ) (qs : Table (ℕ × Card)) (vs : Table Why) (ms : Table Channel) (rest : List Held) (left : List (List ℕ)) → IsKept es ws hs ks spare folds fs (ChannelMade t n ∷ ds)
+      → ((s : ℕ) → person_at qs.list s ≡ person_at es.list s) → qs.room ≡ es.room
+      → ((s : ℕ) → why_at vs.list s ≡ unwrap_or (tells_why s (ChannelMade t n)) (why_at ws.list s)) → length vs.list ≡ length ws.list + 0 → ws.room - 1 ≤ vs.room
+      → ((k : ℕ) → AreSpare (suc k) spare → Makes ks.list ms.list n t k × AreSpare k rest) → length rest + 1 ≡ length spare → ks.room ≤ ms.room + 1 → BeginWith (flat_map keyed_name ds) left
+      → IsKept qs vs hs ms rest left (ChannelMade t n ∷ fs) ds
+  kept_made t n qs vs ms rest left i hp rp hw c rw make fewer rk b =
       let m = make (length ds) i.room.empty in
       record {
-        stands = stands_made ps.items ks.items fs i.stands ls.items t (length ds) n i.next.0 m.0;
+        people = hold_told es.list ws.list hs.list fs i.people (ChannelMade t n) qs.list vs.list hs.list i.next.0 hp hw c (record { found = i.people.holders.found; named = i.people.holders.named; opened = i.people.holders.opened });
+        channels = channels_made ks.list fs i.channels ms.list t (length ds) n i.next.0 m.0;
         next = i.next.1;
         room = record {
-          people = let h = i.room.people in omega arith;
-          channels = let h = i.room.channels in omega arith;
-          seats = subst (HaveSeats ds) (sym m.0.added) (seats-push ds ks.items (record { name = n; held = m.0.held }) (seats_less (ChannelMade t n) ds ks.items i.room.seats) (let few = changes_few n ds in let r = m.0.room in omega arith));
+          people = let a = i.room.people in omega arith;
+          whys = let a = i.room.whys in omega arith;
+          nicks = let a = i.room.nicks in omega arith;
+          channels = let a = i.room.channels in omega arith;
+          seats = subst (HaveSeats ds) (sym m.0.added) (seats-push ds ks.list (record { name = n; held = m.0.held }) (seats_less (ChannelMade t n) ds ks.list i.room.seats) (let few = changes_few n ds in let r = m.0.room in omega arith));
           enough = let h = i.room.enough in let e = makings-cons (ChannelMade t n) ds in omega arith;
           empty = m.1;
+          keys = b;
         };
       }
 
--- ---- the server ends a session, with no room made
+  -- the server ends a session, with no room made
+  pub kept_end : (t : ℕ) (w : Why) (qs : Table (ℕ × Card)) (vs : Table Why) → IsKept es ws hs ks spare folds fs ds → IsOpened fs t
+      → ((s : ℕ) → person_at qs.list s ≡ cond (t == s) (record (person_at es.list s) { parting = [] }) (person_at es.list s))
+      → ((s : ℕ) → why_at vs.list s ≡ cond (t == s) w (why_at ws.list s)) → length vs.list ≡ length ws.list → IsKept qs vs hs ks spare folds (Ended t w [] ∷ fs) []
+  kept_end t w qs vs i o hp hw c = record {
+    people = hold_told es.list ws.list hs.list fs i.people (Ended t w []) qs.list vs.list hs.list o hp
+        (λ s. hw s ∙ told (t == s) (why_at ws.list s)) (let e = c in omega arith) (holders_plain hs.list fs i.people.holders (Ended t w []) refl o);
+    channels = channels_plain (Ended t w []) ks.list fs refl i.channels;
+    next = tt;
+    room = record { people = omega arith; whys = omega arith; nicks = omega arith; channels = omega arith; seats = seats_none ks.list; enough = omega arith; empty = spare_less (length ds) 0 spare (omega arith) i.room.empty; keys = tt };
+  }
+    where
+      told : (b : Bool) (v : Why) → cond b w v ≡ unwrap_or (cond b (Some w) None) v
+      told true v = refl
+      told false v = refl
 
-pub kept_end : (ps qs : Vec Person Global) (ks : Vec Channel Global) (spare : Vec Held Global) (fs ds : List Deed) (t : ℕ) (w : Why) (x : List ℕ) → IsKept ps ks spare fs ds → IsOpened fs t → qs.items ≡ with_person ps.items t (record (person_at ps.items t) { why = w; parting = x }) → vec_len qs ≡ vec_len ps → vec_capacity qs ≡ vec_capacity ps → IsKept qs ks spare (Ended t w x ∷ fs) []
-kept_end ps qs ks spare fs ds t w x i o e l c =
-    let none = room_none ps ks spare ds i.room in
-    record {
-      stands = subst (λ (xs : List Person). Stands xs ks.items (Ended t w x ∷ fs)) (sym e) (stands_ended ps.items ks.items fs i.stands t w x o.0 (let n = opened_count ps.items ks.items fs i.stands in let to = o.1 in omega arith));
-      next = tt;
-      room = record { people = let h = none.people in omega arith; channels = none.channels; seats = none.seats; enough = none.enough; empty = none.empty };
-    }
+  -- tables that show the same, with other room
+  pub kept_again : (qs : Table (ℕ × Card)) (vs : Table Why) (ls : Table (List ℕ × ℕ)) (ms : Table Channel) (rest : List Held) (left : List (List ℕ)) (rs : List Deed) → IsKept es ws hs ks spare folds fs ds
+      → ((t : ℕ) → person_at qs.list t ≡ person_at es.list t) → vs.list ≡ ws.list → ls.list ≡ hs.list → Alike ks.list ms.list → AreNext fs rs → HasRoom qs vs ls ms rest left rs → IsKept qs vs ls ms rest left fs rs
+  kept_again qs vs ls ms rest left rs i h ew eh a n r = record {
+    people = hold_same es.list ws.list hs.list fs i.people qs.list vs.list ls.list h ew eh;
+    channels = channels_alike ks.list ms.list fs a i.channels;
+    next = n;
+    room = r;
+  }
 
--- it is ready for nothing
-pub kept_idle : (ps : Vec Person Global) (ks : Vec Channel Global) (spare : Vec Held Global) (fs ds : List Deed) → IsKept ps ks spare fs ds → IsKept ps ks spare fs []
-kept_idle ps ks spare fs ds i = record { stands = i.stands; next = tt; room = room_none ps ks spare ds i.room }
+  -- it is ready for nothing
+  pub kept_idle : IsKept es ws hs ks spare folds fs ds → IsKept es ws hs ks spare folds fs []
+  kept_idle i = record {
+    people = i.people;
+    channels = i.channels;
+    next = tt;
+    room = record { people = omega arith; whys = omega arith; nicks = omega arith; channels = omega arith; seats = seats_none ks.list; enough = omega arith; empty = spare_less (length ds) 0 spare (omega arith) i.room.empty; keys = tt };
+  }

@@ -1,5 +1,5 @@
 -- A session leaves all channels.
-use Rattle.std.proofs.Common.{◌≡◌, ℕ, zero, suc, ◌+◌, ◌<◌, ◌≤◌, true, false, ◌||◌, cond, List, [], ◌∷◌, length, get_or, slice_set, Some, arith, refl, ap, ◌∙◌, subst}
+use Rattle.std.proofs.Common.{◌≡◌, ℕ, zero, suc, ◌+◌, ◌≤◌, true, false, ◌||◌, cond, List, [], ◌∷◌, length, slice_get, slice_set, Option, Some, None, arith, refl, sym, ap, ◌∙◌, subst}
 use Rattle.std.specs.List.{list_any}
 use Rattle.std.specs.Option.{option_map, option_map_or}
 use Rattle.roster.specs.declared.deed.Deed.{Deed}
@@ -7,7 +7,7 @@ use Rattle.roster.specs.declared.tables.Channel.{Channel}
 use Rattle.channel_state.specs.Held.{Held}
 use Rattle.casemapping.specs.Fold.{is_same}
 use Rattle.channel_state.specs.State.{nothing, departed}
-use Rattle.roster.specs.Tables.{channel_of, state_in, name_in, names_of, AreWithout}
+use Rattle.roster.specs.Tables.{channel_of, state_in, name_in, names_of, AreWithout, DepartsAt}
 use Rattle.roster.specs.Stands.{AreApart, HaveSeats, changes}
 
 -- the session is taken out of the first i
@@ -29,20 +29,27 @@ swept_all t i (k ∷ ks) [] l a = absurd a
 swept_all t zero (k ∷ ks) (x ∷ ls) l a = absurd (omega arith)
 swept_all t (suc i) (k ∷ ks) (x ∷ ls) l a = (a.0, a.1, a.2, swept_all t i ks ls (omega arith) a.3)
 
-swept_suc : (t i : ℕ) (ks ls : List Channel) (d : Channel) (m : Held) → i < length ks → AreSwept t i ks ls → m.state ≡ departed t (get_or ls i d).held.state → (get_or ls i d).held.room ≤ m.room
-    → AreSwept t (suc i) ks (slice_set ls i (record { name = (get_or ls i d).name; held = m }))
-swept_suc t i [] ls d m l a e r = absurd (omega arith)
-swept_suc t i (k ∷ ks) [] d m l a e r = absurd a
-swept_suc t zero (k ∷ ks) (x ∷ ls) d m l a e r =
-    let room : x.held.room ≡ k.held.room = ap (λ (y : Channel). y.held.room) a.0 in
-    (ap (λ (y : Channel). y.name) a.0, e ∙ ap (λ (y : Channel). departed t y.held.state) a.0, omega arith, a.1)
-swept_suc t (suc i) (k ∷ ks) (x ∷ ls) d m l a e r = (a.0, a.1, a.2, swept_suc t i ks ls d m (omega arith) a.3 e r)
+pub swept_length : (t i : ℕ) (ks ls : List Channel) → AreSwept t i ks ls → length ls ≡ length ks
+swept_length t i [] [] a = refl
+swept_length t i [] (x ∷ ls) a = absurd a
+swept_length t i (k ∷ ks) [] a = absurd a
+swept_length t zero (k ∷ ks) (x ∷ ls) a = ap suc (swept_length t zero ks ls a.1)
+swept_length t (suc i) (k ∷ ks) (x ∷ ls) a = ap suc (swept_length t i ks ls a.3)
 
-pub swept_more : (t i : ℕ) (ks ls : List Channel) (d : Channel) (m : Held) → i < length ks → AreSwept t i ks ls → m.state ≡ departed t (get_or ls i d).held.state → (get_or ls i d).held.room ≤ m.room
-    → AreSwept t (i + 1) ks (slice_set ls i (record { name = (get_or ls i d).name; held = m }))
-swept_more t i ks ls d m l a e r =
+swept_suc : (t i : ℕ) (ks ls : List Channel) (d : Channel) (m : Held) → AreSwept t i ks ls → slice_get ls i ≡ Some d → m.state ≡ departed t d.held.state → d.held.room ≤ m.room → AreSwept t (suc i) ks (slice_set ls i (record { name = d.name; held = m }))
+swept_suc t i [] [] d m a at e r = absurd (let f : ◌≡◌ {A = Option Channel} None (Some d) = at in cc)
+swept_suc t i [] (x ∷ ls) d m a at e r = absurd a
+swept_suc t i (k ∷ ks) [] d m a at e r = absurd a
+swept_suc t zero (k ∷ ks) (x ∷ ls) d m a at e r =
+    let f : Some x ≡ Some d = at in let same : d ≡ k = (let g : d ≡ x = cc in g ∙ a.0) in
+    let room : d.held.room ≡ k.held.room = ap (λ (y : Channel). y.held.room) same in
+    (ap (λ (y : Channel). y.name) same, e ∙ ap (λ (y : Channel). departed t y.held.state) same, omega arith, a.1)
+swept_suc t (suc i) (k ∷ ks) (x ∷ ls) d m a at e r = (a.0, a.1, a.2, swept_suc t i ks ls d m a.3 at e r)
+
+pub swept_more : (t i : ℕ) (ks ls ms : List Channel) → AreSwept t i ks ls → DepartsAt ls ms i t → AreSwept t (i + 1) ks ms
+swept_more t i ks ls ms a d =
     let f : suc i ≡ i + 1 = omega arith in
-    subst (λ (n : ℕ). AreSwept t n ks (slice_set ls i (record { name = (get_or ls i d).name; held = m }))) f (swept_suc t i ks ls d m l a e r)
+    subst (λ (n : ℕ). AreSwept t n ks ms) f (subst (AreSwept t (suc i) ks) (sym d.changed) (swept_suc t i ks ls d.was d.held a d.at d.state d.room))
 
 -- ---- what is looked up
 

@@ -1,9 +1,6 @@
 -- Room for deeds.
-use Rattle.std.proofs.Common.{◌≡◌, ℕ, zero, suc, ◌+◌, ◌<◌, ◌≤◌, Bool, true, false, cond, List, [], ◌∷◌, ◌++◌, length, take, ◌||◌, inl, inr, Option, Some, None, count_by, slice_set, get_or, arith, refl, sym, ap, ◌∙◌, subst}
+use Rattle.std.proofs.Common.{◌≡◌, ℕ, ◌+◌, ◌<◌, ◌≤◌, Bool, true, false, cond, List, [], ◌∷◌, ◌++◌, length, take, ◌||◌, inl, inr, Option, Some, None, count_by, get_or, arith, refl, sym, ap, ◌∙◌, subst}
 use Rattle.std.proofs.lemmas.List.Sums.{sum_by-cons, count_by-le-length}
-use Rattle.std.specs.declared.vec.Vec.{Vec}
-use Rattle.std.specs.declared.alloc.Global.{Global}
-use Rattle.roster.specs.declared.tables.Person.{Person}
 use Rattle.roster.specs.declared.deed.Deed.{Deed}
 use Rattle.roster.specs.declared.tables.Channel.{Channel}
 use Rattle.channel_state.specs.State.{nothing}
@@ -15,8 +12,8 @@ use Rattle.std.proofs.lemmas.List.Folds.{list_any-append}
 use Rattle.casemapping.specs.Fold.{is_same}
 use Rattle.casemapping.proofs.SameNames.{is_same-left, is_same-sym}
 use Rattle.roster.specs.declared.deed.Deed.TheVariants.{Opened, NickSet, UserSet, HoldSet, CapsSet, ExchangeSet, LoggedIn, Enrolled, AwaySet, InvisibleSet, ChannelMade, Changed, Ended, Gone}
-use Rattle.roster.specs.Tables.{with_held}
-use Rattle.roster.specs.Stands.{HaveSeats, AreSpare, Alike, AreApart, Reserves, ReservesBy, changed_name, is_change, changes, is_making, HasRoom}
+use Rattle.roster.specs.Tables.{channel_of, with_held}
+use Rattle.roster.specs.Stands.{HaveSeats, AreSpare, Alike, AreApart, ReservesBy, changed_name, is_change, changes, is_making}
 use Rattle.roster.proofs.Bools.{either, or-none, or-false}
 use Rattle.roster.proofs.ChannelTable.{apart-with}
 
@@ -68,22 +65,12 @@ pub alike_refl : (ks : List Channel) → Alike ks ks
 alike_refl [] = tt
 alike_refl (k ∷ ks) = (refl, refl, alike_refl ks)
 
-pub alike_set : (ks ls : List Channel) (i : ℕ) (d : Channel) (m : Held) → Alike ks ls → m.state ≡ (get_or ls i d).held.state → Alike ks (slice_set ls i (record { name = (get_or ls i d).name; held = m }))
-alike_set [] [] i d m a e = tt
-alike_set [] (l ∷ ls) i d m a e = absurd a
-alike_set (k ∷ ks) [] i d m a e = absurd a
-alike_set (k ∷ ks) (l ∷ ls) zero d m a e = (a.0, e ∙ a.1, a.2)
-alike_set (k ∷ ks) (l ∷ ls) (suc i) d m a e = (a.0, a.1, alike_set ks ls i d m a.2 e)
-
--- there is room for no deeds
-pub room_none : (ps : Vec Person Global) (ks : Vec Channel Global) (spare : Vec Held Global) (ds : List Deed) → HasRoom ps ks spare ds → HasRoom ps ks spare []
-room_none ps ks spare ds r = record {
-  people = let h = r.people in omega arith;
-  channels = let h = r.channels in omega arith;
-  seats = seats_none ks.items;
-  enough = omega arith;
-  empty = spare_less (length ds) 0 spare.items (omega arith) r.empty;
-}
+pub alike_with : (ks : List Channel) (c : List ℕ) (m : Held) → ((x : Channel) → channel_of ks c ≡ Some x → m.state ≡ x.held.state) → Alike ks (with_held ks c m)
+alike_with [] c m e = tt
+alike_with (k ∷ ks) c m e = elim (either (is_same k.name c)) [
+  | inl same ↦ rw same (refl, e k (ap (λ b. cond b (Some k) (channel_of ks c)) same), alike_refl ks)
+  | inr miss ↦ rw miss (refl, refl, alike_with ks c m (λ x at. e x (ap (λ b. cond b (Some k) (channel_of ks c)) miss ∙ at)))
+]
 
 -- ---- room in the channels that deeds change
 

@@ -1,14 +1,13 @@
 -- Tables with the same names and members stand for the same facts.
-use Rattle.std.proofs.Common.{◌≡◌, ℕ, true, false, ◌||◌, cond, List, [], ◌∷◌, Some, refl, sym, ap, ◌∙◌, subst}
+use Rattle.std.proofs.Common.{◌≡◌, ℕ, true, false, ◌||◌, cond, List, [], ◌∷◌, Some, refl, sym, ap, ◌∙◌}
 use Rattle.std.specs.List.{list_any}
 use Rattle.std.specs.Option.{option_map, option_map_or}
 use Rattle.casemapping.specs.Fold.{is_same}
 use Rattle.channel_state.specs.State.{State, is_some_one, nothing}
 use Rattle.roster.specs.declared.deed.Deed.{Deed}
-use Rattle.roster.specs.declared.tables.Person.{Person}
 use Rattle.roster.specs.declared.tables.Channel.{Channel}
 use Rattle.roster.specs.Tables.{channel_of, state_in, name_in, names_of}
-use Rattle.roster.specs.Stands.{Alike, AreApart, AreHeld, Stands}
+use Rattle.roster.specs.Stands.{Alike, AreApart, AreHeld, HoldChannels}
 
 states_alike : (ks ls : List Channel) (c : List ℕ) → Alike ks ls → state_in ls c ≡ state_in ks c
 states_alike [] [] c a = refl
@@ -56,14 +55,11 @@ held_alike [] (l ∷ ls) a h = absurd a
 held_alike (k ∷ ks) [] a h = absurd a
 held_alike (k ∷ ks) (l ∷ ls) a h = (ap (λ (st : State). is_some_one st.members) a.1 ∙ h.0, held_alike ks ls a.2 h.1)
 
-pub stands_alike : (ps qs : List Person) (ks ls : List Channel) (fs : List Deed) → qs ≡ ps → Alike ks ls → Stands ps ks fs → Stands qs ls fs
-stands_alike ps qs ks ls fs e a i =
-    subst (λ (rs : List Person). Stands rs ls fs) (sym e) (record {
-      people = i.people;
-      opened = i.opened;
-      states = λ c. states_alike ks ls c a ∙ i.states c;
-      names = λ c. names_alike ks ls c a ∙ i.names c;
-      channels = i.channels ∙ sym (names_of_alike ks ls a);
-      apart = apart_alike ks ls a i.apart;
-      held = held_alike ks ls a i.held;
-    })
+pub channels_alike : (ks ls : List Channel) (fs : List Deed) → Alike ks ls → HoldChannels ks fs → HoldChannels ls fs
+channels_alike ks ls fs a i = record {
+  states = λ c. states_alike ks ls c a ∙ i.states c;
+  names = λ c. names_alike ks ls c a ∙ i.names c;
+  channels = i.channels ∙ sym (names_of_alike ks ls a);
+  apart = apart_alike ks ls a i.apart;
+  held = held_alike ks ls a i.held;
+}

@@ -3,21 +3,21 @@ use Rattle.std.proofs.lemmas.Bool.Decides.{eqb_tells}
 use Rattle.std.proofs.lemmas.List.{take_more, take_all}
 use Rattle.std.proofs.lemmas.List.Folds.{list_any-append}
 use Rattle.std.proofs.lemmas.List.Sums.{sum_by-cons, count_by-le-length}
-use Rattle.std.proofs.Common.{◌≡◌, ◌≢◌, inl, inr, ℕ, zero, suc, ◌+◌, ◌<◌, ◌≤◌, Bool, true, false, not, ◌||◌, ◌==◌, cond, List, [], ◌∷◌, ◌++◌, filter, length, take, drop, get_or, slice_get, slice_set, unwrap_or, Option, Some, None, arith, refl, sym, ap, ◌∙◌, subst}
+use Rattle.std.proofs.Common.{◌≡◌, inl, inr, ℕ, ◌+◌, ◌<◌, ◌≤◌, Bool, true, false, not, ◌||◌, ◌==◌, cond, List, [], ◌∷◌, ◌++◌, filter, length, take, drop, get_or, slice_get, unwrap_or, Option, Some, None, arith, refl, sym, ap, ◌∙◌, subst}
 use Rattle.std.specs.List.{flat_map, list_any}
 use Rattle.casemapping.specs.Fold.{is_same}
 use Rattle.casemapping.proofs.SameNames.{is_same-refl, is_same-sym}
 use Rattle.channel_state.specs.declared.change.Change.{Change}
 use Rattle.channel_state.specs.declared.change.Change.TheVariants.{Joined, Left, RankSet, FlagSet, KeySet, LimitSet, TopicSet, BanSet, BanLifted, Invited}
-use Rattle.channel_state.specs.State.{among, is_some_one}
 use Rattle.chronicle.specs.declared.why.Why.{Why}
 use Rattle.roster.specs.declared.deed.Deed.{Deed}
 use Rattle.roster.specs.declared.deed.Deed.TheVariants.{Opened, NickSet, UserSet, HoldSet, CapsSet, ExchangeSet, LoggedIn, Enrolled, AwaySet, InvisibleSet, ChannelMade, Changed, Ended, Gone}
-use Rattle.roster.specs.LookBack.{on, members, has_member, tells_seat, is_join, joins, channels_on, without_name, with_last_name}
+use Rattle.roster.specs.LookBack.{on, members, has_member, tells_seat, joins, channels_on, without_name, with_last_name}
 use Rattle.roster.specs.Legal.{IsNext, AreNext}
-use Rattle.roster.specs.Row.{Row}
+use Rattle.roster.specs.declared.tables.Card.{Card}
 use Rattle.roster.specs.declared.lists.Seat.{Seat}
-use Rattle.roster.specs.Lists.{row_of, seat_of, is_taken, reseated, relisted, is_joining, joinings, made_name, Relists, Widens, BeginWith, AreListed}
+use Rattle.roster.specs.Tables.{is_plain}
+use Rattle.roster.specs.Lists.{row_of, seat_of, is_taken, reseated, relisted, is_joining, joinings, made_name, keyed_name, Relists, Widens, BeginWith, AreListed}
 use Rattle.roster.proofs.Bools.{either, or-none, or-false}
 use Rattle.roster.proofs.OnChannels.{among-members, on-same, someone}
 
@@ -186,14 +186,14 @@ channels_after fs s (Gone t) n = after_going fs t s
 pub joinings-cons : (s : ℕ) (d : Deed) (ds : List Deed) → joinings s (d ∷ ds) ≡ cond (is_joining s d) 1 0 + joinings s ds
 joinings-cons s d ds = sum_by-cons (λ (e : Deed). cond (is_joining s e) 1 0) d ds
 
-listed : (fs ds : List Deed) (d : Deed) (rs qs : List Row) (copies left : List (List ℕ)) → IsNext fs d → AreListed rs copies fs (d ∷ ds) → Relists rs qs (λ s. relisted s d) (λ s. is_joining s d) → BeginWith (flat_map made_name ds) left → AreListed qs left (d ∷ fs) ds
+listed : (fs ds : List Deed) (d : Deed) (rs qs : List (ℕ × Card)) (copies left : List (List ℕ)) → IsNext fs d → AreListed rs copies fs (d ∷ ds) → Relists rs qs (λ s. relisted s d) (λ s. is_joining s d) → BeginWith (flat_map made_name ds) left → AreListed qs left (d ∷ fs) ds
 listed fs ds d rs qs copies left n i r b = record {
   lists = λ s. r.lists s ∙ ap (relisted s d) (i.lists s) ∙ sym (channels_after fs s d n);
   room = λ s. let had = i.room s in let less = r.rooms s in let e = joinings-cons s d ds in omega arith;
   copies = b;
 }
 
-module _ (d e : Deed) (is : d ≡ e) (fs ds : List Deed) (first : slice_get ds 0 ≡ Some d) (rs : List Row) (copies : List (List ℕ)) where
+module _ (d e : Deed) (is : d ≡ e) (fs ds : List Deed) (first : slice_get ds 0 ≡ Some d) (rs : List (ℕ × Card)) (copies : List (List ℕ)) where
   ready_first : (es : List Deed) → slice_get es 0 ≡ Some d → es ≡ d ∷ drop 1 es
   ready_first [] f = absurd (let g : ◌≡◌ {A = Option Deed} None (Some d) = f in cc)
   ready_first (x ∷ es) f = let g : Some x ≡ Some d = f in let h : x ≡ d = cc in ap (λ y. y ∷ es) h
@@ -202,26 +202,23 @@ module _ (d e : Deed) (is : d ≡ e) (fs ds : List Deed) (first : slice_get ds 0
   pub listed_before : AreListed rs copies fs ds → AreListed rs copies fs (e ∷ drop 1 ds)
   listed_before i = subst (AreListed rs copies fs) (ready_first ds first ∙ ap (λ x. x ∷ drop 1 ds) is) i
 
-  next_before : AreNext fs ds → AreNext fs (e ∷ drop 1 ds)
+  pub next_before : AreNext fs ds → AreNext fs (e ∷ drop 1 ds)
   next_before n = subst (AreNext fs) (ready_first ds first ∙ ap (λ x. x ∷ drop 1 ds) is) n
 
   -- and after it
-  pub listed_after : (qs : List Row) (left : List (List ℕ)) (gs es : List Deed) → AreNext fs ds → AreListed rs copies fs ds → Relists rs qs (λ s. relisted s e) (λ s. is_joining s e) → BeginWith (flat_map made_name (drop 1 ds)) left → gs ≡ d ∷ fs → es ≡ drop 1 ds → AreListed qs left gs es
+  pub listed_after : (qs : List (ℕ × Card)) (left : List (List ℕ)) (gs es : List Deed) → AreNext fs ds → AreListed rs copies fs ds → Relists rs qs (λ s. relisted s e) (λ s. is_joining s e) → BeginWith (flat_map made_name (drop 1 ds)) left → gs ≡ d ∷ fs → es ≡ drop 1 ds → AreListed qs left gs es
   listed_after qs left gs es n i r b eg ee =
       subst (λ (xs : List Deed). AreListed qs left xs es) (sym (eg ∙ ap (λ x. x ∷ fs) is)) (subst (AreListed qs left (e ∷ fs)) (sym ee)
       (listed fs (drop 1 ds) e rs qs copies left (next_before n).0 (listed_before i) r b))
 
-  -- and where it says nothing of channels
-  pub listed_still : (gs es : List Deed) → AreNext fs ds → AreListed rs copies fs ds → ((s : ℕ) (cs : List (List ℕ)) → relisted s e cs ≡ cs) → ((s : ℕ) → is_joining s e ≡ false) → made_name e ≡ [] → gs ≡ d ∷ fs → es ≡ drop 1 ds → AreListed rs copies gs es
-  listed_still gs es n i same none unmade eg ee =
-      listed_after rs copies gs es n i
-      (record { lists = λ s. sym (same s (row_of rs s).list); rooms = λ s. omega arith })
-      (subst (λ (cs : List (List ℕ)). BeginWith (cs ++ flat_map made_name (drop 1 ds)) copies) unmade (listed_before i).copies) eg ee
+-- what was shown of the variant of a deed
+pub listed_done : (d e : Deed) (qs : List (ℕ × Card)) (left : List (List ℕ)) (fs ds gs rs : List Deed) → d ≡ e → gs ≡ d ∷ fs → rs ≡ drop 1 ds → AreListed qs left (e ∷ fs) (drop 1 ds) → AreListed qs left gs rs
+listed_done d e qs left fs ds gs rs is eg er i = subst (λ (xs : List Deed). AreListed qs left xs rs) (sym (eg ∙ ap (λ x. x ∷ fs) is)) (subst (AreListed qs left (e ∷ fs)) (sym er) i)
 
 -- ---- room and copies
 
 -- there is room for whoever joins
-pub seat_room : (rs : List Row) (copies : List (List ℕ)) (fs ds : List Deed) (d : Deed) (s : ℕ) → AreListed rs copies fs (d ∷ ds) → is_joining s d ≡ true → 0 < (row_of rs s).room
+pub seat_room : (rs : List (ℕ × Card)) (copies : List (List ℕ)) (fs ds : List Deed) (d : Deed) (s : ℕ) → AreListed rs copies fs (d ∷ ds) → is_joining s d ≡ true → 0 < (row_of rs s).room
 seat_room rs copies fs ds d s i it = let r = i.room s in let e = joinings-cons s d ds ∙ ap (λ b. cond b 1 0 + joinings s ds) it in omega arith
 
 pub first_copy : (n : List ℕ) (cs ks : List (List ℕ)) → BeginWith (n ∷ cs) ks → slice_get ks 0 ≡ Some n
@@ -236,47 +233,136 @@ pub later_copies : (n : List ℕ) (cs ks : List (List ℕ)) → BeginWith (n ∷
 later_copies n cs [] b = absurd b
 later_copies n cs (k ∷ ks) b = b.1
 
-begin_same : (cs : List (List ℕ)) → BeginWith cs cs
+pub begin_same : (cs : List (List ℕ)) → BeginWith cs cs
 begin_same [] = tt
 begin_same (c ∷ cs) = (refl, begin_same cs)
 
-pub reseats : (rs qs : List Row) (n m : List ℕ) (x : Change) (z : Seat) → n ≡ m → z ≡ seat_of x → Relists rs qs (λ s. reseated s m z) (λ s. is_taken s z) → Relists rs qs (λ s. relisted s (Changed n x)) (λ s. is_joining s (Changed n x))
+pub reseats : (rs qs : List (ℕ × Card)) (n m : List ℕ) (x : Change) (z : Seat) → n ≡ m → z ≡ seat_of x → Relists rs qs (λ s. reseated s m z) (λ s. is_taken s z) → Relists rs qs (λ s. relisted s (Changed n x)) (λ s. is_joining s (Changed n x))
 reseats rs qs n m x z en ez r =
     subst (λ (y : Seat). Relists rs qs (λ s. reseated s n y) (λ s. is_taken s y)) ez (subst (λ (k : List ℕ). Relists rs qs (λ s. reseated s k z) (λ s. is_taken s z)) (sym en) r)
 
 -- it is ready for nothing
-pub listed_idle : (rs : List Row) (copies : List (List ℕ)) (fs ds : List Deed) → AreListed rs copies fs ds → AreListed rs copies fs []
+pub listed_idle : (rs : List (ℕ × Card)) (copies : List (List ℕ)) (fs ds : List Deed) → AreListed rs copies fs ds → AreListed rs copies fs []
 listed_idle rs copies fs ds i = record { lists = i.lists; room = λ s. let z : 0 ≤ (row_of rs s).room = omega arith in z; copies = tt }
 
-pub listed_wide : (rs qs : List Row) (copies left : List (List ℕ)) (fs ds : List Deed) → AreListed rs copies fs ds → Widens rs qs → AreListed qs left fs []
+pub listed_wide : (rs qs : List (ℕ × Card)) (copies left : List (List ℕ)) (fs ds : List Deed) → AreListed rs copies fs ds → Widens rs qs → AreListed qs left fs []
 listed_wide rs qs copies left fs ds i w = record { lists = λ s. w.lists s ∙ i.lists s; room = λ s. let z : 0 ≤ (row_of qs s).room = omega arith in z; copies = tt }
 
 -- the server ends a session
-pub listed_ended : (rs : List Row) (ns : List (List ℕ)) (fs ds : List Deed) (t : ℕ) (w : Why) (x : List ℕ) → AreListed rs ns fs ds → AreListed rs ns (Ended t w x ∷ fs) []
-listed_ended rs ns fs ds t w x i = record { lists = i.lists; room = λ s. let z : 0 ≤ (row_of rs s).room = omega arith in z; copies = tt }
+pub listed_ended : (rs qs : List (ℕ × Card)) (ns : List (List ℕ)) (fs ds : List Deed) (t : ℕ) (w : Why) (x : List ℕ) → AreListed rs ns fs ds → Widens rs qs → AreListed qs ns (Ended t w x ∷ fs) []
+listed_ended rs qs ns fs ds t w x i v = record { lists = λ s. v.lists s ∙ i.lists s; room = λ s. let z : 0 ≤ (row_of qs s).room = omega arith in z; copies = tt }
+
+-- a plain fact says nothing of channels
+plain_relisted : (d : Deed) → is_plain d ≡ true → (s : ℕ) (cs : List (List ℕ)) → relisted s d cs ≡ cs
+plain_relisted (Opened u h) p s cs = refl
+plain_relisted (NickSet u n) p s cs = absurd (let f : false ≡ true = p in cc)
+plain_relisted (UserSet u n r) p s cs = refl
+plain_relisted (HoldSet u x) p s cs = refl
+plain_relisted (CapsSet u x) p s cs = refl
+plain_relisted (ExchangeSet u x) p s cs = refl
+plain_relisted (LoggedIn u x) p s cs = refl
+plain_relisted (Enrolled u) p s cs = refl
+plain_relisted (AwaySet u x) p s cs = refl
+plain_relisted (InvisibleSet u x) p s cs = refl
+plain_relisted (ChannelMade u k) p s cs = absurd (let f : false ≡ true = p in cc)
+plain_relisted (Changed k x) p s cs = absurd (let f : false ≡ true = p in cc)
+plain_relisted (Ended u w x) p s cs = refl
+plain_relisted (Gone u) p s cs = absurd (let f : false ≡ true = p in cc)
+
+plain_unmade : (d : Deed) → is_plain d ≡ true → made_name d ≡ []
+plain_unmade (Opened u h) p = refl
+plain_unmade (NickSet u n) p = absurd (let f : false ≡ true = p in cc)
+plain_unmade (UserSet u n r) p = refl
+plain_unmade (HoldSet u x) p = refl
+plain_unmade (CapsSet u x) p = refl
+plain_unmade (ExchangeSet u x) p = refl
+plain_unmade (LoggedIn u x) p = refl
+plain_unmade (Enrolled u) p = refl
+plain_unmade (AwaySet u x) p = refl
+plain_unmade (InvisibleSet u x) p = refl
+plain_unmade (ChannelMade u k) p = absurd (let f : false ≡ true = p in cc)
+plain_unmade (Changed k x) p = absurd (let f : false ≡ true = p in cc)
+plain_unmade (Ended u w x) p = refl
+plain_unmade (Gone u) p = absurd (let f : false ≡ true = p in cc)
+
+-- rows that are as wide stand where a fact says nothing of channels
+pub relists_wide : (rs qs : List (ℕ × Card)) (d : Deed) → ((s : ℕ) (cs : List (List ℕ)) → relisted s d cs ≡ cs) → Widens rs qs → Relists rs qs (λ s. relisted s d) (λ s. is_joining s d)
+relists_wide rs qs d same w = record { lists = λ s. w.lists s ∙ sym (same s (row_of rs s).list); rooms = λ s. let a = w.rooms s in omega arith }
+
+pub relists_plain : (rs qs : List (ℕ × Card)) (d : Deed) → is_plain d ≡ true → Widens rs qs → Relists rs qs (λ s. relisted s d) (λ s. is_joining s d)
+relists_plain rs qs d p w = relists_wide rs qs d (plain_relisted d p) w
+
+pub copies_plain : (d : Deed) (ds : List Deed) (copies : List (List ℕ)) → is_plain d ≡ true → BeginWith (flat_map made_name (d ∷ ds)) copies → BeginWith (flat_map made_name ds) copies
+copies_plain d ds copies p b = subst (λ (cs : List (List ℕ)). BeginWith (cs ++ flat_map made_name ds) copies) (plain_unmade d p) b
+
+-- where no deed that follows gives a name, nobody joins by one
+unkeyed_joining : (d : Deed) (s : ℕ) (cs : List (List ℕ)) → BeginWith (keyed_name d ++ cs) [] → (is_joining s d ≡ false) × BeginWith cs []
+unkeyed_joining (Opened u h) s cs b = (refl, b)
+unkeyed_joining (NickSet u n) s cs b = absurd b
+unkeyed_joining (UserSet u n r) s cs b = (refl, b)
+unkeyed_joining (HoldSet u x) s cs b = (refl, b)
+unkeyed_joining (CapsSet u x) s cs b = (refl, b)
+unkeyed_joining (ExchangeSet u x) s cs b = (refl, b)
+unkeyed_joining (LoggedIn u x) s cs b = (refl, b)
+unkeyed_joining (Enrolled u) s cs b = (refl, b)
+unkeyed_joining (AwaySet u x) s cs b = (refl, b)
+unkeyed_joining (InvisibleSet u x) s cs b = (refl, b)
+unkeyed_joining (ChannelMade u k) s cs b = absurd b
+unkeyed_joining (Changed k x) s cs b = absurd b
+unkeyed_joining (Ended u w x) s cs b = (refl, b)
+unkeyed_joining (Gone u) s cs b = (refl, b)
+
+pub none_keyed : (s : ℕ) (ds : List Deed) → BeginWith (flat_map keyed_name ds) [] → joinings s ds ≡ 0
+none_keyed s [] b = refl
+none_keyed s (d ∷ ds) b =
+    let first = unkeyed_joining d s (flat_map keyed_name ds) b in let rest = none_keyed s ds first.1 in
+    let e = joinings-cons s d ds ∙ ap (λ x. cond x 1 0 + joinings s ds) first.0 in omega arith
+
+pub none_there : (ks : List (List ℕ)) (n : ℕ) → n ≡ length ks → (n == 0) ≡ true → ks ≡ []
+none_there [] n e z = refl
+none_there (k ∷ ks) n e z = elim (eqb_tells n 0) [
+  | inl same ↦ absurd (let f = same.1 in omega arith)
+  | inr other ↦ absurd (let f : false ≡ true = sym other.0 ∙ z in cc)
+]
+
+-- a session is gone
+pub listed_gone : (rs qs : List (ℕ × Card)) (copies folds : List (List ℕ)) (fs ds : List Deed) (t : ℕ) (last : Bool) → IsNext fs (Gone t) → AreListed rs copies fs (Gone t ∷ ds)
+    → ((s : ℕ) → (row_of qs s).list ≡ cond (t == s) [] (row_of rs s).list) → (last ≡ false → (s : ℕ) → (row_of rs s).room ≤ (row_of qs s).room) → (last ≡ true → folds ≡ [])
+    → BeginWith (flat_map keyed_name ds) folds → AreListed qs copies (Gone t ∷ fs) ds
+listed_gone rs qs copies folds fs ds t last n i el er ef b = record {
+  lists = λ s. el s ∙ ap (λ (cs : List (List ℕ)). cond (t == s) [] cs) (i.lists s) ∙ sym (channels_after fs s (Gone t) n);
+  room = λ s. elim (either last) [
+    | inl it ↦ let none = none_keyed s ds (subst (BeginWith (flat_map keyed_name ds)) (ef it) b) in omega arith
+    | inr not_last ↦ let had = i.room s in let kept = er not_last s in let e = joinings-cons s (Gone t) ds in omega arith
+  ];
+  copies = i.copies;
+}
 
 -- it is ready for deeds
-pub listed_ready : (rs qs : List Row) (copies left : List (List ℕ)) (fs es ds : List Deed) → AreListed rs copies fs es → Widens rs qs → ((s : ℕ) → joinings s ds ≤ (row_of qs s).room) → left ≡ flat_map made_name ds → AreListed qs left fs ds
+pub listed_ready : (rs qs : List (ℕ × Card)) (copies left : List (List ℕ)) (fs es ds : List Deed) → AreListed rs copies fs es → Widens rs qs → ((s : ℕ) → joinings s ds ≤ (row_of qs s).room) → left ≡ flat_map made_name ds → AreListed qs left fs ds
 listed_ready rs qs copies left fs es ds i w room e = record { lists = λ s. w.lists s ∙ i.lists s; room = room; copies = subst (BeginWith (flat_map made_name ds)) (sym e) (begin_same (flat_map made_name ds)) }
 
 -- ---- lists that stay
 
-pub widens_refl : (rs : List Row) → Widens rs rs
+pub widens_refl : (rs : List (ℕ × Card)) → Widens rs rs
 widens_refl rs = record { lists = λ s. refl; rooms = λ s. omega arith }
 
-pub widens_more : (rs qs ls : List Row) → Widens rs qs → Widens qs ls → Widens rs ls
+pub widens_same : (rs qs : List (ℕ × Card)) → qs ≡ rs → Widens rs qs
+widens_same rs qs e = subst (Widens rs) (sym e) (widens_refl rs)
+
+pub widens_more : (rs qs ls : List (ℕ × Card)) → Widens rs qs → Widens qs ls → Widens rs ls
 widens_more rs qs ls w v = record { lists = λ s. v.lists s ∙ w.lists s; rooms = λ s. let a = w.rooms s in let b = v.rooms s in omega arith }
 
 -- ---- room for those who join by deeds
 
 -- what holds of the rows of those who join by the first deeds
-abbrev pub HaveRoomFor : ℕ → List Deed → List Row → Type 0
+abbrev pub HaveRoomFor : ℕ → List Deed → List (ℕ × Card) → Type 0
 HaveRoomFor n ds rs = (s : ℕ) → list_any (is_joining s) ds ≡ true → n ≤ (row_of rs s).room
 
-pub room_for_none : (n : ℕ) (rs : List Row) → HaveRoomFor n [] rs
+pub room_for_none : (n : ℕ) (rs : List (ℕ × Card)) → HaveRoomFor n [] rs
 room_for_none n rs s e = absurd (let f : false ≡ true = e in cc)
 
-pub room_for_more : (n i : ℕ) (ds : List Deed) (d : Deed) (rs qs : List Row) → i < length ds → d ≡ get_or ds i d → Widens rs qs → HaveRoomFor n (take i ds) rs → ((s : ℕ) → is_joining s d ≡ true → n ≤ (row_of qs s).room) → HaveRoomFor n (take (i + 1) ds) qs
+pub room_for_more : (n i : ℕ) (ds : List Deed) (d : Deed) (rs qs : List (ℕ × Card)) → i < length ds → d ≡ get_or ds i d → Widens rs qs → HaveRoomFor n (take i ds) rs → ((s : ℕ) → is_joining s d ≡ true → n ≤ (row_of qs s).room) → HaveRoomFor n (take (i + 1) ds) qs
 room_for_more n i ds d rs qs l is w h new s e =
     elim (either (list_any (is_joining s) (take i ds))) [
       | inl before ↦ let a = h s before in let b = w.rooms s in omega arith
@@ -294,7 +380,7 @@ none_joining s (d ∷ ds) e =
     let parts = or-none (is_joining s d) (list_any (is_joining s) ds) e in
     let first = joinings-cons s d ds ∙ ap (λ b. cond b 1 0 + joinings s ds) parts.0 in let rest = none_joining s ds parts.1 in omega arith
 
-pub room_for_all : (ds : List Deed) (i : ℕ) (rs : List Row) → length ds ≤ i → HaveRoomFor (length ds) (take i ds) rs → (s : ℕ) → joinings s ds ≤ (row_of rs s).room
+pub room_for_all : (ds : List Deed) (i : ℕ) (rs : List (ℕ × Card)) → length ds ≤ i → HaveRoomFor (length ds) (take i ds) rs → (s : ℕ) → joinings s ds ≤ (row_of rs s).room
 room_for_all ds i rs l h s =
     let few : joinings s ds ≤ length ds = count_by-le-length (is_joining s) ds in
     elim (either (list_any (is_joining s) ds)) [

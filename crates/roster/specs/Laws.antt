@@ -1,5 +1,5 @@
 -- What follows for every list of facts: RFC 2812, section 2.2 (names that differ in case alone are one), and RFC 2811, sections 2 to 4.
-use Rattle.std.specs.Prelude.{◌≡◌, ℕ, Bool, true, false, ◌==◌, Option, List}
+use Rattle.std.specs.Prelude.{◌≡◌, ℕ, true, false, ◌==◌, List}
 use Rattle.std.specs.List.{IsDistinct, list_any}
 use Rattle.channel_state.specs.State.{among, is_set}
 use Rattle.channel_state.specs.declared.modes.Flag.{Flag}

@@ -1,15 +1,19 @@
 -- Which fact may come next. Whoever establishes one has looked that up.
-use Rattle.std.specs.Prelude.{◌≡◌, ℕ, suc, ◌<◌, ◌≤◌, true, false, List, [], ◌∷◌, length}
+use Rattle.std.specs.Prelude.{◌≡◌, ℕ, suc, ◌<◌, ◌≤◌, true, false, List, [], ◌∷◌, length, Some}
 use Rattle.roster.specs.declared.deed.Deed.{Deed}
 use Rattle.roster.specs.declared.deed.Deed.TheVariants.{Opened, NickSet, UserSet, HoldSet, CapsSet, ExchangeSet, LoggedIn, Enrolled, AwaySet, InvisibleSet, ChannelMade, Changed, Ended, Gone}
 use Rattle.channel_state.specs.State.{State, among}
 use Rattle.channel_state.specs.declared.change.Change.{Change}
 use Rattle.channel_state.specs.declared.change.Change.TheVariants as change
-use Rattle.roster.specs.LookBack.{opened, state, has_member}
+use Rattle.roster.specs.LookBack.{opened, holder, state, has_member}
 
 -- a session that was opened: they are numbered from 1 in the order in which they are
 abbrev pub IsOpened : List Deed → ℕ → Type 0
 IsOpened fs s = (0 < s) × (s ≤ length (opened fs))
+
+-- no other session holds a nickname
+abbrev pub IsFree : List Deed → ℕ → List ℕ → Type 0
+IsFree fs t n = (s : ℕ) → holder fs n ≡ Some s → s ≡ t
 
 -- a change that a channel may have: who joins isn't on it, who leaves or has a rank is
 abbrev pub IsFit : State → Change → Type 0
@@ -21,7 +25,7 @@ IsFit k x = Unit {0}
 -- a fact may come after these
 abbrev pub IsNext : List Deed → Deed → Type 0
 IsNext fs (Opened t h) = t ≡ suc (length (opened fs))
-IsNext fs (NickSet t n) = IsOpened fs t
+IsNext fs (NickSet t n) = IsOpened fs t × IsFree fs t n
 IsNext fs (UserSet t u r) = IsOpened fs t
 IsNext fs (HoldSet t on) = IsOpened fs t
 IsNext fs (CapsSet t caps) = IsOpened fs t

@@ -1,8 +1,11 @@
 pub mod LookBack
 pub mod Known
+pub mod Hashing
 pub mod Row
+pub mod Table
 pub mod Lists
 pub mod Tables
+pub mod Touching
 pub mod Legal
 pub mod Stands
 pub mod Told

@@ -1,18 +1,21 @@
 -- The lists of the channels of sessions: words of the private contracts.
-use Rattle.std.specs.Prelude.{◌≡◌, ℕ, ◌+◌, ◌≤◌, Bool, false, ◌==◌, cond, List, [], ◌∷◌, count_by, slice_index_or}
+use Rattle.std.specs.Prelude.{◌≡◌, ℕ, ◌+◌, ◌≤◌, Bool, false, ◌==◌, cond, List, [], ◌∷◌, count_by}
 use Rattle.std.specs.List.{flat_map}
 use Rattle.channel_state.specs.declared.change.Change.{Change}
 use Rattle.channel_state.specs.declared.change.Change.TheVariants as change
 use Rattle.roster.specs.declared.deed.Deed.{Deed}
-use Rattle.roster.specs.declared.deed.Deed.TheVariants.{ChannelMade, Changed, Gone}
+use Rattle.roster.specs.declared.deed.Deed.TheVariants.{NickSet, ChannelMade, Changed, Gone}
 use Rattle.roster.specs.declared.lists.Seat.{Seat}
 use Rattle.roster.specs.declared.lists.Seat.TheVariants.{Taken, Left, Same}
+use Rattle.casemapping.specs.Fold.{folded}
+use Rattle.roster.specs.declared.tables.Card.{Card}
 use Rattle.roster.specs.Row.{Row}
+use Rattle.roster.specs.Tables.{card_at}
 use Rattle.roster.specs.LookBack.{with_last_name, without_name, channels_on}
 
--- the row of a session, by its number
-abbrev pub row_of : List Row → ℕ → Row
-row_of rs s = slice_index_or rs s (record { list = []; room = 0 })
+-- the names on a session's card
+abbrev pub row_of : List (ℕ × Card) → ℕ → Row
+row_of es s = (card_at es s).names
 
 -- what a change says of seats
 abbrev pub seat_of : Change → Seat
@@ -52,13 +55,20 @@ abbrev pub made_name : Deed → List (List ℕ)
 made_name (ChannelMade t k) = k ∷ []
 made_name d = []
 
+-- the folded name that a deed gives of a channel or of a nickname
+abbrev pub keyed_name : Deed → List (List ℕ)
+keyed_name (NickSet t n) = folded n ∷ []
+keyed_name (ChannelMade t k) = folded k ∷ []
+keyed_name (Changed k x) = folded k ∷ []
+keyed_name d = []
+
 -- each list becomes another; those of whom that is told have room for one less at most
-pub record Relists (old new : List Row) (list : ℕ → List (List ℕ) → List (List ℕ)) (joins : ℕ → Bool) : Type 0 where
+pub record Relists (old new : List (ℕ × Card)) (list : ℕ → List (List ℕ) → List (List ℕ)) (joins : ℕ → Bool) : Type 0 where
   pub lists : (s : ℕ) → (row_of new s).list ≡ list s (row_of old s).list
   pub rooms : (s : ℕ) → (row_of old s).room ≤ (row_of new s).room + cond (joins s) 1 0
 
 -- the lists stay, and have room for as many at least
-pub record Widens (old new : List Row) : Type 0 where
+pub record Widens (old new : List (ℕ × Card)) : Type 0 where
   pub lists : (s : ℕ) → (row_of new s).list ≡ (row_of old s).list
   pub rooms : (s : ℕ) → (row_of old s).room ≤ (row_of new s).room
 
@@ -69,7 +79,7 @@ BeginWith (c ∷ cs) [] = ⊥
 BeginWith (c ∷ cs) (k ∷ ks) = (k ≡ c) × BeginWith cs ks
 
 -- each session's list stands for facts, with room and copies of names for deeds
-pub record AreListed (rs : List Row) (ns : List (List ℕ)) (fs ds : List Deed) : Type 0 where
+pub record AreListed (rs : List (ℕ × Card)) (ns : List (List ℕ)) (fs ds : List Deed) : Type 0 where
   pub lists : (s : ℕ) → (row_of rs s).list ≡ channels_on fs s
   pub room : (s : ℕ) → joinings s ds ≤ (row_of rs s).room
   pub copies : BeginWith (flat_map made_name ds) ns

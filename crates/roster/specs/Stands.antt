@@ -1,22 +1,24 @@
 -- How tables stand for a list of facts, and are ready for deeds.
-use Rattle.std.specs.Prelude.{◌≡◌, ℕ, zero, suc, ◌+◌, ◌≤◌, Bool, true, false, vec_len, vec_capacity, List, [], ◌∷◌, length, count_by, Option, Some, None}
-use Rattle.std.specs.declared.vec.Vec.{Vec}
-use Rattle.std.specs.declared.alloc.Global.{Global}
-use Rattle.std.specs.List.{list_any}
+use Rattle.std.specs.Prelude.{◌≡◌, ℕ, ◌≤◌, Bool, true, false, List, [], ◌∷◌, length, count_by, Option, Some, None}
+use Rattle.std.specs.List.{list_any, flat_map}
+use Rattle.chronicle.specs.declared.why.Why.{Why}
 use Rattle.roster.specs.declared.deed.Deed.{Deed}
 use Rattle.roster.specs.declared.deed.Deed.TheVariants.{Changed, ChannelMade}
 use Rattle.roster.specs.declared.tables.Person.{Person}
+use Rattle.roster.specs.declared.tables.Card.{Card}
 use Rattle.roster.specs.declared.tables.Channel.{Channel}
-use Rattle.casemapping.specs.Fold.{is_same}
+use Rattle.casemapping.specs.Fold.{folded, is_same}
 use Rattle.channel_state.specs.State.{nothing}
 use Rattle.channel_state.specs.Held.{Held}
-use Rattle.roster.specs.LookBack.{numbers, opened, host, nick, user, real, held, caps, exchange, account, registered, away, invisible, why, parting, state, name_of, channels}
-use Rattle.roster.specs.Legal.{AreNext}
-use Rattle.roster.specs.Tables.{person_at, state_in, name_in, names_of, with_held, is_populated}
+use Rattle.roster.specs.LookBack.{numbers, opened, host, nick, user, real, held, caps, exchange, account, registered, away, invisible, why, parting, is_named, state, name_of, channels}
+use Rattle.roster.specs.Legal.{IsOpened, AreNext}
+use Rattle.roster.specs.Table.{Table}
+use Rattle.roster.specs.Tables.{person_at, why_at, held_by, state_in, name_in, names_of, with_held, is_populated}
+use Rattle.roster.specs.Lists.{keyed_name, BeginWith}
 
 -- what facts say of a session
 abbrev pub person : List Deed → ℕ → Person
-person fs s = record { host = host fs s; nick = nick fs s; user = user fs s; real = real fs s; held = held fs s; caps = caps fs s; exchange = exchange fs s; account = account fs s; registered = registered fs s; away = away fs s; invisible = invisible fs s; why = why fs s; parting = parting fs s }
+person fs s = record { host = host fs s; nick = nick fs s; user = user fs s; real = real fs s; held = held fs s; caps = caps fs s; exchange = exchange fs s; account = account fs s; registered = registered fs s; away = away fs s; invisible = invisible fs s; parting = parting fs s }
 
 -- no two channels have one name
 abbrev pub AreApart : List Channel → Type 0
@@ -28,10 +30,27 @@ abbrev pub AreHeld : List Channel → Type 0
 AreHeld [] = Unit {0}
 AreHeld (k ∷ ks) = (is_populated k ≡ true) × AreHeld ks
 
--- tables stand for facts
-pub record Stands (ps : List Person) (ks : List Channel) (fs : List Deed) : Type 0 where
-  pub people : (s : ℕ) → person_at ps s ≡ person fs s
-  pub opened : opened fs ≡ numbers 1 (length ps)
+-- each but the channel of a name has one, and that has none
+abbrev pub AreHeldBut : List ℕ → List Channel → Type 0
+AreHeldBut c [] = Unit {0}
+AreHeldBut c (k ∷ ks) = (is_same k.name c ≡ true → (is_populated k ≡ false) × AreHeld ks) × (is_same k.name c ≡ false → (is_populated k ≡ true) × AreHeldBut c ks)
+
+-- the index of nicknames: whoever has one is found by it, and nobody else
+pub record AreHolders (hs : List (List ℕ × ℕ)) (fs : List Deed) : Type 0 where
+  pub found : (s : ℕ) (n : List ℕ) → is_named (nick fs s) n ≡ true → held_by hs (folded n) ≡ Some s
+  pub named : (s : ℕ) (n : List ℕ) → held_by hs (folded n) ≡ Some s → is_named (nick fs s) n ≡ true
+  -- who has a nickname was opened
+  pub opened : (s : ℕ) (n : List ℕ) → is_named (nick fs s) n ≡ true → IsOpened fs s
+
+-- the tables of sessions stand for facts
+pub record HoldPeople (es : List (ℕ × Card)) (ws : List Why) (hs : List (List ℕ × ℕ)) (fs : List Deed) : Type 0 where
+  pub people : (s : ℕ) → person_at es s ≡ person fs s
+  pub whys : (s : ℕ) → why_at ws s ≡ why fs s
+  pub opened : opened fs ≡ numbers 1 (length ws)
+  pub holders : AreHolders hs fs
+
+-- the table of channels stands for facts
+pub record HoldChannels (ks : List Channel) (fs : List Deed) : Type 0 where
   pub states : (c : List ℕ) → state_in ks c ≡ state fs c
   pub names : (c : List ℕ) → name_in ks c ≡ name_of fs c
   pub channels : channels fs ≡ names_of ks
@@ -86,16 +105,20 @@ abbrev pub is_making : Deed → Bool
 is_making (ChannelMade t k) = true
 is_making d = false
 
--- there is room for these deeds
-pub record HasRoom (ps : Vec Person Global) (ks : Vec Channel Global) (spare : Vec Held Global) (ds : List Deed) : Type 0 where
-  pub people : vec_len ps + length ds ≤ vec_capacity ps
-  pub channels : vec_len ks + length ds ≤ vec_capacity ks
-  pub seats : HaveSeats ds ks.items
-  pub enough : count_by is_making ds ≤ length spare.items
-  pub empty : AreSpare (length ds) spare.items
+-- there is room for these deeds, and their names stand ready
+pub record HasRoom (es : Table (ℕ × Card)) (ws : Table Why) (hs : Table (List ℕ × ℕ)) (ks : Table Channel) (spare : List Held) (folds : List (List ℕ)) (ds : List Deed) : Type 0 where
+  pub people : length ds ≤ es.room
+  pub whys : length ds ≤ ws.room
+  pub nicks : length ds ≤ hs.room
+  pub channels : length ds ≤ ks.room
+  pub seats : HaveSeats ds ks.list
+  pub enough : count_by is_making ds ≤ length spare
+  pub empty : AreSpare (length ds) spare
+  pub keys : BeginWith (flat_map keyed_name ds) folds
 
 -- what holds of every roster
-pub record IsKept (ps : Vec Person Global) (ks : Vec Channel Global) (spare : Vec Held Global) (fs ds : List Deed) : Type 0 where
-  pub stands : Stands ps.items ks.items fs
+pub record IsKept (es : Table (ℕ × Card)) (ws : Table Why) (hs : Table (List ℕ × ℕ)) (ks : Table Channel) (spare : List Held) (folds : List (List ℕ)) (fs ds : List Deed) : Type 0 where
+  pub people : HoldPeople es.list ws.list hs.list fs
+  pub channels : HoldChannels ks.list fs
   pub next : AreNext fs ds
-  pub room : HasRoom ps ks spare ds
+  pub room : HasRoom es ws hs ks spare folds ds

@@ -1,37 +1,135 @@
 -- What the tables of sessions and channels hold: words of the private contracts.
-use Rattle.std.specs.Prelude.{◌≡◌, ℕ, zero, suc, ◌-◌, ◌+◌, ◌≤◌, Bool, false, not, ◌&&◌, cond, List, [], ◌∷◌, ◌++◌, count_by, position, slice_index_or, slice_set, filter, Option, None, ◌==◌}
+use Rattle.std.specs.Prelude.{◌≡◌, ℕ, zero, suc, ◌+◌, ◌≤◌, ◌<◌, Bool, true, false, not, ◌&&◌, cond, nat_eq, nat_le, List, [], ◌∷◌, ◌++◌, slice_index_or, slice_get, slice_set, filter, Option, Some, None, ◌==◌, unwrap_or}
 use Rattle.std.specs.Option.{option_map_or, option_map}
 use Rattle.std.specs.List.{find, list_any}
+use Rattle.std.specs.Map.{lookup}
+use Rattle.std.specs.Str.{bytes_eq}
+use Rattle.chronicle.specs.declared.why.Why.{Why}
 use Rattle.chronicle.specs.declared.why.Why.TheVariants.{SendQ}
 use Rattle.registration.specs.Caps.{none_on}
 use Rattle.registration.specs.Enrol.{Enrolment}
+use Rattle.roster.specs.declared.deed.Deed.{Deed}
+use Rattle.roster.specs.declared.deed.Deed.TheVariants.{Opened, NickSet, UserSet, HoldSet, CapsSet, ExchangeSet, LoggedIn, Enrolled, AwaySet, InvisibleSet, ChannelMade, Changed, Ended, Gone}
 use Rattle.roster.specs.declared.tables.Person.{Person}
+use Rattle.roster.specs.declared.tables.Card.{Card}
 use Rattle.roster.specs.declared.tables.Channel.{Channel}
-use Rattle.casemapping.specs.Fold.{is_same}
+use Rattle.casemapping.specs.Fold.{folded, is_same}
 use Rattle.channel_state.specs.State.{State, among, is_some_one, nothing, made_by, changed, departed}
 use Rattle.channel_state.specs.Held.{Held}
 use Rattle.channel_state.specs.declared.change.Change.{Change}
-use Rattle.roster.specs.LookBack.{is_named}
+use Rattle.roster.specs.LookBack.{numbers}
+
+-- ---- sessions
 
 abbrev pub nobody : Person
-nobody = record { host = []; nick = None; user = None; real = None; held = false; caps = none_on; exchange = None; account = None; registered = false; away = None; invisible = false; why = SendQ; parting = [] }
+nobody = record { host = []; nick = None; user = None; real = None; held = false; caps = none_on; exchange = None; account = None; registered = false; away = None; invisible = false; parting = [] }
 
 -- what is known of a person while it registers
 abbrev pub enrolment_in : Person → Enrolment
 enrolment_in p = record { nick = p.nick; user = p.user; hold = p.held; caps = p.caps; exchange = p.exchange; account = p.account; registered = p.registered }
 
+-- the session of which a deed tells what is known of it
+abbrev pub subject : Deed → Option ℕ
+subject (Opened t h) = Some t
+subject (NickSet t n) = Some t
+subject (UserSet t u r) = Some t
+subject (HoldSet t on) = Some t
+subject (CapsSet t caps) = Some t
+subject (ExchangeSet t x) = Some t
+subject (LoggedIn t a) = Some t
+subject (Enrolled t) = Some t
+subject (AwaySet t x) = Some t
+subject (InvisibleSet t is) = Some t
+subject (ChannelMade t k) = None
+subject (Changed k x) = None
+subject (Ended t w x) = Some t
+subject (Gone t) = Some t
+
+-- whether that is s
+abbrev pub is_about : ℕ → Deed → Bool
+is_about s d = option_map_or (λ t. t == s) (subject d) false
+
+-- whether a deed tells of one session alone, and not of nicknames
+abbrev pub is_plain : Deed → Bool
+is_plain (NickSet t n) = false
+is_plain (ChannelMade t k) = false
+is_plain (Changed k x) = false
+is_plain (Gone t) = false
+is_plain d = true
+
+-- whether it tells of no channel
+abbrev pub is_tame : Deed → Bool
+is_tame (ChannelMade t k) = false
+is_tame (Changed k x) = false
+is_tame (Gone t) = false
+is_tame d = true
+
+-- what is known of a session after a deed of it
+abbrev pub heard : Deed → Person → Person
+heard (Opened t h) p = record nobody { host = h }
+heard (NickSet t n) p = record p { nick = Some n }
+heard (UserSet t u r) p = record p { user = Some u; real = Some r }
+heard (HoldSet t on) p = record p { held = on }
+heard (CapsSet t caps) p = record p { caps = caps }
+heard (ExchangeSet t x) p = record p { exchange = x }
+heard (LoggedIn t a) p = record p { account = Some a }
+heard (Enrolled t) p = record p { registered = true }
+heard (AwaySet t x) p = record p { away = x }
+heard (InvisibleSet t is) p = record p { invisible = is }
+heard (ChannelMade t k) p = p
+heard (Changed k x) p = p
+heard (Ended t w x) p = record p { parting = x }
+heard (Gone t) p = nobody
+
+abbrev pub blank : Card
+blank = record { person = nobody; names = record { list = []; room = 0 } }
+
+-- the card of session s
+abbrev pub card_in : List (ℕ × Card) → ℕ → Option Card
+card_in es s = lookup (nat_eq s) es
+
+-- who has none is as one with a blank card
+abbrev pub card_at : List (ℕ × Card) → ℕ → Card
+card_at es s = unwrap_or (card_in es s) blank
+
 -- the person of session s
-abbrev pub person_at : List Person → ℕ → Person
-person_at ps zero = nobody
-person_at ps (suc i) = slice_index_or ps i nobody
+abbrev pub person_at : List (ℕ × Card) → ℕ → Person
+person_at es s = (card_at es s).person
 
--- session s is another person
-abbrev pub with_person : List Person → ℕ → Person → List Person
-with_person ps s p = slice_set ps (s - 1) p
+-- why session s ended
+abbrev pub why_at : List Why → ℕ → Why
+why_at ws zero = SendQ
+why_at ws (suc i) = slice_index_or ws i SendQ
 
--- the place of whoever has a nickname
-abbrev pub holder_place : List Person → List ℕ → Option ℕ
-holder_place ps n = position (λ p. is_named p.nick n) ps
+abbrev pub is_opening : Deed → Bool
+is_opening (Opened t h) = true
+is_opening d = false
+
+-- a deed that tells why a session ended is one of the first n sessions, or opens the next
+abbrev pub IsOf : ℕ → Deed → Type 0
+IsOf n (Opened t h) = t ≡ suc n
+IsOf n (Ended t w x) = (0 < t) × (t ≤ n)
+IsOf n (Gone t) = (0 < t) × (t ≤ n)
+IsOf n d = Unit {0}
+
+-- the session that holds a folded nickname
+abbrev pub held_by : List (List ℕ × ℕ) → List ℕ → Option ℕ
+held_by hs k = lookup (bytes_eq k) hs
+
+abbrev pub is_freed : Option (List ℕ) → List ℕ → Bool
+is_freed None k = false
+is_freed (Some n) k = bytes_eq (folded n) k
+
+-- nobody holds a nickname any more, if one is given
+abbrev pub Frees : List (List ℕ × ℕ) → List (List ℕ × ℕ) → Option (List ℕ) → Type 0
+Frees old new n = (k : List ℕ) → held_by new k ≡ cond (is_freed n k) None (held_by old k)
+
+-- ---- channels
+
+-- each stands under its folded name
+abbrev pub AreKeyed : List (List ℕ × Channel) → Type 0
+AreKeyed [] = Unit {0}
+AreKeyed (e ∷ es) = (e.0 ≡ folded e.1.name) × AreKeyed es
 
 -- the channel of a name
 abbrev pub channel_of : List Channel → List ℕ → Option Channel
@@ -47,23 +145,20 @@ abbrev pub names_of : List Channel → List (List ℕ)
 names_of [] = []
 names_of (k ∷ ks) = k.name ∷ names_of ks
 
--- whether two sessions are on one of these channels
-abbrev pub share_in : List Channel → ℕ → ℕ → Bool
-share_in ks s t = list_any (λ k. among s k.held.state.members && among t k.held.state.members) ks
+-- those on the channel of a name
+abbrev pub members_in : List Channel → List ℕ → List ℕ
+members_in ks c = (state_in ks c).members
 
--- the sessions from k on that are marked, but for s
-abbrev pub marked : List Bool → ℕ → ℕ → List ℕ
-marked [] s k = []
-marked (b ∷ bs) s k = cond (b && not (s == k)) (k ∷ marked bs s (k + 1)) (marked bs s (k + 1))
+-- whether t is one of the first n sessions, and not s
+abbrev pub is_mate : ℕ → ℕ → ℕ → Bool
+is_mate s n t = (nat_le 1 t && nat_le t n) && not (t == s)
 
--- of n sessions from k on those that are on a channel with s, but for s
-abbrev pub sharing : List Channel → ℕ → ℕ → ℕ → List ℕ
-sharing ks s k zero = []
-sharing ks s k (suc n) = cond (share_in ks s k && not (s == k)) (k ∷ sharing ks s (k + 1) n) (sharing ks s (k + 1) n)
+abbrev pub mated : ℕ → ℕ → List ℕ → List ℕ
+mated s n ts = filter (is_mate s n) ts
 
--- how many channels a session is on
-abbrev pub count_in : List Channel → ℕ → ℕ
-count_in ks s = count_by (λ k. among s k.held.state.members) ks
+-- those of the first n sessions that are on one of these channels, but for s
+abbrev pub mates : List Channel → List (List ℕ) → ℕ → ℕ → List ℕ
+mates ks cs s n = filter (λ t. list_any (λ c. among t (members_in ks c)) cs && not (s == t)) (numbers 1 n)
 
 -- the channel of a name is held otherwise
 abbrev pub with_held : List Channel → List ℕ → Held → List Channel
@@ -100,6 +195,15 @@ pub record Changes (old new : List Channel) (c : List ℕ) (x : Change) : Type 0
   pub between : List Channel
   pub reholds : Reholds old between c (changed x (state_in old c)) 1
   pub ended : new ≡ populated between
+
+-- a session is taken out of the channel at a place
+pub record DepartsAt (old new : List Channel) (i t : ℕ) : Type 0 where
+  pub was : Channel
+  pub held : Held
+  pub at : slice_get old i ≡ Some was
+  pub changed : new ≡ slice_set old i (record { name = was.name; held = held })
+  pub state : held.state ≡ departed t was.held.state
+  pub room : was.held.room ≤ held.room
 
 -- a session is taken out of all channels
 abbrev pub AreWithout : ℕ → List Channel → List Channel → Type 0

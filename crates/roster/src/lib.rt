@@ -4,15 +4,20 @@
 mod channels;
 mod deed;
 mod given;
+mod hashing;
+mod keys;
 mod laws;
 mod lists;
 mod names;
+mod nicks;
 mod people;
 mod room;
 mod roster;
 mod sessions;
 mod sharing;
 mod tables;
+mod touched;
+mod whys;
 
 pub use deed::Deed;
 pub use laws::{

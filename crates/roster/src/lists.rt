@@ -1,12 +1,15 @@
 //! The channels of each session, in lists.
 ghost use Rattle.std.specs.Option.{option_map_or};
 ghost use Rattle.std.specs.Prelude.{◌≡◌, ℕ, List, true, false, ◌==◌, cond, ◌<◌, ◌≤◌, ◌-◌, ◌++◌, [], length, drop, slice_get, Some, OnOk};
-ghost use Rattle.std.specs.List.{flat_map};
+ghost use Rattle.std.specs.List.{flat_map, list_any};
+ghost use Rattle.casemapping.specs.Fold.{is_same};
 ghost use Rattle.roster.specs.LookBack.{with_last_name, without_name};
+ghost use Rattle.roster.specs.Tables.{person_at};
 ghost use Rattle.roster.specs.Lists.{row_of, seat_of, is_taken, reseated, is_joining, joinings, made_name, Relists, Widens};
 
 use crate::deed::Deed;
 use crate::names::is_same;
+use crate::people::People;
 use channel_state::Change;
 use chronicle::SessionId;
 use line_grammar::Octets;
@@ -30,7 +33,7 @@ impl Model for Names {
 }
 
 impl Names {
-    fn new(alloc: Global) -> Names
+    pub(crate) fn new(alloc: Global) -> Names
         ensures { result.list ≡ [] }
     {
         Names {
@@ -39,7 +42,7 @@ impl Names {
     }
 
     /// Makes room for so many more.
-    fn reserve(&mut self, more: usize) -> Result<(), AllocError>
+    pub(crate) fn reserve(&mut self, more: usize) -> Result<(), AllocError>
         ensures list { self.new.list ≡ self.old.list }
         ensures room { self.old.room ≤ self.new.room }
         ensures made { OnOk result (more ≤ self.new.room) }
@@ -48,7 +51,7 @@ impl Names {
     }
 
     /// Adds a name at the end, or moves it there. It takes no memory.
-    fn add(&mut self, name: Octets)
+    pub(crate) fn add(&mut self, name: Octets)
         requires { 0 < self.old.room }
         ensures list { self.new.list ≡ with_last_name name self.old.list }
         ensures room { self.old.room - 1 ≤ self.new.room }
@@ -58,7 +61,7 @@ impl Names {
     }
 
     /// Takes a name out, however it is spelled. It takes no memory.
-    fn remove(&mut self, name: &[u8])
+    pub(crate) fn remove(&mut self, name: &[u8])
         ensures list { self.new.list ≡ without_name name.now self.old.list }
         ensures room { self.old.room ≤ self.new.room }
     {
@@ -66,7 +69,7 @@ impl Names {
     }
 
     /// Takes all out. It takes no memory.
-    fn clear(&mut self)
+    pub(crate) fn clear(&mut self)
         ensures list { self.new.list ≡ [] }
         ensures room { self.old.room ≤ self.new.room }
     {
@@ -79,6 +82,13 @@ impl Names {
     {
         &self.names
     }
+}
+
+/// Whether a name is among these, however it is spelled.
+pub(crate) fn has_name(names: &[Octets], name: &[u8]) -> bool
+    ensures { result ≡ list_any (λ k. is_same k name.now) names.now }
+{
+    names.iter().any(|other| is_same(other.as_slice(), name))
 }
 
 /// Who takes a seat on a channel, or leaves one.
@@ -99,69 +109,31 @@ pub(crate) fn seat_of(change: &Change) -> Seat
     }
 }
 
-/// The channels of a session.
-pub(crate) fn find_list(lists: &[Names], session: SessionId) -> &[Octets]
-    ensures { result.now ≡ (row_of lists.now session).list }
-{
-    match lists.get(session.number() as usize) {
-        Some(names) => names.as_slice(),
-        None => &[],
-    }
-}
-
-/// A session joins a channel. It takes no memory.
-fn join(lists: &mut Vec<Names>, session: SessionId, name: Octets)
-    requires { 0 < (row_of lists.old.items session).room }
-    ensures { Relists lists.old.items lists.new.items (λ s cs. cond (session == s) (with_last_name name cs) cs) (λ s. session == s) }
-{
-    let place = session.number() as usize;
-    let names = &mut lists[place];
-    names.add(name);
-}
-
-/// A session leaves a channel. It takes no memory.
-fn leave(lists: &mut Vec<Names>, session: SessionId, name: &[u8])
-    ensures { Relists lists.old.items lists.new.items (λ s cs. cond (session == s) (without_name name.now cs) cs) (λ s. false) }
-{
-    let place = session.number() as usize;
-    if place < lists.len() {
-        let names = &mut lists[place];
-        names.remove(name);
-    }
-}
-
-/// A session leaves all channels. It takes no memory.
-pub(crate) fn vacate(lists: &mut Vec<Names>, session: SessionId)
-    ensures { Relists lists.old.items lists.new.items (λ s cs. cond (session == s) [] cs) (λ s. false) }
-{
-    let place = session.number() as usize;
-    if place < lists.len() {
-        let names = &mut lists[place];
-        names.clear();
-    }
-}
-
 /// A session takes a seat or leaves one. It takes no memory.
-pub(crate) fn reseat(lists: &mut Vec<Names>, seat: Seat, name: Octets)
-    requires { (s : ℕ) → is_taken s seat ≡ true → 0 < (row_of lists.old.items s).room }
-    ensures { Relists lists.old.items lists.new.items (λ s. reseated s name seat) (λ s. is_taken s seat) }
+pub(crate) fn reseat(people: &mut People, seat: Seat, name: Octets)
+    requires { (s : ℕ) → is_taken s seat ≡ true → 0 < (row_of people.old.list s).room }
+    ensures people { (t : ℕ) → person_at people.new.list t ≡ person_at people.old.list t }
+    ensures lists { Relists people.old.list people.new.list (λ s. reseated s name seat) (λ s. is_taken s seat) }
+    ensures room { people.new.room ≡ people.old.room }
 {
     match seat {
-        Seat::Taken { session } => join(lists, session, name),
-        Seat::Left { session } => leave(lists, session, name.as_slice()),
+        Seat::Taken { session } => people.join(session, name),
+        Seat::Left { session } => people.leave(session, name.as_slice()),
         Seat::Same => {}
     }
 }
 
 /// A session joins the channel that it made, whose name is the first of the copies. It takes no memory.
-pub(crate) fn join_made(lists: &mut Vec<Names>, copies: &mut VecDeque<Octets>, session: SessionId)
-    requires room { 0 < (row_of lists.old.items session).room }
+pub(crate) fn join_made(people: &mut People, copies: &mut VecDeque<Octets>, session: SessionId)
+    requires room { 0 < (row_of people.old.list session).room }
     requires copied { 0 < length copies.old.items }
-    ensures joined { (n : List ℕ) → slice_get copies.old.items 0 ≡ Some n → Relists lists.old.items lists.new.items (λ s cs. cond (session == s) (with_last_name n cs) cs) (λ s. session == s) }
+    ensures people { (t : ℕ) → person_at people.new.list t ≡ person_at people.old.list t }
+    ensures joined { (n : List ℕ) → slice_get copies.old.items 0 ≡ Some n → Relists people.old.list people.new.list (λ s cs. cond (session == s) (with_last_name n cs) cs) (λ s. session == s) }
     ensures copies { copies.new.items ≡ drop 1 copies.old.items }
+    ensures room { people.new.room ≡ people.old.room }
 {
     if let Some(name) = copies.pop_front() {
-        join(lists, session, name);
+        people.join(session, name);
     }
 }
 
@@ -179,61 +151,26 @@ fn joiner_of(deed: &Deed) -> Option<SessionId>
     }
 }
 
-/// Makes lists of sessions up to one.
-fn add_lists(alloc: Global, lists: &mut Vec<Names>, session: SessionId) -> Result<(), AllocError>
-    ensures kept { Widens lists.old.items lists.new.items }
-    ensures there { OnOk result (session < length lists.new.items) }
-{
-    let place = session.number() as usize;
-    'add: while lists.len() <= place {
-        lists.push(Names::new(alloc))?;
-    }
-    Ok(())
-}
-
-/// Makes room in the list of a session.
-fn reserve_list(
-    alloc: Global,
-    lists: &mut Vec<Names>,
-    session: SessionId,
-    more: usize,
-) -> Result<(), AllocError>
-    ensures kept { Widens lists.old.items lists.new.items }
-    ensures room { OnOk result (more ≤ (row_of lists.new.items session).room) }
-{
-    add_lists(alloc, lists, session)?;
-    let place = session.number() as usize;
-    let names = &mut lists[place];
-    names.reserve(more)
-}
-
 /// Makes room in the list of whoever joins a channel by a deed.
-fn reserve_for(
-    alloc: Global,
-    lists: &mut Vec<Names>,
-    deed: &Deed,
-    more: usize,
-) -> Result<(), AllocError>
-    ensures kept { Widens lists.old.items lists.new.items }
-    ensures room { OnOk result ((s : ℕ) → is_joining s deed.now ≡ true → more ≤ (row_of lists.new.items s).room) }
+fn reserve_for(people: &mut People, deed: &Deed, more: usize) -> Result<(), AllocError>
+    ensures people { (t : ℕ) → person_at people.new.list t ≡ person_at people.old.list t }
+    ensures kept { Widens people.old.list people.new.list }
+    ensures room { OnOk result ((s : ℕ) → is_joining s deed.now ≡ true → more ≤ (row_of people.new.list s).room) }
 {
     match joiner_of(deed) {
-        Some(session) => reserve_list(alloc, lists, session, more),
+        Some(session) => people.reserve_names(session, more),
         None => Ok(()),
     }
 }
 
 /// Makes room in the lists of those who join a channel by deeds.
-pub(crate) fn reserve_lists(
-    alloc: Global,
-    lists: &mut Vec<Names>,
-    deeds: &[Deed],
-) -> Result<(), AllocError>
-    ensures kept { Widens lists.old.items lists.new.items }
-    ensures room { OnOk result ((s : ℕ) → joinings s deeds.now ≤ (row_of lists.new.items s).room) }
+pub(crate) fn reserve_lists(people: &mut People, deeds: &[Deed]) -> Result<(), AllocError>
+    ensures people { (t : ℕ) → person_at people.new.list t ≡ person_at people.old.list t }
+    ensures kept { Widens people.old.list people.new.list }
+    ensures room { OnOk result ((s : ℕ) → joinings s deeds.now ≤ (row_of people.new.list s).room) }
 {
     for deed in deeds {
-        reserve_for(alloc, lists, deed, deeds.len())?;
+        reserve_for(people, deed, deeds.len())?;
     }
     Ok(())
 }

@@ -1,18 +1,24 @@
 //! The table of sessions.
-ghost use Rattle.std.specs.Prelude.{◌≡◌, ◌<◌, ◌≤◌, [], length, option_copied, unwrap_or, vec_len, vec_capacity, Some, None, OnSome, true};
+ghost use Rattle.std.specs.Prelude.{◌≡◌, ◌+◌, ◌<◌, ◌≤◌, ◌==◌, ℕ, [], cond, false, option_copied, unwrap_or, Some, IsSome, OnOk};
 ghost use Rattle.registration.specs.Enrol.{enrolment};
-ghost use Rattle.roster.specs.LookBack.{is_named};
-ghost use Rattle.roster.specs.Tables.{nobody, enrolment_in, person_at, with_person, holder_place};
+ghost use Rattle.roster.specs.LookBack.{with_last_name, without_name};
+ghost use Rattle.roster.specs.Tables.{nobody, enrolment_in, heard, subject, is_about, card_in, person_at};
+ghost use Rattle.roster.specs.Lists.{row_of, Relists, Widens};
 
-use crate::names::is_same;
-use crate::tables::Person;
-use chronicle::{SessionId, Why};
+use crate::deed::Deed;
+use crate::hashing::Quick;
+use crate::lists::Names;
+use crate::tables::{Card, Person};
+use chronicle::SessionId;
+use indexmap::IndexMap;
 use line_grammar::Octets;
 use registration::{Caps, Enrol};
-use std::alloc::Global;
+use std::alloc::{AllocError, Global};
+use std::marker::Model;
+use std::mem::replace;
 
 /// A session of which nothing is known but its host, if that.
-pub(crate) fn stranger(alloc: Global, host: Octets) -> Person
+fn stranger(alloc: Global, host: Octets) -> Person
     ensures { result ≡ record nobody { host = host } }
 {
     Person {
@@ -27,9 +33,15 @@ pub(crate) fn stranger(alloc: Global, host: Octets) -> Person
         registered: false,
         away: None,
         invisible: false,
-        why: Why::SendQ,
         parting: Octets::from_vec(Vec::new(alloc)),
     }
+}
+
+/// A session of which nothing is known.
+fn nobody(alloc: Global) -> Person
+    ensures { result ≡ nobody }
+{
+    stranger(alloc, Octets::from_vec(Vec::new(alloc)))
 }
 
 /// Nothing is known of a session yet.
@@ -62,165 +74,297 @@ pub(crate) fn enrol_of(person: &Person) -> Enrol<'_>
     }
 }
 
-/// A session has this nickname from now on.
-pub(crate) fn rename(people: &mut Vec<Person>, session: SessionId, nick: Octets)
-    requires from_1 { 0 < session }
-    requires opened { session ≤ length people.old.items }
-    ensures items { people.new.items ≡ with_person people.old.items session (record (person_at people.old.items session) { nick = Some nick }) }
-    ensures len { vec_len people.new ≡ vec_len people.old }
-    ensures capacity { vec_capacity people.new ≡ vec_capacity people.old }
+/// The session of which a deed tells what is known of it.
+fn subject(deed: &Deed) -> Option<SessionId>
+    ensures { result ≡ subject deed.now }
 {
-    let person = &mut people[session.number() as usize - 1];
-    person.nick = Some(nick);
-}
-
-/// A session has this user name and real name from now on.
-pub(crate) fn introduce(people: &mut Vec<Person>, session: SessionId, user: Octets, real: Octets)
-    requires from_1 { 0 < session }
-    requires opened { session ≤ length people.old.items }
-    ensures items { people.new.items ≡ with_person people.old.items session (record (person_at people.old.items session) { user = Some user; real = Some real }) }
-    ensures len { vec_len people.new ≡ vec_len people.old }
-    ensures capacity { vec_capacity people.new ≡ vec_capacity people.old }
-{
-    let person = &mut people[session.number() as usize - 1];
-    person.user = Some(user);
-    person.real = Some(real);
-}
-
-/// The registration of a session waits from now on, or doesn't.
-pub(crate) fn hold(people: &mut Vec<Person>, session: SessionId, held: bool)
-    requires from_1 { 0 < session }
-    requires opened { session ≤ length people.old.items }
-    ensures items { people.new.items ≡ with_person people.old.items session (record (person_at people.old.items session) { held = held }) }
-    ensures len { vec_len people.new ≡ vec_len people.old }
-    ensures capacity { vec_capacity people.new ≡ vec_capacity people.old }
-{
-    let person = &mut people[session.number() as usize - 1];
-    person.held = held;
-}
-
-/// A session has these capabilities from now on.
-pub(crate) fn equip(people: &mut Vec<Person>, session: SessionId, caps: Caps)
-    requires from_1 { 0 < session }
-    requires opened { session ≤ length people.old.items }
-    ensures items { people.new.items ≡ with_person people.old.items session (record (person_at people.old.items session) { caps = caps }) }
-    ensures len { vec_len people.new ≡ vec_len people.old }
-    ensures capacity { vec_capacity people.new ≡ vec_capacity people.old }
-{
-    let person = &mut people[session.number() as usize - 1];
-    person.caps = caps;
-}
-
-/// A session has this of an exchange open from now on, or none.
-pub(crate) fn open_exchange(people: &mut Vec<Person>, session: SessionId, exchange: Option<Octets>)
-    requires from_1 { 0 < session }
-    requires opened { session ≤ length people.old.items }
-    ensures items { people.new.items ≡ with_person people.old.items session (record (person_at people.old.items session) { exchange = exchange }) }
-    ensures len { vec_len people.new ≡ vec_len people.old }
-    ensures capacity { vec_capacity people.new ≡ vec_capacity people.old }
-{
-    let person = &mut people[session.number() as usize - 1];
-    person.exchange = exchange;
-}
-
-/// A session is logged in by this account from now on.
-pub(crate) fn log_in(people: &mut Vec<Person>, session: SessionId, account: Octets)
-    requires from_1 { 0 < session }
-    requires opened { session ≤ length people.old.items }
-    ensures items { people.new.items ≡ with_person people.old.items session (record (person_at people.old.items session) { account = Some account }) }
-    ensures len { vec_len people.new ≡ vec_len people.old }
-    ensures capacity { vec_capacity people.new ≡ vec_capacity people.old }
-{
-    let person = &mut people[session.number() as usize - 1];
-    person.account = Some(account);
-}
-
-/// A session is registered from now on.
-pub(crate) fn enroll(people: &mut Vec<Person>, session: SessionId)
-    requires from_1 { 0 < session }
-    requires opened { session ≤ length people.old.items }
-    ensures items { people.new.items ≡ with_person people.old.items session (record (person_at people.old.items session) { registered = true }) }
-    ensures len { vec_len people.new ≡ vec_len people.old }
-    ensures capacity { vec_capacity people.new ≡ vec_capacity people.old }
-{
-    let person = &mut people[session.number() as usize - 1];
-    person.registered = true;
-}
-
-/// A session is away with this text from now on, or isn't.
-pub(crate) fn go_away(people: &mut Vec<Person>, session: SessionId, text: Option<Octets>)
-    requires from_1 { 0 < session }
-    requires opened { session ≤ length people.old.items }
-    ensures items { people.new.items ≡ with_person people.old.items session (record (person_at people.old.items session) { away = text }) }
-    ensures len { vec_len people.new ≡ vec_len people.old }
-    ensures capacity { vec_capacity people.new ≡ vec_capacity people.old }
-{
-    let person = &mut people[session.number() as usize - 1];
-    person.away = text;
-}
-
-/// A session is hidden from now on, or isn't.
-pub(crate) fn hide(people: &mut Vec<Person>, session: SessionId, on: bool)
-    requires from_1 { 0 < session }
-    requires opened { session ≤ length people.old.items }
-    ensures items { people.new.items ≡ with_person people.old.items session (record (person_at people.old.items session) { invisible = on }) }
-    ensures len { vec_len people.new ≡ vec_len people.old }
-    ensures capacity { vec_capacity people.new ≡ vec_capacity people.old }
-{
-    let person = &mut people[session.number() as usize - 1];
-    person.invisible = on;
-}
-
-/// A session ended.
-pub(crate) fn end(people: &mut Vec<Person>, session: SessionId, why: Why, text: Octets)
-    requires from_1 { 0 < session }
-    requires opened { session ≤ length people.old.items }
-    ensures items { people.new.items ≡ with_person people.old.items session (record (person_at people.old.items session) { why = why; parting = text }) }
-    ensures len { vec_len people.new ≡ vec_len people.old }
-    ensures capacity { vec_capacity people.new ≡ vec_capacity people.old }
-{
-    let person = &mut people[session.number() as usize - 1];
-    person.why = why;
-    person.parting = text;
-}
-
-/// Nothing is known of a session any more.
-pub(crate) fn forget(people: &mut Vec<Person>, session: SessionId)
-    requires from_1 { 0 < session }
-    requires opened { session ≤ length people.old.items }
-    ensures items { people.new.items ≡ with_person people.old.items session nobody }
-    ensures len { vec_len people.new ≡ vec_len people.old }
-    ensures capacity { vec_capacity people.new ≡ vec_capacity people.old }
-{
-    let alloc = *people.allocator();
-    people[session.number() as usize - 1] = stranger(alloc, Octets::from_vec(Vec::new(alloc)));
-}
-
-/// Whether a nickname is one that a person has.
-fn has_nick(person: &Person, nick: &[u8]) -> bool
-    ensures { result ≡ is_named person.now.nick nick.now }
-{
-    match &person.nick {
-        Some(own) => is_same(own.as_slice(), nick),
-        None => false,
+    match deed {
+        Deed::Opened { session, .. }
+        | Deed::NickSet { session, .. }
+        | Deed::UserSet { session, .. }
+        | Deed::HoldSet { session, .. }
+        | Deed::CapsSet { session, .. }
+        | Deed::ExchangeSet { session, .. }
+        | Deed::LoggedIn { session, .. }
+        | Deed::Enrolled { session }
+        | Deed::AwaySet { session, .. }
+        | Deed::InvisibleSet { session, .. }
+        | Deed::Ended { session, .. }
+        | Deed::Gone { session } => Some(*session),
+        Deed::ChannelMade { .. } | Deed::Changed { .. } => None,
     }
 }
 
-/// The place of whoever has a nickname.
-pub(crate) fn find_holder(people: &[Person], nick: &[u8]) -> Option<usize>
-    ensures { result ≡ holder_place people.now nick.now }
+/// What is known of a session after a deed of it.
+fn hear(alloc: Global, person: &mut Person, deed: Deed)
+    ensures { person.new ≡ heard deed person.old }
 {
-    people.iter().position(|person| has_nick(person, nick))
+    match deed {
+        Deed::Opened { session: _, host } => *person = stranger(alloc, host),
+        Deed::NickSet { session: _, nick } => person.nick = Some(nick),
+        Deed::UserSet {
+            session: _,
+            user,
+            real,
+        } => {
+            person.user = Some(user);
+            person.real = Some(real);
+        }
+        Deed::HoldSet { session: _, held } => person.held = held,
+        Deed::CapsSet { session: _, caps } => person.caps = caps,
+        Deed::ExchangeSet {
+            session: _,
+            exchange,
+        } => person.exchange = exchange,
+        Deed::LoggedIn {
+            session: _,
+            account,
+        } => person.account = Some(account),
+        Deed::Enrolled { session: _ } => person.registered = true,
+        Deed::AwaySet { session: _, text } => person.away = text,
+        Deed::InvisibleSet { session: _, on } => person.invisible = on,
+        Deed::Ended {
+            session: _,
+            why: _,
+            text,
+        } => person.parting = text,
+        Deed::Gone { session: _ } => *person = nobody(alloc),
+        Deed::ChannelMade { .. } | Deed::Changed { .. } => {}
+    }
 }
 
-/// What is known of a session, where it was opened.
-pub(crate) fn find_person(people: &[Person], session: SessionId) -> Option<&Person>
-    ensures person { unwrap_or (option_copied result) nobody ≡ person_at people.now session }
-    ensures within { OnSome result ((0 < session) × (session ≤ length people.now)) }
-{
-    let number = session.number();
-    if number == 0 {
-        return None;
+/// The sessions of which something is known, or that are on a channel, by their numbers.
+#[derive(Drop)]
+pub(crate) struct People {
+    alloc: Global,
+    cards: IndexMap<u64, Card, Quick>,
+}
+
+impl Model for People {
+    ghost use Rattle.std.specs.Prelude.{ℕ};
+    ghost use Rattle.indexmap.specs.IndexMap.{spare};
+    ghost use Rattle.roster.specs.Table.{Table};
+    ghost use Rattle.roster.specs.declared.tables.Card.{Card};
+
+    ghost Value = { Table (ℕ × Card) };
+
+    ghost view = { λ a. record { list = a.cards.entries; room = spare a.cards } };
+}
+
+impl People {
+    /// Nobody.
+    pub(crate) fn new(alloc: Global) -> People
+        ensures { result.list ≡ [] }
+    {
+        People {
+            alloc,
+            cards: IndexMap::with_hasher(alloc, Quick::new()),
+        }
     }
-    people.get(number as usize - 1)
+
+    /// Makes room for so many more.
+    pub(crate) fn reserve(&mut self, more: usize) -> Result<(), AllocError>
+        ensures list { self.new.list ≡ self.old.list }
+        ensures room { OnOk result (more ≤ self.new.room) }
+    {
+        self.cards.reserve(more)
+    }
+
+    /// What is known of a session.
+    pub(crate) fn find(&self, session: SessionId) -> Option<&Person>
+        ensures { unwrap_or (option_copied result) nobody ≡ person_at self.now.list session }
+    {
+        match self.cards.get(&session.number()) {
+            Some(card) => Some(&card.person),
+            None => None,
+        }
+    }
+
+    /// The channels of a session.
+    pub(crate) fn names(&self, session: SessionId) -> &[Octets]
+        ensures { result.now ≡ (row_of self.now.list session).list }
+    {
+        match self.cards.get(&session.number()) {
+            Some(card) => card.names.as_slice(),
+            None => &[],
+        }
+    }
+
+    /// A session of which nothing is known has a card, too. There has to be room for it, and it takes no memory.
+    fn open(&mut self, session: SessionId)
+        requires { 0 < self.old.room }
+        ensures people { (t : ℕ) → person_at self.new.list t ≡ person_at self.old.list t }
+        ensures lists { Widens self.old.list self.new.list }
+        ensures there { IsSome (card_in self.new.list session) }
+        ensures room { self.old.room ≤ self.new.room + 1 }
+    {
+        let number = session.number();
+        if self.cards.contains_key(&number) {
+            return;
+        }
+        let person = nobody(self.alloc);
+        let names = Names::new(self.alloc);
+        let _ = self.cards.insert(number, Card { person, names }).unwrap();
+    }
+
+    /// What is known of a session that has a card changes by a deed of it.
+    fn update(&mut self, session: SessionId, deed: Deed)
+        requires { IsSome (card_in self.old.list session) }
+        ensures people { (t : ℕ) → person_at self.new.list t ≡ cond (session == t) (heard deed (person_at self.old.list t)) (person_at self.old.list t) }
+        ensures lists { Widens self.old.list self.new.list }
+        ensures room { self.new.room ≡ self.old.room }
+    {
+        let Some(card) = self.cards.get_mut(&session.number()) else {
+            unreachable!();
+        };
+        hear(self.alloc, &mut card.person, deed);
+    }
+
+    /// What is known of sessions changes by a deed. There has to be room for a card, and it takes no memory.
+    pub(crate) fn tell(&mut self, deed: Deed)
+        requires { 0 < self.old.room }
+        ensures people { (t : ℕ) → person_at self.new.list t ≡ cond (is_about t deed) (heard deed (person_at self.old.list t)) (person_at self.old.list t) }
+        ensures lists { Widens self.old.list self.new.list }
+        ensures room { self.old.room ≤ self.new.room + 1 }
+    {
+        let Some(session) = subject(&deed) else {
+            return;
+        };
+        self.open(session);
+        self.update(session, deed);
+    }
+
+    /// The nickname of a session that has a card becomes another. It returns the one before.
+    fn change_nick(&mut self, session: SessionId, nick: Octets) -> Option<Octets>
+        requires { IsSome (card_in self.old.list session) }
+        ensures people { (t : ℕ) → person_at self.new.list t ≡ cond (session == t) (record (person_at self.old.list t) { nick = Some nick }) (person_at self.old.list t) }
+        ensures nick { result ≡ (person_at self.old.list session).nick }
+        ensures lists { Widens self.old.list self.new.list }
+        ensures room { self.new.room ≡ self.old.room }
+    {
+        let Some(card) = self.cards.get_mut(&session.number()) else {
+            unreachable!();
+        };
+        card.person.nick.replace(nick)
+    }
+
+    /// A session has this nickname from now on. It returns the one before. There has to be room for a card, and it takes no memory.
+    pub(crate) fn rename(&mut self, session: SessionId, nick: Octets) -> Option<Octets>
+        requires { 0 < self.old.room }
+        ensures people { (t : ℕ) → person_at self.new.list t ≡ cond (session == t) (record (person_at self.old.list t) { nick = Some nick }) (person_at self.old.list t) }
+        ensures nick { result ≡ (person_at self.old.list session).nick }
+        ensures lists { Widens self.old.list self.new.list }
+        ensures room { self.old.room ≤ self.new.room + 1 }
+    {
+        self.open(session);
+        self.change_nick(session, nick)
+    }
+
+    /// A session's client gave no text when it ended.
+    pub(crate) fn part(&mut self, session: SessionId)
+        ensures people { (t : ℕ) → person_at self.new.list t ≡ cond (session == t) (record (person_at self.old.list t) { parting = [] }) (person_at self.old.list t) }
+        ensures lists { Widens self.old.list self.new.list }
+        ensures room { self.new.room ≡ self.old.room }
+    {
+        let text = Octets::from_vec(Vec::new(self.alloc));
+        if let Some(card) = self.cards.get_mut(&session.number()) {
+            card.person.parting = text;
+        }
+    }
+
+    /// Nothing is known of a session any more, and it is on no channel. Its card stays, with the room for names that it has.
+    fn empty(&mut self, session: SessionId) -> Option<Octets>
+        ensures people { (t : ℕ) → person_at self.new.list t ≡ cond (session == t) nobody (person_at self.old.list t) }
+        ensures nick { result ≡ (person_at self.old.list session).nick }
+        ensures lists { Relists self.old.list self.new.list (λ s cs. cond (session == s) [] cs) (λ s. false) }
+        ensures room { self.new.room ≡ self.old.room }
+    {
+        let stranger = nobody(self.alloc);
+        let Some(card) = self.cards.get_mut(&session.number()) else {
+            return None;
+        };
+        card.names.clear();
+        let before = replace(&mut card.person, stranger);
+        before.nick
+    }
+
+    /// The card of a session is taken out.
+    fn remove(&mut self, session: SessionId) -> Option<Octets>
+        ensures people { (t : ℕ) → person_at self.new.list t ≡ cond (session == t) nobody (person_at self.old.list t) }
+        ensures nick { result ≡ (person_at self.old.list session).nick }
+        ensures lists { (t : ℕ) → row_of self.new.list t ≡ cond (session == t) (record { list = []; room = 0 }) (row_of self.old.list t) }
+        ensures room { self.old.room ≤ self.new.room }
+    {
+        let card = self.cards.swap_remove(&session.number())?;
+        let person = card.person;
+        person.nick
+    }
+
+    /// Nothing is known of a session any more, and it is on no channel. Its card is taken out, but where room for names in it may
+    /// still be wanted. It returns the nickname that it had, and takes no memory.
+    pub(crate) fn forget(&mut self, session: SessionId, is_last: bool) -> Option<Octets>
+        ensures people { (t : ℕ) → person_at self.new.list t ≡ cond (session == t) nobody (person_at self.old.list t) }
+        ensures nick { result ≡ (person_at self.old.list session).nick }
+        ensures lists { (t : ℕ) → (row_of self.new.list t).list ≡ cond (session == t) [] (row_of self.old.list t).list }
+        ensures rooms { is_last ≡ false → (t : ℕ) → (row_of self.old.list t).room ≤ (row_of self.new.list t).room }
+        ensures room { self.old.room ≤ self.new.room }
+    {
+        if is_last {
+            self.remove(session)
+        } else {
+            self.empty(session)
+        }
+    }
+
+    /// A session joins a channel. It takes no memory.
+    pub(crate) fn join(&mut self, session: SessionId, name: Octets)
+        requires { 0 < (row_of self.old.list session).room }
+        ensures people { (t : ℕ) → person_at self.new.list t ≡ person_at self.old.list t }
+        ensures lists { Relists self.old.list self.new.list (λ s cs. cond (session == s) (with_last_name name cs) cs) (λ s. session == s) }
+        ensures room { self.new.room ≡ self.old.room }
+    {
+        let Some(card) = self.cards.get_mut(&session.number()) else {
+            unreachable!();
+        };
+        card.names.add(name);
+    }
+
+    /// A session leaves a channel. It takes no memory.
+    pub(crate) fn leave(&mut self, session: SessionId, name: &[u8])
+        ensures people { (t : ℕ) → person_at self.new.list t ≡ person_at self.old.list t }
+        ensures lists { Relists self.old.list self.new.list (λ s cs. cond (session == s) (without_name name.now cs) cs) (λ s. false) }
+        ensures room { self.new.room ≡ self.old.room }
+    {
+        if let Some(card) = self.cards.get_mut(&session.number()) {
+            card.names.remove(name);
+        }
+    }
+
+    /// Makes room for names in the card of a session.
+    fn reserve_card(&mut self, session: SessionId, more: usize) -> Result<(), AllocError>
+        ensures people { (t : ℕ) → person_at self.new.list t ≡ person_at self.old.list t }
+        ensures lists { Widens self.old.list self.new.list }
+        ensures names { OnOk result (IsSome (card_in self.old.list session) → more ≤ (row_of self.new.list session).room) }
+        ensures room { self.new.room ≡ self.old.room }
+    {
+        let Some(card) = self.cards.get_mut(&session.number()) else {
+            return Ok(());
+        };
+        card.names.reserve(more)
+    }
+
+    /// Makes room for names of channels of a session, and for as many cards.
+    pub(crate) fn reserve_names(
+        &mut self,
+        session: SessionId,
+        more: usize,
+    ) -> Result<(), AllocError>
+        ensures people { (t : ℕ) → person_at self.new.list t ≡ person_at self.old.list t }
+        ensures lists { Widens self.old.list self.new.list }
+        ensures names { OnOk result (more ≤ (row_of self.new.list session).room) }
+    {
+        self.cards.reserve(1)?;
+        self.open(session);
+        self.reserve_card(session, more)
+    }
 }

@@ -1,28 +1,15 @@
 //! Room for deeds, made before they are applied.
-ghost use Rattle.std.specs.Prelude.{◌≡◌, ◌≤◌, [], length, count_by, vec_len, vec_capacity, option_copied, OnOk};
-ghost use Rattle.roster.specs.Stands.{is_making, Alike, AreApart, HaveSeats, Reserves, ReservesBy, changed_name, AreSpare, HasRoom};
+ghost use Rattle.std.specs.Prelude.{◌≡◌, ◌≤◌, length, count_by, option_copied, OnOk};
+ghost use Rattle.roster.specs.Stands.{is_making, Alike, AreApart, HaveSeats, ReservesBy, changed_name, AreSpare};
 
-use crate::channels::find_place;
+use crate::channels::Channels;
 use crate::deed::Deed;
-use crate::tables::{Channel, Person};
+use crate::nicks::Nicks;
+use crate::people::People;
+use crate::whys::Whys;
 use channel_state::ChannelState;
 use line_grammar::Octets;
 use std::alloc::{AllocError, Global};
-
-/// Makes room for so many changes in the channel of a name, where it is there.
-fn reserve_named(channels: &mut [Channel], name: &[u8], changes: usize) -> Result<(), AllocError>
-    ensures alike { Alike channels.old channels.new }
-    ensures reserved { OnOk result (Reserves channels.old channels.new name.now changes) }
-{
-    match find_place(channels, name) {
-        Some(place) => {
-            let channel = &mut channels[place];
-            channel.held.reserve(changes)?;
-            Ok(())
-        }
-        None => Ok(()),
-    }
-}
 
 /// The name of the channel that a deed changes.
 fn changed_name(deed: &Deed) -> Option<&Octets>
@@ -35,21 +22,23 @@ fn changed_name(deed: &Deed) -> Option<&Octets>
 }
 
 /// Makes room for so many changes in the channel that a deed changes.
-fn reserve_for(channels: &mut [Channel], deed: &Deed, changes: usize) -> Result<(), AllocError>
-    ensures alike { Alike channels.old channels.new }
-    ensures reserved { OnOk result (ReservesBy (changed_name deed.now) channels.old channels.new changes) }
+fn reserve_for(channels: &mut Channels, deed: &Deed, changes: usize) -> Result<(), AllocError>
+    ensures alike { Alike channels.old.list channels.new.list }
+    ensures reserved { OnOk result (ReservesBy (changed_name deed.now) channels.old.list channels.new.list changes) }
+    ensures room { channels.new.room ≡ channels.old.room }
 {
     match changed_name(deed) {
-        Some(channel) => reserve_named(channels, channel.as_slice(), changes),
+        Some(channel) => channels.reserve_named(channel.as_slice(), changes),
         None => Ok(()),
     }
 }
 
 /// Makes room for their changes in the channels that deeds change.
-fn reserve_seats(channels: &mut [Channel], deeds: &[Deed]) -> Result<(), AllocError>
-    requires { AreApart channels.old }
-    ensures alike { Alike channels.old channels.new }
-    ensures seats { OnOk result (HaveSeats deeds.now channels.new) }
+fn reserve_seats(channels: &mut Channels, deeds: &[Deed]) -> Result<(), AllocError>
+    requires { AreApart channels.old.list }
+    ensures alike { Alike channels.old.list channels.new.list }
+    ensures seats { OnOk result (HaveSeats deeds.now channels.new.list) }
+    ensures room { channels.new.room ≡ channels.old.room }
 {
     for deed in deeds {
         reserve_for(channels, deed, deeds.len())?;
@@ -82,23 +71,41 @@ fn fill_spare(
     Ok(())
 }
 
-/// Makes room for deeds.
-pub(crate) fn make_room(
+/// Makes room in the tables of sessions.
+pub(crate) fn reserve_people(
+    people: &mut People,
+    whys: &mut Whys,
+    nicks: &mut Nicks,
+    deeds: usize,
+) -> Result<(), AllocError>
+    ensures people { people.new.list ≡ people.old.list }
+    ensures whys { whys.new.list ≡ whys.old.list }
+    ensures nicks { nicks.new.list ≡ nicks.old.list }
+    ensures people_room { OnOk result (deeds ≤ people.new.room) }
+    ensures whys_room { OnOk result (deeds ≤ whys.new.room) }
+    ensures nicks_room { OnOk result (deeds ≤ nicks.new.room) }
+{
+    people.reserve(deeds)?;
+    whys.reserve(deeds)?;
+    nicks.reserve(deeds)
+}
+
+/// Makes room in the table of channels, and in those that deeds change.
+pub(crate) fn reserve_channels(
     alloc: Global,
-    people: &mut Vec<Person>,
-    channels: &mut Vec<Channel>,
+    channels: &mut Channels,
     spare: &mut Vec<ChannelState>,
     deeds: &[Deed],
 ) -> Result<(), AllocError>
-    requires room { HasRoom people.old channels.old spare.old [] }
-    requires apart { AreApart channels.old.items }
-    ensures people { people.new.items ≡ people.old.items }
-    ensures channels { Alike channels.old.items channels.new.items }
-    ensures none { HasRoom people.new channels.new spare.new [] }
-    ensures room { OnOk result (HasRoom people.new channels.new spare.new deeds.now) }
+    requires { AreApart channels.old.list }
+    ensures alike { Alike channels.old.list channels.new.list }
+    ensures none { AreSpare 0 spare.new.items }
+    ensures room { OnOk result (length deeds.now ≤ channels.new.room) }
+    ensures seats { OnOk result (HaveSeats deeds.now channels.new.list) }
+    ensures enough { OnOk result (count_by is_making deeds.now ≤ length spare.new.items) }
+    ensures empty { OnOk result (AreSpare (length deeds.now) spare.new.items) }
 {
-    people.reserve(deeds.len())?;
-    channels.reserve(deeds.len())?;
     fill_spare(alloc, spare, deeds)?;
+    channels.reserve(deeds.len())?;
     reserve_seats(channels, deeds)
 }

@@ -3,20 +3,19 @@ ghost use Rattle.std.specs.Option.{option_map, option_map_or};
 ghost use Rattle.std.specs.Prelude.{◌≡◌, ◌<◌, ◌^◌, ◌∷◌, [], Some, None, drop, length, slice_get, option_copied, unwrap_or, IfOk, IfSome, OnOk, OnErr};
 ghost use Rattle.roster.specs.declared.deed.Deed.TheVariants.{Ended};
 
-use crate::channels::{change, count_channels, find_channel, leave_all, make, nth_channel};
+use crate::channels::Channels;
 use crate::deed::Deed;
 use crate::given::Given;
-use crate::lists::{
-    Names, copy_names, find_list, join_made, reseat, reserve_lists, seat_of, vacate,
-};
-use crate::people::{
-    blank_enrol, end, enrol_of, enroll, equip, find_holder, find_person, forget, go_away, hide,
-    hold, introduce, log_in, open_exchange, rename, stranger,
-};
-use crate::room::make_room;
+use crate::keys::{change, copy_keys, make, take};
+use crate::lists::{copy_names, has_name, join_made, reseat, reserve_lists, seat_of};
+use crate::nicks::Nicks;
+use crate::people::{People, blank_enrol, enrol_of};
+use crate::room::{reserve_channels, reserve_people};
 use crate::sessions::Sessions;
 use crate::sharing::find_sharers;
-use crate::tables::{Channel, Person};
+use crate::touched::{Touched, touched_by};
+use crate::whys::Whys;
+use casemapping::Folded;
 use channel_state::ChannelState;
 use chronicle::{SessionId, Why};
 use ghosts::{Change, Snapshot, append_all, apply, blank};
@@ -32,14 +31,16 @@ use std::marker::Model;
 pub struct Roster {
     alloc: Global,
     given: Given,
-    people: Vec<Person>,
-    channels: Vec<Channel>,
+    people: People,
+    whys: Whys,
+    nicks: Nicks,
+    channels: Channels,
     /// What channels that will be made are kept in.
     spare: Vec<ChannelState>,
-    /// The channels of each session, by its number.
-    lists: Vec<Names>,
     /// The names of channels that will be made, for the lists of those who make them.
     copies: VecDeque<Octets>,
+    /// The folded names of channels and nicknames that deeds will give.
+    keys: VecDeque<Folded>,
     facts: Snapshot<LinkedList<Deed>>,
     ready: Snapshot<LinkedList<Deed>>,
 }
@@ -53,7 +54,7 @@ impl Model for Roster {
 
     ghost view = { λ a. record { settings = a.given; facts = a.facts.value; ready = a.ready.value } };
 
-    ghost invariant = { λ a. IsKept a.people a.channels a.spare a.facts.value a.ready.value × AreListed a.lists.items a.copies.items a.facts.value a.ready.value };
+    ghost invariant = { λ a. IsKept a.people a.whys a.nicks a.channels a.spare.items a.keys.items a.facts.value a.ready.value × AreListed a.people.list a.copies.items a.facts.value a.ready.value };
 }
 
 // A fact is added, as the newest.
@@ -85,11 +86,13 @@ impl Roster {
         Roster {
             alloc,
             given: Given::new(settings),
-            people: Vec::new(alloc),
-            channels: Vec::new(alloc),
+            people: People::new(alloc),
+            whys: Whys::new(alloc),
+            nicks: Nicks::new(alloc),
+            channels: Channels::new(alloc),
             spare: Vec::new(alloc),
-            lists: Vec::new(alloc),
             copies: VecDeque::new(alloc),
+            keys: VecDeque::new(alloc),
             facts: blank(alloc),
             ready: blank(alloc),
         }
@@ -107,15 +110,16 @@ impl Roster {
         if deeds.is_empty() {
             return Ok(());
         }
-        make_room(
-            self.alloc,
+        reserve_channels(self.alloc, &mut self.channels, &mut self.spare, deeds)?;
+        reserve_lists(&mut self.people, deeds)?;
+        reserve_people(
             &mut self.people,
-            &mut self.channels,
-            &mut self.spare,
-            deeds,
+            &mut self.whys,
+            &mut self.nicks,
+            deeds.len(),
         )?;
-        reserve_lists(self.alloc, &mut self.lists, deeds)?;
         copy_names(&mut self.copies, deeds)?;
+        copy_keys(self.alloc, &mut self.keys, deeds)?;
         append_all(&mut self.ready, deeds);
         Ok(())
     }
@@ -129,42 +133,36 @@ impl Roster {
     {
         apply::<Adds, LinkedList<Deed>, Deed>(&mut self.facts, &deed);
         apply::<DropsFirst, LinkedList<Deed>, ()>(&mut self.ready, &());
-        match deed {
-            Deed::Opened { session: _, host } => {
-                self.people.push_reserved(stranger(self.alloc, host));
+        self.whys.hear(&deed);
+        match touched_by(deed) {
+            Touched::Person { deed } => self.people.tell(deed),
+            Touched::Nick { session, nick } => {
+                let before = self.people.rename(session, nick);
+                self.nicks.give_back(before);
+                take(&mut self.nicks, &mut self.keys, session);
             }
-            Deed::NickSet { session, nick } => rename(&mut self.people, session, nick),
-            Deed::UserSet {
-                session,
-                user,
-                real,
-            } => introduce(&mut self.people, session, user, real),
-            Deed::HoldSet { session, held } => hold(&mut self.people, session, held),
-            Deed::CapsSet { session, caps } => equip(&mut self.people, session, caps),
-            Deed::ExchangeSet { session, exchange } => {
-                open_exchange(&mut self.people, session, exchange);
+            Touched::NewChannel { session, channel } => {
+                make(
+                    &mut self.channels,
+                    &mut self.spare,
+                    &mut self.keys,
+                    channel,
+                    session,
+                );
+                join_made(&mut self.people, &mut self.copies, session);
             }
-            Deed::LoggedIn { session, account } => log_in(&mut self.people, session, account),
-            Deed::Enrolled { session } => enroll(&mut self.people, session),
-            Deed::AwaySet { session, text } => go_away(&mut self.people, session, text),
-            Deed::InvisibleSet { session, on } => hide(&mut self.people, session, on),
-            Deed::ChannelMade { session, channel } => {
-                make(&mut self.channels, &mut self.spare, channel, session);
-                join_made(&mut self.lists, &mut self.copies, session);
-            }
-            Deed::Changed {
+            Touched::Channel {
                 channel,
                 change: made,
             } => {
                 let seat = seat_of(&made);
-                change(&mut self.channels, channel.as_slice(), made);
-                reseat(&mut self.lists, seat, channel);
+                change(&mut self.channels, &mut self.keys, channel.as_slice(), made);
+                reseat(&mut self.people, seat, channel);
             }
-            Deed::Ended { session, why, text } => end(&mut self.people, session, why, text),
-            Deed::Gone { session } => {
-                forget(&mut self.people, session);
-                leave_all(&mut self.channels, session);
-                vacate(&mut self.lists, session);
+            Touched::All { session } => {
+                let nick = self.people.forget(session, self.keys.is_empty());
+                self.nicks.give_back(nick);
+                self.channels.leave_all(session);
             }
         }
     }
@@ -177,7 +175,6 @@ impl Roster {
         ensures facts { self.new.facts ≡ Ended session reason [] ∷ self.old.facts }
         ensures ready { self.new.ready ≡ [] }
     {
-        let text = Octets::from_vec(Vec::new(self.alloc));
         let deed = Deed::Ended {
             session,
             why: reason,
@@ -185,7 +182,8 @@ impl Roster {
         };
         apply::<Adds, LinkedList<Deed>, Deed>(&mut self.facts, &deed);
         self.ready = blank(self.alloc);
-        end(&mut self.people, session, reason, text);
+        self.whys.set(session, reason);
+        self.people.part(session);
     }
 
     /// The server's settings.
@@ -201,14 +199,14 @@ impl Roster {
         ensures count { result ≡ length (opened self.now.facts) }
         ensures bound { result < 2 ^ 63 }
     {
-        self.people.len()
+        self.whys.len()
     }
 
     /// The host of a session, empty where it wasn't opened or is gone.
     pub fn host_of(&self, session: SessionId) -> &[u8]
         ensures { result.now ≡ host self.now.facts session }
     {
-        match find_person(&self.people, session) {
+        match self.people.find(session) {
             Some(person) => person.host.as_slice(),
             None => &[],
         }
@@ -219,7 +217,7 @@ impl Roster {
         ensures nick { option_copied result ≡ nick self.now.facts session }
         ensures unknown { (IsOpened self.now.facts session → ⊥) → result ≡ None }
     {
-        match find_person(&self.people, session) {
+        match self.people.find(session) {
             Some(person) => person.nick.as_ref(),
             None => None,
         }
@@ -229,7 +227,7 @@ impl Roster {
     pub fn user_of(&self, session: SessionId) -> Option<&Octets>
         ensures { option_copied result ≡ user self.now.facts session }
     {
-        match find_person(&self.people, session) {
+        match self.people.find(session) {
             Some(person) => person.user.as_ref(),
             None => None,
         }
@@ -239,7 +237,7 @@ impl Roster {
     pub fn real_of(&self, session: SessionId) -> Option<&Octets>
         ensures { option_copied result ≡ real self.now.facts session }
     {
-        match find_person(&self.people, session) {
+        match self.people.find(session) {
             Some(person) => person.real.as_ref(),
             None => None,
         }
@@ -249,7 +247,7 @@ impl Roster {
     pub fn enrol_of(&self, session: SessionId) -> Enrol<'_>
         ensures { enrolment result ≡ enrol self.now.facts session }
     {
-        match find_person(&self.people, session) {
+        match self.people.find(session) {
             Some(person) => enrol_of(person),
             None => blank_enrol(),
         }
@@ -259,7 +257,7 @@ impl Roster {
     pub fn caps_of(&self, session: SessionId) -> Caps
         ensures { result ≡ caps self.now.facts session }
     {
-        match find_person(&self.people, session) {
+        match self.people.find(session) {
             Some(person) => person.caps,
             None => Caps::none(),
         }
@@ -269,7 +267,7 @@ impl Roster {
     pub fn is_registered(&self, session: SessionId) -> bool
         ensures { result ≡ registered self.now.facts session }
     {
-        match find_person(&self.people, session) {
+        match self.people.find(session) {
             Some(person) => person.registered,
             None => false,
         }
@@ -279,7 +277,7 @@ impl Roster {
     pub fn away_of(&self, session: SessionId) -> Option<&Octets>
         ensures { option_copied result ≡ away self.now.facts session }
     {
-        match find_person(&self.people, session) {
+        match self.people.find(session) {
             Some(person) => person.away.as_ref(),
             None => None,
         }
@@ -289,7 +287,7 @@ impl Roster {
     pub fn is_invisible(&self, session: SessionId) -> bool
         ensures { result ≡ invisible self.now.facts session }
     {
-        match find_person(&self.people, session) {
+        match self.people.find(session) {
             Some(person) => person.invisible,
             None => false,
         }
@@ -299,17 +297,14 @@ impl Roster {
     pub fn why_of(&self, session: SessionId) -> Why
         ensures { result ≡ why self.now.facts session }
     {
-        match find_person(&self.people, session) {
-            Some(person) => person.why,
-            None => Why::SendQ,
-        }
+        self.whys.why(session)
     }
 
     /// The text that a session's client gave when it ended.
     pub fn parting_of(&self, session: SessionId) -> &[u8]
         ensures { result.now ≡ parting self.now.facts session }
     {
-        match find_person(&self.people, session) {
+        match self.people.find(session) {
             Some(person) => person.parting.as_slice(),
             None => &[],
         }
@@ -319,10 +314,7 @@ impl Roster {
     pub fn holder(&self, nick: &[u8]) -> Option<SessionId>
         ensures { result ≡ holder self.now.facts nick.now }
     {
-        match find_holder(&self.people, nick) {
-            Some(place) => Some(SessionId::new(place as u64 + 1)),
-            None => None,
-        }
+        self.nicks.find(nick)
     }
 
     /// The user of a nickname: the registered session that holds it.
@@ -341,7 +333,7 @@ impl Roster {
     pub fn state_of(&self, channel: &[u8]) -> Option<&ChannelState>
         ensures { option_map_or (λ k. k.now.state) result nothing ≡ state self.now.facts channel.now }
     {
-        match find_channel(&self.channels, channel) {
+        match self.channels.find(channel) {
             Some(channel) => Some(&channel.held),
             None => None,
         }
@@ -351,7 +343,7 @@ impl Roster {
     pub fn members(&self, channel: &[u8]) -> &[SessionId]
         ensures { result.now ≡ members self.now.facts channel.now }
     {
-        match find_channel(&self.channels, channel) {
+        match self.channels.find(channel) {
             Some(channel) => channel.held.members(),
             None => &[],
         }
@@ -361,14 +353,14 @@ impl Roster {
     pub fn is_on(&self, session: SessionId, channel: &[u8]) -> bool
         ensures { result ≡ on self.now.facts session channel.now }
     {
-        self.members(channel).contains(&session)
+        has_name(self.channels_of(session), channel)
     }
 
     /// The name of a channel that is there, as it was first spelled.
     pub fn name_of(&self, channel: &[u8]) -> Option<&Octets>
         ensures { option_copied result ≡ name_of self.now.facts channel.now }
     {
-        match find_channel(&self.channels, channel) {
+        match self.channels.find(channel) {
             Some(channel) => Some(&channel.name),
             None => None,
         }
@@ -378,14 +370,14 @@ impl Roster {
     pub fn channels_of(&self, session: SessionId) -> &[Octets]
         ensures { result.now ≡ channels_on self.now.facts session }
     {
-        find_list(&self.lists, session)
+        self.people.names(session)
     }
 
     /// On how many channels a session is.
     pub fn channel_count_of(&self, session: SessionId) -> usize
         ensures { result ≡ channel_count self.now.facts session }
     {
-        count_channels(&self.channels, session)
+        self.people.names(session).len()
     }
 
     /// How many channels there are.
@@ -399,7 +391,7 @@ impl Roster {
     pub fn channel_at(&self, place: usize) -> Option<&Octets>
         ensures { option_copied result ≡ slice_get (channels self.now.facts) place }
     {
-        match nth_channel(&self.channels, place) {
+        match self.channels.nth(place) {
             Some(channel) => Some(&channel.name),
             None => None,
         }
@@ -411,7 +403,7 @@ impl Roster {
         ensures spelled { IfSome result (λ k. name_of self.now.facts k.0.now ≡ Some k.0.now) }
         ensures state { IfSome result (λ k. k.1.now.state ≡ state self.now.facts k.0.now) }
     {
-        match nth_channel(&self.channels, place) {
+        match self.channels.nth(place) {
             Some(channel) => Some((&channel.name, &channel.held)),
             None => None,
         }
@@ -421,6 +413,12 @@ impl Roster {
     pub fn sharers(&self, session: SessionId) -> Result<Sessions, AllocError>
         ensures { IfOk result (λ v. v ≡ sharers self.now.facts session) }
     {
-        find_sharers(self.alloc, &self.channels, session, self.people.len())
+        find_sharers(
+            self.alloc,
+            &self.people,
+            &self.channels,
+            session,
+            self.whys.len(),
+        )
     }
 }

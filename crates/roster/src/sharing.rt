@@ -1,101 +1,91 @@
 //! Who shares a channel with whom.
-ghost use Rattle.std.specs.Prelude.{◌≡◌, ◌==◌, ◌||◌, ◌&&◌, not, cond, ℕ, ◌+◌, ◌<◌, ◌∷◌, ◌++◌, [], false, length, slice_index_or, IfOk, OnOk};
-ghost use Rattle.channel_state.specs.State.{among};
-ghost use Rattle.roster.specs.Tables.{share_in, marked, sharing};
+ghost use Rattle.std.specs.Prelude.{◌≡◌, ◌&&◌, ◌++◌, not, ◌==◌, ℕ, [], ◌∷◌, cond, nat_le, length, IfOk, OnOk};
+ghost use Rattle.std.specs.List.{flat_map};
+ghost use Rattle.roster.specs.Lists.{row_of};
+ghost use Rattle.roster.specs.Tables.{members_in, mates, is_mate, mated};
 
+use crate::channels::Channels;
+use crate::people::People;
 use crate::sessions::Sessions;
-use crate::tables::Channel;
 use chronicle::SessionId;
+use line_grammar::Octets;
 use std::alloc::{AllocError, Global};
 
-/// Sets the mark of a session, where it has one.
-fn mark(marks: &mut [bool], session: SessionId)
-    ensures { (i : ℕ) → i < length marks.old → slice_index_or marks.new i false ≡ (slice_index_or marks.old i false || session == i + 1) }
-{
-    let number = session.number() as usize;
-    if 1 <= number && number <= marks.len() {
-        marks[number - 1] = true;
-    }
-}
-
-/// Sets the marks of sessions.
-fn mark_each(marks: &mut [bool], sessions: &[SessionId])
-    ensures { (i : ℕ) → i < length marks.old → slice_index_or marks.new i false ≡ (slice_index_or marks.old i false || among (i + 1) sessions.now) }
+/// Adds the numbers of sessions.
+fn push_numbers(numbers: &mut Vec<u64>, sessions: &[SessionId]) -> Result<(), AllocError>
+    ensures { OnOk result (numbers.new.items ≡ numbers.old.items ++ sessions.now) }
 {
     for session in sessions {
-        mark(marks, *session);
-    }
-}
-
-/// Marks those who are on a channel, if a session is.
-fn mark_channel(marks: &mut [bool], channel: &Channel, session: SessionId)
-    ensures { (i : ℕ) → i < length marks.old → slice_index_or marks.new i false ≡ (slice_index_or marks.old i false || (among session channel.now.held.state.members && among (i + 1) channel.now.held.state.members)) }
-{
-    if channel.held.has(session) {
-        mark_each(marks, channel.held.members());
-    }
-}
-
-/// Marks those who are on a channel with a session.
-fn mark_sharers(marks: &mut [bool], channels: &[Channel], session: SessionId)
-    requires { (i : ℕ) → i < length marks.old → slice_index_or marks.old i false ≡ false }
-    ensures { (i : ℕ) → i < length marks.old → slice_index_or marks.new i false ≡ share_in channels.now session (i + 1) }
-{
-    for channel in channels {
-        mark_channel(marks, channel, session);
-    }
-}
-
-/// Adds a session that is marked, but for one.
-fn push_marked(
-    others: &mut Sessions,
-    mark: bool,
-    other: SessionId,
-    session: SessionId,
-) -> Result<(), AllocError>
-    ensures { OnOk result (others.new ≡ others.old ++ cond (mark && not (session == other)) (other ∷ []) []) }
-{
-    if mark && session != other {
-        others.push(other)?;
+        numbers.push(session.number())?;
     }
     Ok(())
 }
 
-/// The sessions that are marked, but for one.
-fn numbers_marked(alloc: Global, marks: &[bool], session: SessionId) -> Result<Sessions, AllocError>
-    ensures { IfOk result (λ v. v ≡ marked marks.now session 1) }
+/// Adds the numbers of those on a channel, where it is there.
+fn push_members(numbers: &mut Vec<u64>, channels: &Channels, name: &[u8]) -> Result<(), AllocError>
+    ensures { OnOk result (numbers.new.items ≡ numbers.old.items ++ members_in channels.now.list name.now) }
 {
-    let mut others = Sessions::from_vec(Vec::new(alloc));
-    for (place, mark) in marks.iter().enumerate() {
-        let other = SessionId::new(place as u64 + 1);
-        push_marked(&mut others, *mark, other, session)?;
+    match channels.find(name) {
+        Some(channel) => push_numbers(numbers, channel.held.members()),
+        None => Ok(()),
     }
-    Ok(others)
 }
 
-/// The sessions with a mark that are on a channel with one, but for itself, where no mark is set yet.
-fn collect_sharers(
-    alloc: Global,
-    marks: &mut [bool],
-    channels: &[Channel],
-    session: SessionId,
-) -> Result<Sessions, AllocError>
-    requires { (i : ℕ) → i < length marks.old → slice_index_or marks.old i false ≡ false }
-    ensures { IfOk result (λ v. v ≡ sharing channels.now session 1 (length marks.old)) }
+/// The numbers of those on channels, as often as they are on one.
+fn numbers_on(alloc: Global, channels: &Channels, names: &[Octets]) -> Result<Vec<u64>, AllocError>
+    ensures { IfOk result (λ v. v.items ≡ flat_map (members_in channels.now.list) names.now) }
 {
-    mark_sharers(marks, channels, session);
-    numbers_marked(alloc, marks, session)
+    let mut numbers = Vec::new(alloc);
+    for name in names {
+        push_members(&mut numbers, channels, name.as_slice())?;
+    }
+    Ok(numbers)
+}
+
+/// Adds a session that was opened, but for one.
+fn push_mate(
+    mates: &mut Sessions,
+    number: u64,
+    session: SessionId,
+    count: usize,
+) -> Result<(), AllocError>
+    ensures { OnOk result (mates.new ≡ mates.old ++ cond (is_mate session count number) (number ∷ []) []) }
+{
+    let mate = SessionId::new(number);
+    if 1 <= number && number <= count as u64 && mate != session {
+        mates.push(mate)?;
+    }
+    Ok(())
+}
+
+/// Numbers in order, each once, of which each is that of a session that was opened, but for one.
+fn mates_of(
+    alloc: Global,
+    numbers: &[u64],
+    session: SessionId,
+    count: usize,
+) -> Result<Sessions, AllocError>
+    ensures { IfOk result (λ v. v ≡ mated session count numbers.now) }
+{
+    let mut mates = Sessions::from_vec(Vec::new(alloc));
+    for number in numbers {
+        push_mate(&mut mates, *number, session, count)?;
+    }
+    Ok(mates)
 }
 
 /// The sessions of so many that are on a channel with one, but for itself, each once, in order.
 pub(crate) fn find_sharers(
     alloc: Global,
-    channels: &[Channel],
+    people: &People,
+    channels: &Channels,
     session: SessionId,
     count: usize,
 ) -> Result<Sessions, AllocError>
-    ensures { IfOk result (λ v. v ≡ sharing channels.now session 1 count) }
+    ensures { IfOk result (λ v. v ≡ mates channels.now.list (row_of people.now.list session).list session count) }
 {
-    let mut marks = vec![in alloc; false; count]?;
-    collect_sharers(alloc, &mut marks, channels, session)
+    let mut numbers = numbers_on(alloc, channels, people.names(session))?;
+    numbers.sort_unstable();
+    numbers.dedup();
+    mates_of(alloc, &numbers, session, count)
 }

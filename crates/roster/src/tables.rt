@@ -1,6 +1,6 @@
 //! The tables' rows.
+use crate::lists::Names;
 use channel_state::ChannelState;
-use chronicle::Why;
 use line_grammar::Octets;
 use registration::Caps;
 
@@ -23,10 +23,15 @@ pub struct Person {
     pub away: Option<Octets>,
     /// Whether it is hidden from those who aren't on its channels.
     pub invisible: bool,
-    /// Why it ended, where it did.
-    pub why: Why,
     /// The text that its client gave when it quit.
     pub parting: Octets,
+}
+
+/// What is known of a session, with the channels that it is on, by its last joins.
+#[derive(Drop)]
+pub(crate) struct Card {
+    pub person: Person,
+    pub names: Names,
 }
 
 /// A channel and its name, as it was first spelled.

@@ -1,20 +1,27 @@
-use Rattle.std.proofs.Common.{arith, ◌≤◌, length}
+use Rattle.std.proofs.Common.{arith, ◌≤◌, length, refl, ◌∙◌}
 use Rattle.roster.proofs.SeatLists.{room_for_none, room_for_more, room_for_all, widens_refl, widens_more}
 use Rattle.roster.proofs.lists.reserve_lists.Goals as goal
 
 pub loop-deed-init : goal.loop-deed-init
-loop-deed-init c = record { kept = widens_refl c.args.lists.now.items; room = room_for_none (length c.args.deeds.now) c.args.lists.now.items }
+loop-deed-init c = record { people = λ t. refl; kept = widens_refl c.args.people.now.list; room = room_for_none (length c.args.deeds.now) c.args.people.now.list }
 
 pub loop-deed-preserved : goal.loop-deed-preserved
 loop-deed-preserved c =
-    let rs = c.loop-deed.lists.items in let qs = c.reserve_for.new.lists.items in let ds = c.args.deeds.now in
+    let rs = c.loop-deed.people.list in let qs = c.reserve_for.new.people.list in let ds = c.args.deeds.now in
     record {
-      kept = widens_more c.args.lists.now.items rs qs c.loop-deed.invariant.kept c.reserve_for.ensures.kept;
+      people = λ t. c.reserve_for.ensures.people t ∙ c.loop-deed.invariant.people t;
+      kept = widens_more c.args.people.now.list rs qs c.loop-deed.invariant.kept c.reserve_for.ensures.kept;
       room = room_for_more (length ds) c.loop-deed.deed-index ds c.deed-item.result rs qs c.loop-deed-test.true c.deed-item.is c.reserve_for.ensures.kept c.loop-deed.invariant.room c.in_ok-reserve_for.ensures.room;
     }
 
+pub returns-in_err-reserve_for-clause-people : goal.returns-in_err-reserve_for-clause-people
+returns-in_err-reserve_for-clause-people c = λ t. c.reserve_for.ensures.people t ∙ c.loop-deed.invariant.people t
+
 pub returns-in_err-reserve_for-clause-kept : goal.returns-in_err-reserve_for-clause-kept
-returns-in_err-reserve_for-clause-kept c = widens_more c.args.lists.now.items c.loop-deed.lists.items c.reserve_for.new.lists.items c.loop-deed.invariant.kept c.reserve_for.ensures.kept
+returns-in_err-reserve_for-clause-kept c = widens_more c.args.people.now.list c.loop-deed.people.list c.reserve_for.new.people.list c.loop-deed.invariant.kept c.reserve_for.ensures.kept
+
+pub returns-clause-people : goal.returns-clause-people
+returns-clause-people c = c.loop-deed.invariant.people
 
 pub returns-clause-kept : goal.returns-clause-kept
 returns-clause-kept c = c.loop-deed.invariant.kept
@@ -22,4 +29,4 @@ returns-clause-kept c = c.loop-deed.invariant.kept
 pub returns-clause-room : goal.returns-clause-room
 returns-clause-room c =
     let ds = c.args.deeds.now in let i = c.loop-deed.deed-index in let l : length ds ≤ i = omega arith in
-    room_for_all ds i c.loop-deed.lists.items l c.loop-deed.invariant.room
+    room_for_all ds i c.loop-deed.people.list l c.loop-deed.invariant.room

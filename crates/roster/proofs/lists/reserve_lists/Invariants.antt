@@ -1,7 +1,12 @@
-use Rattle.std.proofs.Common.{length, take}
+use Rattle.std.proofs.Common.{◌≡◌, ℕ, length, take}
+use Rattle.roster.specs.Tables.{person_at}
 use Rattle.roster.specs.Lists.{Widens}
 use Rattle.roster.proofs.SeatLists.{HaveRoomFor}
 use Rattle.roster.proofs.lists.reserve_lists.Given as goal
 
 abbrev pub invariant-loop-deed : goal.invariant-loop-deed
-invariant-loop-deed l = record { kept : Widens l.fn.lists.items l.lists.items; room : HaveRoomFor (length l.deeds) (take l.deed-index l.deeds) l.lists.items }
+invariant-loop-deed l = record {
+  people : (t : ℕ) → person_at l.people.list t ≡ person_at l.fn.people.list t;
+  kept : Widens l.fn.people.list l.people.list;
+  room : HaveRoomFor (length l.deeds) (take l.deed-index l.deeds) l.people.list;
+}

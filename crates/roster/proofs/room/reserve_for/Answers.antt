@@ -1,8 +1,5 @@
-use Rattle.std.proofs.Common.{◌≡◌, Some, None, sym, subst, refl}
-use Rattle.std.specs.Result.{OnOk}
-use Rattle.roster.specs.Stands.{ReservesBy}
 use Rattle.roster.proofs.MadeRoom.{alike_refl}
 use Rattle.roster.proofs.room.reserve_for.Goals as goal
 
 pub returns-in-None-clause-alike : goal.returns-in-None-clause-alike
-returns-in-None-clause-alike c = alike_refl c.args.channels.now
+returns-in-None-clause-alike c = alike_refl c.args.channels.now.list

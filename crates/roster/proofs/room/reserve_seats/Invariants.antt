@@ -1,7 +1,7 @@
-use Rattle.std.proofs.Common.{length, take}
+use Rattle.std.proofs.Common.{◌≡◌, length, take}
 use Rattle.roster.specs.Stands.{Alike, AreApart}
 use Rattle.roster.proofs.MadeRoom.{HaveSeatsFor}
 use Rattle.roster.proofs.room.reserve_seats.Given as goal
 
 abbrev pub invariant-loop-deed : goal.invariant-loop-deed
-invariant-loop-deed l = record { alike : Alike l.fn.channels l.channels; apart : AreApart l.channels; seats : HaveSeatsFor (length l.deeds) (take l.deed-index l.deeds) l.channels }
+invariant-loop-deed l = record { alike : Alike l.fn.channels.list l.channels.list; apart : AreApart l.channels.list; seats : HaveSeatsFor (length l.deeds) (take l.deed-index l.deeds) l.channels.list; room : l.channels.room ≡ l.fn.channels.room }
