@@ -72,7 +72,7 @@ impl<L: Naming, N> Roll<L, N> {
         ensures rows { self.new ≡ with_piece self.old baton.old.session piece.now }
         ensures baton { baton.new ≡ next_turn baton.old piece.now journal.now.history }
     {
-        let _ = journal.len();
+        let _ = journal.newest();
         self.register.advance(&mut baton.mark, piece);
         baton.next += 1;
         baton.front = Snapshot::of(journal);

@@ -7,7 +7,7 @@ use Rattle.line_grammar.specs.declared.splitter.Piece.{Piece}
 use Rattle.chronicle.specs.declared.record.Kind.TheVariants.{Said, Hung, Gone}
 use Rattle.chronicle.specs.declared.why.Why.{Why}
 use Rattle.chronicle.specs.History.{Rec, sessions, said_by, accepted, ends, shut, gone, is_quit}
-use Rattle.chronicle.specs.Journal.{fresh_record, Misses}
+use Rattle.chronicle.specs.Journal.{most, fresh_record, Misses}
 use Rattle.chronicle.specs.Journal as journal
 use Rattle.deliveries.specs.declared.item.Item.{Item}
 use Rattle.deliveries.specs.declared.delivery.Delivery.TheVariants.{Last}
@@ -65,7 +65,7 @@ module _ {O : Type 0} (sent : O → List Item) (j : journal.Shown) (g : Settings
   known_opened s from to = (from, (let a = i.sound.sessions in let b = i.opened in omega arith))
 
   -- one line more can be counted
-  pub few_lines : (b : Turn) (moment : ℤ) → MayBegin (shown j g boxes none busy) b moment → j.limit < 18446744073709551616 → (seat_at seats b.session).accepted + 1 < 18446744073709551616
+  pub few_lines : (b : Turn) (moment : ℤ) → MayBegin (shown j g boxes none busy) b moment → most j.limit < 18446744073709551616 → (seat_at seats b.session).accepted + 1 < 18446744073709551616
   few_lines b moment may limit =
       let s = b.session in let to = seated s may.turn.opened in let room = may.room in
       let count = (i.each_seat s may.turn.from_1 to).accepted may.turn.here in let few = accepted_le j.history s in omega arith
@@ -97,7 +97,7 @@ module _ {O : Type 0} (sent : O → List Item) (j : journal.Shown) (g : Settings
       let less = held_after h kind moment refl in
       begun_kept sent j k g known more_known seats (slice_set seats (s - 1) new) boxes none plan kind moment new
       (subst (λ (c : Bool). IsKept sent j g known seats boxes none c) may.idle i) refl from to (from, may.turn.opened, may.turn.next, may.not_shut) may.in_time
-      (let a = may.room in let goal : length h + 1 + held (r ∷ h) ≤ j.limit = omega arith in goal)
+      (let a = may.room in let goal : length h + 1 + held (r ∷ h) ≤ most j.limit = omega arith in goal)
       eh el room (omega arith) ek same_opened refl
       (record {
         shut = own ∙ or-false (ends kind s) (shut h s) may.not_shut;
@@ -113,7 +113,7 @@ module _ {O : Type 0} (sent : O → List Item) (j : journal.Shown) (g : Settings
   hang_room s w moment may =
       let h = j.history in let less = held_less h (Hung s w) moment s refl may.known.from_1 may.known.opened (hung_less h s w moment may.not_shut (not_gone_yet g h s i.sound.legal may.not_shut)) in let room = i.room in omega arith
 
-  pub sweep_room : (s : ℕ) (moment : ℤ) → to_sweep j.history ≡ Some s → (0 < held j.history) × (s ≤ length seats) × IsOpened known s × (length j.history + 1 ≤ j.limit)
+  pub sweep_room : (s : ℕ) (moment : ℤ) → to_sweep j.history ≡ Some s → (0 < held j.history) × (s ≤ length seats) × IsOpened known s × (length j.history + 1 ≤ most j.limit)
   sweep_room s moment next =
       let h = j.history in let is = swept_is h s next in let less = held_less h (Gone s) moment s refl is.0 is.1 (gone_less h s moment is.2 is.3) in let room = i.sound.room in
       let to = seated s is.1 in ((omega arith), to, known_opened s is.0 is.1, (omega arith))
@@ -142,7 +142,7 @@ module _ {O : Type 0} (sent : O → List Item) (j : journal.Shown) (g : Settings
       let yes : (s == s) ≡ true = eq-eqb s s refl in
       begun_kept sent j k g known more_known seats (slice_set seats (s - 1) new) boxes none plan kind moment new
       (subst (λ (c : Bool). IsKept sent j g known seats boxes none c) may.idle i) refl is.0 to is may.in_time
-      (let a = i.sound.room in let goal : length h + 1 + held (r ∷ h) ≤ j.limit = omega arith in goal)
+      (let a = i.sound.room in let goal : length h + 1 + held (r ∷ h) ≤ most j.limit = omega arith in goal)
       eh el room (omega arith) ek same_opened refl
       (record {
         shut = was.shut;
@@ -168,7 +168,7 @@ module _ {O : Type 0} (sent : O → List Item) (j : journal.Shown) (g : Settings
       let kept = i.room in let yes : (s == s) ≡ true = eq-eqb s s refl in
       begun_kept sent j k g known more_known seats (slice_set seats (s - 1) new) boxes none _ kind moment new
       (subst (λ (c : Bool). IsKept sent j g known seats boxes none c) may.idle i) refl from to (from, few, may.not_shut) may.in_time
-      (let a = i.sound.room in let goal : length h + 1 + held (r ∷ h) ≤ j.limit = omega arith in goal)
+      (let a = i.sound.room in let goal : length h + 1 + held (r ∷ h) ≤ most j.limit = omega arith in goal)
       eh el room (omega arith) ek (ap opened ek) refl
       (record {
         shut = sym (ap (λ c. c || shut h s) yes);

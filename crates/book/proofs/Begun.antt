@@ -6,7 +6,7 @@ use Rattle.chronicle.specs.declared.why.Why.{Why}
 use Rattle.chronicle.specs.declared.record.Kind.{Kind}
 use Rattle.chronicle.specs.declared.record.Kind.TheVariants.{Hung, Gone}
 use Rattle.chronicle.specs.History.{Rec, actor, opened_by, sessions, ends, leaves, shut, gone, last_moment, IsMomentAfter}
-use Rattle.chronicle.specs.Journal.{fresh_record}
+use Rattle.chronicle.specs.Journal.{most, fresh_record}
 use Rattle.deliveries.specs.declared.delivery.Delivery.{Delivery}
 use Rattle.deliveries.specs.declared.item.Item.{Item}
 use Rattle.registration.specs.declared.settings.Settings.{Settings}
@@ -109,7 +109,7 @@ plan_ok g r h n s nobody from to = puts_ok g r h n s (others (due g h r.kind r.m
 -- ---- the step
 
 pub begun_sound : {O : Type 0} (sent : O → List Item) (m : Shown O) (k : Kind) (moment : _) → IsSound sent m → m.busy ≡ false → opened_by k ≡ 0 → 0 < actor k → actor k ≤ length m.outboxes → IsKind m.history k → IsMomentAfter (last_moment m.history) moment
-    → length m.history + 1 + held (fresh_record m.history moment k ∷ m.history) ≤ m.limit → IsSound sent (begun m k moment)
+    → length m.history + 1 + held (fresh_record m.history moment k ∷ m.history) ≤ most m.limit → IsSound sent (begun m k moment)
 begun_sound sent m k moment i free none from to is in_time room_ =
     let h = m.history in let g = m.settings in let n = length m.outboxes in let r = fresh_record h moment k in
     let nothing : (t : ℕ) → deliveries (sent_by sent (box_at m.outboxes t)) ++ planned m.plan t ≡ deliveries (sent_by sent (box_at m.outboxes t)) =
@@ -125,7 +125,7 @@ begun_sound sent m k moment i free none from to is in_time room_ =
       idle = λ e. absurd (let f : true ≡ false = e in cc);
       legal = (refl, in_time, is, tt, i.legal);
       sessions = same ∙ i.sessions;
-      room = let goal : length (r ∷ h) + held (r ∷ h) ≤ m.limit = omega arith in goal;
+      room = let goal : length (r ∷ h) + held (r ∷ h) ≤ most m.limit = omega arith in goal;
     }
 
 -- ---- what is kept free

@@ -5,7 +5,7 @@ use Rattle.std.proofs.Common.{◌≡◌, ◌≢◌, inl, inr, ℕ, ℤ, ◌+◌,
 use Rattle.chronicle.specs.declared.record.Kind.{Kind}
 use Rattle.chronicle.specs.declared.record.Kind.TheVariants.{Opened, Said, Hung, Gone}
 use Rattle.chronicle.specs.History.{Rec, actor, opened_by, sessions, said_by, accepted, ends, leaves, shut, gone, last_moment, IsMomentAfter}
-use Rattle.chronicle.specs.Journal.{IsRoomier, fresh_record, Appends, Misses, miss}
+use Rattle.chronicle.specs.Journal.{Limit, most, IsRoomier, fresh_record, Appends, Misses, miss}
 use Rattle.chronicle.specs.Journal as journal
 use Rattle.roster.specs.declared.deed.Deed.{Deed}
 use Rattle.registration.specs.declared.settings.Settings.{Settings}
@@ -35,7 +35,7 @@ pub shown_with : {O : Type 0} (j k : journal.Shown) (h : List Rec) (g : Settings
     → shown k g boxes plan busy ≡ record { history = h; limit = j.limit; settings = g; outboxes = boxes; plan = plan; busy = busy }
 shown_with j k h g boxes plan busy eh el =
     ap (λ (x : List Rec). record { history = x; limit = k.limit; settings = g; outboxes = boxes; plan = plan; busy = busy }) eh
-    ∙ ap (λ (x : ℕ). record { history = h; limit = x; settings = g; outboxes = boxes; plan = plan; busy = busy }) el
+    ∙ ap (λ (x : Limit). record { history = h; limit = x; settings = g; outboxes = boxes; plan = plan; busy = busy }) el
 
 facts-miss : (g : Settings) (h : List Rec) (s : ℕ) → facts g (miss h s) ≡ facts g h
 facts-miss g [] s = refl
@@ -232,7 +232,7 @@ module _ {O : Type 0} (sent : O → List Item) where
 
   pub begun_kept : (j k : journal.Shown) (g : Settings) (known more_known : List Deed) (seats places : List Seat) (boxes : List (Option O)) (none plan : List Planned) (kind : Kind) (moment : ℤ) (v : Seat)
       → IsKept sent j g known seats boxes none false → opened_by kind ≡ 0 → 0 < actor kind → actor kind ≤ length seats → IsKind j.history kind → IsMomentAfter (last_moment j.history) moment
-      → length j.history + 1 + held (fresh_record j.history moment kind ∷ j.history) ≤ j.limit
+      → length j.history + 1 + held (fresh_record j.history moment kind ∷ j.history) ≤ most j.limit
       → k.history ≡ fresh_record j.history moment kind ∷ j.history → k.limit ≡ j.limit → length plan ≤ k.left → held (fresh_record j.history moment kind ∷ j.history) ≤ k.room
       → more_known ≡ after known (deeds g known kind) → told_of.opened more_known ≡ told_of.opened known
       → places ≡ slice_set seats (actor kind - 1) v → IsSeat v (is_here boxes (actor kind)) (fresh_record j.history moment kind ∷ j.history) (actor kind)
@@ -288,7 +288,7 @@ module _ {O : Type 0} (sent : O → List Item) where
           idle = λ e. ep;
           legal = subst (IsLegal g) (sym eh) tt;
           sessions = ap sessions eh ∙ sym no_boxes;
-          room = let goal : length j.history + held j.history ≤ j.limit = omega arith in goal;
+          room = let goal : length j.history + held j.history ≤ most j.limit = omega arith in goal;
         };
         facts = ek ∙ sym (ap (facts g) eh);
         each_seat = λ t from to. absurd (omega arith);

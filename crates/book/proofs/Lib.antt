@@ -15,4 +15,7 @@ pub mod Outs
 pub mod RingSteps
 pub mod Sweeps
 pub mod Appends
+pub mod Based
+pub mod Owes
+pub mod Rolling
 pub mod Examples

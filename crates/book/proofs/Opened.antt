@@ -7,7 +7,7 @@ use Rattle.std.specs.Option.{is_some}
 use Rattle.chronicle.specs.declared.record.Kind.TheVariants.{Opened, Said, Hung, Gone}
 use Rattle.chronicle.specs.declared.record.Kind.{Kind}
 use Rattle.chronicle.specs.History.{Rec, opened_by, sessions, accepted, said_by, misses, shut, gone}
-use Rattle.chronicle.specs.Journal.{fresh_record}
+use Rattle.chronicle.specs.Journal.{most, fresh_record}
 use Rattle.deliveries.specs.declared.delivery.Delivery.{Delivery}
 use Rattle.deliveries.specs.declared.item.Item.{Item}
 use Rattle.book.specs.declared.seat.Seat.{Seat}
@@ -89,7 +89,7 @@ opened_sound sent m host moment box i may fresh =
       room =
           let room = may.room in
           let two = opened_held h (sessions h + 1) host moment in
-          let goal : length (r ∷ h) + held (r ∷ h) ≤ m.limit = omega arith in goal;
+          let goal : length (r ∷ h) + held (r ∷ h) ≤ most m.limit = omega arith in goal;
     }
 
 -- ---- what is kept free, counted over the seats

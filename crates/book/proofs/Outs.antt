@@ -48,12 +48,13 @@ out_missed m p q x xs i e n =
       opened = let a = i.opened in let b = n.1 in let c = sessions_same h t in let goal : q.session ≤ sessions (miss h t) = omega arith in goal;
       missed = n.3 ∙ ap (λ xs. xs ++ t ∷ []) i.missed ∙ sym (missed_more h t actor);
       room = omega arith;
+      kept = let few = i.kept in let same = length_same h t in let goal : m.limit.dropped < length (miss h t) = omega arith in goal;
     }
 
 out_put : {O : Type 0} (m : Shown O) (p : Out) (x : Planned) (xs : List Planned) (box : O) → IsOut m p → m.plan ≡ x ∷ xs → IsOut (delivered_to m x xs box) p
 out_put m p x xs box i e =
     let longer : length m.plan ≡ length xs + 1 = ap length e ∙ (let f : length (x ∷ xs) ≡ length xs + 1 = omega arith in f) in let fits = i.room in
-    record { busy = i.busy; number = i.number; session = i.session; next = i.next; from_1 = i.from_1; opened = i.opened; missed = i.missed; room = omega arith }
+    record { busy = i.busy; number = i.number; session = i.session; next = i.next; from_1 = i.from_1; opened = i.opened; missed = i.missed; room = omega arith; kept = i.kept }
 
 by_plan : {O : Type 0} (accepts : O → Item → O → Type 0) (refuses : O → PutFault → Type 0) (m k : Shown O) (p q : Out) (ps : List Planned) (step : Option Step) → m.plan ≡ ps → IsOut m p → IsPutNext accepts refuses m ps step k → IsNoted p step q → IsOut k q
 by_plan accepts refuses m k p q [] None e i is n = subst (λ x. IsOut x q) (sym is) (subst (IsOut m) (sym n) i)

@@ -9,6 +9,7 @@ use Rattle.std.specs.List.{list_any}
 use Rattle.std.specs.Option.{is_some}
 use Rattle.chronicle.specs.declared.record.Kind.{Kind}
 use Rattle.chronicle.specs.History.{Rec, sessions, misses, ends, shut, gone}
+use Rattle.chronicle.specs.Journal.{Limit, most}
 use Rattle.deliveries.specs.declared.delivery.Delivery.{Delivery}
 use Rattle.deliveries.specs.declared.item.Item.{Item}
 use Rattle.registration.specs.declared.settings.Settings.{Settings}
@@ -139,7 +140,7 @@ follows_in sent g h x None settings here newest i all = tt
 follows_in sent g h x (Some o) settings here newest i all = may_continue g h x (sent o) settings here newest i all
 
 module _ {O : Type 0} (sent : O → List Item) where
-  dropped_at : (h : List Rec) (limit : ℕ) (g : Settings) (boxes : List (Option O)) (busy : Bool) (p : Planned) (ps : List Planned) → let m : Shown O = record { history = h; limit = limit; settings = g; outboxes = boxes; plan = p ∷ ps; busy = busy } in IsSound sent m → IsSound sent (dropped m p ps)
+  dropped_at : (h : List Rec) (limit : Limit) (g : Settings) (boxes : List (Option O)) (busy : Bool) (p : Planned) (ps : List Planned) → let m : Shown O = record { history = h; limit = limit; settings = g; outboxes = boxes; plan = p ∷ ps; busy = busy } in IsSound sent m → IsSound sent (dropped m p ps)
   dropped_at [] limit g boxes busy p ps i = absurd i.plan.3
   dropped_at (r ∷ h) limit g boxes busy p ps i =
       let own = i.plan.3 in
@@ -159,8 +160,8 @@ module _ {O : Type 0} (sent : O → List Item) where
         legal = (i.legal.0, i.legal.1, i.legal.2, missed_more g h r.kind r.moment r.missed p.session (λ e. let f : p.delivery ∷ [] ≡ [] = sym own.0 ∙ e in cc) own.1 own.2 i.legal.3, i.legal.4);
         sessions = i.sessions;
         room =
-            let less = held_missed r h p.session in let old : length (r ∷ h) + held (r ∷ h) ≤ limit = i.room in
-            let goal : length (more r p.session ∷ h) + held (more r p.session ∷ h) ≤ limit = omega arith in goal;
+            let less = held_missed r h p.session in let old : length (r ∷ h) + held (r ∷ h) ≤ most limit = i.room in
+            let goal : length (more r p.session ∷ h) + held (more r p.session ∷ h) ≤ most limit = omega arith in goal;
       }
 
   pub dropped_sound : (m : Shown O) (p : Planned) (ps : List Planned) → m.plan ≡ p ∷ ps → IsSound sent m → IsSound sent (dropped m p ps)
@@ -184,7 +185,7 @@ module _ {O : Type 0} (sent : O → List Item) where
 
   -- ---- a delivery is put
 
-  delivered_at : (h : List Rec) (limit : ℕ) (g : Settings) (boxes : List (Option O)) (busy : Bool) (p : Planned) (ps : List Planned) (a b : O) (x : Item) → x.delivery ≡ p.delivery → x.session ≡ p.session → x.settings ≡ g → front x ≡ h → box_at boxes p.session ≡ Some a → sent b ≡ sent a ++ x ∷ []
+  delivered_at : (h : List Rec) (limit : Limit) (g : Settings) (boxes : List (Option O)) (busy : Bool) (p : Planned) (ps : List Planned) (a b : O) (x : Item) → x.delivery ≡ p.delivery → x.session ≡ p.session → x.settings ≡ g → front x ≡ h → box_at boxes p.session ≡ Some a → sent b ≡ sent a ++ x ∷ []
       → let m : Shown O = record { history = h; limit = limit; settings = g; outboxes = boxes; plan = p ∷ ps; busy = busy } in IsSound sent m → IsSound sent (delivered_to m p ps b)
   delivered_at h limit g boxes busy p ps a b x what whose settings_ here_now at grew i =
       let s = p.session in let new = slice_set boxes (s - 1) (Some b) in

@@ -4,7 +4,7 @@ use Rattle.std.specs.Option.{is_some}
 use Rattle.chronicle.specs.declared.record.Kind.{Kind}
 use Rattle.chronicle.specs.declared.record.Kind.TheVariants.{Opened, Said, Hung, Gone}
 use Rattle.chronicle.specs.History.{Rec, IsMomentAfter, last_moment, sessions, actor, accepted, misses, shut, gone}
-use Rattle.chronicle.specs.Journal.{fresh_record, miss}
+use Rattle.chronicle.specs.Journal.{Limit, most, fresh_record, miss}
 use Rattle.registration.specs.declared.settings.Settings.{Settings}
 use Rattle.deliveries.specs.declared.delivery.Delivery.{Delivery}
 use Rattle.deliveries.specs.declared.item.Item.{Item}
@@ -17,6 +17,8 @@ use Rattle.book.specs.declared.refusals.HangRefusal.{HangRefusal}
 use Rattle.book.specs.declared.refusals.HangRefusal.TheVariants as hanging
 use Rattle.book.specs.declared.refusals.SweepRefusal.{SweepRefusal}
 use Rattle.book.specs.declared.refusals.SweepRefusal.TheVariants as sweeping
+use Rattle.book.specs.declared.refusals.RollRefusal.{RollRefusal}
+use Rattle.book.specs.declared.refusals.RollRefusal.TheVariants as rolling
 use Rattle.book.specs.declared.refusals.ReapRefusal.{ReapRefusal}
 use Rattle.book.specs.declared.refusals.ReapRefusal.TheVariants as reaping
 use Rattle.book.specs.declared.out.Step.{Step}
@@ -26,14 +28,16 @@ use Rattle.outbox.specs.Ring.{Waiting, empty_ring, has_room, with_put, with_take
 use Rattle.deliveries.specs.Items.{deliveries, front}
 use Rattle.deliveries.specs.Growth.{Grows}
 use Rattle.deliveries.specs.Owed.{delivery, owed}
+use Rattle.deliveries.specs.Base.{Base, base, dropped_part, kept_part}
 use Rattle.book.specs.Legal.{IsLegal}
 use Rattle.roster.specs.LookBack.{numbers}
 
 -- the history, how many records there may be, the settings of the server, each session's outbox until it is reaped, the deliveries
+-- the history, how many records may be kept of it and how many were dropped, the settings of the server, each session's outbox until it is reaped, the deliveries
 -- of the newest record that aren't put yet, and whether a plan is out
 pub record Shown (O : Type 0) : Type 0 where
   pub history : List Rec
-  pub limit : ℕ
+  pub limit : Limit
   pub settings : Settings
   pub outboxes : List (Option O)
   pub plan : List Planned
@@ -102,7 +106,7 @@ planned (p ∷ ps) t = cond (p.session == t) (p.delivery ∷ planned ps t) (plan
 -- ---- steps
 
 abbrev pub empty_book : {O : Type 0} → ℕ → Settings → Shown O
-empty_book limit settings = record { history = []; limit = limit; settings = settings; outboxes = []; plan = []; busy = false }
+empty_book limit settings = record { history = []; limit = record { records = limit; dropped = 0 }; settings = settings; outboxes = []; plan = []; busy = false }
 
 -- one more session
 abbrev pub opened : {O : Type 0} → Shown O → List ℕ → ℤ → O → Shown O
@@ -169,6 +173,18 @@ finished m = record { history = m.history; limit = m.limit; settings = m.setting
 -- a record was appended, and all its deliveries were put or missed
 abbrev pub IsDone : {O : Type 0} → (O → Item → O → Type 0) → (O → PutFault → Type 0) → Shown O → Kind → ℤ → Shown O → Type 0
 IsDone {O} accepts refuses m kind moment k = (n : Shown O) × IsPutAll accepts refuses (begun m kind moment) (plan_of m.settings m.history kind moment (length m.outboxes)) n × (k ≡ finished n)
+
+-- all records were dropped, and still count
+abbrev pub rolled : {O : Type 0} → Shown O → Shown O
+rolled m = record { history = m.history; limit = record { records = m.limit.records; dropped = length m.history }; settings = m.settings; outboxes = m.outboxes; plan = m.plan; busy = m.busy }
+
+-- the base of the records that were dropped
+abbrev pub base_of : {O : Type 0} → Shown O → Base
+base_of m = base m.settings (dropped_part m.limit.dropped m.history)
+
+-- the records that are kept
+abbrev pub kept_of : {O : Type 0} → Shown O → List Rec
+kept_of m = kept_part m.limit.dropped m.history
 
 -- a session and its outbox were given up
 abbrev pub reaped : {O : Type 0} → Shown O → ℕ → Shown O
@@ -249,7 +265,7 @@ pub record IsSound {O : Type 0} (sent : O → List Item) (m : Shown O) : Type 0 
   pub idle : m.busy ≡ false → m.plan ≡ []
   pub legal : IsLegal m.settings m.history
   pub sessions : sessions m.history ≡ length m.outboxes
-  pub room : length m.history + held m.history ≤ m.limit
+  pub room : length m.history + held m.history ≤ most m.limit
 
 -- ---- when a session is opened or a line begins
 
@@ -268,30 +284,30 @@ pub record IsTurn {O : Type 0} (m : Shown O) (b : Turn) : Type 0 where
 pub record MayOpen {O : Type 0} (m : Shown O) (moment : ℤ) : Type 0 where
   pub idle : m.busy ≡ false
   pub few : count_here m.outboxes < m.settings.sessions
-  pub room : length m.history + held m.history + 3 ≤ m.limit
+  pub room : length m.history + held m.history + 3 ≤ most m.limit
   pub in_time : IsMomentAfter (last_moment m.history) moment
 
 -- the first of the refusals whose cause holds, want of memory last
 abbrev pub IsOpenRefusal : {O : Type 0} → Shown O → ℤ → OpenRefusal → Type 0
 IsOpenRefusal m moment opening.Busy = m.busy ≡ true
 IsOpenRefusal m moment opening.TooManySessions = (m.busy ≡ false) × (m.settings.sessions ≤ count_here m.outboxes)
-IsOpenRefusal m moment opening.JournalFull = (m.busy ≡ false) × (count_here m.outboxes < m.settings.sessions) × (m.limit < length m.history + held m.history + 3)
-IsOpenRefusal m moment opening.BadMoment = (m.busy ≡ false) × (count_here m.outboxes < m.settings.sessions) × (length m.history + held m.history + 3 ≤ m.limit) × (IsMomentAfter (last_moment m.history) moment → ⊥)
+IsOpenRefusal m moment opening.JournalFull = (m.busy ≡ false) × (count_here m.outboxes < m.settings.sessions) × (most m.limit < length m.history + held m.history + 3)
+IsOpenRefusal m moment opening.BadMoment = (m.busy ≡ false) × (count_here m.outboxes < m.settings.sessions) × (length m.history + held m.history + 3 ≤ most m.limit) × (IsMomentAfter (last_moment m.history) moment → ⊥)
 IsOpenRefusal m moment opening.Memory = MayOpen m moment
 
 pub record MayBegin {O : Type 0} (m : Shown O) (b : Turn) (moment : ℤ) : Type 0 where
   pub idle : m.busy ≡ false
   pub turn : IsTurn m b
   pub not_shut : shut m.history b.session ≡ false
-  pub room : length m.history + held m.history + 1 ≤ m.limit
+  pub room : length m.history + held m.history + 1 ≤ most m.limit
   pub in_time : IsMomentAfter (last_moment m.history) moment
 
 abbrev pub IsLineRefusal : {O : Type 0} → Shown O → Turn → ℤ → LineRefusal → Type 0
 IsLineRefusal m b moment accepting.Busy = m.busy ≡ true
 IsLineRefusal m b moment accepting.WrongTurn = (m.busy ≡ false) × (IsTurn m b → ⊥)
 IsLineRefusal m b moment accepting.Shut = (m.busy ≡ false) × IsTurn m b × (shut m.history b.session ≡ true)
-IsLineRefusal m b moment accepting.JournalFull = (m.busy ≡ false) × IsTurn m b × (shut m.history b.session ≡ false) × (m.limit < length m.history + held m.history + 1)
-IsLineRefusal m b moment accepting.BadMoment = (m.busy ≡ false) × IsTurn m b × (shut m.history b.session ≡ false) × (length m.history + held m.history + 1 ≤ m.limit) × (IsMomentAfter (last_moment m.history) moment → ⊥)
+IsLineRefusal m b moment accepting.JournalFull = (m.busy ≡ false) × IsTurn m b × (shut m.history b.session ≡ false) × (most m.limit < length m.history + held m.history + 1)
+IsLineRefusal m b moment accepting.BadMoment = (m.busy ≡ false) × IsTurn m b × (shut m.history b.session ≡ false) × (length m.history + held m.history + 1 ≤ most m.limit) × (IsMomentAfter (last_moment m.history) moment → ⊥)
 IsLineRefusal m b moment accepting.Memory = MayBegin m b moment
 
 -- a session that was opened and isn't reaped
@@ -321,6 +337,11 @@ abbrev pub IsSweepRefusal : {O : Type 0} → Shown O → ℤ → SweepRefusal �
 IsSweepRefusal m moment sweeping.Busy = m.busy ≡ true
 IsSweepRefusal m moment sweeping.BadMoment = (m.busy ≡ false) × (IsMomentAfter (last_moment m.history) moment → ⊥)
 IsSweepRefusal m moment sweeping.Memory = MaySweep m moment × IsSome (to_sweep m.history)
+
+-- want of memory comes only where no plan is out
+abbrev pub IsRollRefusal : {O : Type 0} → Shown O → RollRefusal → Type 0
+IsRollRefusal m rolling.Busy = m.busy ≡ true
+IsRollRefusal m rolling.Memory = m.busy ≡ false
 
 pub record MayReap {O : Type 0} (m : Shown O) (s : ℕ) : Type 0 where
   pub idle : m.busy ≡ false
@@ -374,3 +395,4 @@ pub record IsOut {O : Type 0} (m : Shown O) (p : Out) : Type 0 where
   pub opened : p.session ≤ sessions m.history
   pub missed : p.missed ≡ newest_missed m.history
   pub room : length m.plan ≤ p.room
+  pub kept : m.limit.dropped < length m.history

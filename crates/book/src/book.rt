@@ -4,19 +4,21 @@ ghost use Rattle.std.specs.List.{list_any};
 ghost use Rattle.casemapping.specs.Names.{host_shape};
 ghost use Rattle.chronicle.specs.declared.record.Kind.TheVariants as kind;
 ghost use Rattle.chronicle.specs.History.{sessions, last_moment, shut, gone, misses};
-ghost use Rattle.chronicle.specs.Journal.{IsRoomier, numbered, record_at};
+ghost use Rattle.chronicle.specs.Journal.{IsRoomier, most, numbered, record_at};
 ghost use Rattle.roster.specs.LookBack.{nick, on};
 ghost use Rattle.deeds.specs.Deeds.{facts};
 ghost use Rattle.book.specs.Settings.{IsWellSet};
 ghost use Rattle.book.specs.Book.{box_at, outbox_at};
 ghost use Rattle.book.specs.Seats.{IsSeat};
 
+use crate::base::{Base, Counts};
 use crate::baton::Baton;
-use crate::out::{Done, Hung, Left, Plan, Step};
+use crate::out::{Done, Hung, Left, Plan, Rolled, Step};
 use crate::outboxes::Outboxes;
 use crate::plan::{Planned, Prepared, commit, prepare_gone, prepare_line};
 use crate::refusals::{
-    BookFault, HangRefusal, LineRefusal, OpenRefusal, ReapRefusal, SweepRefusal, TakeRefusal,
+    BookFault, HangRefusal, LineRefusal, OpenRefusal, ReapRefusal, RollRefusal, SweepRefusal,
+    TakeRefusal,
 };
 use crate::seat::Seat;
 use crate::seats::Seats;
@@ -42,22 +44,24 @@ pub struct Book<O: Outbox> {
     outboxes: Outboxes<O>,
     plan: VecDeque<Planned>,
     busy: bool,
+    /// What is known of the records that were dropped.
+    base: Option<Base>,
 }
 
 impl<O: Outbox> Model for Book<O> {
     ghost use Rattle.book.specs.Book.{Shown};
-    ghost use Rattle.book.specs.Kept.{IsKept};
+    ghost use Rattle.book.specs.Kept.{Keeps};
 
     ghost Value = { Shown O };
 
     ghost view = { λ a. record { history = a.journal.history; limit = a.journal.limit; settings = a.roster.settings; outboxes = a.outboxes.boxes; plan = a.plan.items; busy = a.busy } };
 
-    ghost invariant = { λ a. IsKept O.sent a.journal a.roster.settings a.roster.facts a.seats a.outboxes.boxes a.plan.items a.busy };
+    ghost invariant = { λ a. Keeps O.sent a.journal a.roster.settings a.roster.facts a.seats a.outboxes.boxes a.plan.items a.busy a.base };
 }
 
 /// Makes room for so many more records, which are within the journal's limit, and for so many sessions that miss the next.
 fn reserve(journal: &mut Journal, records: usize, missed: usize) -> Result<(), AllocError>
-    requires { length journal.old.history + records ≤ journal.old.limit }
+    requires { length journal.old.history + records ≤ most journal.old.limit }
     ensures same { IsRoomier journal.old journal.new }
     ensures ok { OnOk result ((records ≤ journal.new.room) × (missed ≤ journal.new.prepared)) }
 {
@@ -65,7 +69,8 @@ fn reserve(journal: &mut Journal, records: usize, missed: usize) -> Result<(), A
 }
 
 impl<O: Outbox> Book<O> {
-    ghost use Rattle.book.specs.Book.{empty_book, opened, begun, finished, reaped, IsPutNext, IsPutAll, IsDone, IsLeft, to_sweep, IsKnown, IsTurn, MayOpen, MayBegin, MayHang, MaySweep, MayReap, IsOpenRefusal, IsLineRefusal, IsHangRefusal, IsSweepRefusal, IsReapRefusal, IsSound, IsOut, newest_missed, held};
+    ghost use Rattle.book.specs.Book.{empty_book, opened, begun, finished, reaped, IsPutNext, IsPutAll, IsDone, IsLeft, to_sweep, IsKnown, IsTurn, MayOpen, MayBegin, MayHang, MaySweep, MayReap, IsOpenRefusal, IsLineRefusal, IsHangRefusal, IsSweepRefusal, IsReapRefusal, IsSound, IsOut, newest_missed, held, is_here, rolled, base_of, IsRollRefusal};
+    ghost use Rattle.book.specs.Noted.{base_by, is_noted, counted_in};
 
     /// An empty book for at most `limit` records.
     pub fn new(alloc: Global, settings: Settings, limit: usize) -> Result<Book<O>, BookFault>
@@ -76,7 +81,9 @@ impl<O: Outbox> Book<O> {
         if !is_well_set(&settings, limit) {
             return Err(BookFault::BadSettings);
         }
-        let journal = Journal::with_limit(alloc, limit).map_err(|_| BookFault::Memory)?;
+        let Ok(journal) = Journal::with_limit(alloc, limit) else {
+            return Err(BookFault::Memory);
+        };
         Ok(Book {
             alloc,
             journal,
@@ -85,23 +92,24 @@ impl<O: Outbox> Book<O> {
             outboxes: Outboxes::new(alloc),
             plan: VecDeque::new(alloc),
             busy: false,
+            base: None,
         })
     }
 
     /// How many more records there may be beside those that are kept free.
     fn free(&self) -> usize
-        ensures room { result + length self.now.history + held self.now.history ≡ self.now.limit }
-        ensures fits { self.now.limit < 2 ^ 64 }
+        ensures room { result + length self.now.history + held self.now.history ≡ most self.now.limit }
+        ensures fits { most self.now.limit < 2 ^ 64 }
     {
-        self.journal.limit() - self.journal.len() - self.seats.held()
+        self.journal.most() - self.journal.newest() - self.seats.held()
     }
 
     /// How many records are kept free.
     fn held(&self) -> usize
         ensures kept { result ≡ held self.now.history }
-        ensures fits { self.now.limit < 2 ^ 64 }
+        ensures fits { most self.now.limit < 2 ^ 64 }
     {
-        self.journal.limit() - self.journal.len() - self.free()
+        self.journal.most() - self.journal.newest() - self.free()
     }
 
     /// The seat of a session that was opened and isn't reaped.
@@ -116,7 +124,7 @@ impl<O: Outbox> Book<O> {
     /// Whether a session may be opened now, memory apart.
     fn check_open(&self, moment: Moment) -> Result<(), OpenRefusal>
         ensures ok { OnOk result (MayOpen self.now moment) }
-        ensures fits { OnOk result (self.now.limit < 2 ^ 64) }
+        ensures fits { OnOk result (most self.now.limit < 2 ^ 64) }
         ensures err { IfErr result (λ e. IsOpenRefusal self.now moment e) }
         ensures no_memory { IfErr result (λ e. e ≢ OpenRefusal.Memory) }
     {
@@ -192,7 +200,7 @@ impl<O: Outbox> Book<O> {
     /// Whether a line of the session whose baton it is may be accepted now, memory apart.
     fn check_line(&self, baton: &Baton, moment: Moment) -> Result<(), LineRefusal>
         ensures ok { OnOk result (MayBegin self.now baton.now moment) }
-        ensures fits { OnOk result (self.now.limit < 2 ^ 64) }
+        ensures fits { OnOk result (most self.now.limit < 2 ^ 64) }
         ensures err { IfErr result (λ e. IsLineRefusal self.now baton.now moment e) }
     {
         if self.busy {
@@ -232,7 +240,7 @@ impl<O: Outbox> Book<O> {
         ensures err { OnErr result (self.new ≡ self.old) }
     {
         self.check_line(baton, moment)?;
-        let number = RecordNumber::new(self.journal.len() as u64 + 1);
+        let number = RecordNumber::new(self.journal.newest() as u64 + 1);
         let told = piece.copy()?;
         let (prepared, quits) = prepare_line(
             self.alloc,
@@ -476,7 +484,7 @@ impl<O: Outbox> Book<O> {
         ensures err { OnErr result (self.new ≡ self.old) }
     {
         let room = self.held();
-        let number = RecordNumber::new(self.journal.len() as u64 + 1);
+        let number = RecordNumber::new(self.journal.newest() as u64 + 1);
         let prepared = prepare_gone(
             self.alloc,
             &self.roster,
@@ -565,16 +573,73 @@ impl<O: Outbox> Book<O> {
         }
     }
 
-    /// The record of this number, if there is one.
+    /// What is counted of a session that isn't reaped. No plan is out.
+    fn counts_of(&self, session: SessionId) -> Option<Counts>
+        requires idle { self.now.busy ≡ false }
+        requires from_1 { 0 < session }
+        requires opened { session ≤ sessions self.now.history }
+        ensures { result ≡ counted_in self.now session }
+    {
+        let seat = self.seat(session)?;
+        Some(Counts {
+            accepted: seat.accepted,
+            owed: self.outboxes.count(session),
+        })
+    }
+
+    /// The base of all records. No plan is out.
+    fn note_base(&self) -> Result<Base, AllocError>
+        requires idle { self.now.busy ≡ false }
+        ensures front { IfOk result (λ b. (b.front ≡ self.now.history) × (b.settings ≡ self.now.settings)) }
+        ensures noted { IfOk result (λ b. (t : ℕ) → 0 < t → t ≤ sessions self.now.history → is_noted b t ≡ is_here self.now.outboxes t) }
+    {
+        let roster = self.roster.copy()?;
+        let mut counts = Vec::new(self.alloc);
+        for number in 0..self.seats.opened() {
+            counts.push(self.counts_of(SessionId::new(number + 1)))?;
+        }
+        Ok(Base::new(roster, counts, &self.journal))
+    }
+
+    /// Drops all records, and keeps what has to be known of them. Numbers go on, and there is room for as many records as at the
+    /// start. A refusal changes nothing.
+    pub fn roll(&mut self) -> Result<Rolled, RollRefusal>
+        ensures ok { OnOk result (self.new ≡ rolled self.old) }
+        ensures dropped { IfOk result (λ r. r.dropped + self.old.limit.dropped ≡ length self.old.history) }
+        ensures next { IfOk result (λ r. r.next ≡ length self.old.history + 1) }
+        ensures refusal { IfErr result (λ e. IsRollRefusal self.old e) }
+        ensures err { OnErr result (self.new ≡ self.old) }
+    {
+        if self.busy {
+            return Err(RollRefusal::Busy);
+        }
+        let base = self.note_base()?;
+        let dropped = self.journal.len();
+        let next = RecordNumber::new(self.journal.newest() as u64 + 1);
+        self.journal.cut();
+        self.base = Some(base);
+        Ok(Rolled { dropped, next })
+    }
+
+    /// What is known of the records that were dropped, if any were.
+    pub fn base(&self) -> Option<&Base>
+        ensures base { IfSome result (λ b. base_by b.now ≡ base_of self.now) }
+        ensures noted { IfSome result (λ b. (t : ℕ) → 0 < t → t ≤ (base_of self.now).sessions → is_here self.now.outboxes t ≡ true → is_noted b.now t ≡ true) }
+        ensures none { result ≡ None → self.now.limit.dropped ≡ 0 }
+    {
+        self.base.as_ref()
+    }
+
+    /// The record of this number, if there is one that wasn't dropped.
     pub fn record(&self, number: RecordNumber) -> Option<&Record>
-        ensures { record_at result ≡ numbered self.now.history number }
+        ensures { record_at result ≡ numbered self.now.history self.now.limit.dropped number }
     {
         self.journal.get(number)
     }
 
-    /// How many records there are.
+    /// How many records are kept.
     pub fn len(&self) -> usize
-        ensures { result ≡ length self.now.history }
+        ensures { result + self.now.limit.dropped ≡ length self.now.history }
     {
         self.journal.len()
     }

@@ -1,8 +1,10 @@
 //! The book: the journal and, for each session, its outbox.
 #![tactic(auto)]
 
+mod base;
 mod baton;
 mod book;
+mod counting;
 mod heard;
 mod laws;
 mod out;
@@ -14,14 +16,16 @@ mod seat;
 mod seats;
 mod settings;
 
+pub use base::Base;
 pub use baton::Baton;
 pub use book::Book;
 pub use deliveries::{Delivery, Item, Text};
 pub use laws::{rings_take_each_record, rings_take_what_fits};
-pub use out::{Done, Hung, Left, Plan, Step};
+pub use out::{Done, Hung, Left, Plan, Rolled, Step};
 pub use outbox::{Outbox, PutFault, Ring};
 pub use refusals::{
-    BookFault, HangRefusal, LineRefusal, OpenRefusal, ReapRefusal, SweepRefusal, TakeRefusal,
+    BookFault, HangRefusal, LineRefusal, OpenRefusal, ReapRefusal, RollRefusal, SweepRefusal,
+    TakeRefusal,
 };
 pub use registration::{MAX_SESSIONS, Settings};
 pub use roster::Sessions;

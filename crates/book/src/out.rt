@@ -34,6 +34,15 @@ pub struct Hung {
     pub missed: bool,
 }
 
+/// What became of records that were dropped.
+#[derive(Clone, Copy, Debug, PartialEq)]
+pub struct Rolled {
+    /// How many were.
+    pub dropped: usize,
+    /// The number of the next record.
+    pub next: RecordNumber,
+}
+
 /// A session that was given up.
 #[derive(Clone, Copy, Debug, PartialEq)]
 pub struct Left {

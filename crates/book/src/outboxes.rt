@@ -1,9 +1,10 @@
 //! The outboxes of all sessions, and how many there are.
-ghost use Rattle.std.specs.Prelude.{◌≡◌, ◌<◌, ◌+◌, ◌-◌, ◌++◌, ◌∷◌, [], true, false, length, slice_get, slice_set, Some, None, IfSome, OnOk};
+ghost use Rattle.std.specs.Prelude.{◌≡◌, ◌<◌, ◌+◌, ◌-◌, ◌^◌, ◌++◌, ◌∷◌, [], true, false, length, slice_get, slice_set, Some, None, IfSome, OnOk};
 ghost use Rattle.outbox.specs.Ring.{with_taken};
-ghost use Rattle.book.specs.Book.{box_at, outbox_at, count_here, IsLeft};
+ghost use Rattle.book.specs.Book.{box_at, sent_by, outbox_at, count_here, IsLeft};
 ghost use Rattle.book.specs.Seats.{IsThere, MayFollow, IsTaken, IsNotTaken};
 
+use crate::counting::Counting;
 use chronicle::SessionId;
 use deliveries::Item;
 use indexmap::IndexMap;
@@ -15,7 +16,7 @@ use std::marker::Model;
 #[derive(Drop)]
 pub(crate) struct Outboxes<O: Outbox> {
     /// By the numbers of their sessions.
-    outboxes: IndexMap<u64, O>,
+    outboxes: IndexMap<u64, Counting<O>>,
     opened: u64,
 }
 
@@ -67,11 +68,12 @@ impl<O: Outbox> Outboxes<O> {
     /// Adds the outbox of the next session. There has to be room for it.
     pub(crate) fn open(&mut self, session: SessionId, outbox: O)
         requires next { session ≡ length self.old.boxes + 1 }
+        requires fresh { O.sent outbox ≡ [] }
         requires room { 0 < self.old.room }
         ensures { self.new.boxes ≡ self.old.boxes ++ Some outbox ∷ [] }
     {
         let number = session.number();
-        let _ = self.outboxes.insert(number, outbox).unwrap();
+        let _ = self.outboxes.insert(number, Counting::new(outbox)).unwrap();
         self.opened = number;
     }
 
@@ -79,6 +81,7 @@ impl<O: Outbox> Outboxes<O> {
     pub(crate) fn offer(&mut self, item: Item) -> bool
         requires there { IsThere self.old.boxes item.session }
         requires next { MayFollow O.sent (box_at self.old.boxes item.session) item }
+        requires few { IfSome (box_at self.old.boxes item.session) (λ o. length (O.sent o) + 1 < 2 ^ 64) }
         ensures put { result ≡ true → IsTaken O.sent O.accepts self.old.boxes item self.new.boxes }
         ensures fault { result ≡ false → IsNotTaken O.refuses self.old.boxes item }
         ensures same { result ≡ false → self.new.boxes ≡ self.old.boxes }
@@ -86,7 +89,18 @@ impl<O: Outbox> Outboxes<O> {
         let Some(outbox) = self.outboxes.get_mut(&item.session().number()) else {
             unreachable!();
         };
-        outbox.put(item).is_ok()
+        outbox.put(item)
+    }
+
+    /// How many items were ever put for a session that isn't reaped.
+    pub(crate) fn count(&self, session: SessionId) -> u64
+        requires there { IsThere self.now.boxes session }
+        ensures { result ≡ length (sent_by O.sent (box_at self.now.boxes session)) }
+    {
+        let Some(outbox) = self.outboxes.get(&session.number()) else {
+            unreachable!();
+        };
+        outbox.count()
     }
 
     /// Gives up the outbox of a session with its taker, and answers how many items were left in it.

@@ -3,6 +3,7 @@ ghost use Rattle.std.specs.Prelude.{◌≡◌};
 ghost use Rattle.book.specs.declared.refusals.OpenRefusal.TheVariants as opening;
 ghost use Rattle.book.specs.declared.refusals.LineRefusal.TheVariants as accepting;
 ghost use Rattle.book.specs.declared.refusals.SweepRefusal.TheVariants as sweeping;
+ghost use Rattle.book.specs.declared.refusals.RollRefusal.TheVariants as rolling;
 
 use std::alloc::AllocError;
 
@@ -71,6 +72,15 @@ pub enum SweepRefusal {
     Memory,
 }
 
+/// Why no records were dropped.
+#[derive(Clone, Copy, Debug, PartialEq)]
+pub enum RollRefusal {
+    /// A plan is out.
+    Busy,
+    /// A growth was refused.
+    Memory,
+}
+
 /// Why a session wasn't reaped.
 #[derive(Clone, Copy, Debug, PartialEq)]
 pub enum ReapRefusal {
@@ -104,6 +114,14 @@ impl From<AllocError> for LineRefusal {
 
     fn from(_: AllocError) -> LineRefusal {
         LineRefusal::Memory
+    }
+}
+
+impl From<AllocError> for RollRefusal {
+    ghost from_gives = { λ _ e. e ≡ rolling.Memory };
+
+    fn from(_: AllocError) -> RollRefusal {
+        RollRefusal::Memory
     }
 }
 

@@ -1,13 +1,13 @@
--- A record that `get` of a slice finds, as the history has it.
-use Rattle.std.proofs.Common.{◌≡◌, ℕ, ◌<◌, ◌≤◌, List, [], ◌∷◌, ◌++◌, length, map, reverse, get_or, slice_get, Option, Some, None, Bor, refl, sym, ap, ◌∙◌}
+-- Records as the history has them: how many, the newest, and one that `get` of a slice finds.
+use Rattle.std.proofs.Common.{arith, ◌≡◌, ℕ, ◌+◌, ◌<◌, ◌≤◌, List, [], ◌∷◌, ◌++◌, length, length-append, map, reverse, get_or, slice_get, Option, Some, None, inl, inr, Bor, refl, sym, ap, ◌∙◌}
 use mathlib.Core.List.{reverse_aux}
 use Rattle.std.specs.Option.{IfSome, MatchOption, option_map}
 use Rattle.std.specs.List.{HoldsAt}
-use Rattle.std.proofs.lemmas.Option.{slice_get-map, slice_get_past, slice_get_read}
-use Rattle.std.proofs.lemmas.List.{reverse-reverse, reverse-append}
+use Rattle.std.proofs.lemmas.Option.{slice_get-map, slice_get_past, slice_get_read, slice_get_cases}
+use Rattle.std.proofs.lemmas.List.{get_or-append-add, length-map, length-reverse, reverse-reverse, reverse-append}
 use Rattle.chronicle.specs.declared.record.Record.{Record}
 use Rattle.chronicle.specs.History.{Rec, rec_of}
-use Rattle.chronicle.specs.Journal.{record_at}
+use Rattle.chronicle.specs.Journal.{record_at, history_of}
 
 found : (xs : List Record) (i : ℕ) (r : Option (Bor Record)) → IfSome r (λ x. x.now ≡ get_or xs i x.now) → MatchOption r (length xs ≤ i) (λ x. (i < length xs) × HoldsAt (λ y. x.now ≡ y) xs i) → record_at r ≡ option_map rec_of (slice_get xs i)
 found xs i None e m = sym (ap (option_map rec_of) (slice_get_past xs i m))
@@ -22,8 +22,28 @@ map-reverse : (xs : List Record) → map rec_of xs ≡ reverse (map rec_of (reve
 map-reverse xs = sym (reverse-reverse (map rec_of xs)) ∙ ap reverse (sym (map-reverse_aux xs []))
 
 -- a record at the end of the list is the history's newest
-pub newest : (xs : List Record) (r : Record) → map rec_of (reverse (xs ++ r ∷ [])) ≡ rec_of r ∷ map rec_of (reverse xs)
-newest xs r = ap (map rec_of) (reverse-append xs (r ∷ []))
+pub newest : (xs : List Record) (r : Record) (past : List Rec) → history_of (xs ++ r ∷ []) past ≡ rec_of r ∷ history_of xs past
+newest xs r past = ap (λ rs. map rec_of rs ++ past) (reverse-append xs (r ∷ []))
 
-pub looked : (xs : List Record) (h : List Rec) (i : ℕ) (r : Option (Bor Record)) → map rec_of (reverse xs) ≡ h → IfSome r (λ x. x.now ≡ get_or xs i x.now) → MatchOption r (length xs ≤ i) (λ x. (i < length xs) × HoldsAt (λ y. x.now ≡ y) xs i) → record_at r ≡ slice_get (reverse h) i
-looked xs h i r eh e m = found xs i r e m ∙ sym (slice_get-map rec_of xs i) ∙ ap (λ ys. slice_get ys i) (map-reverse xs) ∙ ap (λ k. slice_get (reverse k) i) eh
+-- each record counts, those that were dropped too
+pub history_length : (xs : List Record) (past : List Rec) → length (history_of xs past) ≡ length xs + length past
+history_length xs past = length-append (map rec_of (reverse xs)) past ∙ ap (λ n. n + length past) (length-map (reverse xs) rec_of ∙ length-reverse xs)
+
+behind : {X : Type 0} (xs ys : List X) (i : ℕ) → slice_get (xs ++ ys) (length xs + i) ≡ slice_get ys i
+behind xs ys i =
+    let past : length ys ≤ i → length (xs ++ ys) ≤ length xs + i = λ n. omega (arith, length-append xs ys) in
+    let within : i < length ys → length xs + i < length (xs ++ ys) = λ n. omega (arith, length-append xs ys) in
+    elim ((slice_get_cases ys i).1) [
+      | inl y ↦ slice_get_read (xs ++ ys) (length (xs ++ ys)) (length xs + i) y.0 refl (within y.1) (sym (get_or-append-add xs ys i y.0 ∙ y.3)) ∙ sym y.2
+      | inr n ↦ slice_get_past (xs ++ ys) (length xs + i) (past n.0) ∙ sym n.1
+    ]
+
+-- a record that was found among those that are kept is the history's, behind those that were dropped
+pub looked : (xs : List Record) (past h : List Rec) (i : ℕ) (r : Option (Bor Record)) → history_of xs past ≡ h → IfSome r (λ x. x.now ≡ get_or xs i x.now) → MatchOption r (length xs ≤ i) (λ x. (i < length xs) × HoldsAt (λ y. x.now ≡ y) xs i) → record_at r ≡ slice_get (reverse h) (length past + i)
+looked xs past h i r eh e m =
+    let kept : record_at r ≡ slice_get (reverse (map rec_of (reverse xs))) i = found xs i r e m ∙ sym (slice_get-map rec_of xs i) ∙ ap (λ ys. slice_get ys i) (map-reverse xs) in
+    let all : slice_get (reverse (map rec_of (reverse xs))) i ≡ slice_get (reverse (history_of xs past)) (length past + i) =
+    sym (behind (reverse past) (reverse (map rec_of (reverse xs))) i)
+    ∙ ap (λ n. slice_get (reverse past ++ reverse (map rec_of (reverse xs))) (n + i)) (length-reverse past)
+    ∙ ap (λ ys. slice_get ys (length past + i)) (sym (reverse-append (map rec_of (reverse xs)) past)) in
+    kept ∙ all ∙ ap (λ k. slice_get (reverse k) (length past + i)) eh

@@ -1,27 +1,41 @@
--- What clauses see of a journal: the history and the room that was made.
-use Rattle.std.specs.Prelude.{◌≡◌, ℕ, ℤ, ◌+◌, ◌-◌, ◌≤◌, List, [], ◌∷◌, ◌++◌, length, reverse, slice_get, ◌==◌, cond, Option, Some, None}
+-- What clauses see of a journal: the history, how much of it was dropped, and the room that was made.
+use Rattle.std.specs.Prelude.{◌≡◌, ℕ, ℤ, ◌+◌, ◌-◌, ◌^◌, ◌≤◌, List, [], ◌∷◌, ◌++◌, length, map, reverse, min, slice_get, nat_le, cond, Option, Some, None}
+use Rattle.std.specs.declared.vec.Vec.{Vec}
+use Rattle.std.specs.declared.alloc.Global.{Global}
 use Rattle.std.specs.Borrow.{Bor}
 use Rattle.chronicle.specs.declared.record.Kind.{Kind}
 use Rattle.chronicle.specs.declared.record.Record.{Record}
 use Rattle.chronicle.specs.History.{Rec, rec_of}
 
--- the records, the newest first, and how many there may be; how many more may be appended without memory;
--- how many sessions may miss the next record without memory, and how many more the newest
+-- how many records may be kept, after how many that were dropped
+pub record Limit : Type 0 where
+  pub records : ℕ
+  pub dropped : ℕ
+
+-- the highest number that a record may have: so many are kept at most, and no number is above 2 ^ 60
+unfoldable pub most : Limit → ℕ
+most l = min (l.dropped + l.records) (2 ^ 60)
+
+-- all records, the newest first, and how many may be kept; how many more may be appended without memory; how many sessions may
+-- miss the next record without memory, and how many more the newest
 pub record Shown : Type 0 where
   pub history : List Rec
-  pub limit : ℕ
+  pub limit : Limit
   pub room : ℕ
   pub prepared : ℕ
   pub left : ℕ
 
+-- the history whose first records were dropped
+abbrev pub history_of : List Record → List Rec → List Rec
+history_of kept past = map rec_of (reverse kept) ++ past
+
+-- the history of whoever drops the records that it kept
+abbrev pub with_kept : List Rec → Vec Record Global → List Rec
+with_kept past kept = history_of kept.items past
+
 abbrev pub room_left : List Record → ℕ
 room_left [] = 0
 room_left (r ∷ rs) = r.missed.capacity - length r.missed.items
-
--- each record's number is its place
-abbrev pub IsNumbered : List Record → Type 0
-IsNumbered [] = Unit {0}
-IsNumbered (r ∷ rs) = (r.number ≡ length rs + 1) × IsNumbered rs
 
 -- the same records, and no less room
 pub record IsRoomier (old new : Shown) : Type 0 where
@@ -54,11 +68,18 @@ pub record Misses (old new : Shown) (t : ℕ) : Type 0 where
   pub room : new.room ≡ old.room
   pub left : new.left + 1 ≡ old.left
 
+-- all records were dropped, which leaves the history as it is, and no less room
+pub record Cuts (old new : Shown) : Type 0 where
+  pub history : new.history ≡ old.history
+  pub limit : new.limit ≡ record { records = old.limit.records; dropped = length old.history }
+  pub room : old.room ≤ new.room
+  pub prepared : new.prepared ≡ old.prepared
+
 -- the record that a reference shows
 abbrev pub record_at : Option (Bor Record) → Option Rec
 record_at None = None
 record_at (Some r) = Some (rec_of r.now)
 
--- the record of this number: in the order of their numbers, the first is number 1
-abbrev pub numbered : List Rec → ℕ → Option Rec
-numbered h n = cond (n == 0) None (slice_get (reverse h) (n - 1))
+-- the record of this number, unless it is one of those that were dropped: in the order of their numbers, the first is number 1
+abbrev pub numbered : List Rec → ℕ → ℕ → Option Rec
+numbered h dropped n = cond (nat_le n dropped) None (slice_get (reverse h) (n - 1))

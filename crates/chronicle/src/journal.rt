@@ -1,7 +1,8 @@
-//! The list of records, and the room that is made before a record is written.
-ghost use Rattle.std.specs.Prelude.{◌≡◌, ◌<◌, ◌≤◌, ◌+◌, ◌-◌, ◌↔◌, ◌∷◌, [], length, OnOk, OnErr, IfOk, IsErrOf};
+//! The list of records, and the room that is made before a record is written. Records may be dropped, and still count.
+ghost use Rattle.std.specs.Prelude.{◌≡◌, ◌<◌, ◌≤◌, ◌+◌, ◌-◌, ◌^◌, ◌↔◌, ◌∷◌, [], length, OnOk, OnErr, IfOk, IsErrOf};
 
 use crate::{Kind, Moment, Record, RecordNumber, SessionId};
+use ghosts::{Change, Snapshot, apply};
 use smallvec::SmallVec;
 use std::alloc::{AllocError, Global};
 use std::marker::Model;
@@ -16,48 +17,94 @@ pub enum JournalRefusal {
     Memory,
 }
 
+/// No record has a higher number.
+const MAX_NUMBER: usize = 1 << 60;
+
+/// The records that were dropped. It has no bytes: clauses alone know them.
+#[derive(Drop)]
+struct Past {}
+
+impl Model for Past {
+    ghost use Rattle.std.specs.Prelude.{List, []};
+    ghost use Rattle.chronicle.specs.History.{Rec};
+
+    ghost Value = { List Rec };
+
+    ghost view = { λ _. [] };
+}
+
+// The records that were kept are dropped.
+struct Drops;
+
+impl Change<Past, Vec<Record>> for Drops {
+    ghost use Rattle.chronicle.specs.Journal.{with_kept};
+
+    ghost changed = { with_kept };
+}
+
 /// A list of records with a limit. Room for a record, and for the sessions that miss it, is made before it is appended.
 #[derive(Drop)]
 pub struct Journal {
+    /// Those that weren't dropped.
     records: Vec<Record>,
     limit: usize,
     prepared: SmallVec<SessionId, 1>,
+    /// How many were dropped.
+    dropped: usize,
+    past: Snapshot<Past>,
+    /// The moment of the newest record, 0 before the first.
+    last: Moment,
 }
 
 impl Model for Journal {
-    ghost use Rattle.std.specs.Prelude.{◌≡◌, [], map, reverse, length, min, ◌-◌, ◌≤◌, vec_len, vec_capacity};
-    ghost use Rattle.chronicle.specs.History.{rec_of};
-    ghost use Rattle.chronicle.specs.Journal.{Shown, room_left, IsNumbered};
+    ghost use Rattle.std.specs.Prelude.{◌≡◌, [], reverse, length, min, ◌+◌, ◌-◌, ◌^◌, ◌≤◌, vec_len, vec_capacity};
+    ghost use Rattle.chronicle.specs.History.{last_moment};
+    ghost use Rattle.chronicle.specs.Journal.{Shown, room_left, most, history_of};
 
     ghost Value = { Shown };
 
-    ghost view = { λ a. record { history = map rec_of (reverse a.records.items); limit = a.limit; room = min (vec_capacity a.records - vec_len a.records) (a.limit - length a.records.items); prepared = a.prepared.capacity - length a.prepared.items; left = room_left (reverse a.records.items) } };
+    ghost view = { λ a. record { history = history_of a.records.items a.past.value; limit = record { records = a.limit; dropped = a.dropped }; room = min (vec_capacity a.records - vec_len a.records) (most (record { records = a.limit; dropped = a.dropped }) - (a.dropped + length a.records.items)); prepared = a.prepared.capacity - length a.prepared.items; left = room_left (reverse a.records.items) } };
 
-    ghost invariant = { λ a. (length a.records.items ≤ a.limit) × IsNumbered (reverse a.records.items) × (a.prepared.items ≡ []) × (1 ≤ a.prepared.capacity) };
+    ghost invariant = { λ a. (length a.records.items ≤ a.limit) × (a.dropped + length a.records.items ≤ 2 ^ 60) × (a.dropped ≡ length a.past.value) × (a.last ≡ last_moment (history_of a.records.items a.past.value)) × (a.prepared.items ≡ []) × (1 ≤ a.prepared.capacity) };
 }
 
 impl Journal {
     ghost use Rattle.chronicle.specs.History.{last_moment};
-    ghost use Rattle.chronicle.specs.Journal.{Appends, Misses, IsRoomier, record_at, numbered};
+    ghost use Rattle.chronicle.specs.Journal.{Appends, Misses, Cuts, IsRoomier, record_at, numbered, most};
 
-    /// An empty journal for at most `limit` records.
+    /// An empty journal that keeps at most `limit` records.
     pub fn with_limit(alloc: Global, limit: usize) -> Result<Journal, AllocError>
-        ensures { IfOk result (λ j. (j.history ≡ []) × (j.limit ≡ limit)) }
+        ensures { IfOk result (λ j. (j.history ≡ []) × (j.limit ≡ record { records = limit; dropped = 0 })) }
     {
         Ok(Journal {
             records: Vec::new(alloc),
             limit,
             prepared: SmallVec::new(alloc),
+            dropped: 0,
+            past: Snapshot::of(&Past {}),
+            last: Moment::new(0),
         })
+    }
+
+    /// The highest number that a record may have.
+    pub fn most(&self) -> usize
+        ensures value { result ≡ most self.now.limit }
+        ensures enough { length self.now.history ≤ result }
+    {
+        if MAX_NUMBER - self.dropped < self.limit {
+            MAX_NUMBER
+        } else {
+            self.dropped + self.limit
+        }
     }
 
     /// Makes room for so many more records, and for so many sessions that miss the next of them.
     pub fn reserve(&mut self, records: usize, missed: usize) -> Result<(), JournalRefusal>
         ensures same { IsRoomier self.old self.new }
         ensures ok { OnOk result ((records ≤ self.new.room) × (missed ≤ self.new.prepared)) }
-        ensures full { IsErrOf result JournalRefusal.Full ↔ (self.old.limit < length self.old.history + records) }
+        ensures full { IsErrOf result JournalRefusal.Full ↔ (most self.old.limit < length self.old.history + records) }
     {
-        if self.limit - self.records.len() < records {
+        if self.most() - self.newest() < records {
             return Err(JournalRefusal::Full);
         }
         self.records
@@ -75,10 +122,12 @@ impl Journal {
         ensures number { result ≡ length self.old.history + 1 }
         ensures appended { Appends self.old self.new moment kind }
         ensures one { 1 ≤ self.new.left }
+        ensures kept { self.new.limit.dropped < length self.new.history }
     {
-        let number = RecordNumber::new(self.records.len() as u64 + 1);
+        let number = RecordNumber::new(self.newest() as u64 + 1);
         let fresh = SmallVec::new(*self.prepared.allocator());
         let missed = mem::replace(&mut self.prepared, fresh);
+        self.last = moment;
         self.records.push_reserved(Record {
             number,
             moment,
@@ -99,37 +148,43 @@ impl Journal {
         }
     }
 
-    /// The record of this number, if there is one.
-    pub fn get(&self, number: RecordNumber) -> Option<&Record>
-        ensures { record_at result ≡ numbered self.now.history number }
+    /// Drops all records, and keeps the room that was made. Numbers go on. It takes no memory.
+    pub fn cut(&mut self)
+        ensures { Cuts self.old self.new }
     {
-        let place = number.number();
-        if place == 0 {
+        apply::<Drops, Past, Vec<Record>>(&mut self.past, &self.records);
+        self.dropped += self.records.len();
+        self.records.clear();
+    }
+
+    /// The record of this number, if there is one that wasn't dropped.
+    pub fn get(&self, number: RecordNumber) -> Option<&Record>
+        ensures { record_at result ≡ numbered self.now.history self.now.limit.dropped number }
+    {
+        let place = number.number() as usize;
+        if place <= self.dropped {
             return None;
         }
-        self.records.get(place as usize - 1)
+        self.records.get(place - self.dropped - 1)
     }
 
     /// The moment of the newest record, 0 before the first.
     pub fn last_moment(&self) -> Moment
         ensures { result ≡ last_moment self.now.history }
     {
-        match self.records.last() {
-            Some(newest) => newest.moment,
-            None => Moment::new(0),
-        }
+        self.last
     }
 
-    /// How many records there may be.
-    pub fn limit(&self) -> usize
-        ensures { result ≡ self.now.limit }
-    {
-        self.limit
-    }
-
-    /// How many records there are.
-    pub fn len(&self) -> usize
+    /// The number of the newest record, 0 before the first.
+    pub fn newest(&self) -> usize
         ensures { result ≡ length self.now.history }
+    {
+        self.dropped + self.records.len()
+    }
+
+    /// How many records are kept.
+    pub fn len(&self) -> usize
+        ensures { result + self.now.limit.dropped ≡ length self.now.history }
     {
         self.records.len()
     }

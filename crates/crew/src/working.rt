@@ -1,10 +1,10 @@
 //! Doing lines.
-ghost use Rattle.std.specs.Prelude.{◌≡◌, ◌++◌, ◌∷◌, [], true, false};
+ghost use Rattle.std.specs.Prelude.{◌≡◌, ◌++◌, ◌∷◌, [], true, false, OnOk, OnErr};
 ghost use Rattle.crew.specs.Doing.{OnDone, OnRefused, DoesFront};
 
 use crate::server::{Clock, Gate, Server, Sockets, later};
 use chronicle::{Moment, SessionId, Why};
-use hall::{Baton, Done, Hall, LineRefusal, Naming, Told};
+use hall::{Baton, Done, Hall, LineRefusal, Naming, RollRefusal, Told};
 use line_grammar::Piece;
 use outbox::Sender;
 use std::hint::spin_loop;
@@ -66,6 +66,30 @@ fn lock_soon<'a, L: Naming, R: Wait + Drop>(
     hall.lock(rt)
 }
 
+/// Does a line in the hall. Where its journal has no room for it, that is rolled, and the line is tried again: nobody else takes the
+/// room, since the hall is held.
+fn line_or_roll<L: Naming, R: Wait + Drop>(
+    hall: &mut Hall<L, Sender<R>>,
+    baton: &mut Baton<L, Sender<R>>,
+    piece: &Piece,
+    moment: Moment,
+) -> Result<Done, LineRefusal>
+    ensures done { OnOk result (baton.new.pieces ≡ baton.old.pieces ++ piece.now ∷ []) }
+    ensures refused { OnErr result (baton.new ≡ baton.old) }
+    ensures session { baton.new.session ≡ baton.old.session }
+{
+    match hall.line(baton, piece, moment) {
+        Ok(done) => return Ok(done),
+        Err(LineRefusal::JournalFull) => {}
+        Err(refusal) => return Err(refusal),
+    }
+    match hall.roll() {
+        Ok(_) => hall.line(baton, piece, moment),
+        Err(RollRefusal::Memory) => Err(LineRefusal::Memory),
+        Err(RollRefusal::Busy) => Err(LineRefusal::Busy),
+    }
+}
+
 /// Does a line in the hall, and adds who got something.
 fn line_in<L: Naming, R: Wait + Drop>(
     hall: &mut Hall<L, Sender<R>>,
@@ -81,7 +105,7 @@ fn line_in<L: Naming, R: Wait + Drop>(
     let moment = later(moment, hall.last_moment());
     told.begin();
     hall.swap_told(told);
-    let outcome = match hall.line(baton, piece, moment) {
+    let outcome = match line_or_roll(hall, baton, piece, moment) {
         Ok(done) => Outcome::Done(done),
         Err(refusal) => Outcome::Refused(refusal),
     };
@@ -304,8 +328,9 @@ fn work_all<'a, L: Naming, R: Wait + Drop, G: Gate, S: Sockets, C: Clock>(
 
 /// Does pieces of a session in turn, until one is refused, under one hold of the lock but where somebody is to be shut or many are to
 /// be told, which is done with the lock given back. Who got something and wasn't told stands in `told` at the end, with those who
-/// stood there before, for the caller to tell them (`tell`) when it has no more lines to do. Where memory is wanting the session is
-/// ended with that reason; where there is no room for a record, it is ended with Shutdown, and the server is asked to stop.
+/// stood there before, for the caller to tell them (`tell`) when it has no more lines to do. Where there is no room for a record the
+/// journal is rolled; where there is none after that, the session is ended with Shutdown, and the server is asked to stop. Where
+/// memory is wanting it is ended with that reason.
 ///
 /// The pieces done with the baton that comes back are those done before, then the first of these pieces, in order; all of them
 /// where `all` is true.

@@ -1,3 +1,4 @@
 pub mod Growing
 pub mod Newest
 pub mod Written
+pub mod GoesOn

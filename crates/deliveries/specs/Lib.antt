@@ -1,5 +1,7 @@
 pub mod Owed
+pub mod Text
 pub mod Growth
 pub mod Shown
 pub mod Items
-pub mod Text
+pub mod Base
+pub mod Going

@@ -21,7 +21,7 @@ use Rattle.batons.proofs.Standing.{nothing, opens, passes, begins, finishes, mis
 use Rattle.book.specs.declared.plan.Planned.{Planned}
 use Rattle.book.specs.declared.out.Step.{Step}
 use Rattle.book.specs.declared.out.Step.TheVariants.{Put, Missed}
-use Rattle.book.specs.Book.{Shown, box_at, plan_of, empty_book, opened, begun, finished, reaped, dropped, IsPutNext, IsPutAll, IsDone, newest_actor, next_of, newest_next, Out, IsOut}
+use Rattle.book.specs.Book.{Shown, box_at, plan_of, empty_book, opened, begun, finished, rolled, reaped, dropped, IsPutNext, IsPutAll, IsDone, newest_actor, next_of, newest_next, Out, IsOut}
 use Rattle.hall.specs.Reaping.{newest_said}
 use Rattle.hall.specs.Tied.{line_of, newest_line, begun_of, IsTied}
 use Rattle.hall.proofs.Boxes.{push_else, replaced, taken_out}
@@ -185,6 +185,10 @@ module _ {O N : Type 0} (name : O → N) where
   sweep_ties m rows none tied = record { stands = subst (λ (b : Begun). StandsFor rows b m.history) none tied.stands; names = tied.names }
 
   -- ---- a session is given up
+
+  -- no record counts less where all were dropped
+  pub rolled_ties : (m : Shown O) (rows : List (Row N)) → IsTied name m rows → IsTied name (rolled m) rows
+  rolled_ties m rows tied = record { stands = tied.stands; names = tied.names }
 
   pub reaped_ties : (m : Shown O) (s : ℕ) (rows : List (Row N)) → IsTied name m rows → IsTied name (reaped m s) rows
   reaped_ties m s rows tied = record { stands = tied.stands; names = λ t from. taken_out (λ o. outbox_at rows t ≡ Some (name o)) m.outboxes (s - 1) (t - 1) (tied.names t from) }

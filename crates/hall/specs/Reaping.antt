@@ -1,12 +1,13 @@
 -- When the tokens of a session may be given up, and what that tells: this project's own.
-use Rattle.std.specs.Prelude.{◌≡◌, ℕ, Bool, true, false, List, [], ◌∷◌, ◌++◌, length, Option, Some}
+use Rattle.std.specs.Prelude.{◌≡◌, ℕ, Bool, true, false, List, [], ◌∷◌, ◌++◌, length, drop, Option, Some}
 use Rattle.line_grammar.specs.declared.splitter.Piece.{Piece}
-use Rattle.chronicle.specs.History.{Rec, said_by, gone}
+use Rattle.chronicle.specs.History.{Rec, said_by, accepted, gone}
 use Rattle.deliveries.specs.declared.item.Item.{Item}
 use Rattle.deliveries.specs.Items.{deliveries}
 use Rattle.deliveries.specs.Owed.{owed}
+use Rattle.deliveries.specs.Base.{owed_from, accepted_from}
 use Rattle.batons.specs.Turn as batons
-use Rattle.book.specs.Book.{Shown, Turn, IsKnown, box_at}
+use Rattle.book.specs.Book.{Shown, Turn, IsKnown, box_at, base_of, kept_of}
 use Rattle.book.specs.declared.refusals.ReapRefusal.{ReapRefusal}
 use Rattle.book.specs.declared.refusals.ReapRefusal.TheVariants as reaping
 
@@ -26,6 +27,12 @@ pub record MayReap {O : Type 0} (m : Shown O) (baton stub : ℕ) : Type 0 where
   pub one : stub ≡ baton
   pub gone : gone m.history baton ≡ true
 
+-- the pieces done with a baton are those that the history accepts; without those that the base counts they are what the records
+-- that are kept accept from there
+pub record AreAllAccepted {O : Type 0} (m : Shown O) (s : ℕ) (pieces : List Piece) : Type 0 where
+  pub all : pieces ≡ accepted m.history s
+  pub since : drop ((base_of m).accepted s) pieces ≡ accepted_from (base_of m) (kept_of m) s
+
 -- the first of the refusals whose cause holds
 abbrev pub IsReapRefusal : {O : Type 0} → Shown O → ℕ → ℕ → ReapRefusal → Type 0
 IsReapRefusal m baton stub reaping.Busy = m.busy ≡ true
@@ -33,10 +40,13 @@ IsReapRefusal m baton stub reaping.Stranger = (m.busy ≡ false) × (IsKnown m b
 IsReapRefusal m baton stub reaping.NotGone = (m.busy ≡ false) × IsKnown m baton × (stub ≡ baton) × (gone m.history baton ≡ false)
 
 -- what a taker took of a session's outbox, then so many items that are left there, is what the history owes the session
+-- what a taker took of a session's outbox, then so many items that are left there, is what the history owes the session; without
+-- those that the base counts it is what the records that are kept owe from there
 pub record IsAllOwed {O W : Type 0} (sent : O → List Item) (taken : O → W → List Item) (m : Shown O) (s : ℕ) (taker : W) (count : ℕ) : Type 0 where
   pub outbox : O
   pub here : box_at m.outboxes s ≡ Some outbox
   pub left : List Item
   pub rest : sent outbox ≡ taken outbox taker ++ left
   pub owed : deliveries (taken outbox taker ++ left) ≡ owed m.settings m.history s
+  pub since : drop ((base_of m).owed s) (deliveries (taken outbox taker ++ left)) ≡ owed_from m.settings (base_of m) (kept_of m) s
   pub count_is : count ≡ length left

@@ -10,7 +10,7 @@ ghost use Rattle.register.specs.Shown.{new_stub, with_done, longer_mark};
 ghost use Rattle.batons.specs.Turn.{new_turn, next_turn};
 ghost use Rattle.book.specs.Settings.{IsWellSet};
 ghost use Rattle.book.specs.Book.{box_at, outbox_at};
-ghost use Rattle.hall.specs.Reaping.{turn_of, newest_said, MayReap, IsReapRefusal, IsAllOwed};
+ghost use Rattle.hall.specs.Reaping.{turn_of, newest_said, MayReap, IsReapRefusal, IsAllOwed, AreAllAccepted};
 ghost use Rattle.hall.specs.Telling.{TellsOf};
 ghost use Rattle.hall.specs.Tied.{newest_line};
 
@@ -20,8 +20,8 @@ use crate::left::Left;
 use crate::namesake::Namesake;
 use crate::told::Told;
 use book::{
-    BookFault, Done, HangRefusal, Hung, LineRefusal, OpenRefusal, Plan, ReapRefusal, Step,
-    SweepRefusal, TakeRefusal,
+    BookFault, Done, HangRefusal, Hung, LineRefusal, OpenRefusal, Plan, ReapRefusal, RollRefusal,
+    Rolled, Step, SweepRefusal, TakeRefusal,
 };
 use chronicle::{Kind, Moment, RecordNumber, SessionId, Why};
 use deliveries::Item;
@@ -62,6 +62,7 @@ fn advance<L: Naming, O: Outbox>(
 )
     requires named { register.old.table ≡ L.table }
     requires newest { number ≡ length book.now.history }
+    requires kept { book.now.limit.dropped < length book.now.history }
     requires line { IsSome (newest_line book.now.history) }
     ensures knew { pieces_at register.old.rows mark.old.session ≡ Some mark.old.pieces }
     ensures register { IfSome (newest_line book.now.history) (λ l. register.new ≡ with_done register.old mark.old.session l.1) }
@@ -77,7 +78,7 @@ fn advance<L: Naming, O: Outbox>(
 }
 
 impl<L: Naming, O: Lasting> Book<L, O> {
-    ghost use Rattle.book.specs.Book.{empty_book, opened, begun, finished, reaped, IsPutNext, IsPutAll, IsDone, to_sweep, MayOpen, MayBegin, MayHang, MaySweep, IsOpenRefusal, IsLineRefusal, IsHangRefusal, IsSweepRefusal, IsOut, newest_missed};
+    ghost use Rattle.book.specs.Book.{empty_book, opened, begun, finished, reaped, IsPutNext, IsPutAll, IsDone, to_sweep, MayOpen, MayBegin, MayHang, MaySweep, IsOpenRefusal, IsLineRefusal, IsHangRefusal, IsSweepRefusal, IsRollRefusal, IsOut, newest_missed, rolled};
 
     /// An empty book for at most `limit` records, whose tokens a register has that is named by `L` and has no session yet.
     pub fn new(
@@ -312,6 +313,18 @@ impl<L: Naming, O: Lasting> Book<L, O> {
         Ok(Some(self.finish_sweep(plan)))
     }
 
+    /// Drops all records, and keeps what has to be known of them. Numbers go on, and there is room for as many records as at the
+    /// start. A refusal changes nothing.
+    pub fn roll(&mut self) -> Result<Rolled, RollRefusal>
+        ensures ok { OnOk result (self.new ≡ rolled self.old) }
+        ensures dropped { IfOk result (λ r. r.dropped + self.old.limit.dropped ≡ length self.old.history) }
+        ensures next { IfOk result (λ r. r.next ≡ length self.old.history + 1) }
+        ensures refusal { IfErr result (λ e. IsRollRefusal self.old e) }
+        ensures err { OnErr result (self.new ≡ self.old) }
+    {
+        self.book.roll()
+    }
+
     /// Whether tokens of these sessions may be given up now.
     fn check_reap(&self, baton: SessionId, stub: SessionId) -> Result<(), ReapRefusal>
         ensures ok { OnOk result (MayReap self.now baton stub) }
@@ -341,7 +354,7 @@ impl<L: Naming, O: Lasting> Book<L, O> {
         ensures ok { OnOk result (self.new ≡ reaped self.old baton.session) }
         ensures session { IfOk result (λ l. l.session ≡ baton.session) }
         ensures left { IfOk result (λ l. IsAllOwed O.sent O.taken self.old baton.session taker l.count) }
-        ensures pieces { OnOk result (baton.pieces ≡ accepted self.old.history baton.session) }
+        ensures pieces { OnOk result (AreAllAccepted self.old baton.session baton.pieces) }
         ensures may { OnOk result (MayReap self.old baton.session stub.session) }
         ensures refusal { IfErr result (λ e. IsReapRefusal self.old baton.session stub.session e.0) }
         ensures same { OnErr result (self.new ≡ self.old) }
@@ -362,7 +375,7 @@ impl<L: Naming, O: Lasting> Book<L, O> {
         ensures book { self.new ≡ reaped self.old baton.session }
         ensures session { result.session ≡ baton.session }
         ensures left { IsAllOwed O.sent O.taken self.old baton.session taker result.count }
-        ensures pieces { baton.pieces ≡ accepted self.old.history baton.session }
+        ensures pieces { AreAllAccepted self.old baton.session baton.pieces }
     {
         self.book.sound();
         let Baton { turn, mark, .. } = baton;

@@ -8,7 +8,7 @@ ghost use Rattle.chronicle.specs.Journal.{numbered, record_at};
 ghost use Rattle.register.specs.Shown.{new_stub};
 ghost use Rattle.batons.specs.Turn.{new_turn, next_turn};
 ghost use Rattle.book.specs.Settings.{IsWellSet};
-ghost use Rattle.hall.specs.Reaping.{turn_of, MayReap, IsReapRefusal, IsAllOwed};
+ghost use Rattle.hall.specs.Reaping.{turn_of, MayReap, IsReapRefusal, IsAllOwed, AreAllAccepted};
 
 use crate::baton::Baton;
 use crate::dispatch::Book;
@@ -16,7 +16,8 @@ use crate::lasting::Lasting;
 use crate::left::Left;
 use crate::told::Told;
 use book::{
-    BookFault, Done, HangRefusal, Hung, LineRefusal, OpenRefusal, ReapRefusal, SweepRefusal,
+    Base, BookFault, Done, HangRefusal, Hung, LineRefusal, OpenRefusal, ReapRefusal, RollRefusal,
+    Rolled, SweepRefusal,
 };
 use chronicle::{Moment, Record, RecordNumber, SessionId, Why};
 use line_grammar::{Octets, Piece};
@@ -48,7 +49,8 @@ impl<L: Naming, O: Outbox> Model for Hall<L, O> {
 }
 
 impl<L: Naming, O: Lasting> Hall<L, O> {
-    ghost use Rattle.book.specs.Book.{empty_book, opened, reaped, IsDone, IsSound, to_sweep, MayOpen, MayBegin, MayHang, MaySweep, IsOpenRefusal, IsLineRefusal, IsHangRefusal, IsSweepRefusal, newest_missed};
+    ghost use Rattle.book.specs.Book.{empty_book, opened, reaped, IsDone, IsSound, to_sweep, MayOpen, MayBegin, MayHang, MaySweep, IsOpenRefusal, IsLineRefusal, IsHangRefusal, IsSweepRefusal, IsRollRefusal, newest_missed, is_here, rolled, base_of};
+    ghost use Rattle.book.specs.Noted.{base_by, is_noted};
 
     /// An empty hall for at most `limit` records, whose tokens a register has that is named by `L` and has no session yet.
     pub fn new(
@@ -165,7 +167,7 @@ impl<L: Naming, O: Lasting> Hall<L, O> {
         ensures ok { OnOk result (self.new ≡ reaped self.old baton.session) }
         ensures session { IfOk result (λ l. l.session ≡ baton.session) }
         ensures left { IfOk result (λ l. IsAllOwed O.sent O.taken self.old baton.session taker l.count) }
-        ensures pieces { OnOk result (baton.pieces ≡ accepted self.old.history baton.session) }
+        ensures pieces { OnOk result (AreAllAccepted self.old baton.session baton.pieces) }
         ensures may { OnOk result (MayReap self.old baton.session stub.session) }
         ensures refusal { IfErr result (λ e. IsReapRefusal self.old baton.session stub.session e.0) }
         ensures not_busy { IfErr result (λ e. e.0 ≢ ReapRefusal.Busy) }
@@ -175,6 +177,28 @@ impl<L: Naming, O: Lasting> Hall<L, O> {
         self.book.reap(baton, stub, taker)
     }
 
+    /// Drops all records, and keeps what has to be known of them. Numbers go on, and there is room for as many records as at the
+    /// start. A refusal changes nothing.
+    pub fn roll(&mut self) -> Result<Rolled, RollRefusal>
+        ensures ok { OnOk result (self.new ≡ rolled self.old) }
+        ensures dropped { IfOk result (λ r. r.dropped + self.old.limit.dropped ≡ length self.old.history) }
+        ensures next { IfOk result (λ r. r.next ≡ length self.old.history + 1) }
+        ensures refusal { IfErr result (λ e. IsRollRefusal self.old e) }
+        ensures not_busy { IfErr result (λ e. e ≢ RollRefusal.Busy) }
+        ensures err { OnErr result (self.new ≡ self.old) }
+    {
+        self.book.roll()
+    }
+
+    /// What is known of the records that were dropped, if any were.
+    pub fn base(&self) -> Option<&Base>
+        ensures base { IfSome result (λ b. base_by b.now ≡ base_of self.now) }
+        ensures noted { IfSome result (λ b. (t : ℕ) → 0 < t → t ≤ (base_of self.now).sessions → is_here self.now.outboxes t ≡ true → is_noted b.now t ≡ true) }
+        ensures none { result ≡ None → self.now.limit.dropped ≡ 0 }
+    {
+        self.book.book().base()
+    }
+
     /// Gives the list of who got something since it was last given, for one that is to go on with.
     pub fn swap_told(&mut self, other: &mut Told)
         ensures { self.new ≡ self.old }
@@ -182,16 +206,16 @@ impl<L: Naming, O: Lasting> Hall<L, O> {
         mem::swap(&mut self.told, other);
     }
 
-    /// The record of this number, if there is one.
+    /// The record of this number, if there is one that wasn't dropped.
     pub fn record(&self, number: RecordNumber) -> Option<&Record>
-        ensures { record_at result ≡ numbered self.now.history number }
+        ensures { record_at result ≡ numbered self.now.history self.now.limit.dropped number }
     {
         self.book.book().record(number)
     }
 
-    /// How many records there are.
+    /// How many records are kept.
     pub fn len(&self) -> usize
-        ensures { result ≡ length self.now.history }
+        ensures { result + self.now.limit.dropped ≡ length self.now.history }
     {
         self.book.book().len()
     }

@@ -12,8 +12,8 @@ mod told;
 
 pub use baton::Baton;
 pub use book::{
-    BookFault, Done, HangRefusal, Hung, LineRefusal, OpenRefusal, Outbox, Plan, PutFault,
-    ReapRefusal, Ring, Settings, Step, SweepRefusal, TakeRefusal,
+    Base, BookFault, Done, HangRefusal, Hung, LineRefusal, OpenRefusal, Outbox, Plan, PutFault,
+    ReapRefusal, Ring, RollRefusal, Rolled, Settings, Step, SweepRefusal, TakeRefusal,
 };
 pub use dispatch::Book;
 pub use hall::Hall;

@@ -18,6 +18,8 @@ mod making;
 #[cfg(test)]
 mod reaping;
 #[cfg(test)]
+mod rolled;
+#[cfg(test)]
 mod threads;
 
 pub use apart::line_apart;

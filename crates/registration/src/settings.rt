@@ -62,7 +62,7 @@ impl Clone for Motd {
 }
 
 /// What a server is told when it starts. No text may hold NUL, CR or LF.
-#[derive(Drop)]
+#[derive(Clone, Drop)]
 pub struct Settings {
     /// The server's name, which has the shape of a host name.
     pub server: Octets,

@@ -17,3 +17,4 @@ pub mod NameLaws
 pub mod FieldLaws
 pub mod OnceLaws
 pub mod OwnChannels
+pub mod Copies

@@ -2,7 +2,7 @@
 ghost use Rattle.std.specs.Map.{lookup, remove_entry};
 ghost use Rattle.std.specs.Str.{bytes_eq};
 ghost use Rattle.indexmap.specs.IndexMap.{spare};
-ghost use Rattle.std.specs.Prelude.{◌≡◌, ◌+◌, ◌<◌, ◌≤◌, ◌++◌, ◌∷◌, filter, ℕ, suc, true, false, [], None, length, option_copied, slice_get, OnOk};
+ghost use Rattle.std.specs.Prelude.{◌≡◌, ◌+◌, ◌<◌, ◌≤◌, ◌++◌, ◌∷◌, filter, ℕ, suc, true, false, [], None, length, option_copied, slice_get, IfOk, OnOk};
 ghost use Rattle.casemapping.specs.Fold.{folded, is_same};
 ghost use Rattle.channel_state.specs.State.{changed};
 ghost use Rattle.roster.specs.Tables.{channel_of, state_in, room_in, is_populated, populated, Reholds, Makes, Changes, DepartsAt, AreWithout, LeavesAll};
@@ -78,6 +78,16 @@ impl Channels {
             alloc,
             channels: IndexMap::with_hasher(alloc, Quick::new()),
         }
+    }
+
+    /// A copy, whose channels have room for no change.
+    pub(crate) fn copied(&self) -> Result<Channels, AllocError>
+        ensures { IfOk result (λ r. Alike self.now.list r.list) }
+    {
+        Ok(Channels {
+            alloc: self.alloc,
+            channels: self.channels.clone()?,
+        })
     }
 
     /// Makes room for so many more.

@@ -1,8 +1,9 @@
 //! The server's settings.
-ghost use Rattle.std.specs.Prelude.{◌≡◌};
+ghost use Rattle.std.specs.Prelude.{◌≡◌, IfOk};
 ghost use Rattle.registration.specs.Settings.{IsWellSet};
 
 use registration::Settings;
+use std::alloc::AllocError;
 use std::marker::Model;
 
 /// Settings within their limits.
@@ -28,6 +29,15 @@ impl Given {
         ensures { result ≡ settings }
     {
         Given { settings }
+    }
+
+    /// A copy.
+    pub(crate) fn copied(&self) -> Result<Given, AllocError>
+        ensures { IfOk result (λ g. g ≡ self.now) }
+    {
+        Ok(Given {
+            settings: self.settings.clone()?,
+        })
     }
 
     pub(crate) fn get(&self) -> &Settings

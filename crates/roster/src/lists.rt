@@ -32,6 +32,16 @@ impl Model for Names {
     ghost view = { λ a. record { list = a.names.items; room = vec_capacity a.names - vec_len a.names } };
 }
 
+impl Clone for Names {
+    ghost is_clone = { λ a b. b.list ≡ a.list };
+
+    fn clone(&self) -> Result<Names, AllocError> {
+        Ok(Names {
+            names: self.names.clone()?,
+        })
+    }
+}
+
 impl Names {
     pub(crate) fn new(alloc: Global) -> Names
         ensures { result.list ≡ [] }

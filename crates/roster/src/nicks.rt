@@ -1,5 +1,5 @@
 //! Who holds which nickname.
-ghost use Rattle.std.specs.Prelude.{◌≡◌, ◌+◌, ◌<◌, ◌≤◌, ℕ, List, [], cond, Some, None, OnOk};
+ghost use Rattle.std.specs.Prelude.{◌≡◌, ◌+◌, ◌<◌, ◌≤◌, ℕ, List, [], cond, Some, None, IfOk, OnOk};
 ghost use Rattle.std.specs.Map.{lookup};
 ghost use Rattle.std.specs.Str.{bytes_eq};
 ghost use Rattle.casemapping.specs.Fold.{folded};
@@ -40,6 +40,16 @@ impl Nicks {
             alloc,
             holders: IndexMap::with_hasher(alloc, Quick::new()),
         }
+    }
+
+    /// A copy.
+    pub(crate) fn copied(&self) -> Result<Nicks, AllocError>
+        ensures { IfOk result (λ r. r.list ≡ self.now.list) }
+    {
+        Ok(Nicks {
+            alloc: self.alloc,
+            holders: self.holders.clone()?,
+        })
     }
 
     /// Makes room for so many more.

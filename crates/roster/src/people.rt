@@ -1,5 +1,5 @@
 //! The table of sessions.
-ghost use Rattle.std.specs.Prelude.{◌≡◌, ◌+◌, ◌<◌, ◌≤◌, ◌==◌, ℕ, [], cond, false, option_copied, unwrap_or, Some, IsSome, OnOk};
+ghost use Rattle.std.specs.Prelude.{◌≡◌, ◌+◌, ◌<◌, ◌≤◌, ◌==◌, ℕ, [], cond, false, option_copied, unwrap_or, Some, IsSome, IfOk, OnOk};
 ghost use Rattle.registration.specs.Enrol.{enrolment};
 ghost use Rattle.roster.specs.LookBack.{with_last_name, without_name};
 ghost use Rattle.roster.specs.Tables.{nobody, enrolment_in, heard, subject, is_about, card_in, person_at};
@@ -160,6 +160,17 @@ impl People {
             alloc,
             cards: IndexMap::with_hasher(alloc, Quick::new()),
         }
+    }
+
+    /// A copy, with room for no more.
+    pub(crate) fn copied(&self) -> Result<People, AllocError>
+        ensures people { IfOk result (λ r. (t : ℕ) → person_at r.list t ≡ person_at self.now.list t) }
+        ensures lists { IfOk result (λ r. (t : ℕ) → (row_of r.list t).list ≡ (row_of self.now.list t).list) }
+    {
+        Ok(People {
+            alloc: self.alloc,
+            cards: self.cards.clone()?,
+        })
     }
 
     /// Makes room for so many more.

@@ -18,7 +18,7 @@ use crate::whys::Whys;
 use casemapping::Folded;
 use channel_state::ChannelState;
 use chronicle::{SessionId, Why};
-use ghosts::{Change, Snapshot, append_all, apply, blank};
+use ghosts::{Change, Snapshot, append_all, apply, blank, copied};
 use line_grammar::Octets;
 use registration::{Caps, Enrol, Settings};
 use std::alloc::{AllocError, Global};
@@ -96,6 +96,25 @@ impl Roster {
             facts: blank(alloc),
             ready: blank(alloc),
         }
+    }
+
+    /// A copy, by which each look-up is answered as by this one. It is ready for no facts.
+    pub fn copy(&self) -> Result<Roster, AllocError>
+        ensures { IfOk result (λ r. r ≡ record { settings = self.now.settings; facts = self.now.facts; ready = [] }) }
+    {
+        Ok(Roster {
+            alloc: self.alloc,
+            given: self.given.copied()?,
+            people: self.people.copied()?,
+            whys: self.whys.copied()?,
+            nicks: self.nicks.copied()?,
+            channels: self.channels.copied()?,
+            spare: Vec::new(self.alloc),
+            copies: VecDeque::new(self.alloc),
+            keys: VecDeque::new(self.alloc),
+            facts: copied(&self.facts),
+            ready: blank(self.alloc),
+        })
     }
 
     /// Makes room for facts that may come next. At an `Err` it is ready for none.

@@ -1,8 +1,11 @@
 //! The tables' rows.
+ghost use Rattle.std.specs.Prelude.{◌≡◌};
+
 use crate::lists::Names;
 use channel_state::ChannelState;
 use line_grammar::Octets;
 use registration::Caps;
+use std::alloc::AllocError;
 
 /// What is known of a session.
 #[derive(Drop)]
@@ -27,6 +30,27 @@ pub struct Person {
     pub parting: Octets,
 }
 
+impl Clone for Person {
+    ghost is_clone = { λ a b. b ≡ a };
+
+    fn clone(&self) -> Result<Person, AllocError> {
+        Ok(Person {
+            host: self.host.clone()?,
+            nick: self.nick.clone()?,
+            user: self.user.clone()?,
+            real: self.real.clone()?,
+            held: self.held,
+            caps: self.caps,
+            exchange: self.exchange.clone()?,
+            account: self.account.clone()?,
+            registered: self.registered,
+            away: self.away.clone()?,
+            invisible: self.invisible,
+            parting: self.parting.clone()?,
+        })
+    }
+}
+
 /// What is known of a session, with the channels that it is on, by its last joins.
 #[derive(Drop)]
 pub(crate) struct Card {
@@ -34,9 +58,33 @@ pub(crate) struct Card {
     pub names: Names,
 }
 
+// A copy may have room for other numbers of names.
+impl Clone for Card {
+    ghost is_clone = { λ a b. (b.person ≡ a.person) × (b.names.list ≡ a.names.list) };
+
+    fn clone(&self) -> Result<Card, AllocError> {
+        Ok(Card {
+            person: self.person.clone()?,
+            names: self.names.clone()?,
+        })
+    }
+}
+
 /// A channel and its name, as it was first spelled.
 #[derive(Drop)]
 pub struct Channel {
     pub name: Octets,
     pub held: ChannelState,
+}
+
+// A copy has room for no change.
+impl Clone for Channel {
+    ghost is_clone = { λ a b. (b.name ≡ a.name) × (b.held.state ≡ a.held.state) };
+
+    fn clone(&self) -> Result<Channel, AllocError> {
+        Ok(Channel {
+            name: self.name.clone()?,
+            held: self.held.copied()?,
+        })
+    }
 }

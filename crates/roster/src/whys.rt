@@ -1,5 +1,5 @@
 //! Why sessions ended.
-ghost use Rattle.std.specs.Prelude.{◌≡◌, ◌+◌, ◌-◌, ◌<◌, ◌≤◌, ◌^◌, ◌++◌, ◌∷◌, ◌==◌, ℕ, [], cond, length, unwrap_or, OnOk};
+ghost use Rattle.std.specs.Prelude.{◌≡◌, ◌+◌, ◌-◌, ◌<◌, ◌≤◌, ◌^◌, ◌++◌, ◌∷◌, ◌==◌, ℕ, [], cond, length, unwrap_or, IfOk, OnOk};
 ghost use Rattle.chronicle.specs.declared.why.Why.TheVariants.{SendQ};
 ghost use Rattle.roster.specs.LookBack.{tells_why};
 ghost use Rattle.roster.specs.Tables.{is_opening, why_at, IsOf};
@@ -34,6 +34,15 @@ impl Whys {
         Whys {
             whys: Vec::new(alloc),
         }
+    }
+
+    /// A copy.
+    pub(crate) fn copied(&self) -> Result<Whys, AllocError>
+        ensures { IfOk result (λ r. r.list ≡ self.now.list) }
+    {
+        Ok(Whys {
+            whys: self.whys.clone()?,
+        })
     }
 
     /// Makes room for so many more.

@@ -5,8 +5,9 @@ ghost use Rattle.casemapping.specs.Names.{host_shape};
 use crate::clock::SystemClock;
 use crate::connections::{Connection, Shared, View};
 use crate::hosts::host_of;
+use chronicle::{Moment, SessionId};
 use crew::{Gate, Server, moment_in};
-use hall::{Baton, Naming, Stub};
+use hall::{Baton, Hall, Naming, OpenRefusal, Stub};
 use line_grammar::Octets;
 use mio::net::TcpStream;
 use outbox::{ChannelName, Sender, Writer, pair};
@@ -55,6 +56,27 @@ fn host_twice(alloc: Global, peer: SocketAddr) -> Option<(Octets, Octets)>
     }
 }
 
+/// What opening a session gives.
+type Given<L, R> = (SessionId, Baton<L, Sender<R>>, Stub<L, ChannelName>);
+
+/// Opens a session in the hall. Where its journal has no room for it, that is rolled, and it is tried again, by the host's copy.
+fn open_or_roll<L: Naming, R: Wait + Drop>(
+    hall: &mut Hall<L, Sender<R>>,
+    host: Octets,
+    again: &Octets,
+    moment: Moment,
+    sender: Sender<R>,
+) -> Option<Given<L, R>> {
+    let sender = match hall.open(host, moment, sender) {
+        Ok(given) => return Some(given),
+        Err((OpenRefusal::JournalFull, sender)) => sender,
+        Err(_) => return None,
+    };
+    let host = again.clone().ok()?;
+    hall.roll().ok()?;
+    hall.open(host, moment, sender).ok()
+}
+
 /// Opens a session for a peer, where the server takes one, whose connection is at this place.
 fn open<L: Naming, R: Wait + Clock + Copy + Drop, G: Gate>(
     rt: &R,
@@ -82,21 +104,17 @@ fn open<L: Naming, R: Wait + Clock + Copy + Drop, G: Gate>(
         return None;
     }
     let moment = moment_in(&*hall, crew::Clock::now(server.clock));
-    match hall.open(host, moment, sender) {
-        Ok((session, baton, stub)) => {
-            all.add(session, again);
-            Some(Opened {
-                tokens: Tokens {
-                    baton,
-                    stub,
-                    writer,
-                },
-                connection,
-                host: told,
-            })
-        }
-        Err(_) => None,
-    }
+    let (session, baton, stub) = open_or_roll(&mut *hall, host, &told, moment, sender)?;
+    all.add(session, again);
+    Some(Opened {
+        tokens: Tokens {
+            baton,
+            stub,
+            writer,
+        },
+        connection,
+        host: told,
+    })
 }
 
 /// Gives a session's connection its wire.

@@ -14,4 +14,4 @@ overflow_add-baton g c =
     let p = c.args.piece.now in
     let is = ap (λ l. pieces_at l s) (sym c.self.view_is) ∙ ap (pieces_at c.self.inside.register.rows) (sym (ap (λ b. b.session) c.baton.view_is)) ∙ c.advance.ensures.knew in
     let whole : accepted h s ≡ ps ++ p ∷ [] = subst (λ (o : Option (List Piece)). IfSome o (λ qs. accepted h s ≡ qs ++ p ∷ [])) is c.requires.accepted in
-    omega (arith, accepted_few h s, ap length whole, length-append ps (p ∷ []), c.len.ensures, c.len.type_inv, c.baton.invariant.next)
+    omega (arith, accepted_few h s, ap length whole, length-append ps (p ∷ []), c.newest.ensures, c.newest.type_inv, c.baton.invariant.next)

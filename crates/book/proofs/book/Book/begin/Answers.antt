@@ -1,9 +1,9 @@
-use Rattle.std.proofs.Common.{arith, ◌≡◌, ◌+◌, ◌<◌, ◌≤◌, ℕ, ◌∷◌, length, true, false, List, ap, sym, ◌∙◌, subst}
+use Rattle.std.proofs.Common.{arith, ◌≡◌, ◌+◌, ◌<◌, ◌≤◌, ℕ, ◌∷◌, length, true, false, List, ap, sym, ◌∙◌, subst, refl}
 use Rattle.std.proofs.lemmas.Grind.{common_steps}
 use Rattle.line_grammar.specs.declared.splitter.Piece.{Piece}
 use Rattle.chronicle.specs.declared.record.Kind.TheVariants.{Said}
 use Rattle.chronicle.specs.History.{accepted}
-use Rattle.chronicle.specs.Journal.{fresh_record}
+use Rattle.chronicle.specs.Journal.{most, fresh_record}
 use Rattle.registration.specs.declared.settings.Settings.{Settings}
 use Rattle.roster.specs.declared.deed.Deed.{Deed}
 use Rattle.roster.specs.LookBack.{after, caps, opened}
@@ -21,6 +21,7 @@ use Rattle.book.proofs.KeptSteps.{shown}
 use Rattle.book.proofs.Opened.{accepted_le}
 use Rattle.book.proofs.Begins.{begun_is}
 use Rattle.book.proofs.Appends.{said_seats, known_opened, few_lines, said_plan, said_kept}
+use Rattle.book.proofs.Based.{based_as, based_record}
 use Rattle.book.proofs.book.Book.begin.Given as given
 use Rattle.book.proofs.book.Book.begin.Goals as goal
 
@@ -35,7 +36,7 @@ pub overflow_add-result : goal.overflow_add-result
 overflow_add-result over c =
     let may : MayBegin (shown c.self.inside.journal c.self.inside.roster.settings c.self.inside.outboxes.boxes c.self.inside.plan.items c.self.inside.busy) c.args.baton.now c.args.moment = subst (λ m. MayBegin m c.args.baton.now c.args.moment) (sym c.self.view_is) c.in_ok-check_line.ensures.ok in
     let h = c.self.inside.journal.history in let s = c.args.baton.now.session in
-    let limit : c.self.inside.journal.limit < 18446744073709551616 = subst (λ m. m.limit < 18446744073709551616) (sym c.self.view_is) c.in_ok-check_line.ensures.fits in
+    let limit : most c.self.inside.journal.limit < 18446744073709551616 = subst (λ m. most m.limit < 18446744073709551616) (sym c.self.view_is) c.in_ok-check_line.ensures.fits in
     let room = may.room in let few_lines = accepted_le h s in
     let next : c.baton.inside.next ≡ length (accepted h s) = ap (λ b. b.next) c.baton.view_is ∙ may.turn.next in
     omega arith
@@ -57,7 +58,7 @@ plan over c =
     let a = c.self.inside in let q = c.in_ok-prepared.quits in let g = a.roster.settings in let fs = a.roster.facts in
     let number : c.new-number.result ≡ length a.journal.history + 1 = grind (arith, common_steps) in
     let made = c.in_ok-prepared.ensures.plan ∙ ap (λ (t : ℕ). planned_from a.seats t c.new-number.result (spelled g fs t (label_of (caps fs t) c.args.piece.now) (of_asked g fs t (asked_of c.args.piece.now)) c.args.moment c.new-number.result) q) (session over c) in
-    said_plan over.O.Outbox.sent a.journal g fs a.seats a.outboxes.boxes a.plan.items a.busy c.self.invariant c.args.baton.now c.args.piece.now c.args.moment
+    said_plan over.O.Outbox.sent a.journal g fs a.seats a.outboxes.boxes a.plan.items a.busy c.self.invariant.kept c.args.baton.now c.args.piece.now c.args.moment
     c.new-number.result q c.in_ok-prepared.prepared.plan.items (may over c) number c.in_ok-prepared.ensures.quits made
 
 settings : (over : given.Over) (c : goal.After-result-1 over) → c.commit.new.roster.settings ≡ c.self.inside.roster.settings
@@ -74,14 +75,19 @@ invariant_of-self-3 over c =
     let known : c.commit.new.roster.facts ≡ after a.roster.facts (deeds_of (of_asked a.roster.settings a.roster.facts s asked)) =
     more ∙ ap (after a.roster.facts) (c.in_ok-prepared.ensures.deeds ∙ ap (λ (t : ℕ). deeds_of (of_asked a.roster.settings a.roster.facts t asked)) (session over c)) in
     let same : opened c.commit.new.roster.facts ≡ opened a.roster.facts = ap opened more ∙ c.in_ok-prepared.ensures.opened in
-    let limit_ : a.journal.limit < 18446744073709551616 = subst (λ m. m.limit < 18446744073709551616) (sym c.self.view_is) c.in_ok-check_line.ensures.fits in
-    let few = few_lines over.O.Outbox.sent a.journal a.roster.settings a.roster.facts a.seats a.outboxes.boxes a.plan.items a.busy c.self.invariant c.args.baton.now c.args.moment (may over c) limit_ in
+    let limit_ : most a.journal.limit < 18446744073709551616 = subst (λ m. most m.limit < 18446744073709551616) (sym c.self.view_is) c.in_ok-check_line.ensures.fits in
+    let few = few_lines over.O.Outbox.sent a.journal a.roster.settings a.roster.facts a.seats a.outboxes.boxes a.plan.items a.busy c.self.invariant.kept c.args.baton.now c.args.moment (may over c) limit_ in
     let rows : c.say.new.self ≡ said_seats a.seats s c.in_ok-prepared.quits = c.say.ensures ∙ ap (λ (t : ℕ). said_seats a.seats t c.in_ok-prepared.quits) (session over c) in
-    subst (λ (g : Settings). IsKept over.O.Outbox.sent c.append.new.self g c.commit.new.roster.facts c.say.new.self a.outboxes.boxes c.in_ok-prepared.prepared.plan.items true) (sym (settings over c))
-    (subst (λ (xs : List Seat). IsKept over.O.Outbox.sent c.append.new.self a.roster.settings c.commit.new.roster.facts xs a.outboxes.boxes c.in_ok-prepared.prepared.plan.items true) (sym rows)
-    (said_kept over.O.Outbox.sent a.journal a.roster.settings a.roster.facts a.seats a.outboxes.boxes a.plan.items a.busy c.self.invariant c.append.new.self c.commit.new.roster.facts
-    c.in_ok-prepared.prepared.plan.items c.args.baton.now c.args.piece.now c.args.moment c.in_ok-prepared.quits
-    (may over c) c.in_ok-prepared.ensures.quits few (plan over c) (history over c) (limit over c) room free known same))
+    record {
+      kept =
+          subst (λ (g : Settings). IsKept over.O.Outbox.sent c.append.new.self g c.commit.new.roster.facts c.say.new.self a.outboxes.boxes c.in_ok-prepared.prepared.plan.items true) (sym (settings over c))
+          (subst (λ (xs : List Seat). IsKept over.O.Outbox.sent c.append.new.self a.roster.settings c.commit.new.roster.facts xs a.outboxes.boxes c.in_ok-prepared.prepared.plan.items true) (sym rows)
+          (said_kept over.O.Outbox.sent a.journal a.roster.settings a.roster.facts a.seats a.outboxes.boxes a.plan.items a.busy c.self.invariant.kept c.append.new.self c.commit.new.roster.facts
+          c.in_ok-prepared.prepared.plan.items c.args.baton.now c.args.piece.now c.args.moment c.in_ok-prepared.quits
+          (may over c) c.in_ok-prepared.ensures.quits few (plan over c) (history over c) (limit over c) room free known same));
+      based = (let h = a.journal.history in let r = fresh_record h c.args.moment (Said c.args.baton.now.session c.args.baton.now.next c.args.piece.now) in let n = a.journal.limit.dropped in let g = a.roster.settings in let was = a.outboxes.boxes in
+          based_as a.base (r ∷ h) c.append.new.self.history n c.append.new.self.limit.dropped g c.commit.new.roster.settings was was (based_record a.base h r n g was c.self.invariant.based) (history over c) (ap (λ l. l.dropped) (limit over c)) (settings over c) refl);
+    }
 
 pub returns-clause-ok : goal.returns-clause-ok
 returns-clause-ok over c =
@@ -96,12 +102,12 @@ pub prepare_line-requires-clause-known : goal.prepare_line-requires-clause-known
 prepare_line-requires-clause-known over c =
     let a = c.self.inside in let may : MayBegin (shown c.self.inside.journal c.self.inside.roster.settings c.self.inside.outboxes.boxes c.self.inside.plan.items c.self.inside.busy) c.args.baton.now c.args.moment = subst (λ m. MayBegin m c.args.baton.now c.args.moment) (sym c.self.view_is) c.in_ok-check_line.ensures.ok in
     subst (λ (s : ℕ). IsOpened a.roster.facts s) (sym (ap (λ (b : Turn). b.session) c.baton.view_is))
-    (known_opened over.O.Outbox.sent a.journal a.roster.settings a.roster.facts a.seats a.outboxes.boxes a.plan.items a.busy c.self.invariant c.args.baton.now.session may.turn.from_1 may.turn.opened)
+    (known_opened over.O.Outbox.sent a.journal a.roster.settings a.roster.facts a.seats a.outboxes.boxes a.plan.items a.busy c.self.invariant.kept c.args.baton.now.session may.turn.from_1 may.turn.opened)
 
 pub say-requires-clause-seated : goal.say-requires-clause-seated
 say-requires-clause-seated over c =
     let a = c.self.inside in let may : MayBegin (shown c.self.inside.journal c.self.inside.roster.settings c.self.inside.outboxes.boxes c.self.inside.plan.items c.self.inside.busy) c.args.baton.now c.args.moment = subst (λ m. MayBegin m c.args.baton.now c.args.moment) (sym c.self.view_is) c.in_ok-check_line.ensures.ok in
-    let few = may.turn.opened in let many = c.self.invariant.sound.sessions in let places = c.self.invariant.places in
+    let few = may.turn.opened in let many = c.self.invariant.kept.sound.sessions in let places = c.self.invariant.kept.places in
     let it : IsSeated a.seats c.args.baton.now.session = record { from_1 = may.turn.from_1; opened = (omega arith) } in
     subst (IsSeated a.seats) (sym (ap (λ (b : Turn). b.session) c.baton.view_is)) it
 
@@ -109,14 +115,14 @@ pub say-requires-clause-few : goal.say-requires-clause-few
 say-requires-clause-few over c =
     let a = c.self.inside in
     let may : MayBegin (shown c.self.inside.journal c.self.inside.roster.settings c.self.inside.outboxes.boxes c.self.inside.plan.items c.self.inside.busy) c.args.baton.now c.args.moment = subst (λ m. MayBegin m c.args.baton.now c.args.moment) (sym c.self.view_is) c.in_ok-check_line.ensures.ok in
-    let limit : a.journal.limit < 18446744073709551616 = subst (λ m. m.limit < 18446744073709551616) (sym c.self.view_is) c.in_ok-check_line.ensures.fits in
+    let limit : most a.journal.limit < 18446744073709551616 = subst (λ m. most m.limit < 18446744073709551616) (sym c.self.view_is) c.in_ok-check_line.ensures.fits in
     subst (λ (t : ℕ). (seat_at a.seats t).accepted + 1 < 18446744073709551616) (sym (ap (λ (b : Turn). b.session) c.baton.view_is))
-    (few_lines over.O.Outbox.sent a.journal a.roster.settings a.roster.facts a.seats a.outboxes.boxes a.plan.items a.busy c.self.invariant c.args.baton.now c.args.moment may limit)
+    (few_lines over.O.Outbox.sent a.journal a.roster.settings a.roster.facts a.seats a.outboxes.boxes a.plan.items a.busy c.self.invariant.kept c.args.baton.now c.args.moment may limit)
 
 pub say-requires-clause-not_shut : goal.say-requires-clause-not_shut
 say-requires-clause-not_shut over c =
     let a = c.self.inside in let s = c.args.baton.now.session in
     let may : MayBegin (shown c.self.inside.journal c.self.inside.roster.settings c.self.inside.outboxes.boxes c.self.inside.plan.items c.self.inside.busy) c.args.baton.now c.args.moment = subst (λ m. MayBegin m c.args.baton.now c.args.moment) (sym c.self.view_is) c.in_ok-check_line.ensures.ok in
-    let few = may.turn.opened in let many = c.self.invariant.sound.sessions in let places = c.self.invariant.places in let to : s ≤ length a.seats = omega arith in
-    let open_ : (seat_at a.seats s).shut ≡ false = (c.self.invariant.each_seat s may.turn.from_1 to).shut ∙ may.not_shut in
+    let few = may.turn.opened in let many = c.self.invariant.kept.sound.sessions in let places = c.self.invariant.kept.places in let to : s ≤ length a.seats = omega arith in
+    let open_ : (seat_at a.seats s).shut ≡ false = (c.self.invariant.kept.each_seat s may.turn.from_1 to).shut ∙ may.not_shut in
     subst (λ (t : ℕ). (seat_at a.seats t).shut ≡ false) (sym (ap (λ (b : Turn). b.session) c.baton.view_is)) open_

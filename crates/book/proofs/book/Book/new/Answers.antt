@@ -1,10 +1,23 @@
 use Rattle.std.proofs.lemmas.Grind.{common_steps}
-use Rattle.std.proofs.Common.{arith, ◌≡◌, [], ap}
-use Rattle.book.proofs.KeptSteps.{empty_kept}
+use Rattle.std.proofs.Common.{arith, ◌≡◌, ℕ, false, [], ap, ◌∙◌}
+use Rattle.chronicle.specs.Journal.{Limit}
+use Rattle.registration.specs.declared.settings.Settings.{Settings}
+use Rattle.book.specs.Book.{empty_book}
+use Rattle.book.proofs.KeptSteps.{shown, empty_kept}
+use Rattle.book.proofs.Rolling.{shown_empty}
 use Rattle.book.proofs.book.Book.new.Goals as goal
 
 pub invariant_of-result : goal.invariant_of-result
 invariant_of-result over c =
-    let history : c.in_ok-journal.journal.history ≡ [] = grind (arith, common_steps) in
-    empty_kept over.O.Outbox.sent c.in_ok-journal.journal c.new.result.settings c.new.result.facts c.new-2.result c.new-3.result.boxes c.new-4.result.items
-    history (ap (λ r. r.facts) c.new.ensures) c.new-2.ensures c.new-3.ensures c.new-4.ensures.items
+    let history : c.in-Ok.journal.history ≡ [] = c.in-Ok.ensures.0 in
+    record {
+      kept = empty_kept over.O.Outbox.sent c.in-Ok.journal c.new.result.settings c.new.result.facts c.new-2.result c.new-3.result.boxes c.new-4.result.items
+          history (ap (λ r. r.facts) c.new.ensures) c.new-2.ensures c.new-3.ensures c.new-4.ensures.items;
+      based = ap (λ (l : Limit). l.dropped) c.in-Ok.ensures.1;
+    }
+
+pub returns-clause-ok : goal.returns-clause-ok
+returns-clause-ok over c =
+    let history : c.in-Ok.journal.history ≡ [] = c.in-Ok.ensures.0 in
+    let limit : c.in-Ok.journal.limit ≡ record { records = c.args.limit; dropped = 0 } = c.in-Ok.ensures.1 in
+    (shown_empty c.in-Ok.journal c.new.result.settings c.args.settings c.new-3.result.boxes c.new-4.result.items c.args.limit history limit (ap (λ r. r.settings) c.new.ensures) c.new-3.ensures c.new-4.ensures.items, grind (arith, common_steps))

@@ -1,7 +1,7 @@
-use Rattle.std.proofs.Common.{arith, ◌≡◌, ◌+◌, ◌≤◌, ◌<◌, ◌∷◌, [], ◌++◌, Some, List, length, sym, ap, ◌∙◌, subst}
+use Rattle.std.proofs.Common.{arith, ◌≡◌, ◌+◌, ◌≤◌, ◌<◌, ◌∷◌, [], ◌++◌, Some, List, length, sym, ap, ◌∙◌, subst, refl, ℕ}
 use Rattle.std.proofs.lemmas.Grind.{common_steps}
 use Rattle.chronicle.specs.declared.record.Kind.TheVariants.{Opened}
-use Rattle.chronicle.specs.Journal.{fresh_record}
+use Rattle.chronicle.specs.Journal.{most, fresh_record}
 use Rattle.registration.specs.declared.settings.Settings.{Settings}
 use Rattle.roster.specs.declared.deed.Deed.{Deed}
 use Rattle.roster.specs.declared.deed.Deed.TheVariants as deed
@@ -10,6 +10,7 @@ use Rattle.book.specs.Kept.{IsKept}
 use Rattle.book.specs.Book.{MayOpen, held}
 use Rattle.book.proofs.Opened.{sessions_le, seats_held}
 use Rattle.book.proofs.KeptSteps.{shown, opened_kept}
+use Rattle.book.proofs.Based.{based_as, based_boxes, based_record, opened_many, opened_came}
 use Rattle.book.proofs.book.Book.open.Goals as goal
 
 pub invariant_of-self-2 : goal.invariant_of-self-2
@@ -28,14 +29,20 @@ invariant_of-self-2 over c =
     let settings : c.apply.new.self.settings ≡ a.roster.settings = c.apply.ensures.settings ∙ c.prepare.ensures.settings in
     let boxes : c.open-2.new.self.boxes ≡ a.outboxes.boxes ++ Some c.args.outbox ∷ [] = c.open-2.ensures ∙ ap (λ xs. xs ++ Some c.args.outbox ∷ []) c.make_room.ensures.same in
     let seats : c.open.new.self ≡ a.seats ++ no_seat ∷ [] = let ok = c.open.ensures.ok in grind (arith, common_steps) in
-    subst (λ (g : Settings). IsKept over.O.Outbox.sent c.append.new.self g c.apply.new.self.facts c.open.new.self c.open-2.new.self.boxes a.plan.items a.busy) (sym settings)
-    (opened_kept over.O.Outbox.sent a.journal c.append.new.self a.roster.settings a.roster.facts c.apply.new.self.facts a.seats c.open.new.self
-    a.outboxes.boxes c.open-2.new.self.boxes a.plan.items a.busy c.args.host c.in-Ok-clone.told c.args.moment c.new-session.result c.args.outbox c.self.invariant may c.requires.fresh session told history limit free known seats boxes)
+    record {
+      kept =
+          subst (λ (g : Settings). IsKept over.O.Outbox.sent c.append.new.self g c.apply.new.self.facts c.open.new.self c.open-2.new.self.boxes a.plan.items a.busy) (sym settings)
+          (opened_kept over.O.Outbox.sent a.journal c.append.new.self a.roster.settings a.roster.facts c.apply.new.self.facts a.seats c.open.new.self
+          a.outboxes.boxes c.open-2.new.self.boxes a.plan.items a.busy c.args.host c.in-Ok-clone.told c.args.moment c.new-session.result c.args.outbox c.self.invariant.kept may c.requires.fresh session told history limit free known seats boxes);
+      based = (let h = a.journal.history in let r = fresh_record h c.args.moment (Opened c.new-session.result c.in-Ok-clone.told) in let n = a.journal.limit.dropped in let g = a.roster.settings in let was = a.outboxes.boxes in
+          based_as a.base (r ∷ h) c.append.new.self.history n c.append.new.self.limit.dropped g c.apply.new.self.settings (was ++ Some c.args.outbox ∷ []) c.open-2.new.self.boxes
+          (based_boxes a.base (r ∷ h) n g was (was ++ Some c.args.outbox ∷ []) (based_record a.base h r n g was c.self.invariant.based) (opened_many was c.args.outbox) (opened_came was c.args.outbox)) history (ap (λ l. l.dropped) limit) settings boxes);
+    }
 
 pub overflow_add-opened : goal.overflow_add-opened
 overflow_add-opened over c =
-    let a = c.self.inside in let limit : a.journal.limit < 18446744073709551616 = subst (λ m. m.limit < 18446744073709551616) (sym c.self.view_is) c.in-Ok.ensures.fits in
-    let few = sessions_le a.journal.history in let room = c.self.invariant.sound.room in let many = c.self.invariant.sound.sessions in let places = c.self.invariant.places in
+    let a = c.self.inside in let limit : most a.journal.limit < 18446744073709551616 = subst (λ m. most m.limit < 18446744073709551616) (sym c.self.view_is) c.in-Ok.ensures.fits in
+    let few = sessions_le a.journal.history in let room = c.self.invariant.kept.sound.room in let many = c.self.invariant.kept.sound.sessions in let places = c.self.invariant.kept.places in
     let may : MayOpen (shown a.journal a.roster.settings a.outboxes.boxes a.plan.items a.busy) c.args.moment = subst (λ m. MayOpen m c.args.moment) (sym c.self.view_is) (c.in-Ok.ensures.ok) in
     let more = may.room in let is = c.opened.ensures in omega arith
 
@@ -44,11 +51,11 @@ open-requires-clause-next over c = let session : c.new-session.result ≡ length
 
 pub open-requires-clause-held : goal.open-requires-clause-held
 open-requires-clause-held over c =
-    let a = c.self.inside in let i = c.self.invariant in let limit : a.journal.limit < 18446744073709551616 = subst (λ m. m.limit < 18446744073709551616) (sym c.self.view_is) c.in-Ok.ensures.fits in
+    let a = c.self.inside in let i = c.self.invariant.kept in let limit : most a.journal.limit < 18446744073709551616 = subst (λ m. most m.limit < 18446744073709551616) (sym c.self.view_is) c.in-Ok.ensures.fits in
     let may : MayOpen (shown a.journal a.roster.settings a.outboxes.boxes a.plan.items a.busy) c.args.moment = subst (λ m. MayOpen m c.args.moment) (sym c.self.view_is) (c.in-Ok.ensures.ok) in
     let more = may.room in let all = seats_held a.journal.history a.seats a.outboxes.boxes i.each_seat (i.sound.sessions ∙ sym i.places) in omega arith
 
 pub open-requires-2-clause-next : goal.open-requires-2-clause-next
 open-requires-2-clause-next over c =
     let a = c.self.inside in let session : c.new-session.result ≡ length a.seats + 1 = grind (arith, common_steps) in
-    let places = c.self.invariant.places in let same : length c.make_room.new.self.boxes ≡ length a.outboxes.boxes = ap length c.make_room.ensures.same in omega arith
+    let places = c.self.invariant.kept.places in let same : length c.make_room.new.self.boxes ≡ length a.outboxes.boxes = ap length c.make_room.ensures.same in omega arith

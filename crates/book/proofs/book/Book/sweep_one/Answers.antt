@@ -1,7 +1,7 @@
 use Rattle.std.proofs.Common.{arith, ◌≡◌, ◌+◌, ◌<◌, ◌≤◌, ◌∷◌, true, length, vec_len, Some, List, [], zero-add, refl, ap, sym, ◌∙◌, subst}
 use Rattle.std.proofs.lemmas.Grind.{common_steps}
 use Rattle.chronicle.specs.declared.record.Kind.TheVariants.{Gone}
-use Rattle.chronicle.specs.Journal.{fresh_record}
+use Rattle.chronicle.specs.Journal.{most, fresh_record}
 use Rattle.registration.specs.declared.settings.Settings.{Settings}
 use Rattle.roster.specs.declared.deed.Deed.{Deed}
 use Rattle.roster.specs.LookBack.{after, opened}
@@ -15,33 +15,34 @@ use Rattle.book.proofs.Sweeps.{swept_is, seats_sweep}
 use Rattle.book.proofs.KeptSteps.{shown}
 use Rattle.book.proofs.Begins.{begun_is}
 use Rattle.book.proofs.Appends.{sweep_room, gone_plan, gone_kept}
+use Rattle.book.proofs.Based.{based_as, based_record}
 use Rattle.book.proofs.book.Book.sweep_one.Given as given
 use Rattle.book.proofs.book.Book.sweep_one.Goals as goal
 
-pub overflow_add-len : goal.overflow_add-len
-overflow_add-len over c =
+pub overflow_add-newest : goal.overflow_add-newest
+overflow_add-newest over c =
     let a = c.self.inside in let next = subst (λ m. to_sweep m.history ≡ Some c.args.session) (sym c.self.view_is) c.requires.next in
-    let limit : a.journal.limit < 18446744073709551616 = subst (λ m. m.limit < 18446744073709551616) (sym c.self.view_is) c.held-room.ensures.fits in
-    let few = sweep_room over.O.Outbox.sent a.journal a.roster.settings a.roster.facts a.seats a.outboxes.boxes a.plan.items a.busy c.self.invariant c.args.session c.args.moment next in let some = few.0 in let seated = few.1 in let known = few.2 in let room = few.3 in
-    let len : c.len.result ≡ length a.journal.history = c.len.ensures in omega arith
+    let limit : most a.journal.limit < 18446744073709551616 = subst (λ m. most m.limit < 18446744073709551616) (sym c.self.view_is) c.held-room.ensures.fits in
+    let few = sweep_room over.O.Outbox.sent a.journal a.roster.settings a.roster.facts a.seats a.outboxes.boxes a.plan.items a.busy c.self.invariant.kept c.args.session c.args.moment next in let some = few.0 in let seated = few.1 in let known = few.2 in let room = few.3 in
+    let len : c.newest.result ≡ length a.journal.history = c.newest.ensures in omega arith
 
 pub prepare_gone-requires-clause-known : goal.prepare_gone-requires-clause-known
 prepare_gone-requires-clause-known over c =
     let a = c.self.inside in let next = subst (λ m. to_sweep m.history ≡ Some c.args.session) (sym c.self.view_is) c.requires.next in
-    let limit : a.journal.limit < 18446744073709551616 = subst (λ m. m.limit < 18446744073709551616) (sym c.self.view_is) c.held-room.ensures.fits in
-    let few = sweep_room over.O.Outbox.sent a.journal a.roster.settings a.roster.facts a.seats a.outboxes.boxes a.plan.items a.busy c.self.invariant c.args.session c.args.moment next in let some = few.0 in let seated = few.1 in let known = few.2 in let room = few.3 in
+    let limit : most a.journal.limit < 18446744073709551616 = subst (λ m. most m.limit < 18446744073709551616) (sym c.self.view_is) c.held-room.ensures.fits in
+    let few = sweep_room over.O.Outbox.sent a.journal a.roster.settings a.roster.facts a.seats a.outboxes.boxes a.plan.items a.busy c.self.invariant.kept c.args.session c.args.moment next in let some = few.0 in let seated = few.1 in let known = few.2 in let room = few.3 in
     known
 
 pub append-requires : goal.append-requires
 append-requires over c =
     let a = c.self.inside in let next = subst (λ m. to_sweep m.history ≡ Some c.args.session) (sym c.self.view_is) c.requires.next in
-    let limit : a.journal.limit < 18446744073709551616 = subst (λ m. m.limit < 18446744073709551616) (sym c.self.view_is) c.held-room.ensures.fits in
-    let few = sweep_room over.O.Outbox.sent a.journal a.roster.settings a.roster.facts a.seats a.outboxes.boxes a.plan.items a.busy c.self.invariant c.args.session c.args.moment next in let some = few.0 in let seated = few.1 in let known = few.2 in let room = few.3 in
+    let limit : most a.journal.limit < 18446744073709551616 = subst (λ m. most m.limit < 18446744073709551616) (sym c.self.view_is) c.held-room.ensures.fits in
+    let few = sweep_room over.O.Outbox.sent a.journal a.roster.settings a.roster.facts a.seats a.outboxes.boxes a.plan.items a.busy c.self.invariant.kept c.args.session c.args.moment next in let some = few.0 in let seated = few.1 in let known = few.2 in let room = few.3 in
     let kept : c.held-room.result ≡ held a.journal.history = c.held-room.ensures.kept ∙ ap (λ m. held m.history) (sym c.self.view_is) in let ok = c.reserve.ensures.ok in grind (arith, common_steps)
 
 pub leave-requires : goal.leave-requires
 leave-requires over c =
-    let a = c.self.inside in let i = c.self.invariant in let next = subst (λ m. to_sweep m.history ≡ Some c.args.session) (sym c.self.view_is) c.requires.next in
+    let a = c.self.inside in let i = c.self.invariant.kept in let next = subst (λ m. to_sweep m.history ≡ Some c.args.session) (sym c.self.view_is) c.requires.next in
     record { next = seats_sweep a.journal.history a.seats a.outboxes.boxes i.each_seat (i.places ∙ sym i.sound.sessions) ∙ next }
 
 -- the record that was appended, and the plan of its deliveries
@@ -56,7 +57,7 @@ plan : (over : given.Over) (c : goal.After-self-1 over) → c.in_ok-prepared.pre
 plan over c =
     let a = c.self.inside in let next = subst (λ m. to_sweep m.history ≡ Some c.args.session) (sym c.self.view_is) c.requires.next in
     let number : c.new-number.result ≡ length a.journal.history + 1 = grind (arith, common_steps) in
-    gone_plan over.O.Outbox.sent a.journal a.roster.settings a.roster.facts a.seats a.outboxes.boxes a.plan.items a.busy c.self.invariant c.args.session c.new-number.result c.args.moment c.in_ok-prepared.prepared.plan.items
+    gone_plan over.O.Outbox.sent a.journal a.roster.settings a.roster.facts a.seats a.outboxes.boxes a.plan.items a.busy c.self.invariant.kept c.args.session c.new-number.result c.args.moment c.in_ok-prepared.prepared.plan.items
     next number c.in_ok-prepared.ensures.plan
 
 settings : (over : given.Over) (c : goal.After-self-1 over) → c.commit.new.roster.settings ≡ c.self.inside.roster.settings
@@ -73,10 +74,15 @@ invariant_of-self-2 over c =
     let more_known : c.commit.new.roster.facts ≡ after a.roster.facts c.in_ok-prepared.prepared.deeds.items = c.commit.ensures.facts ∙ ap (λ (fs : List Deed). after fs c.in_ok-prepared.prepared.deeds.items) c.prepare.ensures.facts in
     let known : c.commit.new.roster.facts ≡ after a.roster.facts (deeds_of es) = more_known ∙ ap (after a.roster.facts) c.in_ok-prepared.ensures.deeds in
     let same : opened c.commit.new.roster.facts ≡ opened a.roster.facts = ap opened more_known ∙ c.in_ok-prepared.ensures.opened in
-    subst (λ (g : Settings). IsKept over.O.Outbox.sent c.append.new.self g c.commit.new.roster.facts c.leave.new.self a.outboxes.boxes c.in_ok-prepared.prepared.plan.items true) (sym (settings over c))
-    (subst (λ (xs : List Seat). IsKept over.O.Outbox.sent c.append.new.self a.roster.settings c.commit.new.roster.facts xs a.outboxes.boxes c.in_ok-prepared.prepared.plan.items true) (sym c.leave.ensures)
-    (gone_kept over.O.Outbox.sent a.journal a.roster.settings a.roster.facts a.seats a.outboxes.boxes a.plan.items a.busy c.self.invariant c.append.new.self c.commit.new.roster.facts
-    c.in_ok-prepared.prepared.plan.items c.args.moment c.args.session may next (plan over c) (history over c) (limit over c) room free known same))
+    record {
+      kept =
+          subst (λ (g : Settings). IsKept over.O.Outbox.sent c.append.new.self g c.commit.new.roster.facts c.leave.new.self a.outboxes.boxes c.in_ok-prepared.prepared.plan.items true) (sym (settings over c))
+          (subst (λ (xs : List Seat). IsKept over.O.Outbox.sent c.append.new.self a.roster.settings c.commit.new.roster.facts xs a.outboxes.boxes c.in_ok-prepared.prepared.plan.items true) (sym c.leave.ensures)
+          (gone_kept over.O.Outbox.sent a.journal a.roster.settings a.roster.facts a.seats a.outboxes.boxes a.plan.items a.busy c.self.invariant.kept c.append.new.self c.commit.new.roster.facts
+          c.in_ok-prepared.prepared.plan.items c.args.moment c.args.session may next (plan over c) (history over c) (limit over c) room free known same));
+      based = (let h = a.journal.history in let r = fresh_record h c.args.moment (Gone c.args.session) in let n = a.journal.limit.dropped in let g = a.roster.settings in let was = a.outboxes.boxes in
+          based_as a.base (r ∷ h) c.append.new.self.history n c.append.new.self.limit.dropped g c.commit.new.roster.settings was was (based_record a.base h r n g was c.self.invariant.based) (history over c) (ap (λ l. l.dropped) (limit over c)) (settings over c) refl);
+    }
 
 pub returns-clause-ok : goal.returns-clause-ok
 returns-clause-ok over c =
@@ -105,4 +111,5 @@ returns-clause-out over c =
       opened = omega arith;
       missed = none ∙ sym (ap newest_missed eh);
       room = omega arith;
+      kept = c.append.ensures.kept;
     }

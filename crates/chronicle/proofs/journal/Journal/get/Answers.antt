@@ -1,15 +1,17 @@
-use Rattle.std.proofs.Common.{arith, ◌≡◌, ℕ, ◌-◌, ◌<◌, ◌≤◌, ◌==◌, cond, length, List, reverse, get_or, slice_get, Option, None, Bor, sym, ap, ◌∙◌, subst, ne_eqb}
-use Rattle.std.proofs.lemmas.Grind.{common_steps}
-use Rattle.chronicle.specs.declared.record.Record.{Record}
-use Rattle.chronicle.specs.Journal.{record_at, numbered}
+use Rattle.std.proofs.Common.{arith, ◌≡◌, ℕ, ◌+◌, ◌-◌, ◌<◌, false, nat_le, cond, length, reverse, slice_get, None, sym, ap, ◌∙◌, subst}
+use Rattle.std.proofs.lemmas.Bool.Decides.{nat_tests}
+use Rattle.chronicle.specs.Journal.{record_at}
 use Rattle.chronicle.proofs.Look.{looked}
 use Rattle.chronicle.proofs.journal.Journal.get.Goals as goal
 
 pub returns : goal.returns
 returns c =
-    let h = c.get.ensures.lookup in let xs = c.self.inside.records.items in let n = c.number-place.result in
-    let d : c.deref.result.now ≡ xs = c.deref.ensures.value in
-    let eh = ap (λ j. j.history) c.self.view_is in
-    let e : record_at c.get.result ≡ slice_get (reverse c.args.self.now.history) (n - 1) = looked xs _ (n - 1) c.get.result eh (rw d at h.1) (rw d at h.3) in
-    let k : n ≡ c.args.number = grind (arith, common_steps) in
-    e ∙ ap (λ (m : ℕ). slice_get (reverse c.args.self.now.history) (m - 1)) k ∙ ap (λ b. cond b None (slice_get (reverse c.args.self.now.history) (c.args.number - 1))) (sym (ne_eqb c.args.number 0 (λ z. c.if-place-eq0.false (k ∙ z))))
+    let a = c.self.inside in let xs = a.records.items in let h = c.args.self.now.history in let n = c.args.number in let i = n - a.dropped - 1 in
+    let asked : c.number-place.result ≡ n = c.number-place.ensures in
+    let above : a.dropped < n = subst (λ (m : ℕ). a.dropped < m) asked c.if-place-self.false in
+    let shown : c.deref.result.now ≡ xs = c.deref.ensures.value in
+    let look = rw asked at c.get.ensures.lookup in
+    let found : record_at c.get.result ≡ slice_get (reverse h) (length a.past.value + i) = looked xs a.past.value h i c.get.result (ap (λ j. j.history) c.self.view_is) (rw shown at look.1) (rw shown at look.3) in
+    let place : length a.past.value + i ≡ n - 1 = omega (arith, c.self.invariant.2) in
+    let kept : nat_le n c.args.self.now.limit.dropped ≡ false = grind (arith, nat_tests, ap (λ j. j.limit.dropped) c.self.view_is) in
+    found ∙ ap (λ m. slice_get (reverse h) m) place ∙ sym (ap (λ b. cond b None (slice_get (reverse h) (n - 1))) kept)

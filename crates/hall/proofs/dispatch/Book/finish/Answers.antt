@@ -83,3 +83,8 @@ invariant_of-baton g c =
 
 pub returns-clause-accepted : goal.returns-clause-accepted
 returns-clause-accepted g c = pieces g c ∙ ap (accepted c.self.inside.book.history) (ap (λ (t : Turn). t.session) c.baton.view_is) ∙ ap (λ b. accepted b.history c.args.baton.now.session) (sym c.finish-done.ensures.book)
+
+pub advance-requires-clause-kept : goal.advance-requires-clause-kept
+advance-requires-clause-kept g c =
+    let o : IsOut c.self.inside.book c.args.plan = subst (λ m. IsOut m c.args.plan) (sym c.self.view_is) c.requires.out in
+    subst (λ m. m.limit.dropped < length m.history) (sym c.finish-done.ensures.book) o.kept

@@ -1,0 +1,98 @@
+//! What a book keeps of the records that it dropped.
+ghost use Rattle.std.specs.Prelude.{◌≡◌, IfSome};
+ghost use Rattle.deeds.specs.Deeds.{facts};
+ghost use Rattle.book.specs.Noted.{base_by, counts_at, is_noted, AreCounts};
+
+use chronicle::{Journal, SessionId};
+use ghosts::Snapshot;
+use roster::Roster;
+use std::marker::Model;
+
+/// How many pieces of a session were accepted, and how many deliveries it was owed.
+#[derive(Clone, Copy)]
+pub(crate) struct Counts {
+    pub(crate) accepted: u64,
+    pub(crate) owed: u64,
+}
+
+/// What is known at the end of the records that were dropped: all that is looked up in them later.
+#[derive(Drop)]
+pub struct Base {
+    roster: Roster,
+    /// By the numbers of the sessions, of each that wasn't reaped.
+    counts: Vec<Option<Counts>>,
+    history: Snapshot<Journal>,
+}
+
+impl Model for Base {
+    ghost use Rattle.std.specs.Prelude.{◌≡◌};
+    ghost use Rattle.deeds.specs.Deeds.{facts};
+    ghost use Rattle.book.specs.Noted.{Noted, AreCounts};
+
+    ghost Value = { Noted };
+
+    ghost view = { λ a. record { front = a.history.value.history; settings = a.roster.settings; counts = a.counts.items } };
+
+    ghost invariant = { λ a. (a.roster.facts ≡ facts a.roster.settings a.history.value.history) × AreCounts a.roster.settings a.history.value.history a.counts.items };
+}
+
+/// The counts of a session.
+fn find_counts(counts: &[Option<Counts>], session: SessionId) -> Option<Counts>
+    ensures { result ≡ counts_at counts.now session }
+{
+    let number = session.number();
+    if number == 0 {
+        return None;
+    }
+    match counts.get(number as usize - 1) {
+        Some(found) => *found,
+        None => None,
+    }
+}
+
+impl Base {
+    ghost use Rattle.std.specs.Option.{is_some};
+
+    /// What is known at the end of a journal, by a roster that knows it and by counts of its sessions.
+    pub(crate) fn new(roster: Roster, counts: Vec<Option<Counts>>, journal: &Journal) -> Base
+        requires facts { roster.facts ≡ facts roster.settings journal.now.history }
+        requires counts { AreCounts roster.settings journal.now.history counts.items }
+        ensures { result ≡ record { front = journal.now.history; settings = roster.settings; counts = counts.items } }
+    {
+        Base {
+            roster,
+            counts,
+            history: Snapshot::of(journal),
+        }
+    }
+
+    /// What is known of sessions and channels.
+    pub fn roster(&self) -> &Roster
+        ensures facts { result.now.facts ≡ (base_by self.now).facts }
+        ensures settings { result.now.settings ≡ self.now.settings }
+    {
+        &self.roster
+    }
+
+    /// How many pieces of a session were accepted. `None` where the session was opened later, or reaped before.
+    pub fn accepted(&self, session: SessionId) -> Option<u64>
+        ensures count { IfSome result (λ n. n ≡ (base_by self.now).accepted session) }
+        ensures noted { is_some result ≡ is_noted self.now session }
+    {
+        match find_counts(&self.counts, session) {
+            Some(counts) => Some(counts.accepted),
+            None => None,
+        }
+    }
+
+    /// How many deliveries a session was owed. `None` where the session was opened later, or reaped before.
+    pub fn owed(&self, session: SessionId) -> Option<u64>
+        ensures count { IfSome result (λ n. n ≡ (base_by self.now).owed session) }
+        ensures noted { is_some result ≡ is_noted self.now session }
+    {
+        match find_counts(&self.counts, session) {
+            Some(counts) => Some(counts.owed),
+            None => None,
+        }
+    }
+}

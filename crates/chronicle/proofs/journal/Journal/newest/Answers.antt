@@ -1,0 +1,12 @@
+use Rattle.std.proofs.Common.{arith, length, ap}
+use Rattle.std.proofs.lemmas.Grind.{common_steps}
+use Rattle.chronicle.proofs.Look.{history_length}
+use Rattle.chronicle.proofs.journal.Journal.newest.Goals as goal
+
+pub overflow_add-result : goal.overflow_add-result
+overflow_add-result c = omega arith
+
+pub returns : goal.returns
+returns c =
+    let a = c.self.inside in let all = ap (λ j. length j.history) c.self.view_is in let n = history_length a.records.items a.past.value in
+    grind (arith, common_steps, all, n, c.self.invariant.2)
