@@ -5,6 +5,7 @@ use crate::server::{Clock, Gate, Server, Sockets, later};
 use crate::working::{tell, tell_many};
 use hall::{Baton, Left, Naming, Stub, Told};
 use outbox::{ChannelName, Sender, Writer};
+use std::alloc::Global;
 use std::sync::Wait;
 
 /// Sweeps one session, and answers whether there may be more.
@@ -45,11 +46,12 @@ fn sweep_all<L: Naming, R: Wait + Drop, G: Gate, S: Sockets, C: Clock>(
     tell(server, told);
 }
 
-/// Sweeps all who are shut, and gives a session up with its tokens, which are all of that session. It doesn't wait: where the
-/// session isn't gone yet, or memory was wanting, the tokens come back, to be tried with again.
+/// Sweeps all who are shut, and gives a session up with its tokens, which are all of that session. It waits for nothing but the lock:
+/// where the session isn't gone yet, or memory was wanting, the tokens come back, to be tried with again. Who got something stands in
+/// `told` then, or was told.
 ///
-/// What comes back is of the baton's session, which so was swept and reaped.
-pub fn close_up<L: Naming, R: Wait + Drop, G: Gate, S: Sockets, C: Clock>(
+/// What comes back is of the baton's session, which so was swept and reaped; or the tokens are those that were given.
+pub fn close_now<L: Naming, R: Wait + Drop, G: Gate, S: Sockets, C: Clock>(
     rt: &R,
     server: &Server<'_, L, R, G, S, C>,
     baton: Baton<L, Sender<R>>,
@@ -67,4 +69,33 @@ pub fn close_up<L: Naming, R: Wait + Drop, G: Gate, S: Sockets, C: Clock>(
         Ok(left) => Ok(left),
         Err((_, baton, stub, writer)) => Err((baton, stub, writer)),
     }
+}
+
+/// Sweeps all who are shut, and gives a session up with its tokens, which are all of that session. Where it isn't gone yet, or
+/// memory was wanting, it pauses and tries again.
+///
+/// What comes back is of the baton's session, which so was swept and reaped.
+pub fn close_up<L: Naming, R: Wait + Drop, G: Gate, S: Sockets, C: Clock>(
+    rt: &R,
+    alloc: Global,
+    server: &Server<'_, L, R, G, S, C>,
+    baton: Baton<L, Sender<R>>,
+    stub: Stub<L, ChannelName>,
+    writer: Writer,
+) -> Left<L>
+    requires one { stub.session ≡ baton.session }
+    requires own { stub.outbox ≡ Some writer.channel }
+    ensures session { result.session ≡ baton.session }
+{
+    let mut told = Told::new(alloc);
+    let mut tokens = (baton, stub, writer);
+    for _ in rt.forever() {
+        let (baton, stub, writer) = tokens;
+        match close_now(rt, server, baton, stub, writer, &mut told) {
+            Ok(left) => return left,
+            Err(again) => tokens = again,
+        }
+        server.sockets.pause();
+    }
+    unreachable!()
 }

@@ -4,6 +4,7 @@
 #![tactic(auto)]
 
 mod closing;
+mod desk;
 mod intake;
 mod outlet;
 mod reading;
@@ -11,10 +12,11 @@ mod server;
 mod working;
 mod writing;
 
-pub use closing::close_up;
+pub use closing::{close_now, close_up};
+pub use desk::Desk;
 pub use intake::Intake;
 pub use outlet::Outlet;
 pub use reading::{Next, Took, read_on, read_some};
 pub use server::{Clock, Gate, Server, Sockets, moment_in};
 pub use working::{Back, Job, Outcome, Worked, hang, tell, work, work_one};
-pub use writing::{Standing, write_some};
+pub use writing::{Standing, write_on, write_some};

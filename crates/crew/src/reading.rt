@@ -2,9 +2,10 @@
 ghost use Rattle.std.specs.Prelude.{◌≡◌, true, false};
 ghost use Rattle.crew.specs.Doing.{DoesLines, DoesRead, is_over};
 
+use crate::desk::Desk;
 use crate::intake::Intake;
 use crate::server::{Clock, Gate, Server, Sockets};
-use crate::working::{Worked, hang, tell, work};
+use crate::working::{Worked, hang, tell, work_by};
 use chronicle::Why;
 use hall::{Baton, Naming, Told};
 use outbox::Sender;
@@ -33,14 +34,11 @@ pub struct Took<L: Naming, R: Wait + Drop> {
     pub next: Next,
 }
 
-/// Reads once, and has the lines done that end in what that brings, by `work`. Who got something stands in `told`, as after that. A
-/// stream that has nothing now is no fault: `Next::Nothing`.
-///
-/// Whatever stream came before, of which the intake kept what is unfinished: of the pieces that end in the octets that were read, the
-/// first were done with the baton that comes back, in order, and all of them where `all` is true, which it is where reading goes on.
-pub fn read_some<L: Naming, I: Read, R: Wait + Drop, G: Gate, S: Sockets, C: Clock>(
+/// Reads once, as `read_some` does, and has the lines done under a slot where there is a desk.
+fn read_by<'a, L: Naming, I: Read, R: Wait + Drop, G: Gate, S: Sockets, C: Clock>(
     rt: &R,
-    server: &Server<'_, L, R, G, S, C>,
+    server: &Server<'a, L, R, G, S, C>,
+    desk: Option<&'a Desk>,
     intake: &mut Intake,
     baton: Baton<L, Sender<R>>,
     input: &mut I,
@@ -61,7 +59,7 @@ pub fn read_some<L: Naming, I: Read, R: Wait + Drop, G: Gate, S: Sockets, C: Clo
             next,
         };
     }
-    let Worked { baton, all } = work(rt, server, baton, intake.pieces(), told);
+    let Worked { baton, all } = work_by(rt, server, desk, baton, intake.pieces(), told);
     let next = if !all {
         Next::Over(Why::ReadFailed)
     } else if intake.is_full() {
@@ -72,12 +70,34 @@ pub fn read_some<L: Naming, I: Read, R: Wait + Drop, G: Gate, S: Sockets, C: Clo
     Took { baton, all, next }
 }
 
+/// Reads once, and has the lines done that end in what that brings, as `work` does, but without a slot: the caller is one of the
+/// server's workers. Who got something stands in `told`, as after `work`. A stream that has nothing now is no fault:
+/// `Next::Nothing`.
+///
+/// Whatever stream came before, of which the intake kept what is unfinished: of the pieces that end in the octets that were read, the
+/// first were done with the baton that comes back, in order, and all of them where `all` is true, which it is where reading goes on.
+pub fn read_some<L: Naming, I: Read, R: Wait + Drop, G: Gate, S: Sockets, C: Clock>(
+    rt: &R,
+    server: &Server<'_, L, R, G, S, C>,
+    intake: &mut Intake,
+    baton: Baton<L, Sender<R>>,
+    input: &mut I,
+    told: &mut Told,
+) -> Took<L, R>
+    ensures lines { DoesRead (I.remaining input.old) (I.remaining input.new) intake.old.kept intake.new.kept baton.pieces result.baton.pieces result.all }
+    ensures goes_on { is_over result.next ≡ false → result.all ≡ true }
+    ensures session { result.baton.session ≡ baton.session }
+{
+    read_by(rt, server, None, intake, baton, input, told)
+}
+
 /// Has lines done as they come, until no more come, one is refused or the session is shut. It answers why the session is ended
 /// then, if it is still open.
-fn read_lines<L: Naming, I: Read, R: Wait + Drop, G: Gate, S: Sockets, C: Clock>(
+fn read_lines<'a, L: Naming, I: Read, R: Wait + Drop, G: Gate, S: Sockets, C: Clock>(
     rt: &R,
     alloc: Global,
-    server: &Server<'_, L, R, G, S, C>,
+    server: &Server<'a, L, R, G, S, C>,
+    desk: &'a Desk,
     baton: Baton<L, Sender<R>>,
     input: &mut I,
     told: &mut Told,
@@ -94,7 +114,7 @@ fn read_lines<L: Naming, I: Read, R: Wait + Drop, G: Gate, S: Sockets, C: Clock>
         if server.sockets.is_shut(session) {
             break;
         }
-        let took = read_some(rt, server, &mut intake, baton, input, told);
+        let took = read_by(rt, server, Some(desk), &mut intake, baton, input, told);
         tell(server, told);
         match took.next {
             Next::Over(why) => return (
@@ -116,10 +136,11 @@ fn read_lines<L: Naming, I: Read, R: Wait + Drop, G: Gate, S: Sockets, C: Clock>
 ///
 /// The pieces done with the baton that comes back are those done before, then the first of the lines that end in the octets that
 /// were read, in order; all of them where `all` is true.
-pub fn read_on<L: Naming, I: Read, R: Wait + Drop, G: Gate, S: Sockets, C: Clock>(
+pub fn read_on<'a, L: Naming, I: Read, R: Wait + Drop, G: Gate, S: Sockets, C: Clock>(
     rt: &R,
     alloc: Global,
-    server: &Server<'_, L, R, G, S, C>,
+    server: &Server<'a, L, R, G, S, C>,
+    desk: &'a Desk,
     baton: Baton<L, Sender<R>>,
     input: &mut I,
 ) -> Worked<L, R>
@@ -128,7 +149,7 @@ pub fn read_on<L: Naming, I: Read, R: Wait + Drop, G: Gate, S: Sockets, C: Clock
 {
     let session = baton.session();
     let mut told = Told::new(alloc);
-    let (worked, why) = read_lines(rt, alloc, server, baton, input, &mut told);
+    let (worked, why) = read_lines(rt, alloc, server, desk, baton, input, &mut told);
     hang(rt, server, session, why, &mut told);
     tell(server, &mut told);
     worked

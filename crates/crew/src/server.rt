@@ -27,6 +27,9 @@ pub trait Sockets {
     /// Sees to it that what waits for all who are told is written.
     fn tell(&self, told: &Told);
 
+    /// Waits a little.
+    fn pause(&self);
+
     /// Asks the server to stop.
     fn stop(&self);
 }

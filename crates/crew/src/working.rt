@@ -2,6 +2,7 @@
 ghost use Rattle.std.specs.Prelude.{◌≡◌, ◌++◌, ◌∷◌, [], true, false, OnOk, OnErr};
 ghost use Rattle.crew.specs.Doing.{OnDone, OnRefused, DoesFront};
 
+use crate::desk::Desk;
 use crate::server::{Clock, Gate, Server, Sockets, later};
 use chronicle::{Moment, SessionId, Why};
 use hall::{Baton, Done, Hall, LineRefusal, Naming, RollRefusal, Told};
@@ -215,20 +216,35 @@ fn after_refusal<L: Naming, R: Wait + Drop, G: Gate, S: Sockets, C: Clock>(
     }
 }
 
-/// The hall while a thread has it, from one line of a session to the next.
+/// The hall while a thread has it, from one line of a session to the next, and the slot under which it has it, where it needs one.
 #[derive(Drop)]
 struct Held<'a, L: Naming, R: Wait + Drop> {
+    desk: Option<&'a Desk>,
+    slot: Option<u64>,
     hall: Option<MutexGuard<'a, Hall<L, Sender<R>>>>,
     moment: Moment,
 }
 
 impl<'a, L: Naming, R: Wait + Drop> Held<'a, L, R> {
-    /// The thread has it not.
-    fn none() -> Held<'a, L, R> {
+    /// The thread has it not. Where there is a desk, it needs a slot of it.
+    fn none(desk: Option<&'a Desk>) -> Held<'a, L, R> {
         Held {
+            desk,
+            slot: None,
             hall: None,
             moment: Moment::new(0),
         }
+    }
+
+    /// Takes a slot where the thread needs one and has none, and answers false where none comes.
+    fn take_slot(&mut self, rt: &R) -> bool {
+        let Some(desk) = self.desk else {
+            return true;
+        };
+        if self.slot.is_none() {
+            self.slot = desk.slot(rt);
+        }
+        self.slot.is_some()
     }
 
     /// Does a line in the hall, which it takes where the thread has it not, and adds who got something.
@@ -255,9 +271,10 @@ impl<'a, L: Naming, R: Wait + Drop> Held<'a, L, R> {
         outcome
     }
 
-    /// Gives the hall back, where the thread has it.
+    /// Gives the hall back, and the slot, where the thread has them.
     fn give_back<G: Gate, S: Sockets, C: Clock>(
         &mut self,
+        rt: &R,
         server: &Server<'a, L, R, G, S, C>,
         session: SessionId,
     ) {
@@ -265,11 +282,15 @@ impl<'a, L: Naming, R: Wait + Drop> Held<'a, L, R> {
             drop(hall);
             server.gate.leave(session);
         }
+        let slot = self.slot.take();
+        if let (Some(desk), Some(slot)) = (self.desk, slot) {
+            desk.back(rt, slot);
+        }
     }
 }
 
 /// Does one piece, in the hall that is held or that it takes. Where the line shut somebody, many are to be told, or it was refused,
-/// it gives the hall back and sees to that. All says whether the piece was done.
+/// it gives the hall and the slot back and sees to that. All says whether the piece was done.
 fn work_next<'a, L: Naming, R: Wait + Drop, G: Gate, S: Sockets, C: Clock>(
     rt: &R,
     server: &Server<'a, L, R, G, S, C>,
@@ -282,20 +303,23 @@ fn work_next<'a, L: Naming, R: Wait + Drop, G: Gate, S: Sockets, C: Clock>(
     ensures not_done { result.all ≡ false → result.baton.pieces ≡ baton.pieces }
     ensures session { result.baton.session ≡ baton.session }
 {
+    if !held.take_slot(rt) {
+        return Worked { baton, all: false };
+    }
     let mut baton = baton;
     let session = baton.session();
     match held.line(rt, server, &mut baton, piece, told) {
         Outcome::Done(done) => {
             let shuts = done.shut || !done.missed.as_slice().is_empty();
             if shuts || are_many(told, server.burst) {
-                held.give_back(server, session);
+                held.give_back(rt, server, session);
                 tell_many(server, told);
                 shut_those(server.sockets, session, &done);
             }
             Worked { baton, all: true }
         }
         Outcome::Refused(refusal) => {
-            held.give_back(server, session);
+            held.give_back(rt, server, session);
             after_refusal(rt, server, session, refusal, told);
             Worked { baton, all: false }
         }
@@ -326,17 +350,11 @@ fn work_all<'a, L: Naming, R: Wait + Drop, G: Gate, S: Sockets, C: Clock>(
     Worked { baton, all: true }
 }
 
-/// Does pieces of a session in turn, until one is refused, under one hold of the lock but where somebody is to be shut or many are to
-/// be told, which is done with the lock given back. Who got something and wasn't told stands in `told` at the end, with those who
-/// stood there before, for the caller to tell them (`tell`) when it has no more lines to do. Where there is no room for a record the
-/// journal is rolled; where there is none after that, the session is ended with Shutdown, and the server is asked to stop. Where
-/// memory is wanting it is ended with that reason.
-///
-/// The pieces done with the baton that comes back are those done before, then the first of these pieces, in order; all of them
-/// where `all` is true.
-pub fn work<L: Naming, R: Wait + Drop, G: Gate, S: Sockets, C: Clock>(
+/// Does pieces of a session in turn, as `work` does where there is a desk, and else without a slot.
+pub(crate) fn work_by<'a, L: Naming, R: Wait + Drop, G: Gate, S: Sockets, C: Clock>(
     rt: &R,
-    server: &Server<'_, L, R, G, S, C>,
+    server: &Server<'a, L, R, G, S, C>,
+    desk: Option<&'a Desk>,
     baton: Baton<L, Sender<R>>,
     pieces: &[Piece],
     told: &mut Told,
@@ -346,8 +364,31 @@ pub fn work<L: Naming, R: Wait + Drop, G: Gate, S: Sockets, C: Clock>(
     ensures session { result.baton.session ≡ baton.session }
 {
     let session = baton.session();
-    let mut held = Held::none();
+    let mut held = Held::none(desk);
     let worked = work_all(rt, server, baton, pieces, told, &mut held);
-    held.give_back(server, session);
+    held.give_back(rt, server, session);
     worked
+}
+
+/// Does pieces of a session in turn, until one is refused or no slot comes, under one slot and one hold of the lock but where
+/// somebody is to be shut or many are to be told, which is done with both given back. Who got something and wasn't told stands in
+/// `told` at the end, with those who stood there before, for the caller to tell them (`tell`) when it has no more lines to do. Where
+/// there is no room for a record the journal is rolled; where there is none after that, the session is ended with Shutdown, and the
+/// server is asked to stop. Where memory is wanting it is ended with that reason.
+///
+/// The pieces done with the baton that comes back are those done before, then the first of these pieces, in order; all of them
+/// where `all` is true.
+pub fn work<'a, L: Naming, R: Wait + Drop, G: Gate, S: Sockets, C: Clock>(
+    rt: &R,
+    server: &Server<'a, L, R, G, S, C>,
+    desk: &'a Desk,
+    baton: Baton<L, Sender<R>>,
+    pieces: &[Piece],
+    told: &mut Told,
+) -> Worked<L, R>
+    ensures front { DoesFront baton.pieces result.baton.pieces pieces.now }
+    ensures whole { result.all ≡ true → result.baton.pieces ≡ baton.pieces ++ pieces.now }
+    ensures session { result.baton.session ≡ baton.session }
+{
+    work_by(rt, server, Some(desk), baton, pieces, told)
 }

@@ -1,12 +1,22 @@
 //! Writing what waits for a session.
+ghost use Rattle.wire.specs.Wired.{IsSameWire};
+
 use crate::outlet::Outlet;
 use crate::server::{Clock, Gate, Server, Sockets};
-use crate::working::hang;
+use crate::working::{hang, tell};
 use chronicle::{SessionId, Why};
 use hall::{Naming, Told};
+use std::alloc::Global;
 use std::io::Write;
 use std::sync::Wait;
-use wire::Flow;
+use std::time::Duration;
+use wire::{Flow, Wire};
+
+/// Seconds of the longest rest.
+const REST: u64 = 5;
+
+/// How often a shut session is written to that takes nothing, with a pause after each.
+const TRIES: u32 = 250;
 
 /// How a session's writing stands.
 #[derive(Clone, Copy, Debug, PartialEq)]
@@ -39,4 +49,46 @@ pub fn write_some<L: Naming, W: Write + Drop, R: Wait + Drop, G: Gate, S: Socket
         }
         Some(Ok(Flow::Idle | Flow::Behind | Flow::More)) | None => Standing::GoesOn,
     }
+}
+
+/// Writes what waits for a session that has a thread of its own for it, and rests until its bell is rung where nothing waits. It ends
+/// after the session's last item went out, once the session is shut and nothing waits or its stream takes nothing any more, or after
+/// a fault of the stream, with which the session is ended.
+///
+/// The wire that comes back is the one given: its writer is that of the session's outbox, and what went out is the texts of the items
+/// that it took, in order, but for a rest (`Wire::in_step`).
+pub fn write_on<L: Naming, W: Write + Drop, R: Wait + Drop, G: Gate, S: Sockets, C: Clock>(
+    rt: &R,
+    alloc: Global,
+    server: &Server<'_, L, R, G, S, C>,
+    wire: Wire<L, W>,
+) -> Wire<L, W>
+    ensures same { IsSameWire wire result }
+{
+    let session = wire.session();
+    let mut wire = wire;
+    let mut tries = 0;
+    for _ in rt.forever() {
+        let is_shut = server.sockets.is_shut(session);
+        match wire.pump(rt) {
+            Ok(Flow::Ended) => break,
+            Ok(Flow::Idle) if is_shut => break,
+            Ok(Flow::Idle) => wire.bell().rest(rt, Duration::from_secs(REST)),
+            Ok(Flow::More) => {}
+            Ok(Flow::Behind) if is_shut && TRIES <= tries => break,
+            Ok(Flow::Behind) => {
+                if is_shut {
+                    tries += 1;
+                }
+                server.sockets.pause();
+            }
+            Err(_) => {
+                let mut told = Told::new(alloc);
+                hang(rt, server, session, Why::WriteFailed, &mut told);
+                tell(server, &mut told);
+                break;
+            }
+        }
+    }
+    wire
 }

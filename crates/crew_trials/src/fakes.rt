@@ -109,6 +109,10 @@ impl Sockets for Noted {
 
     fn tell(&self, _told: &Told) {}
 
+    fn pause(&self) {
+        thread::yield_now();
+    }
+
     fn stop(&self) {
         self.is_stopped.store(true, Ordering::SeqCst);
     }

@@ -15,4 +15,4 @@ mod threads;
 mod writing;
 
 pub use fakes::{Noted, Open, Still, TURNS, Tally, Torn, Turnstile, rest};
-pub use making::{Tokens, ends, hall, hung_for, line, open, work_once, work_two};
+pub use making::{Tokens, ends, hall, hung_for, line, open, work_two, work_under_slot};

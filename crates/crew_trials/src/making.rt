@@ -4,7 +4,7 @@ ghost use Rattle.std.specs.Prelude.{◌≡◌, [], Some, IfSome};
 use crate::fakes::{Noted, Open, Still, Turnstile};
 use casemapping::is_host;
 use chronicle::{Kind, Moment, RecordNumber, SessionId, Why};
-use crew::{Gate, Job, Outcome, Server, close_up, work, work_one};
+use crew::{Desk, Gate, Job, Outcome, Server, close_up, work, work_one};
 use hall::{Baton, Hall, Naming, Register, Settings, Stub, Told};
 use line_grammar::{Octets, Piece};
 use outbox::{ChannelName, Sender, Writer, pair};
@@ -75,20 +75,25 @@ pub fn open<L: Naming, R: Wait + Drop + Copy>(
     }
 }
 
-/// Does a line, and answers whether it was done.
-pub fn work_once<L: Naming, R: Wait + Drop, G: Gate>(
+/// Does a line under a slot, and answers whether it was done.
+pub fn work_under_slot<L: Naming, R: Wait + Drop, G: Gate>(
     rt: &R,
     alloc: Global,
     hall: &Mutex<Hall<L, Sender<R>>>,
+    desk: &Desk,
     gate: &G,
     baton: Baton<L, Sender<R>>,
     piece: Piece,
 ) -> (Baton<L, Sender<R>>, bool)
     ensures { result.0.session ≡ baton.session }
 {
+    let Some(slot) = desk.slot(rt) else {
+        return (baton, false);
+    };
     let mut told = Told::new(alloc);
     let job = Job { baton, piece };
     let back = work_one(rt, hall, job, Moment::new(0), gate, &mut told);
+    desk.back(rt, slot);
     (back.baton, matches!(back.outcome, Outcome::Done(_)))
 }
 
@@ -98,6 +103,7 @@ pub fn work_two<L: Naming + Send + Sync, R: Threads + Wait + Clock + Copy + Drop
     rt: &R,
     alloc: Global,
     hall: &Mutex<Hall<L, Sender<R>>>,
+    desk: &Desk,
     gate: &Turnstile<R>,
     first: (Tokens<L, R>, Piece),
     second: (Tokens<L, R>, Piece),
@@ -114,9 +120,9 @@ pub fn work_two<L: Naming + Send + Sync, R: Threads + Wait + Clock + Copy + Drop
     let their_baton = theirs.baton;
     let (done, their_done) = join(
         rt,
-        || work_once(rt, alloc, hall, gate, baton, piece),
+        || work_under_slot(rt, alloc, hall, desk, gate, baton, piece),
         || {
-            let done = work_once(rt, alloc, hall, gate, their_baton, their_piece);
+            let done = work_under_slot(rt, alloc, hall, desk, gate, their_baton, their_piece);
             gate.is_answered.store(true, Ordering::SeqCst);
             done
         },
@@ -139,6 +145,7 @@ pub fn ends<L: Naming, R: Wait + Drop>(
     rt: &R,
     alloc: Global,
     hall: &Mutex<Hall<L, Sender<R>>>,
+    desk: &Desk,
     tokens: Tokens<L, R>,
 ) -> Result<bool, AllocError> {
     let Tokens {
@@ -157,11 +164,9 @@ pub fn ends<L: Naming, R: Wait + Drop>(
     };
     let mut told = Told::new(alloc);
     let quit = [line(alloc, b"QUIT")?];
-    let worked = work(rt, &server, baton, &quit, &mut told);
-    match close_up(rt, &server, worked.baton, stub, writer, &mut told) {
-        Ok(left) => Ok(worked.all && left.session() == session),
-        Err(_) => Ok(false),
-    }
+    let worked = work(rt, &server, desk, baton, &quit, &mut told);
+    let left = close_up(rt, alloc, &server, worked.baton, stub, writer);
+    Ok(worked.all && left.session() == session)
 }
 
 /// Whom the record of this number hung, and why.

@@ -4,7 +4,7 @@ ghost use Rattle.std.specs.Prelude.{◌≡◌, []};
 use crate::fakes::{Noted, Open, Still, Torn, Waits};
 use crate::making::{Tokens, hall, hung_for, open};
 use chronicle::{RecordNumber, Why};
-use crew::{Intake, Next, Server, Sockets, close_up, read_on, read_some};
+use crew::{Desk, Intake, Next, Server, Sockets, close_now, close_up, hang, read_on, read_some};
 use hall::{Hall, Naming, Register, Told};
 use line_grammar::Octets;
 use outbox::{ChannelName, Sender};
@@ -22,8 +22,8 @@ const INPUT: &[u8; 24] = b"PING x\r\nPING y\r\nPING zzz";
 const OUTPUT: &[u8; 104] =
     b":irc.example PONG irc.example x\r\n:irc.example PONG irc.example y\r\nERROR :Closing Link: h1 (Read error)\r\n";
 
-/// An input fails: the lines before that are done and told so, the session is hung by the record of this number, and the hall is
-/// given back.
+/// An input fails: the lines before that are done and told so, the session is hung by the record of this number, and the hall
+/// and the only slot are there again.
 fn torn<L: Naming, R: Wait + Abort + Copy + Drop>(
     rt: &R,
     alloc: Global,
@@ -43,6 +43,7 @@ fn torn<L: Naming, R: Wait + Abort + Copy + Drop>(
         writer,
     } = open(rt, alloc, &lock).ok_or("a session")?;
     let session = baton.session();
+    let desk = Desk::new(rt, alloc, 1)?;
     let sockets = Noted::new();
     let server = Server {
         hall: &lock,
@@ -55,9 +56,10 @@ fn torn<L: Naming, R: Wait + Abort + Copy + Drop>(
     let Ok(mut wire) = Wire::new(alloc, writer, stub, Vec::new(alloc), host) else {
         return Err("a wire".into());
     };
-    let worked = read_on(rt, alloc, &server, baton, &mut input);
+    let worked = read_on(rt, alloc, &server, &desk, baton, &mut input);
     assert!(rt; worked.all, "all lines are done");
     assert!(rt; lock.try_lock().is_some(), "the hall is given back");
+    assert!(rt; desk.slot(rt).is_some(), "the slot is there");
     assert_eq!(rt; wire.pump(rt), Ok(Flow::Ended));
     assert_eq!(rt; wire.stream().as_slice(), output);
     assert_eq!(rt; lock.lock(rt).len() as u64, records);
@@ -68,15 +70,13 @@ fn torn<L: Naming, R: Wait + Abort + Copy + Drop>(
         return Err("another's wire".into());
     }
     let (writer, stub) = wire.apart();
-    let mut told = Told::new(alloc);
-    let Ok(left) = close_up(rt, &server, worked.baton, stub, writer, &mut told) else {
-        return Err("it isn't gone".into());
-    };
+    let left = close_up(rt, alloc, &server, worked.baton, stub, writer);
     assert_eq!(rt; (left.session(), left.count()), (session, 0));
     Ok(())
 }
 
-/// An input that has nothing for now between its lines: what comes is done, and reading goes on.
+/// An input that has nothing for now between its lines: what comes is done, and reading goes on. While the session isn't ended it
+/// can't be given up.
 fn waits<L: Naming, R: Wait + Abort + Copy + Drop>(
     rt: &R,
     alloc: Global,
@@ -116,7 +116,15 @@ fn waits<L: Naming, R: Wait + Abort + Copy + Drop>(
     let took = read_some(rt, &server, &mut intake, took.baton, &mut input, &mut told);
     assert_eq!(rt; (took.all, took.next), (true, Next::Over(Why::ReadEnded)));
     assert_eq!(rt; lock.lock(rt).len(), 3);
-    drop((stub, writer));
+    let session = took.baton.session();
+    let Err((baton, stub, writer)) = close_now(rt, &server, took.baton, stub, writer, &mut told) else {
+        return Err("it is gone".into());
+    };
+    hang(rt, &server, session, Why::ReadEnded, &mut told);
+    let Ok(left) = close_now(rt, &server, baton, stub, writer, &mut told) else {
+        return Err("it isn't gone".into());
+    };
+    assert_eq!(rt; (left.session(), left.count()), (session, 3));
     Ok(())
 }
 

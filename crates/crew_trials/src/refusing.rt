@@ -3,7 +3,7 @@ ghost use Rattle.std.specs.Prelude.{◌≡◌, []};
 
 use crate::fakes::{Noted, Open, Still};
 use crate::making::{Tokens, hall, line, open};
-use crew::{Server, Sockets, work};
+use crew::{Desk, Server, Sockets, work};
 use hall::{Hall, Naming, Register, Told};
 use outbox::{ChannelName, Sender};
 use std::alloc::Global;
@@ -12,7 +12,8 @@ use std::process::Abort;
 use std::sync::{Mutex, Wait};
 use std::test::Fail;
 
-/// A session quits, and its line after that is refused: that isn't all, the session is shut, and the hall is given back.
+/// A session quits, and its line after that is refused: that isn't all, the session is shut, and the hall and the only slot are there
+/// again.
 fn refused<L: Naming, R: Wait + Abort + Copy + Drop>(
     rt: &R,
     alloc: Global,
@@ -25,6 +26,7 @@ fn refused<L: Naming, R: Wait + Abort + Copy + Drop>(
     let lock = Mutex::new(made);
     let Tokens { baton, .. } = open(rt, alloc, &lock).ok_or("a session")?;
     let session = baton.session();
+    let desk = Desk::new(rt, alloc, 1)?;
     let sockets = Noted::new();
     let server = Server {
         hall: &lock,
@@ -35,16 +37,17 @@ fn refused<L: Naming, R: Wait + Abort + Copy + Drop>(
     };
     let lines = [line(alloc, b"QUIT")?, line(alloc, b"PING x")?];
     let mut told = Told::new(alloc);
-    let worked = work(rt, &server, baton, &lines, &mut told);
+    let worked = work(rt, &server, &desk, baton, &lines, &mut told);
     assert!(rt; !worked.all, "a line is refused");
     assert!(rt; sockets.is_shut(session), "it is shut");
+    assert!(rt; desk.slot(rt).is_some(), "the slot is there");
     assert!(rt; lock.try_lock().is_some(), "the hall is given back");
     assert_eq!(rt; lock.lock(rt).len(), 2);
     Ok(())
 }
 
 #[test]
-fn the_hall_is_given_back_where_a_line_is_refused(rt: HostRuntime) -> Result<(), Fail> {
+fn a_slot_comes_back_where_a_line_is_refused(rt: HostRuntime) -> Result<(), Fail> {
     let register = Register::new(rt.alloc())?;
     refused::<Brand, _>(&rt, rt.alloc(), register)
 }

@@ -3,6 +3,7 @@ ghost use Rattle.std.specs.Prelude.{◌≡◌, []};
 
 use crate::fakes::Turnstile;
 use crate::making::{ends, hall, line, open, work_two};
+use crew::Desk;
 use hall::{Hall, Naming, Register};
 use outbox::{ChannelName, Sender};
 use std::alloc::Global;
@@ -27,17 +28,18 @@ fn two_sessions<
     let lock = Mutex::new(made);
     let al = open(rt, alloc, &lock).ok_or("a session")?;
     let bo = open(rt, alloc, &lock).ok_or("another session")?;
+    let desk = Desk::new(rt, alloc, 2)?;
     let gate = Turnstile::new(*rt, al.baton.session());
     let first = (al, line(alloc, b"PING x")?);
     let second = (bo, line(alloc, b"PING y")?);
-    let (al, bo, are_done) = work_two(rt, alloc, &lock, &gate, first, second);
+    let (al, bo, are_done) = work_two(rt, alloc, &lock, &desk, &gate, first, second);
     assert!(rt; are_done, "both are done");
     assert!(rt;
         !gate.has_given_up.load(Ordering::SeqCst),
         "the second was answered"
     );
-    assert!(rt; ends(rt, alloc, &lock, al)?, "the first is reaped");
-    assert!(rt; ends(rt, alloc, &lock, bo)?, "the second is reaped");
+    assert!(rt; ends(rt, alloc, &lock, &desk, al)?, "the first is reaped");
+    assert!(rt; ends(rt, alloc, &lock, &desk, bo)?, "the second is reaped");
     Ok(())
 }
 

@@ -8,12 +8,16 @@ use hall::{Naming, Told};
 use indexmap::IndexMap;
 use mio::net::TcpStream;
 use std::alloc::{AllocError, Global};
-use std::io;
 use std::io::Write;
 use std::net::Shutdown;
 use std::sync::atomic::{AtomicBool, Ordering};
 use std::sync::{Arc, RwLock, Wait};
+use std::time::{Clock, Duration};
+use std::{io, thread};
 use wire::Flow;
+
+/// Milliseconds of a pause.
+pub(crate) const PAUSE: u64 = 20;
 
 /// A stream that several threads may write to, one at a time.
 #[derive(Drop)]
@@ -242,7 +246,7 @@ impl<L: Naming, R: Wait + Copy + Drop> View<'_, L, R> {
     }
 }
 
-impl<L: Naming, R: Wait + Copy + Drop> Sockets for View<'_, L, R> {
+impl<L: Naming, R: Wait + Clock + Copy + Drop> Sockets for View<'_, L, R> {
     fn shut(&self, session: SessionId) {
         if let Some(connection) = self
             .all
@@ -274,6 +278,10 @@ impl<L: Naming, R: Wait + Copy + Drop> Sockets for View<'_, L, R> {
         if told.is_all() {
             self.write_to_all();
         }
+    }
+
+    fn pause(&self) {
+        thread::sleep(&self.all.rt, Duration::from_millis(PAUSE));
     }
 
     fn stop(&self) {

@@ -3,7 +3,7 @@ ghost use Rattle.std.specs.Prelude.{◌≡◌, []};
 ghost use Rattle.serving.specs.declared.serve.ServeFault.TheVariants.{Memory};
 
 use crate::clock::SystemClock;
-use crate::connections::{Connections, View};
+use crate::connections::{Connections, PAUSE, View};
 use crate::opening::Serving;
 use crate::post::{Arrival, Post, WAKE};
 use crate::stopping::{Stopping, read_to_end};
@@ -25,9 +25,6 @@ use std::{io, net, thread};
 
 /// Octets of a worker's stack.
 const STACK: usize = 1_048_576;
-
-/// Milliseconds after which a connection is accepted that the system refused.
-const PAUSE: u64 = 20;
 
 /// Why a server didn't start, or ended by itself.
 #[derive(Clone, Copy, Debug, PartialEq)]

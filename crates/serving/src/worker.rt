@@ -1,11 +1,11 @@
 //! A worker: a thread that does the lines of its clients, and opens and ends their sessions.
 ghost use Rattle.std.specs.Prelude.{◌≡◌};
 
-use crate::connections::Connection;
+use crate::connections::{Connection, PAUSE};
 use crate::opening::{Connected, Serving, Tokens, open_connected};
 use crate::post::{Arrival, Mail, Post, WAKE};
 use chronicle::Why;
-use crew::{Gate, Intake, Next, Standing, close_up, hang, read_some, tell, write_some};
+use crew::{Gate, Intake, Next, Standing, close_now, hang, read_some, tell, write_some};
 use hall::{Baton, Naming, Told};
 use mio::net::TcpStream;
 use mio::{Events, Interest, Poll, Token};
@@ -24,10 +24,7 @@ const READS: u32 = 1;
 /// How many sessions are opened before others have their turn.
 const OPENS: u32 = 16;
 
-/// Milliseconds between two tries to end a session that can't be ended yet.
-const PAUSE: u64 = 20;
-
-/// How many of them a shut session may take whose client takes nothing: five seconds.
+/// After how many pauses a shut session is ended whose client takes nothing: five seconds.
 const TRIES: u32 = 250;
 
 /// A client, whose session is open or whose last lines still go out.
@@ -317,7 +314,7 @@ impl<L: Naming, R: Wait + Clock + Copy + Drop> Worker<L, R> {
                     stub,
                     writer,
                 } = tokens;
-                match close_up(rt, server, baton, stub, writer, &mut self.told) {
+                match close_now(rt, server, baton, stub, writer, &mut self.told) {
                     Ok(_) => self.free_place(at, post),
                     Err((baton, stub, writer)) => {
                         let tokens = Tokens {

@@ -1,5 +1,5 @@
 use Rattle.crew.proofs.LinesRead.{reads_none}
-use Rattle.crew.proofs.reading.read_some.Goals as goal
+use Rattle.crew.proofs.reading.read_by.Goals as goal
 
 pub returns-in-Err-clause-lines : goal.returns-in-Err-clause-lines
 returns-in-Err-clause-lines g c =
