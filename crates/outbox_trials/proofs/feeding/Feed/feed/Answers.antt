@@ -12,7 +12,7 @@ use Rattle.outbox_trials.proofs.feeding.Feed.feed.Goals as goal
 pub put-requires : goal.put-requires
 put-requires g c =
     let number : c.new.result ≡ c.self.inside.count + 2 = c.new.ensures ∙ search rules in
-    let delivery : Lines c.new.result c.in_ok-copied.field-0 ≡ Lines (c.self.inside.count + 2) line = ap (λ (q : ℕ × List ℕ). Lines q.0 q.1) (λ i. (number i, c.in_ok-copied.ensures i)) in
+    let delivery : Lines c.new.result c.in_ok-new.field-0 ≡ Lines (c.self.inside.count + 2) line = ap (λ (q : ℕ × List ℕ). Lines q.0 q.1) (λ i. (number i, (c.in_ok-new.ensures ∙ c.in_ok-copied.ensures) i)) in
     let item = c.new-item.ensures in
     record {
       next = (ready_again _ _ _ _ _ c.self.invariant (item.delivery ∙ delivery) (item.session ∙ c.new-2.ensures) item.settings (item.front ∙ c.reserve.ensures.same.history)).0;
@@ -21,7 +21,7 @@ put-requires g c =
 pub invariant_of-self-in-Ok : goal.invariant_of-self-in-Ok
 invariant_of-self-in-Ok g c =
     let number : c.new.result ≡ c.self.inside.count + 2 = c.new.ensures ∙ search rules in
-    let delivery : Lines c.new.result c.in_ok-copied.field-0 ≡ Lines (c.self.inside.count + 2) line = ap (λ (q : ℕ × List ℕ). Lines q.0 q.1) (λ i. (number i, c.in_ok-copied.ensures i)) in
+    let delivery : Lines c.new.result c.in_ok-new.field-0 ≡ Lines (c.self.inside.count + 2) line = ap (λ (q : ℕ × List ℕ). Lines q.0 q.1) (λ i. (number i, (c.in_ok-new.ensures ∙ c.in_ok-copied.ensures) i)) in
     let item = c.new-item.ensures in
     let same = c.reserve.ensures.same.history in
     let ready = (ready_again _ _ _ _ _ c.self.invariant (item.delivery ∙ delivery) (item.session ∙ c.new-2.ensures) item.settings (item.front ∙ same)).1 in
