@@ -11,7 +11,7 @@ use wire::{Flow, Wire};
 
 /// A session's wire, on which whoever put something into the session's outbox writes at once. No call waits for another that
 /// writes: it leaves word instead, and the other writes once more. A stream that didn't take all is left alone until it is told to
-/// take more (`go_on`).
+/// take more (`go_on`). `checks/outlet` tries the three flags over all interleavings of a small model.
 #[derive(Drop)]
 pub struct Outlet<L: Naming, W: Write + Drop> {
     wire: Mutex<Option<Wire<L, W>>>,
@@ -50,19 +50,19 @@ impl<L: Naming, W: Write + Drop> Outlet<L, W> {
 
     /// The stream takes more: writes what waits, if it didn't take all before, or if a write is under way that may find so.
     pub fn go_on<R: Wait>(&self, rt: &R) -> Option<Result<Flow, WriteFault>> {
-        // In this order: who writes says first that it is behind, and then that it is done.
+        // Busy is looked at first: who writes says first that it is behind, and then that it is no longer busy.
         if !self.is_busy.load(Ordering::SeqCst) && !self.is_behind.load(Ordering::SeqCst) {
             return None;
         }
-        self.is_behind.store(false, Ordering::SeqCst);
         self.write(rt)
     }
 
+    /// Writes what waits, or has the thread do so that writes now.
     fn write<R: Wait>(&self, rt: &R) -> Option<Result<Flow, WriteFault>> {
         let mut flow = None;
+        // Said before the lock is asked for: who has it looks again when it has given it back.
         self.is_wanted.store(true, Ordering::SeqCst);
         for _ in rt.forever() {
-            // Looked at after the lock was given back: who didn't get it has said so before.
             if !self.is_wanted.load(Ordering::SeqCst) {
                 break;
             }
@@ -81,8 +81,11 @@ impl<L: Naming, W: Write + Drop> Outlet<L, W> {
     /// Writes what waits on the wire, which this thread has.
     fn pump<R: Wait>(&self, rt: &R, wire: &mut Wire<L, W>) -> Result<Flow, WriteFault> {
         self.is_busy.store(true, Ordering::SeqCst);
+        // Before anything is taken: who left what it put alone, since the stream was behind, has put it before.
+        self.is_behind.store(false, Ordering::SeqCst);
         let flow = wire.pump(rt);
         match flow {
+            // Before busy is taken back: the event that the stream takes more may have come already.
             Ok(Flow::Behind) => self.is_behind.store(true, Ordering::SeqCst),
             Ok(Flow::More) => self.is_wanted.store(true, Ordering::SeqCst),
             Ok(Flow::Idle | Flow::Ended) | Err(_) => {}
