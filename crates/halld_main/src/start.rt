@@ -3,7 +3,7 @@ use chronicle::Moment;
 use crew::Clock;
 use line_grammar::Octets;
 use registration::{AccountFault, Accounts, Motd, Settings, is_well_set};
-use serving::{OpenGate, ServeFault, SystemClock, listen, serve_on};
+use serving::{OpenGate, Options, ServeFault, SystemClock, listen, serve_with};
 use serving_options::{FileFault, ServeOptions, accounts_of, content_of, motd_of};
 use std::alloc::{AllocError, Global};
 use std::fmt;
@@ -143,7 +143,6 @@ where
     R: Copy + Drop + Send + Sync + 'static,
     I: Read + Send + Drop + 'static,
 {
-    let alloc = rt.alloc();
     let accounts = accounts(rt, options.accounts)?;
     let motd = message_of_the_day(rt, options.motd)?;
     let Ok(listener) = listen(rt, options.tcp) else {
@@ -154,20 +153,21 @@ where
         return Err(Ended::Settings);
     }
     let address = listener.local_addr().unwrap_or(options.tcp);
-    let _ = eprintln!(rt; "halld: listening on {address}");
-    let (limit, workers, sendq) = (options.limit, options.workers, options.sendq);
-    serve_on(
-        rt,
-        alloc,
-        listener,
+    if !options.is_quiet {
+        let _ = eprintln!(rt; "halld: listening on {address}");
+    }
+    let clock = SystemClock { rt: *rt };
+    let options = Options {
+        tcp: Some(listener),
         settings,
-        limit as usize,
-        workers as usize,
-        sendq as usize,
-        &OpenGate,
-        stop,
-    )
-    .map_err(|fault| match fault {
+        limit: options.limit as usize,
+        workers: options.workers as usize,
+        sendq: options.sendq as usize,
+        gate: &OpenGate,
+        clock: &clock,
+        is_quiet: options.is_quiet,
+    };
+    serve_with(rt, rt.alloc(), options, stop).map_err(|fault| match fault {
         ServeFault::BadSettings => Ended::Settings,
         ServeFault::JournalFull => Ended::JournalFull,
         ServeFault::Memory => Ended::Memory,

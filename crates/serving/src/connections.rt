@@ -10,7 +10,7 @@ use mio::net::TcpStream;
 use std::alloc::{AllocError, Global};
 use std::io::Write;
 use std::net::Shutdown;
-use std::sync::atomic::{AtomicBool, Ordering};
+use std::sync::atomic::{AtomicBool, AtomicU64, Ordering};
 use std::sync::{Arc, RwLock, Wait};
 use std::time::{Clock, Duration};
 use std::{io, thread};
@@ -93,6 +93,8 @@ pub(crate) struct Connections<L: Naming, R: Wait + Copy + Drop> {
     posts: Vec<Post>,
     stopping: Arc<Stopping>,
     is_closed: AtomicBool,
+    // Connections that were refused and aren't told of yet.
+    refused: AtomicU64,
 }
 
 impl<L: Naming, R: Wait + Copy + Drop> Connections<L, R> {
@@ -109,7 +111,26 @@ impl<L: Naming, R: Wait + Copy + Drop> Connections<L, R> {
             posts,
             stopping,
             is_closed: AtomicBool::new(false),
+            refused: AtomicU64::new(0),
         }
+    }
+
+    /// A connection is refused, which the thread that accepts tells of, unless the server is to stop.
+    pub(crate) fn refuse(&self) {
+        if !self.is_stopping() {
+            self.refused.fetch_add(1, Ordering::SeqCst);
+            self.stopping.wake();
+        }
+    }
+
+    /// How many connections were refused that weren't told of.
+    pub(crate) fn refused(&self) -> u64 {
+        self.refused.load(Ordering::SeqCst)
+    }
+
+    /// So many of them are told of.
+    pub(crate) fn tell_refused(&self) -> u64 {
+        self.refused.swap(0, Ordering::SeqCst)
     }
 
     /// The post of a worker.
@@ -126,8 +147,12 @@ impl<L: Naming, R: Wait + Copy + Drop> Connections<L, R> {
                 _ => best = Some(post),
             }
         }
-        if let Some(post) = best {
-            post.bring(&self.rt, arrival);
+        let is_left = match best {
+            Some(post) => post.bring(&self.rt, arrival),
+            None => false,
+        };
+        if !is_left {
+            self.refuse();
         }
     }
 

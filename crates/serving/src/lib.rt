@@ -1,6 +1,7 @@
 //! A server on sockets: who connects is a session, whose lines one of a few threads does; whoever puts something for it writes it.
 #![tactic(auto)]
 
+mod accepting;
 mod clock;
 mod connections;
 mod hosts;
@@ -10,5 +11,6 @@ mod serve;
 mod stopping;
 mod worker;
 
+pub use accepting::listen;
 pub use clock::SystemClock;
-pub use serve::{OpenGate, ServeFault, listen, serve_on};
+pub use serve::{OpenGate, Options, ServeFault, serve_on, serve_with};

@@ -2,11 +2,11 @@
 ghost use Rattle.std.specs.Prelude.{◌≡◌, true, Some, IfSome};
 ghost use Rattle.casemapping.specs.Names.{host_shape};
 
-use crate::clock::SystemClock;
 use crate::connections::{Connection, Shared, View};
 use crate::hosts::host_of;
 use chronicle::{Moment, SessionId};
 use crew::{Gate, Server, moment_in};
+use deliveries::write_out;
 use hall::{Baton, Hall, Naming, OpenRefusal, Stub};
 use line_grammar::Octets;
 use mio::net::TcpStream;
@@ -17,8 +17,11 @@ use std::sync::{Arc, Wait};
 use std::time::Clock;
 use wire::Wire;
 
+/// More deliveries than an outbox has room for.
+const REST: u32 = 4097;
+
 /// The server as one of its threads knows it.
-pub(crate) type Serving<'a, L, R, G> = Server<'a, L, R, G, View<'a, L, R>, SystemClock<R>>;
+pub(crate) type Serving<'a, L, R, G, C> = Server<'a, L, R, G, View<'a, L, R>, C>;
 
 /// A session's three tokens.
 #[derive(Drop)]
@@ -42,7 +45,7 @@ pub(crate) struct Opened<L: Naming, R: Wait + Drop> {
 #[derive(Drop)]
 pub(crate) enum Connected<L: Naming, R: Wait + Drop> {
     Wired(Baton<L, Sender<R>>, Arc<Connection<L>>),
-    Refused(Tokens<L, R>),
+    Refused(Opened<L, R>),
 }
 
 /// The host of a peer, twice.
@@ -78,10 +81,10 @@ fn open_or_roll<L: Naming, R: Wait + Drop>(
 }
 
 /// Opens a session for a peer, where the server takes one, whose connection is at this place.
-fn open<L: Naming, R: Wait + Clock + Copy + Drop, G: Gate>(
+fn open<L: Naming, R: Wait + Clock + Copy + Drop, G: Gate, C: crew::Clock>(
     rt: &R,
     alloc: Global,
-    server: &Serving<'_, L, R, G>,
+    server: &Serving<'_, L, R, G, C>,
     sendq: usize,
     stream: Arc<TcpStream>,
     place: usize,
@@ -103,7 +106,7 @@ fn open<L: Naming, R: Wait + Clock + Copy + Drop, G: Gate>(
     if all.is_stopping() || all.make_room().is_err() {
         return None;
     }
-    let moment = moment_in(&*hall, crew::Clock::now(server.clock));
+    let moment = moment_in(&*hall, server.clock.now());
     let (session, baton, stub) = open_or_roll(&mut *hall, host, &told, moment, sender)?;
     all.add(session, again);
     Some(Opened {
@@ -129,7 +132,11 @@ fn connect<L: Naming, R: Wait + Drop>(
         host,
     } = opened;
     let Some(shared) = Shared::of(&connection.stream) else {
-        return Connected::Refused(tokens);
+        return Connected::Refused(Opened {
+            tokens,
+            connection,
+            host,
+        });
     };
     let Tokens {
         baton,
@@ -141,19 +148,23 @@ fn connect<L: Naming, R: Wait + Drop>(
             connection.outlet.open(rt, wire);
             Connected::Wired(baton, connection)
         }
-        Err((writer, stub)) => Connected::Refused(Tokens {
-            baton,
-            stub,
-            writer,
+        Err((writer, stub, host)) => Connected::Refused(Opened {
+            tokens: Tokens {
+                baton,
+                stub,
+                writer,
+            },
+            connection,
+            host,
         }),
     }
 }
 
 /// Opens a session for a peer, where the server takes one, whose connection is at this place, with its wire.
-pub(crate) fn open_connected<L: Naming, R: Wait + Clock + Copy + Drop, G: Gate>(
+pub(crate) fn open_connected<L: Naming, R: Wait + Clock + Copy + Drop, G: Gate, C: crew::Clock>(
     rt: &R,
     alloc: Global,
-    server: &Serving<'_, L, R, G>,
+    server: &Serving<'_, L, R, G, C>,
     sendq: usize,
     stream: Arc<TcpStream>,
     place: usize,
@@ -161,4 +172,18 @@ pub(crate) fn open_connected<L: Naming, R: Wait + Clock + Copy + Drop, G: Gate>(
 ) -> Option<Connected<L, R>> {
     let opened = open(rt, alloc, server, sendq, stream, place, peer)?;
     Some(connect(rt, alloc, opened))
+}
+
+/// Writes what waits for a session that has no wire, as far as its stream takes it. It takes no memory.
+pub(crate) fn write_rest<L: Naming, R: Wait + Drop>(rt: &R, opened: &mut Opened<L, R>) {
+    let mut stream = &*opened.connection.stream;
+    for _ in 0..REST {
+        let Ok(item) = opened.tokens.writer.take_now(rt) else {
+            return;
+        };
+        let (_, written) = write_out(item.delivery(), opened.host.as_slice(), &mut stream);
+        if written.is_err() {
+            return;
+        }
+    }
 }

@@ -67,8 +67,8 @@ impl Post {
         let _ = self.waker.wake();
     }
 
-    /// Leaves a connection. Where there is no memory for it, it is closed.
-    pub(crate) fn bring<R: Wait>(&self, rt: &R, arrival: Arrival) {
+    /// Leaves a connection, and answers whether there was memory for it. Where there was none, it is closed.
+    pub(crate) fn bring<R: Wait>(&self, rt: &R, arrival: Arrival) -> bool {
         let mut mail = self.mail.lock(rt);
         let was_empty = mail.is_empty();
         let is_left = mail.arrivals.push(arrival).is_ok();
@@ -79,6 +79,7 @@ impl Post {
         if was_empty {
             self.wake();
         }
+        is_left
     }
 
     /// Has the worker look at a client, by another thread or by itself.

@@ -1,26 +1,27 @@
-//! Accepting connections.
+//! A server from its start to its end.
 ghost use Rattle.std.specs.Prelude.{◌≡◌, []};
 ghost use Rattle.serving.specs.declared.serve.ServeFault.TheVariants.{Memory};
 
+use crate::accepting::{accept_on, door_of};
 use crate::clock::SystemClock;
-use crate::connections::{Connections, PAUSE, View};
+use crate::connections::{Connections, View};
 use crate::opening::Serving;
-use crate::post::{Arrival, Post, WAKE};
+use crate::post::Post;
 use crate::stopping::{Stopping, read_to_end};
 use crate::worker::{Worker, events};
 use chronicle::{SessionId, Why};
 use crew::{Gate, Server, Sockets, moment_in};
 use hall::{BookFault, Hall, Naming, Register, Settings};
+use mio::Poll;
 use mio::net::TcpListener;
-use mio::{Events, Interest, Poll, Token, Waker};
 use outbox::{ChannelName, Sender};
 use std::alloc::{AllocError, Global};
 use std::io::{ErrorKind, Read};
 use std::marker::Brand;
-use std::net::{Net, SocketAddr};
+use std::net::Net;
 use std::sync::{Arc, Mutex, Wait};
 use std::thread::{Builder, Threads};
-use std::time::{Clock, Duration};
+use std::time::Clock;
 use std::{io, net, thread};
 
 /// Octets of a worker's stack.
@@ -54,10 +55,64 @@ impl From<BookFault> for ServeFault {
     }
 }
 
-/// How many lines of a session may be done before what they put is written: so few that what several sessions put has room in an
-/// outbox of so many items.
-fn burst_of(sendq: usize) -> usize {
-    (sendq / 16).clamp(1, 32)
+/// The most lines that a worker does before what they put is written.
+const MOST_LINES: usize = 32;
+
+/// How many lines a worker may do before what they put is written: so few that what all workers put together fills at most an eighth
+/// of an outbox for so many items, where it has room for so many.
+fn burst_of(sendq: usize, workers: usize) -> usize {
+    (sendq / 8 / workers.max(1)).clamp(1, MOST_LINES)
+}
+
+/// What a server is started with.
+#[derive(Drop)]
+pub struct Options<'a, G: Gate, C: crew::Clock> {
+    /// Where clients connect; nobody does where there is none.
+    pub tcp: Option<net::TcpListener>,
+    pub settings: Settings,
+    /// How many records its journal keeps, 1 to 10,000,000.
+    pub limit: usize,
+    /// How many threads do its clients' lines, 1 to 64.
+    pub workers: usize,
+    /// How many deliveries may wait for a session, 1 to 4,096.
+    pub sendq: usize,
+    /// What stands round the lines that are done in one hold of the lock.
+    pub gate: &'a G,
+    pub clock: &'a C,
+    /// Whether nothing is said of connections that are refused.
+    pub is_quiet: bool,
+}
+
+/// What all threads of a server share.
+#[derive(Drop)]
+struct House<'a, L: Naming, R: Wait + Clock + Copy + Drop, G: Gate, C: crew::Clock> {
+    hall: &'a Mutex<Hall<L, Sender<R>>>,
+    connections: &'a Connections<L, R>,
+    gate: &'a G,
+    clock: &'a C,
+    sendq: usize,
+    burst: usize,
+}
+
+impl<'a, L: Naming, R: Wait + Clock + Copy + Drop, G: Gate, C: crew::Clock> House<'a, L, R, G, C> {
+    /// The connections as this worker knows them; a thread that is no worker where it is beyond their number.
+    fn view(&self, worker: usize) -> View<'a, L, R> {
+        View {
+            all: self.connections,
+            worker,
+        }
+    }
+
+    /// The server as a thread knows it by its view.
+    fn server(&self, view: &'a View<'a, L, R>) -> Serving<'a, L, R, G, C> {
+        Server {
+            hall: self.hall,
+            gate: self.gate,
+            sockets: view,
+            clock: self.clock,
+            burst: self.burst,
+        }
+    }
 }
 
 /// A gate that is always open.
@@ -71,149 +126,84 @@ impl Gate for OpenGate {
 }
 
 /// Ends a session that is open, since the server stops, and answers whether there was one.
-fn hang_next<L: Naming, R: Wait + Clock + Copy + Drop, G: Gate>(
+fn hang_next<L: Naming, R: Wait + Clock + Copy + Drop, G: Gate, C: crew::Clock>(
     rt: &R,
-    server: &Serving<'_, L, R, G>,
+    server: &Serving<'_, L, R, G, C>,
 ) -> bool {
     let mut hall = server.hall.lock(rt);
     let Some(session) = server.sockets.all.any_open() else {
         return false;
     };
-    let moment = moment_in(&*hall, crew::Clock::now(server.clock));
+    let moment = moment_in(&*hall, server.clock.now());
     let _ = hall.hang(session, Why::Shutdown, moment);
     drop(hall);
     server.sockets.shut(session);
     true
 }
 
-/// Accepts all who wait to connect, and answers whether that is all: where it isn't, the system refuses one for now.
-fn accept_all<L: Naming, R: Wait + Copy + Drop>(
-    rt: &R,
-    connections: &Connections<L, R>,
-    listener: &TcpListener,
-) -> bool {
-    for _ in rt.forever() {
-        if connections.is_stopping() {
-            break;
-        }
-        match listener.accept() {
-            Ok((stream, peer)) => connections.bring(Arrival { stream, peer }),
-            Err(error) => match error.kind() {
-                ErrorKind::WouldBlock => break,
-                ErrorKind::Interrupted | ErrorKind::ConnectionAborted => {}
-                _ => return false,
-            },
-        }
-    }
-    true
-}
-
-/// Accepts connections until the server is asked to stop.
-fn accept_on<L: Naming, R: Wait + Clock + Copy + Drop>(
-    rt: &R,
-    alloc: Global,
-    connections: &Connections<L, R>,
-    poll: &mut Poll,
-    listener: &TcpListener,
-) {
-    let Ok(mut events) = Events::with_capacity(alloc, 4) else {
-        return;
-    };
-    for _ in rt.forever() {
-        let is_all = accept_all(rt, connections, listener);
-        if connections.is_stopping() {
-            break;
-        }
-        let wait = if is_all {
-            None
-        } else {
-            Some(Duration::from_millis(PAUSE))
-        };
-        if poll.poll(&mut events, wait).is_err() {
-            thread::sleep(rt, Duration::from_millis(PAUSE));
-        }
-    }
-}
-
 /// Serves as one of the workers.
-fn work_on<L: Naming, R: Wait + Clock + Copy + Drop, G: Gate>(
+fn work_on<L: Naming, R: Wait + Clock + Copy + Drop, G: Gate, C: crew::Clock>(
     rt: &R,
     alloc: Global,
-    server: &Serving<'_, L, R, G>,
-    sendq: usize,
+    house: &House<'_, L, R, G, C>,
+    worker: usize,
     poll: Poll,
 ) {
     let Ok(mut events) = events(alloc) else {
         return;
     };
-    let Some(post) = server.sockets.all.post(server.sockets.worker) else {
+    let Some(post) = house.connections.post(worker) else {
         return;
     };
-    let mut worker = Worker::new(alloc, poll, sendq);
-    worker.serve(rt, server, post, &mut events);
+    let view = house.view(worker);
+    let server = house.server(&view);
+    Worker::new(alloc, poll, house.sendq).serve(rt, &server, post, &mut events);
+}
+
+/// Ends all sessions, since the server stops, and has the workers end.
+fn end_all<L: Naming, R: Wait + Clock + Copy + Drop, G: Gate, C: crew::Clock>(
+    rt: &R,
+    house: &House<'_, L, R, G, C>,
+) {
+    let view = house.view(usize::MAX);
+    let server = house.server(&view);
+    for _ in rt.forever() {
+        if !hang_next(rt, &server) {
+            break;
+        }
+    }
+    house.connections.close();
 }
 
 /// Has a thread for each of the workers, accepts connections until the server is asked to stop, then ends all sessions, and waits
 /// for the threads. It answers whether all could be started.
 fn run_on<
     L: Naming + Send + Sync,
-    R: Threads + Wait + Clock + Copy + Drop + Send + Sync,
+    R: Threads + Wait + Clock + Eprint + Copy + Drop + Send + Sync,
     G: Gate + Sync,
+    C: crew::Clock + Sync,
 >(
     rt: &R,
     alloc: Global,
-    hall: &Mutex<Hall<L, Sender<R>>>,
-    connections: &Connections<L, R>,
-    gate: &G,
-    sendq: usize,
+    house: &House<'_, L, R, G, C>,
     polls: Vec<Poll>,
     poll: &mut Poll,
-    listener: &TcpListener,
+    listener: Option<&TcpListener>,
+    is_quiet: bool,
 ) -> bool {
     thread::scope(thread::scope_env(), rt, |scope| {
         let mut are_started = true;
         for (worker, poll) in polls.into_iter().enumerate() {
             let started = Builder::new()
                 .stack_size(STACK)
-                .spawn_scoped(scope, move || {
-                    let view = View {
-                        all: connections,
-                        worker,
-                    };
-                    let clock = SystemClock { rt: *rt };
-                    let server = Server {
-                        hall,
-                        gate,
-                        sockets: &view,
-                        clock: &clock,
-                        burst: burst_of(sendq),
-                    };
-                    work_on(rt, alloc, &server, sendq, poll)
-                });
+                .spawn_scoped(scope, move || work_on(rt, alloc, house, worker, poll));
             are_started = are_started && started.is_ok();
             drop(started);
         }
         if are_started {
-            accept_on(rt, alloc, connections, poll, listener);
+            accept_on(rt, alloc, house.connections, poll, listener, is_quiet);
         }
-        let view = View {
-            all: connections,
-            worker: usize::MAX,
-        };
-        let clock = SystemClock { rt: *rt };
-        let server = Server {
-            hall,
-            gate,
-            sockets: &view,
-            clock: &clock,
-            burst: burst_of(sendq),
-        };
-        for _ in rt.forever() {
-            if !hang_next(rt, &server) {
-                break;
-            }
-        }
-        connections.close();
+        end_all(rt, house);
         are_started
     })
 }
@@ -230,104 +220,157 @@ fn workers_of<R: Net>(rt: &R, alloc: Global, workers: usize) -> io::Result<(Vec<
     Ok((polls, posts))
 }
 
-/// What a thread waits by that accepts from a listener, and how it is asked to stop.
-fn door_of<R: Net>(rt: &R, listener: &mut TcpListener) -> io::Result<(Poll, Stopping)> {
-    let poll = Poll::new(rt)?;
-    poll.registry()
-        .register(listener, Token(0), Interest::READABLE)?;
-    let stopping = Stopping::new(Waker::new(poll.registry(), WAKE)?);
-    Ok((poll, stopping))
+/// A listener that doesn't wait, where there is one.
+fn without_waiting(listener: Option<net::TcpListener>) -> io::Result<Option<TcpListener>> {
+    let Some(listener) = listener else {
+        return Ok(None);
+    };
+    listener.set_nonblocking(true)?;
+    Ok(Some(TcpListener::from_std(listener)))
 }
 
-/// Listens on an address, for as many at once who connect as the system lets wait.
-///
-/// # Errors
-///
-/// Those of the system.
-pub fn listen<R: Net>(rt: &R, address: SocketAddr) -> io::Result<net::TcpListener> {
-    Ok(net::TcpListener::from(TcpListener::bind(rt, address)?))
+/// What a server waits by.
+#[derive(Drop)]
+struct Doors {
+    listener: Option<TcpListener>,
+    poll: Poll,
+    polls: Vec<Poll>,
+    posts: Vec<Post>,
+    stopping: Arc<Stopping>,
+}
+
+/// What a server waits by that has so many workers.
+fn doors_of<R: Net>(
+    rt: &R,
+    alloc: Global,
+    tcp: Option<net::TcpListener>,
+    workers: usize,
+) -> io::Result<Doors> {
+    let mut listener = without_waiting(tcp)?;
+    let (polls, posts) = workers_of(rt, alloc, workers)?;
+    let (poll, stopping) = door_of(rt, listener.as_mut())?;
+    let Ok(stopping) = Arc::new(alloc, stopping) else {
+        return Err(io::Error::from(ErrorKind::OutOfMemory));
+    };
+    Ok(Doors {
+        listener,
+        poll,
+        polls,
+        posts,
+        stopping,
+    })
+}
+
+/// Has a thread read an input, which asks the server to stop at its end. It answers whether that could be started.
+fn has_stop<R: Threads + 'static, I: Read + Send + Drop + 'static>(
+    rt: &R,
+    stop: I,
+    asked: Arc<Stopping>,
+) -> bool {
+    let started = thread::spawn(rt, move || {
+        read_to_end(stop);
+        asked.ask();
+    });
+    started.is_ok()
 }
 
 /// Serves by a register of its own.
 fn serve_named<
     L: Naming + Send + Sync,
-    R: Threads + Wait + Clock + Net + Copy + Drop + Send + Sync + 'static,
+    R: Threads + Wait + Clock + Net + Eprint + Copy + Drop + Send + Sync + 'static,
     G: Gate + Sync,
+    C: crew::Clock + Sync,
     I: Read + Send + Drop + 'static,
 >(
     rt: &R,
     alloc: Global,
     register: Register<ChannelName>,
-    listener: TcpListener,
-    settings: Settings,
-    limit: usize,
-    workers: usize,
-    sendq: usize,
-    gate: &G,
+    options: Options<'_, G, C>,
     stop: I,
 ) -> Result<(), ServeFault>
     requires named { register.table ≡ L.table }
     requires new { register.rows ≡ [] }
 {
-    let hall: Hall<L, Sender<R>> = Hall::new(alloc, register, settings, limit)?;
+    let (workers, sendq, is_quiet) = (options.workers, options.sendq, options.is_quiet);
+    let hall: Hall<L, Sender<R>> = Hall::new(alloc, register, options.settings, options.limit)?;
     let hall = Mutex::new(hall);
-    let mut listener = listener;
-    let Ok((polls, posts)) = workers_of(rt, alloc, workers) else {
+    let Ok(doors) = doors_of(rt, alloc, options.tcp, workers) else {
         return Err(ServeFault::Memory);
     };
-    let Ok((mut poll, stopping)) = door_of(rt, &mut listener) else {
-        return Err(ServeFault::Memory);
-    };
-    let Ok(stopping) = Arc::new(alloc, stopping) else {
-        return Err(ServeFault::Memory);
-    };
-    let asked = Arc::try_clone(&stopping)?;
-    let connections = Connections::new(*rt, alloc, posts, Arc::try_clone(&stopping)?);
-    let Ok(waiting) = thread::spawn(rt, move || {
-        read_to_end(stop);
-        asked.ask();
-    }) else {
-        return Err(ServeFault::Memory);
-    };
-    drop(waiting);
-    let are_started = run_on(
-        rt,
-        alloc,
-        &hall,
-        &connections,
-        gate,
-        sendq,
+    let Doors {
+        listener,
+        mut poll,
         polls,
-        &mut poll,
-        &listener,
-    );
-    if stopping.is_full() {
-        Err(ServeFault::JournalFull)
-    } else if are_started {
-        Ok(())
-    } else {
-        Err(ServeFault::Memory)
+        posts,
+        stopping,
+    } = doors;
+    let connections = Connections::new(*rt, alloc, posts, Arc::try_clone(&stopping)?);
+    if !has_stop(rt, stop, Arc::try_clone(&stopping)?) {
+        return Err(ServeFault::Memory);
     }
+    let house = House {
+        hall: &hall,
+        connections: &connections,
+        gate: options.gate,
+        clock: options.clock,
+        sendq,
+        burst: burst_of(sendq, workers),
+    };
+    let listener = listener.as_ref();
+    if !run_on(rt, alloc, &house, polls, &mut poll, listener, is_quiet) {
+        return Err(ServeFault::Memory);
+    }
+    if stopping.is_full() {
+        return Err(ServeFault::JournalFull);
+    }
+    Ok(())
 }
 
-/// Serves whoever connects to a listener, until `stop` ends or fails.
+/// Serves whoever connects, until `stop` ends or fails.
 ///
-/// Each line is done by one of so many workers, 1 to 64, between two calls of the gate; so many items may wait for a session, 1 to
-/// 4,096, and so many records the journal may have, 1 to 10,000,000. Who connects is a session, whose host is its address; a
-/// connection that isn't taken is closed without a line. At the end every session is told that the server shuts down, and all
-/// threads are joined but the one that reads `stop`.
+/// Each line is done by one of the workers, between two calls of the gate. Who connects is a session, whose host is its address; a
+/// connection that isn't taken is closed without a line, and told of on standard error: how many there were, at most once a second,
+/// unless the server is to be quiet. At the end every session is told that the server shuts down, and all threads are joined but
+/// the one that reads `stop`.
 ///
 /// # Errors
 ///
-/// Where settings or numbers are beyond their limits, where the journal is full, and where a growth was refused at the start.
+/// Where settings or numbers are beyond their limits, where a journal that was rolled is full still, and where a growth was refused
+/// at the start.
+pub fn serve_with<
+    R: Threads + Wait + Clock + Net + Eprint + Copy + Drop + Send + Sync + 'static,
+    G: Gate + Sync,
+    C: crew::Clock + Sync,
+    I: Read + Send + Drop + 'static,
+>(
+    rt: &R,
+    alloc: Global,
+    options: Options<'_, G, C>,
+    stop: I,
+) -> Result<(), ServeFault> {
+    let (workers, sendq) = (options.workers, options.sendq);
+    if workers < 1 || 64 < workers || sendq < 1 || 4096 < sendq {
+        return Err(ServeFault::BadSettings);
+    }
+    let register = Register::new(alloc)?;
+    serve_named::<Brand, R, G, C, I>(rt, alloc, register, options, stop)
+}
+
+/// Serves whoever connects to `tcp`, as `serve_with` does by the machine's clock. `ws` is for WebSocket, which isn't served
+/// yet: with a listener there it is BadSettings.
+///
+/// # Errors
+///
+/// Those of `serve_with`.
 pub fn serve_on<
-    R: Threads + Wait + Clock + Net + Copy + Drop + Send + Sync + 'static,
+    R: Threads + Wait + Clock + Net + Eprint + Copy + Drop + Send + Sync + 'static,
     G: Gate + Sync,
     I: Read + Send + Drop + 'static,
 >(
     rt: &R,
     alloc: Global,
-    listener: net::TcpListener,
+    tcp: Option<net::TcpListener>,
+    ws: Option<net::TcpListener>,
     settings: Settings,
     limit: usize,
     workers: usize,
@@ -335,15 +378,19 @@ pub fn serve_on<
     gate: &G,
     stop: I,
 ) -> Result<(), ServeFault> {
-    if workers < 1 || 64 < workers || sendq < 1 || 4096 < sendq {
+    if ws.is_some() {
         return Err(ServeFault::BadSettings);
     }
-    if listener.set_nonblocking(true).is_err() {
-        return Err(ServeFault::Memory);
-    }
-    let listener = TcpListener::from_std(listener);
-    let register = Register::new(alloc)?;
-    serve_named::<Brand, R, G, I>(
-        rt, alloc, register, listener, settings, limit, workers, sendq, gate, stop,
-    )
+    let clock = SystemClock { rt: *rt };
+    let options = Options {
+        tcp,
+        settings,
+        limit,
+        workers,
+        sendq,
+        gate,
+        clock: &clock,
+        is_quiet: false,
+    };
+    serve_with(rt, alloc, options, stop)
 }

@@ -24,6 +24,11 @@ impl Stopping {
     /// Asks the server to stop.
     pub(crate) fn ask(&self) {
         self.is_asked.store(true, Ordering::SeqCst);
+        self.wake();
+    }
+
+    /// Wakes the thread that accepts.
+    pub(crate) fn wake(&self) {
         let _ = self.waker.wake();
     }
 

@@ -2,7 +2,7 @@
 ghost use Rattle.std.specs.Prelude.{◌≡◌};
 
 use crate::connections::{Connection, PAUSE};
-use crate::opening::{Connected, Serving, Tokens, open_connected};
+use crate::opening::{Connected, Opened, Serving, Tokens, open_connected, write_rest};
 use crate::post::{Arrival, Mail, Post, WAKE};
 use chronicle::Why;
 use crew::{Gate, Intake, Next, Standing, close_now, hang, read_some, tell, write_some};
@@ -75,9 +75,9 @@ pub(crate) struct Worker<L: Naming, R: Wait + Drop> {
 
 /// Has lines of a client done until no more are there, and answers whether more may be. `has_ended` says that its input has an end,
 /// up to which it is read.
-fn read_client<L: Naming, R: Wait + Clock + Copy + Drop, G: Gate>(
+fn read_client<L: Naming, R: Wait + Clock + Copy + Drop, G: Gate, C: crew::Clock>(
     rt: &R,
-    server: &Serving<'_, L, R, G>,
+    server: &Serving<'_, L, R, G, C>,
     client: Client<L, R>,
     has_ended: bool,
     told: &mut Told,
@@ -185,10 +185,10 @@ impl<L: Naming, R: Wait + Clock + Copy + Drop> Worker<L, R> {
     }
 
     /// Reads a client, and has it read again after others where more may be there.
-    fn read_at<G: Gate>(
+    fn read_at<G: Gate, C: crew::Clock>(
         &mut self,
         rt: &R,
-        server: &Serving<'_, L, R, G>,
+        server: &Serving<'_, L, R, G, C>,
         at: usize,
         client: Client<L, R>,
         has_ended: bool,
@@ -202,10 +202,10 @@ impl<L: Naming, R: Wait + Clock + Copy + Drop> Worker<L, R> {
     }
 
     /// Sees to a client that something happened to.
-    fn see_to<G: Gate>(
+    fn see_to<G: Gate, C: crew::Clock>(
         &mut self,
         rt: &R,
-        server: &Serving<'_, L, R, G>,
+        server: &Serving<'_, L, R, G, C>,
         at: usize,
         is_writable: bool,
         is_readable: bool,
@@ -227,7 +227,7 @@ impl<L: Naming, R: Wait + Clock + Copy + Drop> Worker<L, R> {
     }
 
     /// Reads those again who may have more to be read.
-    fn read_more<G: Gate>(&mut self, rt: &R, server: &Serving<'_, L, R, G>) {
+    fn read_more<G: Gate, C: crew::Clock>(&mut self, rt: &R, server: &Serving<'_, L, R, G, C>) {
         let more = mem::replace(&mut self.more, Vec::new(self.alloc));
         for at in more.iter() {
             self.see_to(rt, server, *at, false, true, true);
@@ -235,10 +235,10 @@ impl<L: Naming, R: Wait + Clock + Copy + Drop> Worker<L, R> {
     }
 
     /// Ends the connection of a session that nothing more is written for.
-    fn end<G: Gate>(
+    fn end<G: Gate, C: crew::Clock>(
         &mut self,
         rt: &R,
-        server: &Serving<'_, L, R, G>,
+        server: &Serving<'_, L, R, G, C>,
         post: &Post,
         at: usize,
         client: Client<L, R>,
@@ -265,10 +265,10 @@ impl<L: Naming, R: Wait + Clock + Copy + Drop> Worker<L, R> {
     }
 
     /// Looks at a client: whether its session's writing is over, and so it is to be ended.
-    fn look<G: Gate>(
+    fn look<G: Gate, C: crew::Clock>(
         &mut self,
         rt: &R,
-        server: &Serving<'_, L, R, G>,
+        server: &Serving<'_, L, R, G, C>,
         post: &Post,
         at: usize,
         is_pause: bool,
@@ -306,7 +306,7 @@ impl<L: Naming, R: Wait + Clock + Copy + Drop> Worker<L, R> {
     }
 
     /// Gives a session up, or tries that again after a pause.
-    fn close<G: Gate>(&mut self, rt: &R, server: &Serving<'_, L, R, G>, post: &Post, at: usize) {
+    fn close<G: Gate, C: crew::Clock>(&mut self, rt: &R, server: &Serving<'_, L, R, G, C>, post: &Post, at: usize) {
         match self.take(at) {
             Place::Leaving(tokens) => {
                 let Tokens {
@@ -332,7 +332,7 @@ impl<L: Naming, R: Wait + Clock + Copy + Drop> Worker<L, R> {
     }
 
     /// Gives up all sessions that are to be given up now.
-    fn close_those<G: Gate>(&mut self, rt: &R, server: &Serving<'_, L, R, G>, post: &Post) {
+    fn close_those<G: Gate, C: crew::Clock>(&mut self, rt: &R, server: &Serving<'_, L, R, G, C>, post: &Post) {
         let closing = mem::replace(&mut self.closing, Vec::new(self.alloc));
         for at in closing.iter() {
             self.close(rt, server, post, *at);
@@ -361,11 +361,28 @@ impl<L: Naming, R: Wait + Clock + Copy + Drop> Worker<L, R> {
         }
     }
 
-    /// Opens a session for who connected, at a place. It answers whether the place is taken now.
-    fn open_at<G: Gate>(
+    /// Ends a session whose connection got no wire: it is told why, as far as its stream takes that.
+    fn turn_away<G: Gate, C: crew::Clock>(
         &mut self,
         rt: &R,
-        server: &Serving<'_, L, R, G>,
+        server: &Serving<'_, L, R, G, C>,
+        at: usize,
+        opened: Opened<L, R>,
+    ) {
+        let mut opened = opened;
+        let session = opened.tokens.baton.session();
+        hang(rt, server, session, Why::Memory, &mut self.told);
+        server.sockets.all.remove(session);
+        write_rest(rt, &mut opened);
+        opened.connection.end();
+        self.leave(at, opened.tokens);
+    }
+
+    /// Opens a session for who connected, at a place. It answers whether the place is taken now.
+    fn open_at<G: Gate, C: crew::Clock>(
+        &mut self,
+        rt: &R,
+        server: &Serving<'_, L, R, G, C>,
         at: usize,
         arrival: Arrival,
     ) -> bool {
@@ -388,11 +405,8 @@ impl<L: Naming, R: Wait + Clock + Copy + Drop> Worker<L, R> {
                 self.put(at, Place::Held(client));
                 true
             }
-            Some(Connected::Refused(tokens)) => {
-                let session = tokens.baton.session();
-                hang(rt, server, session, Why::Memory, &mut self.told);
-                server.sockets.all.remove(session);
-                self.leave(at, tokens);
+            Some(Connected::Refused(opened)) => {
+                self.turn_away(rt, server, at, opened);
                 true
             }
             None => false,
@@ -400,15 +414,16 @@ impl<L: Naming, R: Wait + Clock + Copy + Drop> Worker<L, R> {
     }
 
     /// Serves who connected, where the server takes one.
-    fn open<G: Gate>(
+    fn open<G: Gate, C: crew::Clock>(
         &mut self,
         rt: &R,
-        server: &Serving<'_, L, R, G>,
+        server: &Serving<'_, L, R, G, C>,
         post: &Post,
         arrival: Arrival,
     ) {
         let Ok(at) = self.free_one() else {
             post.one_less();
+            server.sockets.all.refuse();
             return;
         };
         self.live = self.live.saturating_add(1);
@@ -417,11 +432,12 @@ impl<L: Naming, R: Wait + Clock + Copy + Drop> Worker<L, R> {
             self.look(rt, server, post, at, false);
         } else {
             self.free_place(at, post);
+            server.sockets.all.refuse();
         }
     }
 
     /// Does what others left, and answers whether there was anything.
-    fn do_mail<G: Gate>(&mut self, rt: &R, server: &Serving<'_, L, R, G>, post: &Post) -> bool {
+    fn do_mail<G: Gate, C: crew::Clock>(&mut self, rt: &R, server: &Serving<'_, L, R, G, C>, post: &Post) -> bool {
         let mut mail = mem::replace(&mut self.mail, Mail::new(self.alloc));
         post.swap(rt, &mut mail);
         let mut is_any = mail.is_all;
@@ -441,6 +457,7 @@ impl<L: Naming, R: Wait + Clock + Copy + Drop> Worker<L, R> {
             if let Some(arrival) = mail.arrivals.pop() {
                 if self.arrivals.push(arrival).is_err() {
                     post.one_less();
+                    server.sockets.all.refuse();
                 }
             }
         }
@@ -449,7 +466,7 @@ impl<L: Naming, R: Wait + Clock + Copy + Drop> Worker<L, R> {
     }
 
     /// Opens sessions for some who connected.
-    fn open_some<G: Gate>(&mut self, rt: &R, server: &Serving<'_, L, R, G>, post: &Post) {
+    fn open_some<G: Gate, C: crew::Clock>(&mut self, rt: &R, server: &Serving<'_, L, R, G, C>, post: &Post) {
         for _ in 0..OPENS {
             let Some(arrival) = self.arrivals.pop() else {
                 return;
@@ -459,7 +476,7 @@ impl<L: Naming, R: Wait + Clock + Copy + Drop> Worker<L, R> {
     }
 
     /// Does what others left and gives up whose session is to be, until nothing is left to do now.
-    fn settle<G: Gate>(&mut self, rt: &R, server: &Serving<'_, L, R, G>, post: &Post) {
+    fn settle<G: Gate, C: crew::Clock>(&mut self, rt: &R, server: &Serving<'_, L, R, G, C>, post: &Post) {
         for _ in rt.forever() {
             tell(server, &mut self.told);
             if !self.do_mail(rt, server, post) && self.closing.is_empty() {
@@ -490,7 +507,7 @@ impl<L: Naming, R: Wait + Clock + Copy + Drop> Worker<L, R> {
     }
 
     /// Looks again at those who were to be after a pause.
-    fn try_again<G: Gate>(&mut self, rt: &R, server: &Serving<'_, L, R, G>, post: &Post) {
+    fn try_again<G: Gate, C: crew::Clock>(&mut self, rt: &R, server: &Serving<'_, L, R, G, C>, post: &Post) {
         if !self.is_waiting() || !self.is_pause_over(rt) {
             return;
         }
@@ -520,10 +537,10 @@ impl<L: Naming, R: Wait + Clock + Copy + Drop> Worker<L, R> {
     }
 
     /// Serves until the server is closed and no client is left.
-    pub(crate) fn serve<G: Gate>(
+    pub(crate) fn serve<G: Gate, C: crew::Clock>(
         &mut self,
         rt: &R,
-        server: &Serving<'_, L, R, G>,
+        server: &Serving<'_, L, R, G, C>,
         post: &Post,
         events: &mut Events,
     ) {

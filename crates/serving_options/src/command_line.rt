@@ -29,12 +29,14 @@ pub struct ServeOptions<'a> {
     pub workers: u64,
     /// How many items may wait for a session, 1 to 4,096.
     pub sendq: u64,
-    /// How many records the journal may have, 1 to 10,000,000.
+    /// How many records the journal keeps, 1 to 10,000,000.
     pub limit: u64,
     /// The file of the accounts.
     pub accounts: Option<&'a str>,
     /// The file of the message of the day.
     pub motd: Option<&'a str>,
+    /// Whether it says nothing of where it listens and whom it refuses.
+    pub is_quiet: bool,
 }
 
 /// An option that takes a value.
@@ -70,9 +72,10 @@ fn serve_command<'a>(alloc: Global) -> Result<Command<'a>, AllocError> {
     let name = option(alloc, "name", "HOST", "The server's name");
     let workers = "Lines that are worked on at a time, 1 to 64";
     let sendq = "Items that may wait for a session, 1 to 4096";
-    let limit = "Records of the journal, 1 to 10000000";
+    let limit = "Records that the journal keeps, 1 to 10000000";
     let accounts = "Accounts, a line NAME SALT DIGEST each";
     let motd = "The message of the day";
+    let quiet = "Don't say where it listens, nor whom it refuses";
     Command::new(alloc, "serve")
         .about("Serve clients until standard input ends")
         .arg(tcp.required(true))?
@@ -81,7 +84,13 @@ fn serve_command<'a>(alloc: Global) -> Result<Command<'a>, AllocError> {
         .arg(number(alloc, "sendq", (1, 4096), "256", sendq))?
         .arg(number(alloc, "limit", (1, 10_000_000), "1000000", limit))?
         .arg(option(alloc, "accounts", "FILE", accounts))?
-        .arg(option(alloc, "motd", "FILE", motd))
+        .arg(option(alloc, "motd", "FILE", motd))?
+        .arg(
+            Arg::new(alloc, "quiet")
+                .long("quiet")
+                .action(ArgAction::SetTrue)
+                .help(quiet),
+        )
 }
 
 /// The whole command line, where this is told of scripts.
@@ -132,6 +141,7 @@ fn serve_options<'a>(alloc: Global, matches: &ArgMatches<'a>) -> Result<ServeOpt
         limit: within(matches.get_one("limit"), (1, 10_000_000), 1_000_000),
         accounts: matches.get_str("accounts"),
         motd: matches.get_str("motd"),
+        is_quiet: matches.get_flag("quiet"),
     })
 }
 

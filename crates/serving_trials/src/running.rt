@@ -35,7 +35,7 @@ pub(crate) fn is_served<R>(
     story: Story,
 ) -> io::Result<bool>
 where
-    R: Threads + Wait + Clock + Net<Listener = TcpListener, Stream = TcpStream>,
+    R: Threads + Wait + Clock + Net<Listener = TcpListener, Stream = TcpStream> + Eprint,
     R: Copy + Drop + Send + Sync + 'static,
 {
     let listener = TcpListener::bind(rt, (IpAddr::V4(Ipv4Addr::new(127, 0, 0, 1)), 0))?;
@@ -53,7 +53,8 @@ where
     };
     let served = thread::scope(thread::scope_env(), rt, |scope| {
         let serving = scope.spawn(move || {
-            serve_on(rt, alloc, listener, settings, 1000, 2, 16, gate, stop).is_ok()
+            let tcp = Some(listener);
+            serve_on(rt, alloc, tcp, None, settings, 1000, 2, 16, gate, stop).is_ok()
         });
         let heard = talk(rt, alloc, address, gate, story).unwrap_or(false);
         has_ended.store(true, Ordering::SeqCst);

@@ -61,14 +61,14 @@ impl<L: Naming, W: Write + Drop> Model for Wire<L, W> {
 }
 
 impl<L: Naming, W: Write + Drop> Wire<L, W> {
-    /// A wire of a session that has this host, by its writer and its stub. Where there is no memory for it, both come back.
+    /// A wire of a session that has this host, by its writer and its stub. Where there is no memory for it, the three come back.
     pub fn new(
         alloc: Global,
         writer: Writer,
         stub: Stub<L, ChannelName>,
         stream: W,
         host: Octets,
-    ) -> Result<Wire<L, W>, (Writer, Stub<L, ChannelName>)>
+    ) -> Result<Wire<L, W>, (Writer, Stub<L, ChannelName>, Octets)>
         requires own { stub.outbox ≡ Some writer.channel }
         ensures taken { IfOk result (λ w. w.taken ≡ writer.taken) }
         ensures channel { IfOk result (λ w. w.channel ≡ writer.channel) }
@@ -77,12 +77,12 @@ impl<L: Naming, W: Write + Drop> Wire<L, W> {
         ensures told_before { IfOk result (λ w. w.told_before ≡ W.contents stream) }
         ensures whole { IfOk result (λ w. w.is_broken ≡ false) }
         ensures session { IfOk result (λ w. w.session ≡ stub.session) }
-        ensures err { IfErr result (λ e. (e.0 ≡ writer) × (e.1 ≡ stub)) }
+        ensures err { IfErr result (λ e. (e.0 ≡ writer) × (e.1 ≡ stub) × (e.2 ≡ host)) }
     {
         let writer_before = Snapshot::of(&writer);
         let stream_before = Snapshot::of(&stream);
         let Ok(out) = Gathered::new(alloc, stream) else {
-            return Err((writer, stub));
+            return Err((writer, stub, host));
         };
         Ok(Wire {
             writer,

@@ -1,0 +1,120 @@
+//! Accepting connections.
+use crate::connections::{Connections, PAUSE};
+use crate::post::{Arrival, WAKE};
+use crate::stopping::Stopping;
+use hall::Naming;
+use mio::net::TcpListener;
+use mio::{Events, Interest, Poll, Token, Waker};
+use std::alloc::Global;
+use std::io::ErrorKind;
+use std::net::{Net, SocketAddr};
+use std::sync::Wait;
+use std::time::{Clock, Duration, Instant};
+use std::{io, net, thread};
+
+/// Seconds between two lines about connections that were refused.
+const BETWEEN: u64 = 1;
+
+/// Accepts all who wait to connect, and answers whether that is all: where it isn't, the system refuses one for now.
+fn accept_all<L: Naming, R: Wait + Copy + Drop>(
+    rt: &R,
+    connections: &Connections<L, R>,
+    listener: Option<&TcpListener>,
+) -> bool {
+    let Some(listener) = listener else {
+        return true;
+    };
+    for _ in rt.forever() {
+        if connections.is_stopping() {
+            break;
+        }
+        match listener.accept() {
+            Ok((stream, peer)) => connections.bring(Arrival { stream, peer }),
+            Err(error) => match error.kind() {
+                ErrorKind::WouldBlock => break,
+                ErrorKind::Interrupted | ErrorKind::ConnectionAborted => {}
+                _ => return false,
+            },
+        }
+    }
+    true
+}
+
+/// Tells of connections that were refused, where some were and the last line about some is long enough ago. It answers whether there
+/// is nothing more to tell.
+fn tell_refused<L: Naming, R: Wait + Clock + Eprint + Copy + Drop>(
+    rt: &R,
+    connections: &Connections<L, R>,
+    told: &mut Option<Instant>,
+) -> bool {
+    if connections.refused() == 0 {
+        return true;
+    }
+    let Ok(now) = Instant::now(rt) else {
+        return true;
+    };
+    if let Some(before) = *told {
+        if now.duration_since(before) < Duration::from_secs(BETWEEN) {
+            return false;
+        }
+    }
+    *told = Some(now);
+    let count = connections.tell_refused();
+    let _ = eprintln!(rt; "halld: connections refused: {count}");
+    true
+}
+
+/// Accepts connections until the server is asked to stop, and tells of those that are refused, unless it is to be quiet.
+pub(crate) fn accept_on<L: Naming, R: Wait + Clock + Eprint + Copy + Drop>(
+    rt: &R,
+    alloc: Global,
+    connections: &Connections<L, R>,
+    poll: &mut Poll,
+    listener: Option<&TcpListener>,
+    is_quiet: bool,
+) {
+    let Ok(mut events) = Events::with_capacity(alloc, 4) else {
+        return;
+    };
+    let mut told = None;
+    for _ in rt.forever() {
+        let is_all = accept_all(rt, connections, listener);
+        if connections.is_stopping() {
+            break;
+        }
+        let is_told = is_quiet || tell_refused(rt, connections, &mut told);
+        let wait = if !is_all {
+            Some(Duration::from_millis(PAUSE))
+        } else if !is_told {
+            Some(Duration::from_secs(BETWEEN))
+        } else {
+            None
+        };
+        if poll.poll(&mut events, wait).is_err() {
+            thread::sleep(rt, Duration::from_millis(PAUSE));
+        }
+    }
+}
+
+/// What a thread waits by that accepts from a listener, and how it is asked to stop.
+pub(crate) fn door_of<R: Net>(
+    rt: &R,
+    listener: Option<&mut TcpListener>,
+) -> io::Result<(Poll, Stopping)> {
+    let poll = Poll::new(rt)?;
+    if let Some(listener) = listener {
+        poll.registry()
+            .register(listener, Token(0), Interest::READABLE)?;
+    }
+    let stopping = Stopping::new(Waker::new(poll.registry(), WAKE)?);
+    Ok((poll, stopping))
+}
+
+/// Listens on an address, for as many at once who connect as the system lets wait.
+///
+/// # Errors
+///
+/// Those of the system.
+pub fn listen<R: Net>(rt: &R, address: SocketAddr) -> io::Result<net::TcpListener> {
+    Ok(net::TcpListener::from(TcpListener::bind(rt, address)?))
+}
