@@ -342,12 +342,7 @@ pub fn serve_with<
     G: Gate + Sync,
     C: crew::Clock + Sync,
     I: Read + Send + Drop + 'static,
->(
-    rt: &R,
-    alloc: Global,
-    options: Options<'_, G, C>,
-    stop: I,
-) -> Result<(), ServeFault> {
+>(rt: &R, alloc: Global, options: Options<'_, G, C>, stop: I) -> Result<(), ServeFault> {
     let (workers, sendq) = (options.workers, options.sendq);
     if workers < 1 || 64 < workers || sendq < 1 || 4096 < sendq {
         return Err(ServeFault::BadSettings);

@@ -306,7 +306,13 @@ impl<L: Naming, R: Wait + Clock + Copy + Drop> Worker<L, R> {
     }
 
     /// Gives a session up, or tries that again after a pause.
-    fn close<G: Gate, C: crew::Clock>(&mut self, rt: &R, server: &Serving<'_, L, R, G, C>, post: &Post, at: usize) {
+    fn close<G: Gate, C: crew::Clock>(
+        &mut self,
+        rt: &R,
+        server: &Serving<'_, L, R, G, C>,
+        post: &Post,
+        at: usize,
+    ) {
         match self.take(at) {
             Place::Leaving(tokens) => {
                 let Tokens {
@@ -332,7 +338,12 @@ impl<L: Naming, R: Wait + Clock + Copy + Drop> Worker<L, R> {
     }
 
     /// Gives up all sessions that are to be given up now.
-    fn close_those<G: Gate, C: crew::Clock>(&mut self, rt: &R, server: &Serving<'_, L, R, G, C>, post: &Post) {
+    fn close_those<G: Gate, C: crew::Clock>(
+        &mut self,
+        rt: &R,
+        server: &Serving<'_, L, R, G, C>,
+        post: &Post,
+    ) {
         let closing = mem::replace(&mut self.closing, Vec::new(self.alloc));
         for at in closing.iter() {
             self.close(rt, server, post, *at);
@@ -437,7 +448,12 @@ impl<L: Naming, R: Wait + Clock + Copy + Drop> Worker<L, R> {
     }
 
     /// Does what others left, and answers whether there was anything.
-    fn do_mail<G: Gate, C: crew::Clock>(&mut self, rt: &R, server: &Serving<'_, L, R, G, C>, post: &Post) -> bool {
+    fn do_mail<G: Gate, C: crew::Clock>(
+        &mut self,
+        rt: &R,
+        server: &Serving<'_, L, R, G, C>,
+        post: &Post,
+    ) -> bool {
         let mut mail = mem::replace(&mut self.mail, Mail::new(self.alloc));
         post.swap(rt, &mut mail);
         let mut is_any = mail.is_all;
@@ -466,7 +482,12 @@ impl<L: Naming, R: Wait + Clock + Copy + Drop> Worker<L, R> {
     }
 
     /// Opens sessions for some who connected.
-    fn open_some<G: Gate, C: crew::Clock>(&mut self, rt: &R, server: &Serving<'_, L, R, G, C>, post: &Post) {
+    fn open_some<G: Gate, C: crew::Clock>(
+        &mut self,
+        rt: &R,
+        server: &Serving<'_, L, R, G, C>,
+        post: &Post,
+    ) {
         for _ in 0..OPENS {
             let Some(arrival) = self.arrivals.pop() else {
                 return;
@@ -476,7 +497,12 @@ impl<L: Naming, R: Wait + Clock + Copy + Drop> Worker<L, R> {
     }
 
     /// Does what others left and gives up whose session is to be, until nothing is left to do now.
-    fn settle<G: Gate, C: crew::Clock>(&mut self, rt: &R, server: &Serving<'_, L, R, G, C>, post: &Post) {
+    fn settle<G: Gate, C: crew::Clock>(
+        &mut self,
+        rt: &R,
+        server: &Serving<'_, L, R, G, C>,
+        post: &Post,
+    ) {
         for _ in rt.forever() {
             tell(server, &mut self.told);
             if !self.do_mail(rt, server, post) && self.closing.is_empty() {
@@ -507,7 +533,12 @@ impl<L: Naming, R: Wait + Clock + Copy + Drop> Worker<L, R> {
     }
 
     /// Looks again at those who were to be after a pause.
-    fn try_again<G: Gate, C: crew::Clock>(&mut self, rt: &R, server: &Serving<'_, L, R, G, C>, post: &Post) {
+    fn try_again<G: Gate, C: crew::Clock>(
+        &mut self,
+        rt: &R,
+        server: &Serving<'_, L, R, G, C>,
+        post: &Post,
+    ) {
         if !self.is_waiting() || !self.is_pause_over(rt) {
             return;
         }
