@@ -11,15 +11,13 @@ use mio::net::TcpStream;
 use mio::{Events, Interest, Poll, Token};
 use outbox::Sender;
 use std::alloc::{AllocError, Global};
+use std::collections::VecDeque;
 use std::sync::{Arc, Wait};
 use std::time::{Clock, Duration, Instant};
 use std::{io, mem, thread};
 
 /// How many events are looked at before what was put is written.
 const EVENTS: usize = 256;
-
-/// How often a client is read before others have their turn.
-const READS: u32 = 1;
 
 /// How many sessions are opened before others have their turn.
 const OPENS: u32 = 16;
@@ -33,6 +31,8 @@ struct Client<L: Naming, R: Wait + Drop> {
     baton: Baton<L, Sender<R>>,
     connection: Arc<Connection<L>>,
     intake: Intake,
+    /// It stands in the list of those who may have more to be read.
+    is_listed: bool,
     /// It is shut, and is looked at again at each pause.
     is_waiting: bool,
     tries: u32,
@@ -63,8 +63,8 @@ pub(crate) struct Worker<L: Naming, R: Wait + Drop> {
     mail: Mail,
     /// Who connected and isn't served yet, the first last.
     arrivals: Vec<Arrival>,
-    /// Who may have more to be read.
-    more: Vec<usize>,
+    /// Who may have more to be read, those who wait longest first.
+    more: VecDeque<usize>,
     /// Whose session is to be given up now.
     closing: Vec<usize>,
     /// Who is looked at again after a pause; all where there was no memory for the list.
@@ -73,8 +73,8 @@ pub(crate) struct Worker<L: Naming, R: Wait + Drop> {
     paused: Option<Instant>,
 }
 
-/// Has lines of a client done until no more are there, and answers whether more may be. `has_ended` says that its input has an end,
-/// up to which it is read.
+/// Reads a client once, and has the lines done that end in what that brings. It answers whether more is to be read: where that filled
+/// the room, or something was there and `has_ended` says that its input has an end, up to which it is read.
 fn read_client<L: Naming, R: Wait + Clock + Copy + Drop, G: Gate, C: crew::Clock>(
     rt: &R,
     server: &Serving<'_, L, R, G, C>,
@@ -82,49 +82,37 @@ fn read_client<L: Naming, R: Wait + Clock + Copy + Drop, G: Gate, C: crew::Clock
     has_ended: bool,
     told: &mut Told,
 ) -> (Client<L, R>, bool) {
-    let mut client = client;
-    for _ in 0..READS {
-        if client.connection.is_shut() {
-            return (client, false);
-        }
-        let session = client.baton.session();
-        let Client {
-            baton,
-            connection,
-            mut intake,
-            is_waiting,
-            tries,
-        } = client;
-        let mut input = &*connection.stream;
-        let took = read_some(rt, server, &mut intake, baton, &mut input, told);
-        client = Client {
-            baton: took.baton,
-            connection,
-            intake,
-            is_waiting,
-            tries,
-        };
-        match took.next {
-            Next::More => {}
-            Next::Short if has_ended => {}
-            Next::Short | Next::Nothing => return (client, false),
-            Next::Over(why) => {
-                hang(rt, server, session, why, told);
-                return (client, false);
-            }
+    if client.connection.is_shut() {
+        return (client, false);
+    }
+    let session = client.baton.session();
+    let Client {
+        baton,
+        connection,
+        mut intake,
+        is_listed,
+        is_waiting,
+        tries,
+    } = client;
+    let mut input = &*connection.stream;
+    let took = read_some(rt, server, &mut intake, baton, &mut input, told);
+    let client = Client {
+        baton: took.baton,
+        connection,
+        intake,
+        is_listed,
+        is_waiting,
+        tries,
+    };
+    match took.next {
+        Next::More => (client, true),
+        Next::Short => (client, has_ended),
+        Next::Nothing => (client, false),
+        Next::Over(why) => {
+            hang(rt, server, session, why, told);
+            (client, false)
         }
     }
-    (client, true)
-}
-
-/// Whether a place stands in a list.
-fn is_listed(list: &Vec<usize>, at: usize) -> bool {
-    for it in list.iter() {
-        if *it == at {
-            return true;
-        }
-    }
-    false
 }
 
 impl<L: Naming, R: Wait + Clock + Copy + Drop> Worker<L, R> {
@@ -140,7 +128,7 @@ impl<L: Naming, R: Wait + Clock + Copy + Drop> Worker<L, R> {
             told: Told::new(alloc),
             mail: Mail::new(alloc),
             arrivals: Vec::new(alloc),
-            more: Vec::new(alloc),
+            more: VecDeque::new(alloc),
             closing: Vec::new(alloc),
             again: Vec::new(alloc),
             is_all_again: false,
@@ -184,7 +172,7 @@ impl<L: Naming, R: Wait + Clock + Copy + Drop> Worker<L, R> {
         }
     }
 
-    /// Reads a client, and has it read again after others where more may be there.
+    /// Reads a client, and has it read again in its turn where more may be there.
     fn read_at<G: Gate, C: crew::Clock>(
         &mut self,
         rt: &R,
@@ -194,11 +182,12 @@ impl<L: Naming, R: Wait + Clock + Copy + Drop> Worker<L, R> {
         has_ended: bool,
     ) {
         let session = client.baton.session();
-        let (client, is_more) = read_client(rt, server, client, has_ended, &mut self.told);
-        self.put(at, Place::Held(client));
-        if is_more && !is_listed(&self.more, at) && self.more.push(at).is_err() {
+        let (mut client, is_more) = read_client(rt, server, client, has_ended, &mut self.told);
+        client.is_listed = is_more && self.more.push_back(at).is_ok();
+        if is_more && !client.is_listed {
             hang(rt, server, session, Why::Memory, &mut self.told);
         }
+        self.put(at, Place::Held(client));
     }
 
     /// Sees to a client that something happened to.
@@ -216,7 +205,8 @@ impl<L: Naming, R: Wait + Clock + Copy + Drop> Worker<L, R> {
                 if is_writable {
                     server.sockets.go_on(&client.connection);
                 }
-                if is_readable {
+                // One that may have more has its turn, also where its input has ended.
+                if is_readable && !client.is_listed {
                     self.read_at(rt, server, at, client, has_ended);
                 } else {
                     self.put(at, Place::Held(client));
@@ -226,11 +216,18 @@ impl<L: Naming, R: Wait + Clock + Copy + Drop> Worker<L, R> {
         }
     }
 
-    /// Reads those again who may have more to be read.
-    fn read_more<G: Gate, C: crew::Clock>(&mut self, rt: &R, server: &Serving<'_, L, R, G, C>) {
-        let more = mem::replace(&mut self.more, Vec::new(self.alloc));
-        for at in more.iter() {
-            self.see_to(rt, server, *at, false, true, true);
+    /// Reads one of those who may have more to be read, so that others have their turn before the next of them: who sends much keeps
+    /// nobody waiting for longer than one read of it takes.
+    fn read_one_more<G: Gate, C: crew::Clock>(&mut self, rt: &R, server: &Serving<'_, L, R, G, C>) {
+        let Some(at) = self.more.pop_front() else {
+            return;
+        };
+        match self.take(at) {
+            Place::Held(mut client) => {
+                client.is_listed = false;
+                self.read_at(rt, server, at, client, true);
+            }
+            other => self.put(at, other),
         }
     }
 
@@ -410,6 +407,7 @@ impl<L: Naming, R: Wait + Clock + Copy + Drop> Worker<L, R> {
                     baton,
                     connection,
                     intake,
+                    is_listed: false,
                     is_waiting: false,
                     tries: 0,
                 };
@@ -586,7 +584,7 @@ impl<L: Naming, R: Wait + Clock + Copy + Drop> Worker<L, R> {
             if self.poll.poll(events, wait).is_err() {
                 thread::sleep(rt, Duration::from_millis(PAUSE));
             }
-            self.read_more(rt, server);
+            self.read_one_more(rt, server);
             for event in events.iter() {
                 if event.token() == WAKE {
                     continue;
