@@ -169,6 +169,20 @@ impl Read for Waits<'_> {
     }
 }
 
+/// A stream that fails.
+#[derive(Drop)]
+pub struct Broken;
+
+impl Write for Broken {
+    fn write(&mut self, _buf: &[u8]) -> io::Result<usize> {
+        Err(io::Error::from(ErrorKind::BrokenPipe))
+    }
+
+    fn flush(&mut self) -> io::Result<()> {
+        Ok(())
+    }
+}
+
 /// A stream that takes everything and counts its octets.
 #[derive(Drop)]
 pub struct Tally {

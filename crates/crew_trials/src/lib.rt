@@ -4,6 +4,8 @@
 mod fakes;
 mod making;
 #[cfg(test)]
+mod missing;
+#[cfg(test)]
 mod reading;
 #[cfg(test)]
 mod refusing;

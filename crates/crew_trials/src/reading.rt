@@ -117,7 +117,8 @@ fn waits<L: Naming, R: Wait + Abort + Copy + Drop>(
     assert_eq!(rt; (took.all, took.next), (true, Next::Over(Why::ReadEnded)));
     assert_eq!(rt; lock.lock(rt).len(), 3);
     let session = took.baton.session();
-    let Err((baton, stub, writer)) = close_now(rt, &server, took.baton, stub, writer, &mut told) else {
+    let Err((baton, stub, writer)) = close_now(rt, &server, took.baton, stub, writer, &mut told)
+    else {
         return Err("it is gone".into());
     };
     hang(rt, &server, session, Why::ReadEnded, &mut told);

@@ -1,9 +1,9 @@
 //! What waits for a session is written while the hall is locked.
 ghost use Rattle.std.specs.Prelude.{◌≡◌, []};
 
-use crate::fakes::{Noted, Open, Still, TURNS, Tally, rest};
-use crate::making::{Tokens, hall, line, open};
-use chronicle::{Moment, SessionId};
+use crate::fakes::{Broken, Noted, Open, Still, TURNS, Tally, rest};
+use crate::making::{Tokens, hall, hung_for, line, open};
+use chronicle::{Moment, RecordNumber, SessionId, Why};
 use crew::{Job, Outcome, Outlet, Server, Sockets, Standing, work_one, write_on, write_some};
 use hall::{Baton, Hall, Naming, Register, Told};
 use line_grammar::{Octets, Piece};
@@ -106,7 +106,14 @@ fn work_once<L: Naming, R: Wait + Drop>(
     piece: Piece,
 ) -> (Baton<L, Sender<R>>, bool) {
     let mut told = Told::new(alloc);
-    let back = work_one(rt, hall, Job { baton, piece }, Moment::new(0), &Open, &mut told);
+    let back = work_one(
+        rt,
+        hall,
+        Job { baton, piece },
+        Moment::new(0),
+        &Open,
+        &mut told,
+    );
     (back.baton, matches!(back.outcome, Outcome::Done(_)))
 }
 
@@ -189,6 +196,64 @@ fn written_by_its_own<
     assert!(rt; is_written, "it is written");
     assert_eq!(rt; wire.session(), session);
     assert_eq!(rt; written.load(Ordering::SeqCst), PONG.len() as u64);
+    Ok(())
+}
+
+/// A stream fails: the session is ended for that, once, and its connection is shut; by a worker, or by the session's own thread.
+fn broken<L: Naming, R: Wait + Abort + Copy + Drop>(
+    rt: &R,
+    alloc: Global,
+    register: Register<ChannelName>,
+    has_own_thread: bool,
+) -> Result<(), Fail>
+    requires named { register.table ≡ L.table }
+    requires empty { register.rows ≡ [] }
+{
+    let made: Hall<L, Sender<R>> = hall(alloc, register).ok_or("a hall")?;
+    let lock = Mutex::new(made);
+    let Tokens {
+        baton,
+        stub,
+        writer,
+    } = open(rt, alloc, &lock).ok_or("a session")?;
+    let session = baton.session();
+    let sockets = Noted::new();
+    let server = Server {
+        hall: &lock,
+        gate: &Open,
+        sockets: &sockets,
+        clock: &Still,
+        burst: 4,
+    };
+    let (_, is_done) = work_once(rt, alloc, &lock, baton, line(alloc, b"PING x")?);
+    assert!(rt; is_done, "it is done");
+    let host = Octets::copied(alloc, b"h1")?;
+    let Ok(wire) = Wire::new(alloc, writer, stub, Broken, host) else {
+        return Err("a wire".into());
+    };
+    if has_own_thread {
+        let wire = write_on(rt, alloc, &server, wire);
+        assert_eq!(rt; wire.session(), session);
+    } else {
+        let outlet = Outlet::new();
+        outlet.open(rt, wire);
+        let mut told = Told::new(alloc);
+        let standing = write_some(rt, &server, session, &outlet, false, &mut told);
+        assert_eq!(rt; standing, Standing::Over);
+    }
+    let hung = hung_for(&lock.lock(rt), RecordNumber::new(3));
+    assert_eq!(rt; hung, Some((session, Why::WriteFailed)));
+    assert_eq!(rt; lock.lock(rt).len(), 3);
+    assert!(rt; sockets.is_shut(session), "it is shut");
+    Ok(())
+}
+
+#[test]
+fn a_session_is_hung_where_its_stream_fails(rt: HostRuntime) -> Result<(), Fail> {
+    for has_own_thread in [false, true] {
+        let register = Register::new(rt.alloc())?;
+        broken::<Brand, _>(&rt, rt.alloc(), register, has_own_thread)?;
+    }
     Ok(())
 }
 
