@@ -1,6 +1,6 @@
 //! Accepting connections.
-ghost use Rattle.std.specs.Prelude.{◌≡◌, []};
-ghost use Rattle.serving.specs.declared.serve.ServeFault.TheVariants.{Memory};
+ghost use Rattle.std.specs.Prelude.{◌≡◌, ◌<◌, [], Err};
+ghost use Rattle.serving.specs.declared.serve.ServeFault.TheVariants.{BadSettings, Memory};
 
 use crate::clock::SystemClock;
 use crate::connections::{Connections, PAUSE, View};
@@ -334,7 +334,12 @@ pub fn serve_on<
     sendq: usize,
     gate: &G,
     stop: I,
-) -> Result<(), ServeFault> {
+) -> Result<(), ServeFault>
+    ensures no_worker { workers ≡ 0 → result ≡ Err BadSettings }
+    ensures many_workers { 64 < workers → result ≡ Err BadSettings }
+    ensures no_room { sendq ≡ 0 → result ≡ Err BadSettings }
+    ensures much_room { 4096 < sendq → result ≡ Err BadSettings }
+{
     if workers < 1 || 64 < workers || sendq < 1 || 4096 < sendq {
         return Err(ServeFault::BadSettings);
     }
