@@ -1,6 +1,6 @@
 //! A server from its start to its end.
-ghost use Rattle.std.specs.Prelude.{◌≡◌, []};
-ghost use Rattle.serving.specs.declared.serve.ServeFault.TheVariants.{Memory};
+ghost use Rattle.std.specs.Prelude.{◌≡◌, ◌<◌, [], Err};
+ghost use Rattle.serving.specs.declared.serve.ServeFault.TheVariants.{BadSettings, Memory};
 
 use crate::accepting::{accept_on, door_of};
 use crate::clock::SystemClock;
@@ -342,7 +342,12 @@ pub fn serve_with<
     G: Gate + Sync,
     C: crew::Clock + Sync,
     I: Read + Send + Drop + 'static,
->(rt: &R, alloc: Global, options: Options<'_, G, C>, stop: I) -> Result<(), ServeFault> {
+>(rt: &R, alloc: Global, options: Options<'_, G, C>, stop: I) -> Result<(), ServeFault>
+    ensures no_worker { options.workers ≡ 0 → result ≡ Err BadSettings }
+    ensures many_workers { 64 < options.workers → result ≡ Err BadSettings }
+    ensures no_room { options.sendq ≡ 0 → result ≡ Err BadSettings }
+    ensures much_room { 4096 < options.sendq → result ≡ Err BadSettings }
+{
     let (workers, sendq) = (options.workers, options.sendq);
     if workers < 1 || 64 < workers || sendq < 1 || 4096 < sendq {
         return Err(ServeFault::BadSettings);
@@ -372,7 +377,12 @@ pub fn serve_on<
     sendq: usize,
     gate: &G,
     stop: I,
-) -> Result<(), ServeFault> {
+) -> Result<(), ServeFault>
+    ensures no_worker { workers ≡ 0 → result ≡ Err BadSettings }
+    ensures many_workers { 64 < workers → result ≡ Err BadSettings }
+    ensures no_room { sendq ≡ 0 → result ≡ Err BadSettings }
+    ensures much_room { 4096 < sendq → result ≡ Err BadSettings }
+{
     if ws.is_some() {
         return Err(ServeFault::BadSettings);
     }
