@@ -91,6 +91,13 @@ pub fn read_some<L: Naming, I: Read, R: Wait + Drop, G: Gate, S: Sockets, C: Clo
     read_by(rt, server, None, intake, baton, input, told)
 }
 
+/// Waits a little where nothing was there to be read.
+fn rest_after<S: Sockets>(sockets: &S, next: Next) {
+    if next == Next::Nothing {
+        sockets.pause();
+    }
+}
+
 /// Has lines done as they come, until no more come, one is refused or the session is shut. It answers why the session is ended
 /// then, if it is still open.
 fn read_lines<'a, L: Naming, I: Read, R: Wait + Drop, G: Gate, S: Sockets, C: Clock>(
@@ -116,6 +123,7 @@ fn read_lines<'a, L: Naming, I: Read, R: Wait + Drop, G: Gate, S: Sockets, C: Cl
         }
         let took = read_by(rt, server, Some(desk), &mut intake, baton, input, told);
         tell(server, told);
+        rest_after(server.sockets, took.next);
         match took.next {
             Next::Over(why) => return (
                 Worked {
@@ -130,7 +138,7 @@ fn read_lines<'a, L: Naming, I: Read, R: Wait + Drop, G: Gate, S: Sockets, C: Cl
     (Worked { baton, all: true }, Why::ReadFailed)
 }
 
-/// Reads a session's lines and has them done by `work`, until its input ends or fails, a line isn't done, or the session is shut.
+/// Reads a session's lines and has them done by `work`, with a pause where nothing is there now, until its input ends or fails, a line isn't done, or the session is shut.
 /// Then the session, where it is still open, is ended: with ReadEnded where its input ended, with Memory where memory was wanting,
 /// else with ReadFailed.
 ///
