@@ -138,9 +138,9 @@ fn read_lines<'a, L: Naming, I: Read, R: Wait + Drop, G: Gate, S: Sockets, C: Cl
     (Worked { baton, all: true }, Why::ReadFailed)
 }
 
-/// Reads a session's lines and has them done by `work`, with a pause where nothing is there now, until its input ends or fails, a line isn't done, or the session is shut.
-/// Then the session, where it is still open, is ended: with ReadEnded where its input ended, with Memory where memory was wanting,
-/// else with ReadFailed.
+/// Reads a session's lines and has them done by `work`, until its input ends or fails, a line isn't done, or the session is shut. It
+/// pauses where nothing is there now. Then the session, where it is still open, is ended: with ReadEnded where its input ended, with
+/// Memory where memory was wanting, else with ReadFailed.
 ///
 /// The pieces done with the baton that comes back are those done before, then the first of the lines that end in the octets that
 /// were read, in order; all of them where `all` is true.

@@ -106,7 +106,14 @@ fn work_once<L: Naming, R: Wait + Drop>(
     piece: Piece,
 ) -> (Baton<L, Sender<R>>, bool) {
     let mut told = Told::new(alloc);
-    let back = work_one(rt, hall, Job { baton, piece }, Moment::new(0), &Open, &mut told);
+    let back = work_one(
+        rt,
+        hall,
+        Job { baton, piece },
+        Moment::new(0),
+        &Open,
+        &mut told,
+    );
     (back.baton, matches!(back.outcome, Outcome::Done(_)))
 }
 
