@@ -141,7 +141,11 @@ fn rests<L: Naming, R: Wait + Abort + Copy + Drop>(
 {
     let made: Hall<L, Sender<R>> = hall(alloc, register).ok_or("a hall")?;
     let lock = Mutex::new(made);
-    let Tokens { baton, .. } = open(rt, alloc, &lock).ok_or("a session")?;
+    let Tokens {
+        baton,
+        stub,
+        writer,
+    } = open(rt, alloc, &lock).ok_or("a session")?;
     let session = baton.session();
     let desk = Desk::new(rt, alloc, 1)?;
     let sockets = Noted::new();
@@ -161,6 +165,7 @@ fn rests<L: Naming, R: Wait + Abort + Copy + Drop>(
     assert_eq!(rt; sockets.paused.load(Ordering::SeqCst), 2);
     let hung = hung_for(&lock.lock(rt), RecordNumber::new(4));
     assert_eq!(rt; hung, Some((session, Why::ReadEnded)));
+    drop((stub, writer));
     Ok(())
 }
 
