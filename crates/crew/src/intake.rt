@@ -19,8 +19,8 @@ const MUCH: usize = 4096;
 /// Lines of one read for which room is kept.
 const LINES: usize = 16;
 
-/// What is read of a session's input and isn't done: the lines as they come, and room for what is read: for much after a read that filled the room, and for little again
-/// after one that brought little.
+/// What is read of a session's input and isn't done: the lines as they come, and room for what is read: for much after a read that
+/// filled the room, and for little again after one that brought little.
 #[derive(Drop)]
 pub struct Intake {
     splitter: Splitter,

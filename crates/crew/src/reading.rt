@@ -91,6 +91,13 @@ pub fn read_some<L: Naming, I: Read, R: Wait + Drop, G: Gate, S: Sockets, C: Clo
     read_by(rt, server, None, intake, baton, input, told)
 }
 
+/// Waits a little where nothing was there to be read.
+fn rest_after<S: Sockets>(sockets: &S, next: Next) {
+    if next == Next::Nothing {
+        sockets.pause();
+    }
+}
+
 /// Has lines done as they come, until no more come, one is refused or the session is shut. It answers why the session is ended
 /// then, if it is still open.
 fn read_lines<'a, L: Naming, I: Read, R: Wait + Drop, G: Gate, S: Sockets, C: Clock>(
@@ -116,6 +123,7 @@ fn read_lines<'a, L: Naming, I: Read, R: Wait + Drop, G: Gate, S: Sockets, C: Cl
         }
         let took = read_by(rt, server, Some(desk), &mut intake, baton, input, told);
         tell(server, told);
+        rest_after(server.sockets, took.next);
         match took.next {
             Next::Over(why) => return (
                 Worked {
@@ -130,9 +138,9 @@ fn read_lines<'a, L: Naming, I: Read, R: Wait + Drop, G: Gate, S: Sockets, C: Cl
     (Worked { baton, all: true }, Why::ReadFailed)
 }
 
-/// Reads a session's lines and has them done by `work`, until its input ends or fails, a line isn't done, or the session is shut.
-/// Then the session, where it is still open, is ended: with ReadEnded where its input ended, with Memory where memory was wanting,
-/// else with ReadFailed.
+/// Reads a session's lines and has them done by `work`, until its input ends or fails, a line isn't done, or the session is shut. It
+/// pauses where nothing is there now. Then the session, where it is still open, is ended: with ReadEnded where its input ended, with
+/// Memory where memory was wanting, else with ReadFailed.
 ///
 /// The pieces done with the baton that comes back are those done before, then the first of the lines that end in the octets that
 /// were read, in order; all of them where `all` is true.

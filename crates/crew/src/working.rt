@@ -114,8 +114,8 @@ fn line_in<L: Naming, R: Wait + Drop>(
     outcome
 }
 
-/// Does a line, at this moment or at that of the newest record where that is later. It adds to `told` who got something, for whom
-/// what waits is still to be written.
+/// Does a line, at this moment or at that of the newest record where that is later. Where the journal has no room for it, that is
+/// rolled first. It adds to `told` who got something, for whom what waits is still to be written.
 ///
 /// Where the line was done, its piece is the newest of those done with the baton that comes back. Where it was refused, the baton
 /// is the one that was given, unchanged.
@@ -197,7 +197,7 @@ fn shut_those<S: Sockets>(sockets: &S, session: SessionId, done: &Done) {
     }
 }
 
-/// Ends a session whose line was refused for want of memory or of room for records, and then asks the server to stop.
+/// Ends a session whose line was refused for want of memory, or of room for its record: then the server is asked to stop, too.
 fn after_refusal<L: Naming, R: Wait + Drop, G: Gate, S: Sockets, C: Clock>(
     rt: &R,
     server: &Server<'_, L, R, G, S, C>,

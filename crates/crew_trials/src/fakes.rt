@@ -76,10 +76,11 @@ impl<R: time::Clock + Drop> Gate for Turnstile<R> {
     }
 }
 
-/// Connections of which is noted who was shut, and whether the server is to stop.
+/// Connections of which is noted who was shut, how often a thread paused, and whether the server is to stop.
 #[derive(Drop)]
 pub struct Noted {
     shut: AtomicU64,
+    pub paused: AtomicU64,
     pub is_stopped: AtomicBool,
 }
 
@@ -88,6 +89,7 @@ impl Noted {
     pub fn new() -> Noted {
         Noted {
             shut: AtomicU64::new(0),
+            paused: AtomicU64::new(0),
             is_stopped: AtomicBool::new(false),
         }
     }
@@ -110,6 +112,7 @@ impl Sockets for Noted {
     fn tell(&self, _told: &Told) {}
 
     fn pause(&self) {
+        self.paused.fetch_add(1, Ordering::SeqCst);
         thread::yield_now();
     }
 

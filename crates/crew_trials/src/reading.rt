@@ -11,6 +11,7 @@ use outbox::{ChannelName, Sender};
 use std::alloc::{AllocError, Global};
 use std::marker::Brand;
 use std::process::Abort;
+use std::sync::atomic::Ordering;
 use std::sync::{Mutex, Wait};
 use std::test::Fail;
 use wire::{Flow, Wire};
@@ -127,6 +128,51 @@ fn waits<L: Naming, R: Wait + Abort + Copy + Drop>(
     };
     assert_eq!(rt; (left.session(), left.count()), (session, 3));
     Ok(())
+}
+
+/// The same input, read by a thread of the session's own: it pauses where nothing is there, and the session ends with its input.
+fn rests<L: Naming, R: Wait + Abort + Copy + Drop>(
+    rt: &R,
+    alloc: Global,
+    register: Register<ChannelName>,
+) -> Result<(), Fail>
+    requires named { register.table ≡ L.table }
+    requires empty { register.rows ≡ [] }
+{
+    let made: Hall<L, Sender<R>> = hall(alloc, register).ok_or("a hall")?;
+    let lock = Mutex::new(made);
+    let Tokens {
+        baton,
+        stub,
+        writer,
+    } = open(rt, alloc, &lock).ok_or("a session")?;
+    let session = baton.session();
+    let desk = Desk::new(rt, alloc, 1)?;
+    let sockets = Noted::new();
+    let server = Server {
+        hall: &lock,
+        gate: &Open,
+        sockets: &sockets,
+        clock: &Still,
+        burst: 4,
+    };
+    let mut input = Waits {
+        octets: b"PING x\r\nPING y\r\n",
+        is_there: false,
+    };
+    let worked = read_on(rt, alloc, &server, &desk, baton, &mut input);
+    assert!(rt; worked.all, "all lines are done");
+    assert_eq!(rt; sockets.paused.load(Ordering::SeqCst), 2);
+    let hung = hung_for(&lock.lock(rt), RecordNumber::new(4));
+    assert_eq!(rt; hung, Some((session, Why::ReadEnded)));
+    drop((stub, writer));
+    Ok(())
+}
+
+#[test]
+fn a_thread_of_its_own_rests_where_nothing_is_there(rt: HostRuntime) -> Result<(), Fail> {
+    let register = Register::new(rt.alloc())?;
+    rests::<Brand, _>(&rt, rt.alloc(), register)
 }
 
 #[test]
