@@ -45,20 +45,15 @@ fn says<'a, L: Naming, R: Wait + Drop>(
 fn missed<L: Naming, R: Wait + Abort + Copy + Drop>(
     rt: &R,
     alloc: Global,
-    register: Register<ChannelName>,
-) -> Result<(), Fail>
-    requires named { register.table ≡ L.table }
-    requires empty { register.rows ≡ [] }
-{
-    let made: Hall<L, Sender<R>> = hall(alloc, register).ok_or("a hall")?;
-    let lock = Mutex::new(made);
-    let al = open(rt, alloc, &lock).ok_or("a session")?;
-    let bo = open(rt, alloc, &lock).ok_or("another session")?;
+    lock: &Mutex<Hall<L, Sender<R>>>,
+) -> Result<(), Fail> {
+    let al = open(rt, alloc, lock).ok_or("a session")?;
+    let bo = open(rt, alloc, lock).ok_or("another session")?;
     let (speaker, hearer) = (al.baton.session(), bo.baton.session());
     let desk = Desk::new(rt, alloc, 1)?;
     let sockets = Noted::new();
     let server = Server {
-        hall: &lock,
+        hall: lock,
         gate: &Open,
         sockets: &sockets,
         clock: &Still,
@@ -77,8 +72,8 @@ fn missed<L: Naming, R: Wait + Abort + Copy + Drop>(
     Ok(())
 }
 
-/// Two hundred lines of one session, in a journal for sixty-four records: each is done, since it is rolled.
-fn rolled<L: Naming, R: Wait + Abort + Copy + Drop>(
+/// The same in a hall of its own, whose sessions this register has.
+fn missed_in_one<L: Naming, R: Wait + Abort + Copy + Drop>(
     rt: &R,
     alloc: Global,
     register: Register<ChannelName>,
@@ -88,15 +83,26 @@ fn rolled<L: Naming, R: Wait + Abort + Copy + Drop>(
 {
     let made: Hall<L, Sender<R>> = hall(alloc, register).ok_or("a hall")?;
     let lock = Mutex::new(made);
+    let told = missed(rt, alloc, &lock);
+    drop(lock);
+    told
+}
+
+/// Two hundred lines of one session, in a journal for sixty-four records: each is done, since it is rolled.
+fn rolled<L: Naming, R: Wait + Abort + Copy + Drop>(
+    rt: &R,
+    alloc: Global,
+    lock: &Mutex<Hall<L, Sender<R>>>,
+) -> Result<(), Fail> {
     let Tokens {
         baton,
         mut writer,
         ..
-    } = open(rt, alloc, &lock).ok_or("a session")?;
+    } = open(rt, alloc, lock).ok_or("a session")?;
     let desk = Desk::new(rt, alloc, 1)?;
     let sockets = Noted::new();
     let server = Server {
-        hall: &lock,
+        hall: lock,
         gate: &Open,
         sockets: &sockets,
         clock: &Still,
@@ -119,14 +125,30 @@ fn rolled<L: Naming, R: Wait + Abort + Copy + Drop>(
     Ok(())
 }
 
+/// The same in a hall of its own, whose sessions this register has.
+fn rolled_in_one<L: Naming, R: Wait + Abort + Copy + Drop>(
+    rt: &R,
+    alloc: Global,
+    register: Register<ChannelName>,
+) -> Result<(), Fail>
+    requires named { register.table ≡ L.table }
+    requires empty { register.rows ≡ [] }
+{
+    let made: Hall<L, Sender<R>> = hall(alloc, register).ok_or("a hall")?;
+    let lock = Mutex::new(made);
+    let told = rolled(rt, alloc, &lock);
+    drop(lock);
+    told
+}
+
 #[test]
 fn who_misses_a_text_is_shut(rt: HostRuntime) -> Result<(), Fail> {
     let register = Register::new(rt.alloc())?;
-    missed::<Brand, _>(&rt, rt.alloc(), register)
+    missed_in_one::<Brand, _>(&rt, rt.alloc(), register)
 }
 
 #[test]
 fn a_full_journal_is_rolled(rt: HostRuntime) -> Result<(), Fail> {
     let register = Register::new(rt.alloc())?;
-    rolled::<Brand, _>(&rt, rt.alloc(), register)
+    rolled_in_one::<Brand, _>(&rt, rt.alloc(), register)
 }

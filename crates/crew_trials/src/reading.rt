@@ -28,26 +28,21 @@ const OUTPUT: &[u8; 104] =
 fn torn<L: Naming, R: Wait + Abort + Copy + Drop>(
     rt: &R,
     alloc: Global,
-    register: Register<ChannelName>,
+    lock: &Mutex<Hall<L, Sender<R>>>,
     mut input: Torn<'_>,
     output: &[u8],
     records: u64,
-) -> Result<(), Fail>
-    requires named { register.table ≡ L.table }
-    requires empty { register.rows ≡ [] }
-{
-    let made: Hall<L, Sender<R>> = hall(alloc, register).ok_or("a hall")?;
-    let lock = Mutex::new(made);
+) -> Result<(), Fail> {
     let Tokens {
         baton,
         stub,
         writer,
-    } = open(rt, alloc, &lock).ok_or("a session")?;
+    } = open(rt, alloc, lock).ok_or("a session")?;
     let session = baton.session();
     let desk = Desk::new(rt, alloc, 1)?;
     let sockets = Noted::new();
     let server = Server {
-        hall: &lock,
+        hall: lock,
         gate: &Open,
         sockets: &sockets,
         clock: &Still,
@@ -76,26 +71,40 @@ fn torn<L: Naming, R: Wait + Abort + Copy + Drop>(
     Ok(())
 }
 
-/// An input that has nothing for now between its lines: what comes is done, and reading goes on. While the session isn't ended it
-/// can't be given up.
-fn waits<L: Naming, R: Wait + Abort + Copy + Drop>(
+/// The same in a hall of its own, whose sessions this register has.
+fn torn_in_one<L: Naming, R: Wait + Abort + Copy + Drop>(
     rt: &R,
     alloc: Global,
     register: Register<ChannelName>,
+    input: Torn<'_>,
+    output: &[u8],
+    records: u64,
 ) -> Result<(), Fail>
     requires named { register.table ≡ L.table }
     requires empty { register.rows ≡ [] }
 {
     let made: Hall<L, Sender<R>> = hall(alloc, register).ok_or("a hall")?;
     let lock = Mutex::new(made);
+    let told = torn(rt, alloc, &lock, input, output, records);
+    drop(lock);
+    told
+}
+
+/// An input that has nothing for now between its lines: what comes is done, and reading goes on. While the session isn't ended it
+/// can't be given up.
+fn waits<L: Naming, R: Wait + Abort + Copy + Drop>(
+    rt: &R,
+    alloc: Global,
+    lock: &Mutex<Hall<L, Sender<R>>>,
+) -> Result<(), Fail> {
     let Tokens {
         baton,
         stub,
         writer,
-    } = open(rt, alloc, &lock).ok_or("a session")?;
+    } = open(rt, alloc, lock).ok_or("a session")?;
     let sockets = Noted::new();
     let server = Server {
-        hall: &lock,
+        hall: lock,
         gate: &Open,
         sockets: &sockets,
         clock: &Still,
@@ -130,8 +139,8 @@ fn waits<L: Naming, R: Wait + Abort + Copy + Drop>(
     Ok(())
 }
 
-/// The same input, read by a thread of the session's own: it pauses where nothing is there, and the session ends with its input.
-fn rests<L: Naming, R: Wait + Abort + Copy + Drop>(
+/// The same in a hall of its own, whose sessions this register has.
+fn waits_in_one<L: Naming, R: Wait + Abort + Copy + Drop>(
     rt: &R,
     alloc: Global,
     register: Register<ChannelName>,
@@ -141,16 +150,27 @@ fn rests<L: Naming, R: Wait + Abort + Copy + Drop>(
 {
     let made: Hall<L, Sender<R>> = hall(alloc, register).ok_or("a hall")?;
     let lock = Mutex::new(made);
+    let told = waits(rt, alloc, &lock);
+    drop(lock);
+    told
+}
+
+/// The same input, read by a thread of the session's own: it pauses where nothing is there, and the session ends with its input.
+fn rests<L: Naming, R: Wait + Abort + Copy + Drop>(
+    rt: &R,
+    alloc: Global,
+    lock: &Mutex<Hall<L, Sender<R>>>,
+) -> Result<(), Fail> {
     let Tokens {
         baton,
         stub,
         writer,
-    } = open(rt, alloc, &lock).ok_or("a session")?;
+    } = open(rt, alloc, lock).ok_or("a session")?;
     let session = baton.session();
     let desk = Desk::new(rt, alloc, 1)?;
     let sockets = Noted::new();
     let server = Server {
-        hall: &lock,
+        hall: lock,
         gate: &Open,
         sockets: &sockets,
         clock: &Still,
@@ -169,16 +189,32 @@ fn rests<L: Naming, R: Wait + Abort + Copy + Drop>(
     Ok(())
 }
 
+/// The same in a hall of its own, whose sessions this register has.
+fn rests_in_one<L: Naming, R: Wait + Abort + Copy + Drop>(
+    rt: &R,
+    alloc: Global,
+    register: Register<ChannelName>,
+) -> Result<(), Fail>
+    requires named { register.table ≡ L.table }
+    requires empty { register.rows ≡ [] }
+{
+    let made: Hall<L, Sender<R>> = hall(alloc, register).ok_or("a hall")?;
+    let lock = Mutex::new(made);
+    let told = rests(rt, alloc, &lock);
+    drop(lock);
+    told
+}
+
 #[test]
 fn a_thread_of_its_own_rests_where_nothing_is_there(rt: HostRuntime) -> Result<(), Fail> {
     let register = Register::new(rt.alloc())?;
-    rests::<Brand, _>(&rt, rt.alloc(), register)
+    rests_in_one::<Brand, _>(&rt, rt.alloc(), register)
 }
 
 #[test]
 fn a_client_that_says_nothing_now_is_read_on(rt: HostRuntime) -> Result<(), Fail> {
     let register = Register::new(rt.alloc())?;
-    waits::<Brand, _>(&rt, rt.alloc(), register)
+    waits_in_one::<Brand, _>(&rt, rt.alloc(), register)
 }
 
 #[test]
@@ -188,7 +224,7 @@ fn a_session_is_hung_where_its_input_fails(rt: HostRuntime) -> Result<(), Fail> 
         octets: INPUT,
         most: 7,
     };
-    torn::<Brand, _>(&rt, rt.alloc(), register, input, OUTPUT, 4)
+    torn_in_one::<Brand, _>(&rt, rt.alloc(), register, input, OUTPUT, 4)
 }
 
 /// How often the long line comes: more octets than are read at first.
@@ -221,7 +257,7 @@ fn a_client_that_sends_much_is_read_whole(rt: HostRuntime) -> Result<(), Fail> {
             octets: &said,
             most,
         };
-        torn::<Brand, _>(&rt, alloc, register, input, &told, LONG_LINES + 2)?;
+        torn_in_one::<Brand, _>(&rt, alloc, register, input, &told, LONG_LINES + 2)?;
     }
     Ok(())
 }

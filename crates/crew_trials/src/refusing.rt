@@ -17,19 +17,14 @@ use std::test::Fail;
 fn refused<L: Naming, R: Wait + Abort + Copy + Drop>(
     rt: &R,
     alloc: Global,
-    register: Register<ChannelName>,
-) -> Result<(), Fail>
-    requires named { register.table ≡ L.table }
-    requires empty { register.rows ≡ [] }
-{
-    let made: Hall<L, Sender<R>> = hall(alloc, register).ok_or("a hall")?;
-    let lock = Mutex::new(made);
-    let Tokens { baton, .. } = open(rt, alloc, &lock).ok_or("a session")?;
+    lock: &Mutex<Hall<L, Sender<R>>>,
+) -> Result<(), Fail> {
+    let Tokens { baton, .. } = open(rt, alloc, lock).ok_or("a session")?;
     let session = baton.session();
     let desk = Desk::new(rt, alloc, 1)?;
     let sockets = Noted::new();
     let server = Server {
-        hall: &lock,
+        hall: lock,
         gate: &Open,
         sockets: &sockets,
         clock: &Still,
@@ -46,8 +41,24 @@ fn refused<L: Naming, R: Wait + Abort + Copy + Drop>(
     Ok(())
 }
 
+/// The same in a hall of its own, whose sessions this register has.
+fn refused_in_one<L: Naming, R: Wait + Abort + Copy + Drop>(
+    rt: &R,
+    alloc: Global,
+    register: Register<ChannelName>,
+) -> Result<(), Fail>
+    requires named { register.table ≡ L.table }
+    requires empty { register.rows ≡ [] }
+{
+    let made: Hall<L, Sender<R>> = hall(alloc, register).ok_or("a hall")?;
+    let lock = Mutex::new(made);
+    let told = refused(rt, alloc, &lock);
+    drop(lock);
+    told
+}
+
 #[test]
 fn a_slot_comes_back_where_a_line_is_refused(rt: HostRuntime) -> Result<(), Fail> {
     let register = Register::new(rt.alloc())?;
-    refused::<Brand, _>(&rt, rt.alloc(), register)
+    refused_in_one::<Brand, _>(&rt, rt.alloc(), register)
 }

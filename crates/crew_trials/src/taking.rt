@@ -39,17 +39,12 @@ fn says(item: Option<Item>, lines: &[u8]) -> bool {
 fn taken_meanwhile<
     L: Naming + Send + Sync,
     R: Threads + Wait + Clock + Abort + Copy + Drop + Send + Sync,
->(rt: &R, alloc: Global, register: Register<ChannelName>) -> Result<(), Fail>
-    requires named { register.table ≡ L.table }
-    requires empty { register.rows ≡ [] }
-{
-    let made: Hall<L, Sender<R>> = hall(alloc, register).ok_or("a hall")?;
-    let lock = Mutex::new(made);
+>(rt: &R, alloc: Global, lock: &Mutex<Hall<L, Sender<R>>>) -> Result<(), Fail> {
     let Tokens {
         baton,
         mut writer,
         ..
-    } = open(rt, alloc, &lock).ok_or("a session")?;
+    } = open(rt, alloc, lock).ok_or("a session")?;
     let session = baton.session();
     assert!(rt; writer.take_now(rt).is_err(), "nothing waits");
     let mut told = Told::new(alloc);
@@ -57,7 +52,7 @@ fn taken_meanwhile<
         baton,
         piece: line(alloc, b"PING x")?,
     };
-    let back = work_one(rt, &lock, job, Moment::new(0), &Open, &mut told);
+    let back = work_one(rt, lock, job, Moment::new(0), &Open, &mut told);
     assert!(rt; matches!(back.outcome, Outcome::Done(_)), "it is done");
     assert!(rt;
         told.sessions() == [session].as_slice() && !told.is_all(),
@@ -73,8 +68,23 @@ fn taken_meanwhile<
     Ok(())
 }
 
+/// The same in a hall of its own, whose sessions this register has.
+fn taken_meanwhile_in_one<
+    L: Naming + Send + Sync,
+    R: Threads + Wait + Clock + Abort + Copy + Drop + Send + Sync,
+>(rt: &R, alloc: Global, register: Register<ChannelName>) -> Result<(), Fail>
+    requires named { register.table ≡ L.table }
+    requires empty { register.rows ≡ [] }
+{
+    let made: Hall<L, Sender<R>> = hall(alloc, register).ok_or("a hall")?;
+    let lock = Mutex::new(made);
+    let told = taken_meanwhile(rt, alloc, &lock);
+    drop(lock);
+    told
+}
+
 #[test]
 fn an_item_is_taken_while_the_hall_is_locked(rt: HostRuntime) -> Result<(), Fail> {
     let register = Register::new(rt.alloc())?;
-    taken_meanwhile::<Brand, _>(&rt, rt.alloc(), register)
+    taken_meanwhile_in_one::<Brand, _>(&rt, rt.alloc(), register)
 }

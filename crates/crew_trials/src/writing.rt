@@ -121,27 +121,22 @@ fn work_once<L: Naming, R: Wait + Drop>(
 fn written_meanwhile<
     L: Naming + Send + Sync,
     R: Threads + Wait + Clock + Abort + Copy + Drop + Send + Sync,
->(rt: &R, alloc: Global, register: Register<ChannelName>) -> Result<(), Fail>
-    requires named { register.table ≡ L.table }
-    requires empty { register.rows ≡ [] }
-{
-    let made: Hall<L, Sender<R>> = hall(alloc, register).ok_or("a hall")?;
-    let lock = Mutex::new(made);
+>(rt: &R, alloc: Global, lock: &Mutex<Hall<L, Sender<R>>>) -> Result<(), Fail> {
     let Tokens {
         baton,
         stub,
         writer,
-    } = open(rt, alloc, &lock).ok_or("a session")?;
+    } = open(rt, alloc, lock).ok_or("a session")?;
     let session = baton.session();
     let sockets = Noted::new();
     let server = Server {
-        hall: &lock,
+        hall: lock,
         gate: &Open,
         sockets: &sockets,
         clock: &Still,
         burst: 4,
     };
-    let (_, is_done) = work_once(rt, alloc, &lock, baton, line(alloc, b"PING x")?);
+    let (_, is_done) = work_once(rt, alloc, lock, baton, line(alloc, b"PING x")?);
     assert!(rt; is_done, "it is done");
     let written = Arc::new(alloc, AtomicU64::new(0))?;
     let outlet = Outlet::new();
@@ -159,8 +154,8 @@ fn written_meanwhile<
     Ok(())
 }
 
-/// A line is answered, and its answer is written by the session's own thread while another has the hall.
-fn written_by_its_own<
+/// The same in a hall of its own, whose sessions this register has.
+fn written_meanwhile_in_one<
     L: Naming + Send + Sync,
     R: Threads + Wait + Clock + Abort + Copy + Drop + Send + Sync,
 >(rt: &R, alloc: Global, register: Register<ChannelName>) -> Result<(), Fail>
@@ -169,21 +164,31 @@ fn written_by_its_own<
 {
     let made: Hall<L, Sender<R>> = hall(alloc, register).ok_or("a hall")?;
     let lock = Mutex::new(made);
+    let told = written_meanwhile(rt, alloc, &lock);
+    drop(lock);
+    told
+}
+
+/// A line is answered, and its answer is written by the session's own thread while another has the hall.
+fn written_by_its_own<
+    L: Naming + Send + Sync,
+    R: Threads + Wait + Clock + Abort + Copy + Drop + Send + Sync,
+>(rt: &R, alloc: Global, lock: &Mutex<Hall<L, Sender<R>>>) -> Result<(), Fail> {
     let Tokens {
         baton,
         stub,
         writer,
-    } = open(rt, alloc, &lock).ok_or("a session")?;
+    } = open(rt, alloc, lock).ok_or("a session")?;
     let session = baton.session();
     let sockets = Noted::new();
     let server = Server {
-        hall: &lock,
+        hall: lock,
         gate: &Open,
         sockets: &sockets,
         clock: &Still,
         burst: 4,
     };
-    let (_, is_done) = work_once(rt, alloc, &lock, baton, line(alloc, b"PING x")?);
+    let (_, is_done) = work_once(rt, alloc, lock, baton, line(alloc, b"PING x")?);
     assert!(rt; is_done, "it is done");
     let written = Arc::new(alloc, AtomicU64::new(0))?;
     let bell = writer.bell().again()?;
@@ -199,33 +204,43 @@ fn written_by_its_own<
     Ok(())
 }
 
-/// A stream fails: the session is ended for that, once, and its connection is shut; by a worker, or by the session's own thread.
-fn broken<L: Naming, R: Wait + Abort + Copy + Drop>(
-    rt: &R,
-    alloc: Global,
-    register: Register<ChannelName>,
-    has_own_thread: bool,
-) -> Result<(), Fail>
+/// The same in a hall of its own, whose sessions this register has.
+fn written_by_its_own_in_one<
+    L: Naming + Send + Sync,
+    R: Threads + Wait + Clock + Abort + Copy + Drop + Send + Sync,
+>(rt: &R, alloc: Global, register: Register<ChannelName>) -> Result<(), Fail>
     requires named { register.table ≡ L.table }
     requires empty { register.rows ≡ [] }
 {
     let made: Hall<L, Sender<R>> = hall(alloc, register).ok_or("a hall")?;
     let lock = Mutex::new(made);
+    let told = written_by_its_own(rt, alloc, &lock);
+    drop(lock);
+    told
+}
+
+/// A stream fails: the session is ended for that, once, and its connection is shut; by a worker, or by the session's own thread.
+fn broken<L: Naming, R: Wait + Abort + Copy + Drop>(
+    rt: &R,
+    alloc: Global,
+    lock: &Mutex<Hall<L, Sender<R>>>,
+    has_own_thread: bool,
+) -> Result<(), Fail> {
     let Tokens {
         baton,
         stub,
         writer,
-    } = open(rt, alloc, &lock).ok_or("a session")?;
+    } = open(rt, alloc, lock).ok_or("a session")?;
     let session = baton.session();
     let sockets = Noted::new();
     let server = Server {
-        hall: &lock,
+        hall: lock,
         gate: &Open,
         sockets: &sockets,
         clock: &Still,
         burst: 4,
     };
-    let (_, is_done) = work_once(rt, alloc, &lock, baton, line(alloc, b"PING x")?);
+    let (_, is_done) = work_once(rt, alloc, lock, baton, line(alloc, b"PING x")?);
     assert!(rt; is_done, "it is done");
     let host = Octets::copied(alloc, b"h1")?;
     let Ok(wire) = Wire::new(alloc, writer, stub, Broken, host) else {
@@ -248,11 +263,28 @@ fn broken<L: Naming, R: Wait + Abort + Copy + Drop>(
     Ok(())
 }
 
+/// The same in a hall of its own, whose sessions this register has.
+fn broken_in_one<L: Naming, R: Wait + Abort + Copy + Drop>(
+    rt: &R,
+    alloc: Global,
+    register: Register<ChannelName>,
+    has_own_thread: bool,
+) -> Result<(), Fail>
+    requires named { register.table ≡ L.table }
+    requires empty { register.rows ≡ [] }
+{
+    let made: Hall<L, Sender<R>> = hall(alloc, register).ok_or("a hall")?;
+    let lock = Mutex::new(made);
+    let told = broken(rt, alloc, &lock, has_own_thread);
+    drop(lock);
+    told
+}
+
 #[test]
 fn a_session_is_hung_where_its_stream_fails(rt: HostRuntime) -> Result<(), Fail> {
     for has_own_thread in [false, true] {
         let register = Register::new(rt.alloc())?;
-        broken::<Brand, _>(&rt, rt.alloc(), register, has_own_thread)?;
+        broken_in_one::<Brand, _>(&rt, rt.alloc(), register, has_own_thread)?;
     }
     Ok(())
 }
@@ -260,11 +292,11 @@ fn a_session_is_hung_where_its_stream_fails(rt: HostRuntime) -> Result<(), Fail>
 #[test]
 fn what_waits_is_written_while_the_hall_is_locked(rt: HostRuntime) -> Result<(), Fail> {
     let register = Register::new(rt.alloc())?;
-    written_meanwhile::<Brand, _>(&rt, rt.alloc(), register)
+    written_meanwhile_in_one::<Brand, _>(&rt, rt.alloc(), register)
 }
 
 #[test]
 fn what_waits_is_written_by_the_sessions_own_thread(rt: HostRuntime) -> Result<(), Fail> {
     let register = Register::new(rt.alloc())?;
-    written_by_its_own::<Brand, _>(&rt, rt.alloc(), register)
+    written_by_its_own_in_one::<Brand, _>(&rt, rt.alloc(), register)
 }

@@ -1,9 +1,10 @@
 -- What is told of the known bytes of a reader stays true as they are read.
-use Rattle.std.proofs.Common.{◌≡◌, ℕ, List, [], ◌++◌, Option, Some, None, refl, sym, ap, ◌∙◌, subst}
-use Rattle.std.specs.Prelude.{IfSome}
+use Rattle.std.proofs.Common.{◌≡◌, ℕ, true, false, List, [], ◌++◌, Option, Some, None, Result, Ok, Err, is_ok, refl, sym, ap, ◌∙◌, subst}
+use Rattle.std.specs.Prelude.{IfSome, IfErr, OnOk}
 use Rattle.std.specs.Option.{option_map}
 use Rattle.std.specs.Io.KnownBytes.{Consumes, Keeps, IsAtEnd, Appends}
 use Rattle.halld.specs.declared.entry.PlayFault.{PlayFault}
+use Rattle.halld.specs.declared.entry.PlayFault.TheVariants.{WriteFailed}
 use Rattle.halld.specs.Headers.{default_limits}
 use Rattle.halld.specs.Lines.{continued, lines_of, limits_after, Told, told_of, told_after, told_ahead}
 use Rattle.halld.specs.declared.header.Limits.{Limits}
@@ -65,3 +66,27 @@ printed_from_start (Head k) line h l script text p =
     (subst (λ (x : Limits). ArePerformed (steps_of (continued [] ls)) [] (start_of (limits_after x (continued [] ls))) text) same
     (subst (λ (bs : List ℕ). ArePerformed (steps_of (continued bs ls)) [] (start_of (limits_after k (continued bs ls))) text) l p))
 printed_from_start (Steps player) line h l script text p = absurd (let f : None ≡ Some default_limits = h in cc)
+
+-- ---- a script was played, and its writer flushed
+
+-- who ends well played well
+pub ok_too : {T E : Type 0} (X : Type 0) (r p : Result T E) → OnOk r (is_ok p ≡ true) → OnOk p X → OnOk r X
+ok_too X (Ok u) (Ok v) e x = x
+ok_too X (Ok u) (Err f) e x = absurd (let c : false ≡ true = e in cc)
+ok_too X (Err f) p e x = tt
+
+pub then_ok : {T E X Y : Type 0} (p : Result T E) → (X → Y) → OnOk p X → OnOk p Y
+then_ok (Ok v) f x = f x
+then_ok (Err e) f x = tt
+
+-- the fault is that of playing, or that of the writer
+pub err_too : {T : Type 0} (P : PlayFault → Type 0) (r p : Result T PlayFault) → P WriteFailed
+    → IfErr r (λ e. IfErr p (λ f. e ≡ f)) → IfErr r (λ e. OnOk p (e ≡ WriteFailed)) → IfErr p P → IfErr r P
+err_too P (Ok u) p w same write all = tt
+err_too P (Err e) (Ok v) w same write all = subst P (sym write) w
+err_too P (Err e) (Err f) w same write all = subst P (sym same) all
+
+pub then_err : {T : Type 0} (A B : PlayFault → Type 0) (p : Result T PlayFault) → ((e : PlayFault) → A e → B e)
+    → IfErr p A → IfErr p B
+then_err A B (Ok v) f a = tt
+then_err A B (Err e) f a = f e a

@@ -1,5 +1,7 @@
 //! Playing a script from a reader to a writer.
-ghost use Rattle.std.specs.Prelude.{◌≡◌, ◌<◌, ◌^◌, [], List, ℕ, Some, OnOk, IfErr, IfSome};
+ghost use Rattle.std.specs.Prelude.{◌≡◌, ◌<◌, ◌^◌, [], List, ℕ, Some, true, is_ok, OnOk, IfErr, IfSome};
+ghost use Rattle.std.specs.Io.KnownBytes.{Keeps};
+ghost use Rattle.halld.specs.declared.entry.PlayFault.TheVariants.{WriteFailed};
 ghost use Rattle.halld.specs.Lines.{told_of, told_ahead};
 ghost use Rattle.halld.specs.Faults.{IsFaultOf, IsGood};
 ghost use Rattle.halld.specs.Stages.{head_of, IsReady};
@@ -84,6 +86,21 @@ fn play_lines<L: Naming, R: Read, W: Write>(
     Err(PlayFault::ReadFailed)
 }
 
+/// Flushes a writer, however a script was played.
+fn flush_after<W: Write>(played: Result<(), PlayFault>, output: &mut W) -> Result<(), PlayFault>
+    ensures played { OnOk result (is_ok played ≡ true) }
+    ensures keeps { Keeps (W.contents output.old) (W.contents output.new) }
+    ensures fault { IfErr result (λ e. IfErr played (λ f. e ≡ f)) }
+    ensures write { IfErr result (λ e. OnOk played (e ≡ WriteFailed)) }
+{
+    let flushed = output.flush();
+    played?;
+    match flushed {
+        Ok(()) => Ok(()),
+        Err(_) => Err(PlayFault::WriteFailed),
+    }
+}
+
 /// Plays a script on a new server, whose sessions a register has that is named.
 #[tactic(auto, using(crate::proofs::Known::if_known, crate::proofs::Known::start))]
 fn play_named<L: Naming, R: Read, W: Write>(
@@ -100,12 +117,8 @@ fn play_named<L: Naming, R: Read, W: Write>(
 {
     let mut reader: Reader<L> = Reader::new(alloc, register);
     let played = play_lines(&mut reader, input, output);
-    let flushed = output.flush();
-    played?;
-    match flushed {
-        Ok(()) => Ok(()),
-        Err(_) => Err(PlayFault::WriteFailed),
-    }
+    drop(reader);
+    flush_after(played, output)
 }
 
 /// Plays a script on a new server.

@@ -10,7 +10,7 @@ mod server;
 use interleave::{Naming, Play, Register};
 use registration::MAX_SESSIONS;
 use scenes::{SCENES, Scene};
-use server::{play_of, talk};
+use server::{fill, play_of, talk};
 use std::marker::Brand;
 use std::process::ExitCode;
 use std::rt::{Clock, Files};
@@ -57,6 +57,18 @@ fn tell_memory(rt: &(impl Print + Files + Alloc)) -> Option<()> {
     Some(())
 }
 
+/// Times a scene with so many lines in this play, in which nobody is yet.
+fn measure_on<L: Naming>(
+    rt: &HostRuntime,
+    play: &mut Play<L>,
+    scene: &Scene,
+    lines: u64,
+) -> Option<()> {
+    fill(rt.alloc(), play, scene)?;
+    let (micros, steps) = timed(rt, play, scene, lines)?;
+    tell(rt, scene, micros, steps, lines)
+}
+
 /// Times a scene with so many lines in a play of its own, whose sessions this register has.
 fn measure_in<L: Naming>(
     rt: &HostRuntime,
@@ -68,8 +80,9 @@ fn measure_in<L: Naming>(
     requires empty { register.rows ≡ [] }
 {
     let mut play: Play<L> = play_of(rt.alloc(), register, scene)?;
-    let (micros, steps) = timed(rt, &mut play, scene, lines)?;
-    tell(rt, scene, micros, steps, lines)
+    let measured = measure_on(rt, &mut play, scene, lines);
+    drop(play);
+    measured
 }
 
 /// Times a scene with so many lines, unless it has more sessions than a server lets in.

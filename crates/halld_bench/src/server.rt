@@ -242,7 +242,7 @@ fn pass_through<L: Naming>(
 }
 
 /// The sessions of a scene come, and take what waits for them.
-fn fill<L: Naming>(alloc: Global, play: &mut Play<L>, scene: &Scene) -> Option<()> {
+pub(crate) fn fill<L: Naming>(alloc: Global, play: &mut Play<L>, scene: &Scene) -> Option<()> {
     bring_members(alloc, play, scene)?;
     empty_members(play, scene);
     bring_idle(alloc, play, scene.members, scene.idle)?;
@@ -250,7 +250,7 @@ fn fill<L: Naming>(alloc: Global, play: &mut Play<L>, scene: &Scene) -> Option<(
     pass_through(alloc, play, others, scene.gone)
 }
 
-/// A play in which the sessions of a scene are there, which this register has.
+/// A play without sessions for a scene, which this register has.
 pub(crate) fn play_of<L: Naming>(
     alloc: Global,
     register: Register<()>,
@@ -260,9 +260,7 @@ pub(crate) fn play_of<L: Naming>(
     requires empty { register.rows ≡ [] }
 {
     let settings = settings(alloc)?;
-    let mut play = Play::new(alloc, register, settings, 10_000_000, 1, scene.sendq).ok()?;
-    fill(alloc, &mut play, scene)?;
-    Some(play)
+    Play::new(alloc, register, settings, 10_000_000, 1, scene.sendq).ok()
 }
 
 /// What the first session says: tags, where there are some, and the line.

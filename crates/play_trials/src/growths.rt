@@ -166,7 +166,9 @@ fn meet_in<L: Naming>(rt: &impl Abort, alloc: Global, register: Register<()>) ->
     let Some(mut play) = play::<L>(alloc, register, 100, 1, 8)? else {
         return Ok(false);
     };
-    meet(rt, alloc, &mut play)?;
+    let met = meet(rt, alloc, &mut play);
+    drop(play);
+    met?;
     Ok(true)
 }
 

@@ -165,7 +165,9 @@ fn run_of<L: Naming>(rt: &impl Abort, alloc: Global, register: Register<()>) -> 
     let Some(mut play) = play::<L>(alloc, register, 100, 2, 8)? else {
         return Ok(false);
     };
-    compare_run(rt, alloc, &mut play)?;
+    let compared = compare_run(rt, alloc, &mut play);
+    drop(play);
+    compared?;
     Ok(true)
 }
 

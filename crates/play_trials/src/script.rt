@@ -71,7 +71,9 @@ fn script_in<L: Naming>(
     let Some(mut play) = play_of::<L>(alloc, register, seen)? else {
         return Ok(false);
     };
-    say_script(rt, alloc, &mut play, seen, met)?;
+    let said = say_script(rt, alloc, &mut play, seen, met);
+    drop(play);
+    said?;
     Ok(true)
 }
 

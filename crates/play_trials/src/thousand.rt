@@ -745,7 +745,9 @@ fn go_in<L: Naming>(
     let Some(mut play) = play_of::<L>(alloc, register, seen)? else {
         return Ok(false);
     };
-    go_through(rt, alloc, &mut play, seen, counts, met)?;
+    let gone = go_through(rt, alloc, &mut play, seen, counts, met);
+    drop(play);
+    gone?;
     Ok(true)
 }
 

@@ -274,6 +274,60 @@ fn has_stop<R: Threads + 'static, I: Read + Send + Drop + 'static>(
     started.is_ok()
 }
 
+/// What a server has besides its settings and its listener.
+#[derive(Clone, Copy, Drop)]
+struct Terms<'a, G: Gate, C: crew::Clock> {
+    gate: &'a G,
+    clock: &'a C,
+    sendq: usize,
+    burst: usize,
+    is_quiet: bool,
+}
+
+/// Serves in this hall, by these doors.
+fn serve_in<
+    L: Naming + Send + Sync,
+    R: Threads + Wait + Clock + Eprint + Copy + Drop + Send + Sync + 'static,
+    G: Gate + Sync,
+    C: crew::Clock + Sync,
+    I: Read + Send + Drop + 'static,
+>(
+    rt: &R,
+    alloc: Global,
+    hall: &Mutex<Hall<L, Sender<R>>>,
+    doors: Doors,
+    terms: &Terms<'_, G, C>,
+    stop: I,
+) -> Result<(), ServeFault> {
+    let Doors {
+        listener,
+        mut poll,
+        polls,
+        posts,
+        stopping,
+    } = doors;
+    let connections = Connections::new(*rt, alloc, posts, Arc::try_clone(&stopping)?);
+    if !has_stop(rt, stop, Arc::try_clone(&stopping)?) {
+        return Err(ServeFault::Memory);
+    }
+    let house = House {
+        hall,
+        connections: &connections,
+        gate: terms.gate,
+        clock: terms.clock,
+        sendq: terms.sendq,
+        burst: terms.burst,
+    };
+    let (listener, is_quiet) = (listener.as_ref(), terms.is_quiet);
+    if !run_on(rt, alloc, &house, polls, &mut poll, listener, is_quiet) {
+        return Err(ServeFault::Memory);
+    }
+    if stopping.is_full() {
+        return Err(ServeFault::JournalFull);
+    }
+    Ok(())
+}
+
 /// Serves by a register of its own.
 fn serve_named<
     L: Naming + Send + Sync,
@@ -291,39 +345,21 @@ fn serve_named<
     requires named { register.table ≡ L.table }
     requires new { register.rows ≡ [] }
 {
-    let (workers, sendq, is_quiet) = (options.workers, options.sendq, options.is_quiet);
-    let hall: Hall<L, Sender<R>> = Hall::new(alloc, register, options.settings, options.limit)?;
-    let hall = Mutex::new(hall);
-    let Ok(doors) = doors_of(rt, alloc, options.tcp, workers) else {
-        return Err(ServeFault::Memory);
-    };
-    let Doors {
-        listener,
-        mut poll,
-        polls,
-        posts,
-        stopping,
-    } = doors;
-    let connections = Connections::new(*rt, alloc, posts, Arc::try_clone(&stopping)?);
-    if !has_stop(rt, stop, Arc::try_clone(&stopping)?) {
-        return Err(ServeFault::Memory);
-    }
-    let house = House {
-        hall: &hall,
-        connections: &connections,
+    let terms = Terms {
         gate: options.gate,
         clock: options.clock,
-        sendq,
-        burst: burst_of(sendq, workers),
+        sendq: options.sendq,
+        burst: burst_of(options.sendq, options.workers),
+        is_quiet: options.is_quiet,
     };
-    let listener = listener.as_ref();
-    if !run_on(rt, alloc, &house, polls, &mut poll, listener, is_quiet) {
+    let Ok(doors) = doors_of(rt, alloc, options.tcp, options.workers) else {
         return Err(ServeFault::Memory);
-    }
-    if stopping.is_full() {
-        return Err(ServeFault::JournalFull);
-    }
-    Ok(())
+    };
+    let hall: Hall<L, Sender<R>> = Hall::new(alloc, register, options.settings, options.limit)?;
+    let hall = Mutex::new(hall);
+    let served = serve_in(rt, alloc, &hall, doors, &terms, stop);
+    drop(hall);
+    served
 }
 
 /// Serves whoever connects, until `stop` ends or fails.
