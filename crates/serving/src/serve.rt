@@ -279,15 +279,15 @@ fn has_stop<R: Threads + 'static, I: Read + Send + Drop + 'static>(
 struct Terms<'a, G: Gate, C: crew::Clock> {
     gate: &'a G,
     clock: &'a C,
+    workers: usize,
     sendq: usize,
-    burst: usize,
     is_quiet: bool,
 }
 
-/// Serves in this hall, by these doors.
+/// Serves in this hall whoever connects to a listener.
 fn serve_in<
     L: Naming + Send + Sync,
-    R: Threads + Wait + Clock + Eprint + Copy + Drop + Send + Sync + 'static,
+    R: Threads + Wait + Clock + Net + Eprint + Copy + Drop + Send + Sync + 'static,
     G: Gate + Sync,
     C: crew::Clock + Sync,
     I: Read + Send + Drop + 'static,
@@ -295,10 +295,13 @@ fn serve_in<
     rt: &R,
     alloc: Global,
     hall: &Mutex<Hall<L, Sender<R>>>,
-    doors: Doors,
+    tcp: Option<net::TcpListener>,
     terms: &Terms<'_, G, C>,
     stop: I,
 ) -> Result<(), ServeFault> {
+    let Ok(doors) = doors_of(rt, alloc, tcp, terms.workers) else {
+        return Err(ServeFault::Memory);
+    };
     let Doors {
         listener,
         mut poll,
@@ -316,7 +319,7 @@ fn serve_in<
         gate: terms.gate,
         clock: terms.clock,
         sendq: terms.sendq,
-        burst: terms.burst,
+        burst: burst_of(terms.sendq, terms.workers),
     };
     let (listener, is_quiet) = (listener.as_ref(), terms.is_quiet);
     if !run_on(rt, alloc, &house, polls, &mut poll, listener, is_quiet) {
@@ -348,16 +351,13 @@ fn serve_named<
     let terms = Terms {
         gate: options.gate,
         clock: options.clock,
+        workers: options.workers,
         sendq: options.sendq,
-        burst: burst_of(options.sendq, options.workers),
         is_quiet: options.is_quiet,
-    };
-    let Ok(doors) = doors_of(rt, alloc, options.tcp, options.workers) else {
-        return Err(ServeFault::Memory);
     };
     let hall: Hall<L, Sender<R>> = Hall::new(alloc, register, options.settings, options.limit)?;
     let hall = Mutex::new(hall);
-    let served = serve_in(rt, alloc, &hall, doors, &terms, stop);
+    let served = serve_in(rt, alloc, &hall, options.tcp, &terms, stop);
     drop(hall);
     served
 }
