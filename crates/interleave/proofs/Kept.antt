@@ -104,7 +104,7 @@ took_holding : (m : Shown Waiting) (jobs : List (Option ℕ)) (holder : Option H
 took_holding m jobs None s h = h
 took_holding m jobs (Some x) s h =
     let o = h.0 in
-    (record { busy = o.busy; number = o.number; session = o.session; next = o.next; from_1 = o.from_1; opened = o.opened; missed = o.missed; room = o.room }, h.1)
+    (record { busy = o.busy; number = o.number; session = o.session; next = o.next; from_1 = o.from_1; opened = o.opened; missed = o.missed; room = o.room; kept = o.kept }, h.1)
 
 -- the lock is free
 free_holding : (m : Shown Waiting) (jobs : List (Option ℕ)) (holder : Option Holder) → worker_of holder ≡ None → IsHolding m jobs holder
