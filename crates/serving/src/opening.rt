@@ -1,5 +1,5 @@
 //! How a session is opened for a connection.
-ghost use Rattle.std.specs.Prelude.{◌≡◌, true, Some, IfSome};
+ghost use Rattle.std.specs.Prelude.{◌≡◌, [], true, Some, IfSome};
 ghost use Rattle.casemapping.specs.Names.{host_shape};
 
 use crate::connections::{Connection, Shared, View};
@@ -50,7 +50,8 @@ pub(crate) enum Connected<L: Naming, R: Wait + Drop> {
 
 /// The host of a peer, twice.
 fn host_twice(alloc: Global, peer: SocketAddr) -> Option<(Octets, Octets)>
-    ensures { IfSome result (λ hosts. host_shape hosts.0 ≡ true) }
+    ensures shape { IfSome result (λ hosts. host_shape hosts.0 ≡ true) }
+    ensures same { IfSome result (λ hosts. hosts.1 ≡ hosts.0) }
 {
     let host = host_of(alloc, peer)?;
     match host.clone() {
@@ -69,15 +70,28 @@ fn open_or_roll<L: Naming, R: Wait + Drop>(
     again: &Octets,
     moment: Moment,
     sender: Sender<R>,
-) -> Option<Given<L, R>> {
+) -> Option<Given<L, R>>
+    requires host { host_shape host ≡ true }
+    requires again { again.now ≡ host }
+    requires fresh { sender.sent ≡ [] }
+    ensures session { IfSome result (λ given. given.2.session ≡ given.1.session) }
+    ensures outbox { IfSome result (λ given. given.2.outbox ≡ Some sender.channel) }
+{
     let sender = match hall.open(host, moment, sender) {
         Ok(given) => return Some(given),
         Err((OpenRefusal::JournalFull, sender)) => sender,
         Err(_) => return None,
     };
-    let host = again.clone().ok()?;
-    hall.roll().ok()?;
-    hall.open(host, moment, sender).ok()
+    let Ok(host) = again.clone() else {
+        return None;
+    };
+    if hall.roll().is_err() {
+        return None;
+    }
+    match hall.open(host, moment, sender) {
+        Ok(given) => Some(given),
+        Err(_) => None,
+    }
 }
 
 /// Opens a session for a peer, where the server takes one, whose connection is at this place.

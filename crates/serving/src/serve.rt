@@ -83,36 +83,15 @@ pub struct Options<'a, G: Gate, C: crew::Clock> {
     pub is_quiet: bool,
 }
 
-/// What all threads of a server share.
+/// What all threads of a server share. Of the views there is one for each worker, and one more for a thread that is none.
 #[derive(Drop)]
 struct House<'a, L: Naming, R: Wait + Clock + Copy + Drop, G: Gate, C: crew::Clock> {
     hall: &'a Mutex<Hall<L, Sender<R>>>,
-    connections: &'a Connections<L, R>,
+    views: &'a [View<'a, L, R>],
     gate: &'a G,
     clock: &'a C,
     sendq: usize,
     burst: usize,
-}
-
-impl<'a, L: Naming, R: Wait + Clock + Copy + Drop, G: Gate, C: crew::Clock> House<'a, L, R, G, C> {
-    /// The connections as this worker knows them; a thread that is no worker where it is beyond their number.
-    fn view(&self, worker: usize) -> View<'a, L, R> {
-        View {
-            all: self.connections,
-            worker,
-        }
-    }
-
-    /// The server as a thread knows it by its view.
-    fn server(&self, view: &'a View<'a, L, R>) -> Serving<'a, L, R, G, C> {
-        Server {
-            hall: self.hall,
-            gate: self.gate,
-            sockets: view,
-            clock: self.clock,
-            burst: self.burst,
-        }
-    }
 }
 
 /// A gate that is always open.
@@ -152,11 +131,19 @@ fn work_on<L: Naming, R: Wait + Clock + Copy + Drop, G: Gate, C: crew::Clock>(
     let Ok(mut events) = events(alloc) else {
         return;
     };
-    let Some(post) = house.connections.post(worker) else {
+    let Some(view) = house.views.get(worker) else {
         return;
     };
-    let view = house.view(worker);
-    let server = house.server(&view);
+    let Some(post) = view.all.post(worker) else {
+        return;
+    };
+    let server = Server {
+        hall: house.hall,
+        gate: house.gate,
+        sockets: view,
+        clock: house.clock,
+        burst: house.burst,
+    };
     Worker::new(alloc, poll, house.sendq).serve(rt, &server, post, &mut events);
 }
 
@@ -165,14 +152,22 @@ fn end_all<L: Naming, R: Wait + Clock + Copy + Drop, G: Gate, C: crew::Clock>(
     rt: &R,
     house: &House<'_, L, R, G, C>,
 ) {
-    let view = house.view(usize::MAX);
-    let server = house.server(&view);
+    let Some(view) = house.views.last() else {
+        return;
+    };
+    let server = Server {
+        hall: house.hall,
+        gate: house.gate,
+        sockets: view,
+        clock: house.clock,
+        burst: house.burst,
+    };
     for _ in rt.forever() {
         if !hang_next(rt, &server) {
             break;
         }
     }
-    house.connections.close();
+    view.all.close();
 }
 
 /// Has a thread for each of the workers, accepts connections until the server is asked to stop, then ends all sessions, and waits
@@ -186,6 +181,7 @@ fn run_on<
     rt: &R,
     alloc: Global,
     house: &House<'_, L, R, G, C>,
+    connections: &Connections<L, R>,
     polls: Vec<Poll>,
     poll: &mut Poll,
     listener: Option<&TcpListener>,
@@ -201,7 +197,7 @@ fn run_on<
             drop(started);
         }
         if are_started {
-            accept_on(rt, alloc, house.connections, poll, listener, is_quiet);
+            accept_on(rt, alloc, connections, poll, listener, is_quiet);
         }
         end_all(rt, house);
         are_started
@@ -313,16 +309,35 @@ fn serve_in<
     if !has_stop(rt, stop, Arc::try_clone(&stopping)?) {
         return Err(ServeFault::Memory);
     }
+    let mut views = Vec::new(alloc);
+    for worker in 0..=terms.workers {
+        let view = View {
+            all: &connections,
+            worker,
+        };
+        if views.push(view).is_err() {
+            return Err(ServeFault::Memory);
+        }
+    }
     let house = House {
         hall,
-        connections: &connections,
+        views: &views,
         gate: terms.gate,
         clock: terms.clock,
         sendq: terms.sendq,
         burst: burst_of(terms.sendq, terms.workers),
     };
     let (listener, is_quiet) = (listener.as_ref(), terms.is_quiet);
-    if !run_on(rt, alloc, &house, polls, &mut poll, listener, is_quiet) {
+    if !run_on(
+        rt,
+        alloc,
+        &house,
+        &connections,
+        polls,
+        &mut poll,
+        listener,
+        is_quiet,
+    ) {
         return Err(ServeFault::Memory);
     }
     if stopping.is_full() {
@@ -379,10 +394,10 @@ pub fn serve_with<
     C: crew::Clock + Sync,
     I: Read + Send + Drop + 'static,
 >(rt: &R, alloc: Global, options: Options<'_, G, C>, stop: I) -> Result<(), ServeFault>
-    ensures no_worker { options.workers ≡ 0 → result ≡ Err BadSettings }
-    ensures many_workers { 64 < options.workers → result ≡ Err BadSettings }
-    ensures no_room { options.sendq ≡ 0 → result ≡ Err BadSettings }
-    ensures much_room { 4096 < options.sendq → result ≡ Err BadSettings }
+    ensures no_worker { options.entry.workers ≡ 0 → result ≡ Err BadSettings }
+    ensures many_workers { 64 < options.entry.workers → result ≡ Err BadSettings }
+    ensures no_room { options.entry.sendq ≡ 0 → result ≡ Err BadSettings }
+    ensures much_room { 4096 < options.entry.sendq → result ≡ Err BadSettings }
 {
     let (workers, sendq) = (options.workers, options.sendq);
     if workers < 1 || 64 < workers || sendq < 1 || 4096 < sendq {
