@@ -1,4 +1,4 @@
-use Rattle.serving.proofs.serve.serve_on.Given as goal
+use Rattle.serving.proofs.serve.serve_with.Given as goal
 
 -- the register that was just made
 abbrev pub ghosts-serve_named : goal.ghosts-serve_named
