@@ -428,12 +428,7 @@ pub fn serve_on<
     sendq: usize,
     gate: &G,
     stop: I,
-) -> Result<(), ServeFault>
-    ensures no_worker { workers ≡ 0 → result ≡ Err BadSettings }
-    ensures many_workers { 64 < workers → result ≡ Err BadSettings }
-    ensures no_room { sendq ≡ 0 → result ≡ Err BadSettings }
-    ensures much_room { 4096 < sendq → result ≡ Err BadSettings }
-{
+) -> Result<(), ServeFault> {
     if ws.is_some() {
         return Err(ServeFault::BadSettings);
     }
