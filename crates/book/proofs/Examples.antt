@@ -27,7 +27,7 @@ use Rattle.command_params.specs.Lists.{is_same as same_target}
 use Rattle.query_commands.specs.Query.{query_of}
 use Rattle.commands.specs.Registering.{session_named, session_of}
 use Rattle.commands.specs.Channels.{channel_of as channel_command_of}
-use Rattle.commands.specs.Talking.{talk_of}
+use Rattle.talk_commands.specs.Talk.{talk_of}
 use Rattle.commands.specs.Commands.{command_of}
 use Rattle.casemapping.specs.Fold.{is_same}
 use Rattle.roster.specs.LookBack.{members}

@@ -12,7 +12,7 @@ use Rattle.commands.specs.declared.registering.CapSubcommand.TheVariants as cap
 use Rattle.commands.specs.declared.command.Command.TheVariants as topic
 use Rattle.commands.specs.declared.registering.SessionCommand.TheVariants as session
 use Rattle.commands.specs.declared.channels.ChannelCommand.TheVariants as channel
-use Rattle.commands.specs.declared.talking.TalkCommand.TheVariants as talk
+use Rattle.talk_commands.specs.declared.talk.TalkCommand.TheVariants as talk
 use Rattle.command_params.specs.declared.fault.ReadFault.TheVariants as fault
 use Rattle.command_params.specs.declared.join_targets.JoinTarget.{JoinTarget}
 use Rattle.commands.specs.declared.asked.Asked.{Asked}
@@ -22,7 +22,7 @@ use Rattle.query_commands.specs.declared.query.Query.TheVariants as query
 use Rattle.query_commands.specs.Query.{query_of}
 use Rattle.commands.specs.Registering.{session_named, session_of}
 use Rattle.commands.specs.Channels.{channel_of}
-use Rattle.commands.specs.Talking.{talk_of}
+use Rattle.talk_commands.specs.Talk.{talk_of}
 use Rattle.commands.specs.Commands.{command_of}
 use Rattle.commands.specs.Asked.{read_as, asked_of}
 

@@ -2,10 +2,8 @@
 use Rattle.std.proofs.Common.{refl}
 use Rattle.commands.specs.declared.registering.SessionName.TheVariants.{Quit}
 use Rattle.commands.specs.declared.channels.ChannelCommand.TheVariants.{Join}
-use Rattle.commands.specs.declared.talking.TalkCommand.TheVariants.{Privmsg}
 use Rattle.commands.specs.Registering.{EachSessionIsNamed, session_named}
 use Rattle.commands.specs.Channels.{EachChannelIsNamed, channel_of}
-use Rattle.commands.specs.Talking.{EachTalkIsNamed, talk_of}
 
 pub each-session : EachSessionIsNamed
 unfolding session_named
@@ -16,8 +14,3 @@ pub each-channel : EachChannelIsNamed
 unfolding channel_of
 each-channel (Join targets) ps = refl
 each-channel _ ps = refl
-
-pub each-talk : EachTalkIsNamed
-unfolding talk_of
-each-talk (Privmsg targets text tags) tag_data ps = refl
-each-talk _ tag_data ps = refl

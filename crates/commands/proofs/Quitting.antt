@@ -20,7 +20,7 @@ use Rattle.commands.specs.declared.registering.SessionName.{SessionName}
 use Rattle.commands.specs.declared.registering.SessionName.TheVariants.{Cap, Authenticate, Pass, Nick, User, Ping, Pong, Quit}
 use Rattle.commands.specs.Registering.{user_name, cap_req, cap_subcommand, user_command, named_or_not, session_named, session_of, session_text}
 use Rattle.commands.specs.Channels.{channel_of}
-use Rattle.commands.specs.Talking.{talk_of}
+use Rattle.talk_commands.specs.Talk.{talk_of}
 use Rattle.commands.specs.Commands.{as_topic, by_name, command_of}
 use Rattle.commands.specs.Asked.{read_as, asked_by, asked_of, asks_for_quit, is_quit_command}
 

@@ -8,7 +8,7 @@ use Rattle.commands.specs.declared.command.Command.{Command}
 use Rattle.commands.specs.declared.command.Command.TheVariants.{Session, Channel, Talk, Query}
 use Rattle.commands.specs.Registering.{session_by_name}
 use Rattle.commands.specs.Channels.{channel_of}
-use Rattle.commands.specs.Talking.{talk_of}
+use Rattle.talk_commands.specs.Talk.{talk_of}
 
 -- a command of a topic, or the fault of its shape
 abbrev pub as_topic : {K : Type 0} → (K → Command) → Result K ReadFault → Result Command ReadFault

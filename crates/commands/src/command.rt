@@ -1,6 +1,7 @@
 //! What is asked for.
-use crate::{ChannelCommand, SessionCommand, TalkCommand};
+use crate::{ChannelCommand, SessionCommand};
 use query_commands::Query;
+use talk_commands::TalkCommand;
 
 /// What a message asks for, by its topic.
 #[derive(Drop)]

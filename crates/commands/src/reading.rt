@@ -6,11 +6,11 @@ ghost use Rattle.commands.specs.Commands.{as_topic, command_of};
 use crate::Command;
 use crate::channels::{ChannelCommand, read_channel};
 use crate::registering::{SessionCommand, SessionName, read_session};
-use crate::talking::{TalkCommand, read_talk};
 use command_params::ReadFault;
 use line_grammar::Message;
 use query_commands::{Query, read_query};
 use std::alloc::Global;
+use talk_commands::{TalkCommand, read_talk};
 
 fn as_session(read: Result<SessionCommand, ReadFault>) -> Result<Command, ReadFault>
     ensures { result ≡ as_topic Command.Session read }

@@ -13,8 +13,6 @@ use Rattle.commands.specs.declared.registering.SessionCommand.{SessionCommand}
 use Rattle.commands.specs.declared.registering.SessionCommand.TheVariants as session
 use Rattle.commands.specs.declared.channels.ChannelCommand.{ChannelCommand}
 use Rattle.commands.specs.declared.channels.ChannelCommand.TheVariants as channel
-use Rattle.commands.specs.declared.talking.TalkCommand.{TalkCommand}
-use Rattle.commands.specs.declared.talking.TalkCommand.TheVariants as talk
 use Rattle.command_params.specs.declared.fault.ReadFault.{ReadFault}
 use Rattle.command_params.specs.declared.fault.ReadFault.TheVariants.{UnknownCommand, NeedMoreParams, NoNicknameGiven, NoRecipient, NoTextToSend, NoOrigin, InvalidCapSubcommand, Memory}
 use Rattle.drafts.specs.declared.effect.Effect.{Effect}
@@ -30,9 +28,7 @@ use Rattle.channel_commands.specs.Leaving.{parts, kicks}
 use Rattle.channel_commands.specs.Inviting.{invites}
 use Rattle.channel_commands.specs.Topics.{topics}
 use Rattle.mode_commands.specs.Modes.{modes}
-use Rattle.talk_commands.specs.declared.verb.Verb.TheVariants as verb
-use Rattle.talk_commands.specs.Talking.{sends}
-use Rattle.talk_commands.specs.Away.{goes_away}
+use Rattle.talk_commands.specs.Talk.{is_unanswered, serves_talk}
 
 -- what a session's own command does
 abbrev pub serves_session : Settings → List Deed → ℕ → SessionCommand → List Effect
@@ -54,13 +50,6 @@ serves_channel g fs s (channel.Invite nick channel) = invites g fs s nick channe
 serves_channel g fs s (channel.Topic channel text) = topics g fs s channel text
 serves_channel g fs s (channel.Mode target changes) = modes g fs s target changes
 
--- what a command does that sends something
-abbrev pub serves_talk : Settings → List Deed → ℕ → TalkCommand → List Effect
-serves_talk g fs s (talk.Privmsg targets text tags) = sends g fs s (record { verb = verb.Privmsg; text = Some text; tags = tags }) targets
-serves_talk g fs s (talk.Notice targets text tags) = sends g fs s (record { verb = verb.Notice; text = Some text; tags = tags }) targets
-serves_talk g fs s (talk.Tagmsg targets tags) = sends g fs s (record { verb = verb.Tagmsg; text = None; tags = tags }) targets
-serves_talk g fs s (talk.Away text) = goes_away g fs s text
-
 -- what a command of a session does by itself
 abbrev pub served : Settings → List Deed → ℕ → Command → List Effect
 served g fs s (Session k) = serves_session g fs s k
@@ -74,13 +63,6 @@ is_for_registered (Session k) = false
 is_for_registered (Channel k) = true
 is_for_registered (Talk k) = true
 is_for_registered (Query k) = true
-
--- whether nothing answers a command in any case
-abbrev pub is_unanswered : TalkCommand → Bool
-is_unanswered (talk.Privmsg targets text tags) = false
-is_unanswered (talk.Notice targets text tags) = true
-is_unanswered (talk.Tagmsg targets tags) = false
-is_unanswered (talk.Away text) = false
 
 abbrev pub is_silent : Command → Bool
 is_silent (Session k) = false

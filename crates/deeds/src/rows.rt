@@ -5,9 +5,7 @@ ghost use Rattle.roster.specs.Legal.{IsOpened, AreNext};
 ghost use Rattle.drafts.specs.declared.effect.Effect.TheVariants.{Answer};
 ghost use Rattle.drafts.specs.Drafted.{grown};
 ghost use Rattle.drafts.specs.Lines.{pong_line};
-ghost use Rattle.talk_commands.specs.declared.verb.Verb.TheVariants.{Tagmsg};
-ghost use Rattle.talk_commands.specs.Talking.{sends};
-ghost use Rattle.deeds.specs.Rows.{asked, fault_numeric, is_for_registered, is_silent, is_unanswered, of_asked, of_command, refused, served, serves_channel, serves_session, serves_talk, turned_away};
+ghost use Rattle.deeds.specs.Rows.{asked, fault_numeric, is_for_registered, is_silent, of_asked, of_command, refused, served, serves_channel, serves_session, turned_away};
 ghost use Rattle.deeds.specs.Verdicts.{IsVerdict};
 
 use crate::enrolling::{complete, introduce, pass, quit, take_nick};
@@ -15,8 +13,8 @@ use crate::negotiation::{authenticate, negotiate};
 use crate::verdict::{Verdict, verdict_of};
 use channel_commands::{invite, join, kick, part, set_topic};
 use chronicle::{Moment, SessionId};
-use command_params::{ReadFault, Texts};
-use commands::{Asked, ChannelCommand, Command, SessionCommand, TalkCommand};
+use command_params::ReadFault;
+use commands::{Asked, ChannelCommand, Command, SessionCommand};
 use drafts::{Draft, pong_line, tell};
 use line_grammar::Octets;
 use mode_commands::change_modes;
@@ -24,7 +22,7 @@ use numerics::Numeric;
 use query_commands::ask;
 use roster::Roster;
 use std::alloc::{AllocError, Global};
-use talk_commands::{Sending, Verb, go_away, send};
+use talk_commands::{is_unanswered, serve_talk};
 
 /// Answers PING.
 fn pong(draft: &mut Draft, token: &[u8]) -> Result<(), AllocError>
@@ -33,47 +31,6 @@ fn pong(draft: &mut Draft, token: &[u8]) -> Result<(), AllocError>
     let server = draft.before().settings().server.as_slice();
     let line = pong_line(draft.alloc(), server, token)?;
     draft.answer(line)
-}
-
-/// Sends a text to targets.
-fn send_text(
-    draft: &mut Draft,
-    session: SessionId,
-    verb: Verb,
-    targets: &Texts,
-    text: &Octets,
-    tags: &Octets,
-) -> Result<(), AllocError>
-    requires { draft.old.facts ≡ draft.old.base }
-    ensures { OnOk result (draft.new ≡ grown draft.old (sends draft.old.settings draft.old.facts session (record { verb = verb; text = Some text.now; tags = tags.now }) targets.now)) }
-{
-    let text = Some(text);
-    send(
-        draft,
-        session,
-        &Sending { verb, text, tags },
-        targets.as_slice(),
-    )
-}
-
-/// Sends tags to targets.
-fn send_tags(
-    draft: &mut Draft,
-    session: SessionId,
-    targets: &Texts,
-    tags: &Octets,
-) -> Result<(), AllocError>
-    requires { draft.old.facts ≡ draft.old.base }
-    ensures { OnOk result (draft.new ≡ grown draft.old (sends draft.old.settings draft.old.facts session (record { verb = Tagmsg; text = None; tags = tags.now }) targets.now)) }
-{
-    let verb = Verb::Tagmsg;
-    let text = None;
-    send(
-        draft,
-        session,
-        &Sending { verb, text, tags },
-        targets.as_slice(),
-    )
 }
 
 /// Does what a session's own command asks for.
@@ -124,32 +81,6 @@ fn serve_channel(
     }
 }
 
-/// Does what a command asks for that sends something.
-fn serve_talk(
-    draft: &mut Draft,
-    session: SessionId,
-    command: &TalkCommand,
-) -> Result<(), AllocError>
-    requires opened { IsOpened draft.old.facts session }
-    requires first { draft.old.facts ≡ draft.old.base }
-    ensures { OnOk result (draft.new ≡ grown draft.old (serves_talk draft.old.settings draft.old.facts session command.now)) }
-{
-    match command {
-        TalkCommand::Privmsg {
-            targets,
-            text,
-            tags,
-        } => send_text(draft, session, Verb::Privmsg, targets, text, tags),
-        TalkCommand::Notice {
-            targets,
-            text,
-            tags,
-        } => send_text(draft, session, Verb::Notice, targets, text, tags),
-        TalkCommand::Tagmsg { targets, tags } => send_tags(draft, session, targets, tags),
-        TalkCommand::Away { text } => go_away(draft, session, text),
-    }
-}
-
 /// Does what a command asks for by itself.
 fn serve(draft: &mut Draft, session: SessionId, command: &Command) -> Result<(), AllocError>
     requires opened { IsOpened draft.old.facts session }
@@ -171,18 +102,6 @@ fn is_for_registered(command: &Command) -> bool
     match command {
         Command::Session(_) => false,
         Command::Channel(_) | Command::Talk(_) | Command::Query(_) => true,
-    }
-}
-
-/// Whether nothing answers a command in any case.
-fn is_unanswered(command: &TalkCommand) -> bool
-    ensures { result ≡ is_unanswered command.now }
-{
-    match command {
-        TalkCommand::Notice { .. } => true,
-        TalkCommand::Privmsg { .. } | TalkCommand::Tagmsg { .. } | TalkCommand::Away { .. } => {
-            false
-        }
     }
 }
 

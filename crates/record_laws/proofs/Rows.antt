@@ -22,9 +22,10 @@ use Rattle.commands.specs.declared.registering.SessionCommand.{SessionCommand}
 use Rattle.commands.specs.declared.registering.SessionCommand.TheVariants as session
 use Rattle.commands.specs.declared.channels.ChannelCommand.{ChannelCommand}
 use Rattle.commands.specs.declared.channels.ChannelCommand.TheVariants as channel
-use Rattle.commands.specs.declared.talking.TalkCommand.{TalkCommand}
-use Rattle.commands.specs.declared.talking.TalkCommand.TheVariants as talk
+use Rattle.talk_commands.specs.declared.talk.TalkCommand.{TalkCommand}
+use Rattle.talk_commands.specs.declared.talk.TalkCommand.TheVariants as talk
 use Rattle.query_commands.specs.Query.{told as query_told}
+use Rattle.talk_commands.specs.Talk.{serves_talk}
 use Rattle.drafts.specs.declared.effect.Effect.{Effect}
 use Rattle.drafts.specs.declared.effect.Effect.TheVariants.{Establish, Answer, Show, Copy}
 use Rattle.drafts.specs.Effects.{deeds_of, heard, replied, reply}
@@ -33,7 +34,7 @@ use Rattle.drafts.specs.Replies.{tells}
 use Rattle.deeds.specs.Deeds.{effects}
 use Rattle.deeds.specs.Departure.{departs}
 use Rattle.deeds.specs.Registration.{completed}
-use Rattle.deeds.specs.Rows.{asked, fault_numeric, is_for_registered, is_silent, of_asked, of_command, refused, served, serves_channel, serves_session, serves_talk, turned_away}
+use Rattle.deeds.specs.Rows.{asked, fault_numeric, is_for_registered, is_silent, of_asked, of_command, refused, served, serves_channel, serves_session, turned_away}
 use Rattle.talk_commands.specs.declared.verb.Verb.TheVariants as verb
 use Rattle.record_laws.specs.Laws.{AllShowOnce, HearersStandOnce, IsEachOnce, NoLineOpensABatch, RecordsOpenNoOthers, ShowsOnce}
 use Rattle.record_laws.proofs.Times.{once-sharers}

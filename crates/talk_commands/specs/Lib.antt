@@ -1,3 +1,4 @@
 pub mod Lines
 pub mod Talking
 pub mod Away
+pub mod Talk

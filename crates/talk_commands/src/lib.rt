@@ -3,9 +3,11 @@
 #![tactic(auto)]
 
 mod away;
+mod talk;
 mod talking;
 mod verb;
 
 pub use away::{AWAYLEN, go_away};
+pub use talk::{TalkCommand, each_talk_is_named, is_unanswered, read_talk, serve_talk};
 pub use talking::send;
 pub use verb::{Sending, Verb};

@@ -1,14 +1,21 @@
--- What the commands that send texts ask for: RFC 2812, sections 3.3.1, 3.3.2 and 4.1, and IRCv3 message-tags.
-use Rattle.std.specs.Prelude.{◌≡◌, ℕ, ◌||◌, cond, List, [], ◌∷◌, codes, Result, Ok, Err, Option, Some, true, is_some, None, if◌then◌else◌}
+-- The commands that send texts: how each is named and read, and what it does. RFC 2812, sections 3.3.1, 3.3.2 and 4.1, and IRCv3 message-tags.
+use Rattle.std.specs.Prelude.{Bool, false, ◌≡◌, ℕ, ◌||◌, cond, List, [], ◌∷◌, codes, Result, Ok, Err, Option, Some, true, is_some, None, if◌then◌else◌}
 use Rattle.message_tags.specs.Tags.{counting_tags}
 use Rattle.message_tags.specs.ClientOnly.{client_only_data}
-use Rattle.commands.specs.declared.talking.TalkCommand.{TalkCommand}
-use Rattle.commands.specs.declared.talking.TalkCommand.TheVariants.{Privmsg, Notice, Tagmsg, Away}
+use Rattle.talk_commands.specs.declared.talk.TalkCommand.{TalkCommand}
+use Rattle.talk_commands.specs.declared.talk.TalkCommand.TheVariants.{Privmsg, Notice, Tagmsg, Away}
 use Rattle.command_params.specs.declared.fault.ReadFault.{ReadFault}
 use Rattle.command_params.specs.declared.fault.ReadFault.TheVariants.{NoRecipient, NoTextToSend}
 use Rattle.command_params.specs.Lists.{is_empty, names_of}
 use Rattle.command_params.specs.Params.{first_or_empty}
 use Rattle.std.specs.Str.{str_eq_ignore_ascii_case}
+use Rattle.registration.specs.declared.settings.Settings.{Settings}
+use Rattle.roster.specs.declared.deed.Deed.{Deed}
+use Rattle.drafts.specs.declared.effect.Effect.{Effect}
+use Rattle.talk_commands.specs.declared.talk.TalkCommand.TheVariants as talk
+use Rattle.talk_commands.specs.declared.verb.Verb.TheVariants as verb
+use Rattle.talk_commands.specs.Talking.{sends}
+use Rattle.talk_commands.specs.Away.{goes_away}
 
 -- the second parameter, which is empty where there is none
 abbrev pub second_or_empty : List (List ℕ) → List ℕ
@@ -54,3 +61,17 @@ talk_text (Away text) = codes "AWAY"
 -- none is left out
 abbrev pub EachTalkIsNamed : Type 0
 EachTalkIsNamed = (k : TalkCommand) (tag_data : List ℕ) (ps : List (List ℕ)) → is_some (talk_of (talk_text k) tag_data ps) ≡ true
+
+-- what a command does that sends something
+abbrev pub serves_talk : Settings → List Deed → ℕ → TalkCommand → List Effect
+serves_talk g fs s (talk.Privmsg targets text tags) = sends g fs s (record { verb = verb.Privmsg; text = Some text; tags = tags }) targets
+serves_talk g fs s (talk.Notice targets text tags) = sends g fs s (record { verb = verb.Notice; text = Some text; tags = tags }) targets
+serves_talk g fs s (talk.Tagmsg targets tags) = sends g fs s (record { verb = verb.Tagmsg; text = None; tags = tags }) targets
+serves_talk g fs s (talk.Away text) = goes_away g fs s text
+
+-- whether nothing answers a command in any case
+abbrev pub is_unanswered : TalkCommand → Bool
+is_unanswered (talk.Privmsg targets text tags) = false
+is_unanswered (talk.Notice targets text tags) = true
+is_unanswered (talk.Tagmsg targets tags) = false
+is_unanswered (talk.Away text) = false

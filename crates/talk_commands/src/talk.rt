@@ -1,9 +1,16 @@
-//! The commands that send texts (RFC 2812, sections 3.3.1, 3.3.2 and 4.1; IRCv3 message-tags).
-ghost use Rattle.std.specs.Prelude.{◌≡◌, IfOk};
+//! The commands that send texts: how each is named and read, and what it does (RFC 2812, sections 3.3.1, 3.3.2 and 4.1; IRCv3 message-tags).
+ghost use Rattle.std.specs.Prelude.{◌≡◌, Some, None, IfOk, OnOk};
+ghost use Rattle.roster.specs.Legal.{IsOpened};
+ghost use Rattle.drafts.specs.Drafted.{grown};
 ghost use Rattle.command_params.specs.Params.{IsRead, IsReadByName};
-ghost use Rattle.commands.specs.Talking.{EachTalkIsNamed, talk_of, privmsg_command, notice_command, tagmsg_command, away_command, relayed, second_or_empty};
+ghost use Rattle.talk_commands.specs.declared.verb.Verb.TheVariants.{Tagmsg};
+ghost use Rattle.talk_commands.specs.Talking.{sends};
+ghost use Rattle.talk_commands.specs.Talk.{EachTalkIsNamed, is_unanswered, serves_talk, talk_of, privmsg_command, notice_command, tagmsg_command, away_command, relayed, second_or_empty};
 
+use crate::{Sending, Verb, go_away, send};
+use chronicle::SessionId;
 use command_params::{CommandName, ReadFault, Texts, first, is_named, read_names};
+use drafts::Draft;
 use line_grammar::Octets;
 use message_tags::{client_only, tags_of};
 use std::alloc::{AllocError, Global};
@@ -121,8 +128,8 @@ fn read_away(alloc: Global, params: &[Octets]) -> Result<TalkCommand, ReadFault>
 }
 
 /// What is asked by a name, or the numeric that answers it by what it says alone. `None` where it is no such command's.
-#[tactic(auto, unfolding(crate::specs::Talking::talk_of))]
-pub(crate) fn read_talk(
+#[tactic(auto, unfolding(crate::specs::Talk::talk_of))]
+pub fn read_talk(
     alloc: Global,
     name: &[u8],
     tag_data: &[u8],
@@ -143,3 +150,82 @@ pub(crate) fn read_talk(
 pub fn each_talk_is_named()
     ensures { EachTalkIsNamed }
 {}
+
+/// Sends a text to targets.
+fn send_text(
+    draft: &mut Draft,
+    session: SessionId,
+    verb: Verb,
+    targets: &Texts,
+    text: &Octets,
+    tags: &Octets,
+) -> Result<(), AllocError>
+    requires { draft.old.facts ≡ draft.old.base }
+    ensures { OnOk result (draft.new ≡ grown draft.old (sends draft.old.settings draft.old.facts session (record { verb = verb; text = Some text.now; tags = tags.now }) targets.now)) }
+{
+    let text = Some(text);
+    send(
+        draft,
+        session,
+        &Sending { verb, text, tags },
+        targets.as_slice(),
+    )
+}
+
+/// Sends tags to targets.
+fn send_tags(
+    draft: &mut Draft,
+    session: SessionId,
+    targets: &Texts,
+    tags: &Octets,
+) -> Result<(), AllocError>
+    requires { draft.old.facts ≡ draft.old.base }
+    ensures { OnOk result (draft.new ≡ grown draft.old (sends draft.old.settings draft.old.facts session (record { verb = Tagmsg; text = None; tags = tags.now }) targets.now)) }
+{
+    let verb = Verb::Tagmsg;
+    let text = None;
+    send(
+        draft,
+        session,
+        &Sending { verb, text, tags },
+        targets.as_slice(),
+    )
+}
+
+/// Does what a command asks for that sends something.
+pub fn serve_talk(
+    draft: &mut Draft,
+    session: SessionId,
+    command: &TalkCommand,
+) -> Result<(), AllocError>
+    requires opened { IsOpened draft.old.facts session }
+    requires first { draft.old.facts ≡ draft.old.base }
+    ensures { OnOk result (draft.new ≡ grown draft.old (serves_talk draft.old.settings draft.old.facts session command.now)) }
+{
+    match command {
+        TalkCommand::Privmsg {
+            targets,
+            text,
+            tags,
+        } => send_text(draft, session, Verb::Privmsg, targets, text, tags),
+        TalkCommand::Notice {
+            targets,
+            text,
+            tags,
+        } => send_text(draft, session, Verb::Notice, targets, text, tags),
+        TalkCommand::Tagmsg { targets, tags } => send_tags(draft, session, targets, tags),
+        TalkCommand::Away { text } => go_away(draft, session, text),
+    }
+}
+
+/// Whether nothing answers a command in any case.
+pub fn is_unanswered(command: &TalkCommand) -> bool
+    ensures { result ≡ is_unanswered command.now }
+{
+    match command {
+        TalkCommand::Notice { .. } => true,
+        TalkCommand::Privmsg { .. } | TalkCommand::Tagmsg { .. } | TalkCommand::Away { .. } => {
+            false
+        }
+    }
+}
