@@ -5,3 +5,4 @@ pub mod Joining
 pub mod Leaving
 pub mod Inviting
 pub mod Topics
+pub mod Channel

@@ -1,7 +1,9 @@
-//! What the commands about channels do: JOIN, PART, KICK, INVITE and TOPIC (RFC 2812, section 3.2).
+//! The commands about channels: JOIN, PART, KICK, INVITE and TOPIC, how each is named and read, and what it does (RFC 2812,
+//! section 3.2).
 #![tactic(auto)]
 
 mod bars;
+mod channel;
 mod finding;
 mod inviting;
 mod joining;
@@ -11,6 +13,7 @@ mod lines;
 mod members;
 mod topics;
 
+pub use channel::{ChannelCommand, each_channel_is_named, read_channel, serve_channel};
 pub use inviting::invite;
 pub use joining::join;
 pub use kicking::kick;

@@ -1,4 +1,2 @@
-pub mod Named
 pub mod Quitting
-pub mod UserNames
 mod Examples

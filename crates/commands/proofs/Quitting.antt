@@ -15,11 +15,12 @@ use Rattle.command_params.specs.Lists.{is_empty}
 use Rattle.query_commands.specs.Query.{query_of}
 use Rattle.commands.specs.declared.command.Command.{Command}
 use Rattle.commands.specs.declared.command.Command.TheVariants as topic
-use Rattle.commands.specs.declared.registering.SessionCommand.{SessionCommand}
-use Rattle.commands.specs.declared.registering.SessionName.{SessionName}
-use Rattle.commands.specs.declared.registering.SessionName.TheVariants.{Cap, Authenticate, Pass, Nick, User, Ping, Pong, Quit}
-use Rattle.commands.specs.Registering.{user_name, cap_req, cap_subcommand, user_command, named_or_not, session_named, session_of, session_text}
-use Rattle.commands.specs.Channels.{channel_of}
+use Rattle.session_commands.specs.declared.session.SessionCommand.{SessionCommand}
+use Rattle.session_commands.specs.declared.session.SessionName.{SessionName}
+use Rattle.session_commands.specs.declared.session.SessionName.TheVariants.{Cap, Authenticate, Pass, Nick, User, Ping, Pong, Quit}
+use Rattle.session_commands.specs.Session.{user_name, cap_req, cap_subcommand, user_command, named_or_not, session_named, session_of, session_text}
+use Rattle.channel_commands.specs.Channel.{channel_command_of}
+use Rattle.mode_commands.specs.Modes.{mode_of}
 use Rattle.talk_commands.specs.Talk.{talk_of}
 use Rattle.commands.specs.Commands.{as_topic, by_name, command_of}
 use Rattle.commands.specs.Asked.{read_as, asked_by, asked_of, asks_for_quit, is_quit_command}
@@ -37,15 +38,17 @@ by_other topic (Some (Err fault)) other never e = refl
 
 abbrev elsewhere : Message → Result Command ReadFault
 elsewhere m =
-    by_name topic.Channel (channel_of m.command m.params)
+    by_name topic.Channel (channel_command_of m.command m.params)
+    (by_name topic.Mode (mode_of m.command m.params)
     (by_name topic.Talk (talk_of m.command m.tags m.params)
-    (by_name topic.Query (query_of m.command m.params) (Err (UnknownCommand m.command))))
+    (by_name topic.Query (query_of m.command m.params) (Err (UnknownCommand m.command)))))
 
 no_quit_elsewhere : (m : Message) → is_quit_read (elsewhere m) ≡ false
 no_quit_elsewhere m =
-    by_other topic.Channel (channel_of m.command m.params) _ (λ k. refl)
+    by_other topic.Channel (channel_command_of m.command m.params) _ (λ k. refl)
+    (by_other topic.Mode (mode_of m.command m.params) _ (λ k. refl)
     (by_other topic.Talk (talk_of m.command m.tags m.params) _ (λ k. refl)
-    (by_other topic.Query (query_of m.command m.params) _ (λ k. refl) refl))
+    (by_other topic.Query (query_of m.command m.params) _ (λ k. refl) refl)))
 
 -- ---- the session's own
 

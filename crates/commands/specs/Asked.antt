@@ -7,9 +7,9 @@ use Rattle.line_grammar.specs.Reading.{reading}
 use Rattle.commands.specs.declared.asked.Asked.{Asked}
 use Rattle.commands.specs.declared.asked.Asked.TheVariants.{Nothing, TooLong, Command as Asks, Fault as Fails}
 use Rattle.commands.specs.declared.command.Command.{Command}
-use Rattle.commands.specs.declared.command.Command.TheVariants.{Session, Channel, Talk, Query}
-use Rattle.commands.specs.declared.registering.SessionCommand.{SessionCommand}
-use Rattle.commands.specs.declared.registering.SessionCommand.TheVariants.{Cap, Authenticate, Pass, Nick, User, Ping, Pong, Quit}
+use Rattle.commands.specs.declared.command.Command.TheVariants.{Session, Channel, Mode, Talk, Query}
+use Rattle.session_commands.specs.declared.session.SessionCommand.{SessionCommand}
+use Rattle.session_commands.specs.declared.session.SessionCommand.TheVariants.{Cap, Authenticate, Pass, Nick, User, Ping, Pong, Quit}
 use Rattle.command_params.specs.declared.fault.ReadFault.{ReadFault}
 use Rattle.commands.specs.Commands.{command_of}
 
@@ -49,6 +49,7 @@ is_quit_of_session (Quit text) = true
 abbrev pub is_quit_command : Command → Bool
 is_quit_command (Session command) = is_quit_of_session command
 is_quit_command (Channel command) = false
+is_quit_command (Mode command) = false
 is_quit_command (Talk command) = false
 is_quit_command (Query command) = false
 

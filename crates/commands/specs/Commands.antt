@@ -5,9 +5,10 @@ use Rattle.command_params.specs.declared.fault.ReadFault.{ReadFault}
 use Rattle.command_params.specs.declared.fault.ReadFault.TheVariants.{UnknownCommand}
 use Rattle.query_commands.specs.Query.{query_of}
 use Rattle.commands.specs.declared.command.Command.{Command}
-use Rattle.commands.specs.declared.command.Command.TheVariants.{Session, Channel, Talk, Query}
-use Rattle.commands.specs.Registering.{session_by_name}
-use Rattle.commands.specs.Channels.{channel_of}
+use Rattle.commands.specs.declared.command.Command.TheVariants.{Session, Channel, Mode, Talk, Query}
+use Rattle.session_commands.specs.Session.{session_by_name}
+use Rattle.channel_commands.specs.Channel.{channel_command_of}
+use Rattle.mode_commands.specs.Modes.{mode_of}
 use Rattle.talk_commands.specs.Talk.{talk_of}
 
 -- a command of a topic, or the fault of its shape
@@ -23,6 +24,7 @@ by_name topic (Some read) other = as_topic topic read
 unfoldable pub command_of : Message → Result Command ReadFault
 command_of m =
     by_name Session (session_by_name m.command m.params)
-    (by_name Channel (channel_of m.command m.params)
+    (by_name Channel (channel_command_of m.command m.params)
+    (by_name Mode (mode_of m.command m.params)
     (by_name Talk (talk_of m.command m.tags m.params)
-    (by_name Query (query_of m.command m.params) (Err (UnknownCommand m.command)))))
+    (by_name Query (query_of m.command m.params) (Err (UnknownCommand m.command))))))

@@ -1,4 +1,2 @@
-pub mod Registering
-pub mod Channels
 pub mod Commands
 pub mod Asked

@@ -4,9 +4,10 @@ ghost use Rattle.chronicle.specs.History.{is_quit};
 ghost use Rattle.commands.specs.Asked.{asked_by, asked_of, asks_for_command, asks_for_quit, message_of};
 ghost use Rattle.line_grammar.specs.Reading.{reading};
 
-use crate::{Command, SessionCommand, read};
+use crate::{Command, read};
 use command_params::ReadFault;
 use line_grammar::{LineFault, Message, Piece, parse};
+use session_commands::SessionCommand;
 use std::alloc::{AllocError, Global};
 
 /// What a piece asks for.

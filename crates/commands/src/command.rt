@@ -1,6 +1,8 @@
 //! What is asked for.
-use crate::{ChannelCommand, SessionCommand};
+use channel_commands::ChannelCommand;
+use mode_commands::ModeCommand;
 use query_commands::Query;
+use session_commands::SessionCommand;
 use talk_commands::TalkCommand;
 
 /// What a message asks for, by its topic.
@@ -10,6 +12,8 @@ pub enum Command {
     Session(SessionCommand),
     /// About channels.
     Channel(ChannelCommand),
+    /// About modes of channels and users.
+    Mode(ModeCommand),
     /// To send something.
     Talk(TalkCommand),
     /// To be told something.

@@ -4,11 +4,12 @@ ghost use Rattle.command_params.specs.Params.{IsRead};
 ghost use Rattle.commands.specs.Commands.{as_topic, command_of};
 
 use crate::Command;
-use crate::channels::{ChannelCommand, read_channel};
-use crate::registering::{SessionCommand, SessionName, read_session};
+use channel_commands::{ChannelCommand, read_channel};
 use command_params::ReadFault;
 use line_grammar::Message;
+use mode_commands::{ModeCommand, read_mode};
 use query_commands::{Query, read_query};
+use session_commands::{SessionCommand, SessionName, read_session};
 use std::alloc::Global;
 use talk_commands::{TalkCommand, read_talk};
 
@@ -26,6 +27,15 @@ fn as_channel(read: Result<ChannelCommand, ReadFault>) -> Result<Command, ReadFa
 {
     match read {
         Ok(command) => Ok(Command::Channel(command)),
+        Err(fault) => Err(fault),
+    }
+}
+
+fn as_mode(read: Result<ModeCommand, ReadFault>) -> Result<Command, ReadFault>
+    ensures { result ≡ as_topic Command.Mode read }
+{
+    match read {
+        Ok(command) => Ok(Command::Mode(command)),
         Err(fault) => Err(fault),
     }
 }
@@ -65,6 +75,9 @@ fn read_by_topic(alloc: Global, message: Message) -> Result<Command, ReadFault>
     }
     if let Some(read) = read_channel(alloc, name, params.as_slice()) {
         return as_channel(read);
+    }
+    if let Some(read) = read_mode(alloc, name, params.as_slice()) {
+        return as_mode(read);
     }
     if let Some(read) = read_talk(alloc, name, tags.as_slice(), params.as_slice()) {
         return as_talk(read);

@@ -8,52 +8,24 @@ use Rattle.roster.specs.LookBack.{after, registered}
 use Rattle.commands.specs.declared.asked.Asked.{Asked}
 use Rattle.commands.specs.declared.asked.Asked.TheVariants.{Nothing, TooLong, Command as Asks, Fault as Fails}
 use Rattle.commands.specs.declared.command.Command.{Command}
-use Rattle.commands.specs.declared.command.Command.TheVariants.{Session, Channel, Talk, Query}
-use Rattle.commands.specs.declared.registering.SessionCommand.{SessionCommand}
-use Rattle.commands.specs.declared.registering.SessionCommand.TheVariants as session
-use Rattle.commands.specs.declared.channels.ChannelCommand.{ChannelCommand}
-use Rattle.commands.specs.declared.channels.ChannelCommand.TheVariants as channel
+use Rattle.commands.specs.declared.command.Command.TheVariants.{Session, Channel, Mode, Talk, Query}
 use Rattle.command_params.specs.declared.fault.ReadFault.{ReadFault}
 use Rattle.command_params.specs.declared.fault.ReadFault.TheVariants.{UnknownCommand, NeedMoreParams, NoNicknameGiven, NoRecipient, NoTextToSend, NoOrigin, InvalidCapSubcommand, Memory}
 use Rattle.drafts.specs.declared.effect.Effect.{Effect}
-use Rattle.drafts.specs.declared.effect.Effect.TheVariants.{Answer}
 use Rattle.drafts.specs.Effects.{deeds_of}
-use Rattle.drafts.specs.Lines.{pong_line}
 use Rattle.drafts.specs.Replies.{tells}
-use Rattle.deeds.specs.Registration.{takes_nick, introduces, passes, quits, completed}
-use Rattle.deeds.specs.Negotiation.{negotiates, authenticates}
+use Rattle.session_commands.specs.Registration.{completed}
+use Rattle.session_commands.specs.Session.{serves_session}
 use Rattle.query_commands.specs.Query.{queries}
-use Rattle.channel_commands.specs.Joining.{joins}
-use Rattle.channel_commands.specs.Leaving.{parts, kicks}
-use Rattle.channel_commands.specs.Inviting.{invites}
-use Rattle.channel_commands.specs.Topics.{topics}
-use Rattle.mode_commands.specs.Modes.{modes}
+use Rattle.channel_commands.specs.Channel.{serves_channel}
+use Rattle.mode_commands.specs.Modes.{serves_mode}
 use Rattle.talk_commands.specs.Talk.{is_unanswered, serves_talk}
-
--- what a session's own command does
-abbrev pub serves_session : Settings → List Deed → ℕ → SessionCommand → List Effect
-serves_session g fs s (session.Cap subcommand) = negotiates g fs s subcommand
-serves_session g fs s (session.Authenticate piece) = authenticates g fs s piece
-serves_session g fs s session.Pass = passes g fs s
-serves_session g fs s (session.Nick n) = takes_nick g fs s n
-serves_session g fs s (session.User u r) = introduces g fs s u r
-serves_session g fs s (session.Ping token) = Answer (pong_line g.server token) ∷ []
-serves_session g fs s session.Pong = []
-serves_session g fs s (session.Quit text) = quits s text
-
--- what a command about channels does
-abbrev pub serves_channel : Settings → List Deed → ℕ → ChannelCommand → List Effect
-serves_channel g fs s (channel.Join targets) = joins g fs s targets
-serves_channel g fs s (channel.Part channels text) = parts g fs s channels text
-serves_channel g fs s (channel.Kick channel nicks text) = kicks g fs s channel nicks text
-serves_channel g fs s (channel.Invite nick channel) = invites g fs s nick channel
-serves_channel g fs s (channel.Topic channel text) = topics g fs s channel text
-serves_channel g fs s (channel.Mode target changes) = modes g fs s target changes
 
 -- what a command of a session does by itself
 abbrev pub served : Settings → List Deed → ℕ → Command → List Effect
 served g fs s (Session k) = serves_session g fs s k
 served g fs s (Channel k) = serves_channel g fs s k
+served g fs s (Mode k) = serves_mode g fs s k
 served g fs s (Talk k) = serves_talk g fs s k
 served g fs s (Query k) = queries g fs s k
 
@@ -61,12 +33,14 @@ served g fs s (Query k) = queries g fs s k
 abbrev pub is_for_registered : Command → Bool
 is_for_registered (Session k) = false
 is_for_registered (Channel k) = true
+is_for_registered (Mode k) = true
 is_for_registered (Talk k) = true
 is_for_registered (Query k) = true
 
 abbrev pub is_silent : Command → Bool
 is_silent (Session k) = false
 is_silent (Channel k) = false
+is_silent (Mode k) = false
 is_silent (Talk k) = is_unanswered k
 is_silent (Query k) = false
 

@@ -2,15 +2,11 @@
 #![tactic(auto)]
 
 mod departure;
-mod enrolling;
-mod laws;
-mod negotiation;
 mod rows;
 mod verdict;
-mod welcome;
 
 pub use departure::decide_gone;
 pub use drafts::Effect;
-pub use laws::support_is_whole;
 pub use rows::decide;
+pub use session_commands::support_is_whole;
 pub use verdict::{Shown, Verdict};

@@ -1,85 +1,25 @@
 //! What comes of a command.
-ghost use Rattle.std.specs.Prelude.{◌≡◌, ◌∷◌, [], Some, None, option_copied, IfOk, OnOk};
+ghost use Rattle.std.specs.Prelude.{◌≡◌, Some, None, option_copied, IfOk, OnOk};
 ghost use Rattle.roster.specs.LookBack.{after, opened};
 ghost use Rattle.roster.specs.Legal.{IsOpened, AreNext};
-ghost use Rattle.drafts.specs.declared.effect.Effect.TheVariants.{Answer};
 ghost use Rattle.drafts.specs.Drafted.{grown};
-ghost use Rattle.drafts.specs.Lines.{pong_line};
-ghost use Rattle.deeds.specs.Rows.{asked, fault_numeric, is_for_registered, is_silent, of_asked, of_command, refused, served, serves_channel, serves_session, turned_away};
+ghost use Rattle.deeds.specs.Rows.{asked, fault_numeric, is_for_registered, is_silent, of_asked, of_command, refused, served, turned_away};
 ghost use Rattle.deeds.specs.Verdicts.{IsVerdict};
 
-use crate::enrolling::{complete, introduce, pass, quit, take_nick};
-use crate::negotiation::{authenticate, negotiate};
 use crate::verdict::{Verdict, verdict_of};
-use channel_commands::{invite, join, kick, part, set_topic};
+use channel_commands::serve_channel;
 use chronicle::{Moment, SessionId};
 use command_params::ReadFault;
-use commands::{Asked, ChannelCommand, Command, SessionCommand};
-use drafts::{Draft, pong_line, tell};
+use commands::{Asked, Command};
+use drafts::{Draft, tell};
 use line_grammar::Octets;
-use mode_commands::change_modes;
+use mode_commands::serve_mode;
 use numerics::Numeric;
 use query_commands::ask;
 use roster::Roster;
+use session_commands::{complete, serve_session};
 use std::alloc::{AllocError, Global};
 use talk_commands::{is_unanswered, serve_talk};
-
-/// Answers PING.
-fn pong(draft: &mut Draft, token: &[u8]) -> Result<(), AllocError>
-    ensures { OnOk result (draft.new ≡ grown draft.old (Answer (pong_line draft.old.settings.server token.now) ∷ [])) }
-{
-    let server = draft.before().settings().server.as_slice();
-    let line = pong_line(draft.alloc(), server, token)?;
-    draft.answer(line)
-}
-
-/// Does what a session's own command asks for.
-fn serve_session(
-    draft: &mut Draft,
-    session: SessionId,
-    command: &SessionCommand,
-) -> Result<(), AllocError>
-    requires opened { IsOpened draft.old.facts session }
-    requires first { draft.old.facts ≡ draft.old.base }
-    ensures { OnOk result (draft.new ≡ grown draft.old (serves_session draft.old.settings draft.old.facts session command.now)) }
-{
-    match command {
-        SessionCommand::Cap(subcommand) => negotiate(draft, session, subcommand),
-        SessionCommand::Authenticate { piece } => authenticate(draft, session, piece.as_slice()),
-        SessionCommand::Pass => pass(draft, session),
-        SessionCommand::Nick { nick } => take_nick(draft, session, nick),
-        SessionCommand::User { user, real } => introduce(draft, session, user, real),
-        SessionCommand::Ping { token } => pong(draft, token.as_slice()),
-        SessionCommand::Pong => Ok(()),
-        SessionCommand::Quit { text } => quit(draft, session, text),
-    }
-}
-
-/// Does what a command about channels asks for.
-fn serve_channel(
-    draft: &mut Draft,
-    session: SessionId,
-    command: &ChannelCommand,
-) -> Result<(), AllocError>
-    requires opened { IsOpened draft.old.facts session }
-    requires first { draft.old.facts ≡ draft.old.base }
-    ensures { OnOk result (draft.new ≡ grown draft.old (serves_channel draft.old.settings draft.old.facts session command.now)) }
-{
-    match command {
-        ChannelCommand::Join { targets } => join(draft, session, targets.as_slice()),
-        ChannelCommand::Part { channels, text } => part(draft, session, channels.as_slice(), text),
-        ChannelCommand::Kick {
-            channel,
-            nicks,
-            text,
-        } => kick(draft, session, channel, nicks.as_slice(), text),
-        ChannelCommand::Invite { nick, channel } => invite(draft, session, nick, channel),
-        ChannelCommand::Topic { channel, text } => set_topic(draft, session, channel, text),
-        ChannelCommand::Mode { target, changes } => {
-            change_modes(draft, session, target, changes.as_slice())
-        }
-    }
-}
 
 /// Does what a command asks for by itself.
 fn serve(draft: &mut Draft, session: SessionId, command: &Command) -> Result<(), AllocError>
@@ -90,6 +30,7 @@ fn serve(draft: &mut Draft, session: SessionId, command: &Command) -> Result<(),
     match command {
         Command::Session(command) => serve_session(draft, session, command),
         Command::Channel(command) => serve_channel(draft, session, command),
+        Command::Mode(command) => serve_mode(draft, session, command),
         Command::Talk(command) => serve_talk(draft, session, command),
         Command::Query(query) => ask(draft, session, query),
     }
@@ -101,7 +42,7 @@ fn is_for_registered(command: &Command) -> bool
 {
     match command {
         Command::Session(_) => false,
-        Command::Channel(_) | Command::Talk(_) | Command::Query(_) => true,
+        Command::Channel(_) | Command::Mode(_) | Command::Talk(_) | Command::Query(_) => true,
     }
 }
 
@@ -110,7 +51,7 @@ fn is_silent(command: &Command) -> bool
 {
     match command {
         Command::Talk(command) => is_unanswered(command),
-        Command::Session(_) | Command::Channel(_) | Command::Query(_) => false,
+        Command::Session(_) | Command::Channel(_) | Command::Mode(_) | Command::Query(_) => false,
     }
 }
 

@@ -1,3 +1,4 @@
 mod Examples
 pub mod Mild
+pub mod Named
 pub mod Turns

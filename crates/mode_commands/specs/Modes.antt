@@ -1,5 +1,8 @@
--- MODE: RFC 2812, sections 3.1.5 and 3.2.3.
-use Rattle.std.specs.Prelude.{ℕ, Bool, false, ◌==◌, ◌||◌, List, [], ◌∷◌, Option, Some, None, if◌then◌else◌}
+-- MODE: how it is named and read, and what it does. RFC 2812, sections 3.1.5 and 3.2.3.
+use Rattle.std.specs.Prelude.{◌≡◌, ℕ, Bool, true, false, ◌==◌, ◌||◌, List, [], ◌∷◌, codes, Result, Ok, Option, Some, None, is_some, if◌then◌else◌}
+use Rattle.std.specs.Str.{str_eq_ignore_ascii_case}
+use Rattle.command_params.specs.declared.fault.ReadFault.{ReadFault}
+use Rattle.command_params.specs.Params.{needs_more}
 use Rattle.numerics.specs.declared.numeric.Numeric.TheVariants.{NoSuchNick, NoSuchChannel, UsersDontMatch}
 use Rattle.registration.specs.declared.settings.Settings.{Settings}
 use Rattle.roster.specs.declared.deed.Deed.{Deed}
@@ -7,8 +10,24 @@ use Rattle.roster.specs.LookBack.{found}
 use Rattle.drafts.specs.declared.effect.Effect.{Effect}
 use Rattle.drafts.specs.Replies.{tells}
 use Rattle.drafts.specs.Seen.{Seen, seen}
+use Rattle.mode_commands.specs.declared.modes.ModeCommand.{ModeCommand}
 use Rattle.mode_commands.specs.ChannelModes.{channel_modes}
 use Rattle.mode_commands.specs.UserModes.{own_modes}
+
+abbrev pub mode_command : List (List ℕ) → Result ModeCommand ReadFault
+mode_command [] = needs_more (codes "MODE")
+mode_command (target ∷ ps) = Ok (record { target = target; changes = ps })
+
+-- what is asked by a name, which is taken in either case, or the fault of its shape
+unfoldable pub mode_of : List ℕ → List (List ℕ) → Option (Result ModeCommand ReadFault)
+mode_of n ps = if str_eq_ignore_ascii_case n (codes "MODE") then Some (mode_command ps) else None
+
+-- the name of the command
+abbrev pub mode_text : ModeCommand → List ℕ
+mode_text k = codes "MODE"
+
+abbrev pub EachModeIsNamed : Type 0
+EachModeIsNamed = (k : ModeCommand) (ps : List (List ℕ)) → is_some (mode_of (mode_text k) ps) ≡ true
 
 -- a channel's name begins with `#` or `&`
 abbrev pub names_channel : List ℕ → Bool
@@ -26,3 +45,7 @@ of_user g fs s target changes (Some t) = if t == s then own_modes g fs s changes
 
 abbrev pub modes : Settings → List Deed → ℕ → List ℕ → List (List ℕ) → List Effect
 modes g fs s target changes = if names_channel target then of_channel g fs s target changes (seen fs target) else of_user g fs s target changes (found fs target)
+
+-- what a command about modes does
+abbrev pub serves_mode : Settings → List Deed → ℕ → ModeCommand → List Effect
+serves_mode g fs s k = modes g fs s k.target k.changes

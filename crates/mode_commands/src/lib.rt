@@ -10,5 +10,5 @@ mod steps;
 mod user_modes;
 
 pub use letters::ModeChange;
-pub use modes::change_modes;
+pub use modes::{ModeCommand, change_modes, each_mode_is_named, read_mode, serve_mode};
 pub use steps::Step;

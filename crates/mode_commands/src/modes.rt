@@ -1,18 +1,59 @@
-//! MODE (RFC 2812, sections 3.1.5 and 3.2.3).
+//! MODE: how it is named and read, and what it does (RFC 2812, sections 3.1.5 and 3.2.3).
 ghost use Rattle.std.specs.Prelude.{◌≡◌, OnOk};
 ghost use Rattle.roster.specs.LookBack.{found};
 ghost use Rattle.roster.specs.Legal.{IsOpened};
 ghost use Rattle.drafts.specs.Drafted.{grown};
 ghost use Rattle.drafts.specs.Seen.{seen};
-ghost use Rattle.mode_commands.specs.Modes.{modes, names_channel, of_channel, of_user};
+ghost use Rattle.command_params.specs.Params.{IsRead, IsReadByName};
+ghost use Rattle.mode_commands.specs.Modes.{EachModeIsNamed, mode_command, mode_of, modes, names_channel, of_channel, of_user, serves_mode};
 
 use crate::channel_modes::channel_modes;
 use crate::user_modes::own_modes;
 use chronicle::SessionId;
+use command_params::{ReadFault, Texts, copied, is_named, needs_more};
 use drafts::{Denial, Draft, deny, tell};
 use line_grammar::Octets;
 use numerics::Numeric;
-use std::alloc::AllocError;
+use std::alloc::{AllocError, Global};
+
+/// The modes of a channel or a user, or changes of them, as given.
+#[derive(Drop)]
+pub struct ModeCommand {
+    pub target: Octets,
+    /// The parameters after the target.
+    pub changes: Texts,
+}
+
+fn read_params(alloc: Global, params: &[Octets]) -> Result<ModeCommand, ReadFault>
+    ensures { IsRead (mode_command params.now) result }
+{
+    let [target, params @ ..] = params else {
+        return Err(needs_more(b"MODE"));
+    };
+    let target = target.clone()?;
+    let changes = copied(alloc, params)?;
+    Ok(ModeCommand { target, changes })
+}
+
+/// What is asked by a name, or the numeric that answers it by what it says alone. `None` where it is another command's.
+#[tactic(auto, unfolding(crate::specs::Modes::mode_of))]
+pub fn read_mode(
+    alloc: Global,
+    name: &[u8],
+    params: &[Octets],
+) -> Option<Result<ModeCommand, ReadFault>>
+    ensures { IsReadByName (mode_of name.now params.now) result }
+{
+    if is_named(name, b"MODE") {
+        return Some(read_params(alloc, params));
+    }
+    None
+}
+
+/// That the command has a name by which it is read.
+pub fn each_mode_is_named()
+    ensures { EachModeIsNamed }
+{}
 
 /// Whether a target is a channel: its name begins with `#` or `&`.
 fn names_channel(target: &[u8]) -> bool
@@ -69,4 +110,17 @@ pub fn change_modes(
         return of_channel(draft, session, target, changes);
     }
     of_user(draft, session, target, changes)
+}
+
+/// Does what a command about modes asks for.
+pub fn serve_mode(
+    draft: &mut Draft,
+    session: SessionId,
+    command: &ModeCommand,
+) -> Result<(), AllocError>
+    requires opened { IsOpened draft.old.facts session }
+    requires first { draft.old.facts ≡ draft.old.base }
+    ensures { OnOk result (draft.new ≡ grown draft.old (serves_mode draft.old.settings draft.old.facts session command.now)) }
+{
+    change_modes(draft, session, &command.target, command.changes.as_slice())
 }

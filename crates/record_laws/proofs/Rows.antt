@@ -17,14 +17,17 @@ use Rattle.commands.specs.Asked.{asked_of}
 use Rattle.commands.specs.declared.asked.Asked.{Asked}
 use Rattle.commands.specs.declared.asked.Asked.TheVariants.{Nothing, TooLong, Command as Asks, Fault as Fails}
 use Rattle.commands.specs.declared.command.Command.{Command}
-use Rattle.commands.specs.declared.command.Command.TheVariants.{Session, Channel, Talk, Query}
-use Rattle.commands.specs.declared.registering.SessionCommand.{SessionCommand}
-use Rattle.commands.specs.declared.registering.SessionCommand.TheVariants as session
-use Rattle.commands.specs.declared.channels.ChannelCommand.{ChannelCommand}
-use Rattle.commands.specs.declared.channels.ChannelCommand.TheVariants as channel
+use Rattle.commands.specs.declared.command.Command.TheVariants.{Session, Channel, Mode, Talk, Query}
+use Rattle.session_commands.specs.declared.session.SessionCommand.{SessionCommand}
+use Rattle.session_commands.specs.declared.session.SessionCommand.TheVariants as session
+use Rattle.channel_commands.specs.declared.channel.ChannelCommand.{ChannelCommand}
+use Rattle.channel_commands.specs.declared.channel.ChannelCommand.TheVariants as channel
 use Rattle.talk_commands.specs.declared.talk.TalkCommand.{TalkCommand}
 use Rattle.talk_commands.specs.declared.talk.TalkCommand.TheVariants as talk
 use Rattle.query_commands.specs.Query.{told as query_told}
+use Rattle.session_commands.specs.Session.{serves_session}
+use Rattle.channel_commands.specs.Channel.{serves_channel}
+use Rattle.mode_commands.specs.Modes.{serves_mode}
 use Rattle.talk_commands.specs.Talk.{serves_talk}
 use Rattle.drafts.specs.declared.effect.Effect.{Effect}
 use Rattle.drafts.specs.declared.effect.Effect.TheVariants.{Establish, Answer, Show, Copy}
@@ -33,8 +36,8 @@ use Rattle.drafts.specs.Lines.{pong_line}
 use Rattle.drafts.specs.Replies.{tells}
 use Rattle.deeds.specs.Deeds.{effects}
 use Rattle.deeds.specs.Departure.{departs}
-use Rattle.deeds.specs.Registration.{completed}
-use Rattle.deeds.specs.Rows.{asked, fault_numeric, is_for_registered, is_silent, of_asked, of_command, refused, served, serves_channel, serves_session, turned_away}
+use Rattle.session_commands.specs.Registration.{completed}
+use Rattle.deeds.specs.Rows.{asked, fault_numeric, is_for_registered, is_silent, of_asked, of_command, refused, served, turned_away}
 use Rattle.talk_commands.specs.declared.verb.Verb.TheVariants as verb
 use Rattle.record_laws.specs.Laws.{AllShowOnce, HearersStandOnce, IsEachOnce, NoLineOpensABatch, RecordsOpenNoOthers, ShowsOnce}
 use Rattle.record_laws.proofs.Times.{once-sharers}
@@ -59,7 +62,6 @@ of_channel g fs s (channel.Part channels text) = parting g fs s channels text
 of_channel g fs s (channel.Kick channel nicks text) = kicking g fs s channel nicks text
 of_channel g fs s (channel.Invite nick channel) = inviting g fs s nick channel
 of_channel g fs s (channel.Topic channel text) = topic g fs s channel text
-of_channel g fs s (channel.Mode target changes) = moding g fs s target changes
 
 of_talk : (g : Settings) (fs : List Deed) (s : ℕ) (k : TalkCommand) → Fit (serves_talk g fs s k)
 of_talk g fs s (talk.Privmsg targets text tags) = sent g fs s (record { verb = verb.Privmsg; text = Some text; tags = tags }) targets
@@ -71,6 +73,7 @@ of_talk g fs s (talk.Away text) = gone_away g fs s text
 serving : (g : Settings) (fs : List Deed) (s : ℕ) (k : Command) → IsEachOnce (opened fs) → Fit (served g fs s k)
 serving g fs s (Session k) once = of_session g fs s k once
 serving g fs s (Channel k) once = of_channel g fs s k
+serving g fs s (Mode k) once = moding g fs s k.target k.changes
 serving g fs s (Talk k) once = of_talk g fs s k
 serving g fs s (Query k) once = told_all g fs s (query_told g fs s k)
 

@@ -15,8 +15,8 @@ use Rattle.registration.specs.declared.enrol.UserAnswer.{UserAnswer}
 use Rattle.registration.specs.declared.enrol.UserAnswer.TheVariants.{AlreadyTold, Accepted}
 use Rattle.registration.specs.Caps.{all_caps, list_of}
 use Rattle.registration.specs.Enrol.{cap_answer, holds, is_ready, nick_answer, sasl_answer, user_answer}
-use Rattle.commands.specs.declared.registering.CapSubcommand.{CapSubcommand}
-use Rattle.commands.specs.declared.registering.CapSubcommand.TheVariants.{Ls, List as ListCaps, Req, End}
+use Rattle.session_commands.specs.declared.session.CapSubcommand.{CapSubcommand}
+use Rattle.session_commands.specs.declared.session.CapSubcommand.TheVariants.{Ls, List as ListCaps, Req, End}
 use Rattle.roster.specs.declared.deed.Deed.{Deed}
 use Rattle.roster.specs.declared.deed.Deed.TheVariants as deed
 use Rattle.roster.specs.LookBack.{after, caps, enrol, exchange, opened, registered, sharers}
@@ -24,9 +24,9 @@ use Rattle.drafts.specs.declared.effect.Effect.TheVariants.{Establish, Answer, S
 use Rattle.drafts.specs.Effects.{deeds_of}
 use Rattle.drafts.specs.Lines.{go_on_line, nick_line, prefix}
 use Rattle.drafts.specs.Replies.{tells, tells_all}
-use Rattle.deeds.specs.Negotiation.{authenticates, cap_list, closes, lists, negotiates, requested, sasl_answered, waits}
-use Rattle.deeds.specs.Registration.{aborts, completed, enrolls, introduces, is_held, nick_answered, passes, quits, registers, renames, shows_nick, takes_nick, user_answered}
-use Rattle.deeds.specs.Welcome.{welcome_numerics}
+use Rattle.session_commands.specs.Negotiation.{authenticates, cap_list, closes, lists, negotiates, requested, sasl_answered, waits}
+use Rattle.session_commands.specs.Registration.{aborts, completed, enrolls, introduces, is_held, nick_answered, passes, quits, registers, renames, shows_nick, takes_nick, user_answered}
+use Rattle.session_commands.specs.Welcome.{welcome_numerics}
 use Rattle.record_laws.specs.Laws.{IsEachOnce}
 use Rattle.record_laws.proofs.Times.{once-last, once-sharers, sharers-others}
 use Rattle.record_laws.proofs.Fits.{Fit, Fits, either, joined, more, none, only, told, told_all, told_only}

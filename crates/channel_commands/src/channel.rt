@@ -1,0 +1,154 @@
+//! The commands about channels: how each is named and read, and what it does (RFC 2812, sections 3.2.1, 3.2.2, 3.2.4, 3.2.7
+//! and 3.2.8).
+ghost use Rattle.std.specs.Prelude.{◌≡◌, OnOk};
+ghost use Rattle.roster.specs.Legal.{IsOpened};
+ghost use Rattle.drafts.specs.Drafted.{grown};
+ghost use Rattle.command_params.specs.Params.{IsRead, IsReadByName};
+ghost use Rattle.channel_commands.specs.Channel.{EachChannelIsNamed, channel_command_of, join_command, part_command, kick_command, invite_command, topic_command, serves_channel};
+
+use crate::{invite, join, kick, part, set_topic};
+use chronicle::SessionId;
+use command_params::{
+    JoinTargets, ReadFault, Texts, copied_first, first, is_named, needs_more, read_names,
+    read_targets,
+};
+use drafts::Draft;
+use line_grammar::Octets;
+use std::alloc::{AllocError, Global};
+
+/// What is asked about channels. Names and texts are as given. A list of names has no empty one, and none that
+/// repeats another in either case.
+#[derive(Drop)]
+pub enum ChannelCommand {
+    /// To join channels (section 3.2.1).
+    Join {
+        targets: JoinTargets,
+    },
+    /// To leave channels, with a text that may be empty (section 3.2.2).
+    Part {
+        channels: Texts,
+        text: Octets,
+    },
+    /// To put users out of a channel, with a text that may be empty (section 3.2.8).
+    Kick {
+        channel: Octets,
+        nicks: Texts,
+        text: Octets,
+    },
+    /// To invite a user to a channel (section 3.2.7).
+    Invite {
+        nick: Octets,
+        channel: Octets,
+    },
+    /// The topic of a channel, or a new one, which may be empty (section 3.2.4).
+    Topic {
+        channel: Octets,
+        text: Option<Octets>,
+    },
+}
+
+fn read_join(alloc: Global, params: &[Octets]) -> Result<ChannelCommand, ReadFault>
+    ensures { IsRead (join_command params.now) result }
+{
+    let [list, params @ ..] = params else {
+        return Err(needs_more(b"JOIN"));
+    };
+    let targets = read_targets(alloc, list.as_slice(), first(params))?;
+    Ok(ChannelCommand::Join { targets })
+}
+
+fn read_part(alloc: Global, params: &[Octets]) -> Result<ChannelCommand, ReadFault>
+    ensures { IsRead (part_command params.now) result }
+{
+    let [list, params @ ..] = params else {
+        return Err(needs_more(b"PART"));
+    };
+    let channels = read_names(alloc, list.as_slice())?;
+    let text = Octets::copied(alloc, first(params))?;
+    Ok(ChannelCommand::Part { channels, text })
+}
+
+fn read_kick(alloc: Global, params: &[Octets]) -> Result<ChannelCommand, ReadFault>
+    ensures { IsRead (kick_command params.now) result }
+{
+    let [channel, list, params @ ..] = params else {
+        return Err(needs_more(b"KICK"));
+    };
+    let channel = channel.clone()?;
+    let nicks = read_names(alloc, list.as_slice())?;
+    let text = Octets::copied(alloc, first(params))?;
+    Ok(ChannelCommand::Kick {
+        channel,
+        nicks,
+        text,
+    })
+}
+
+fn read_invite(params: &[Octets]) -> Result<ChannelCommand, ReadFault>
+    ensures { IsRead (invite_command params.now) result }
+{
+    let [nick, channel, ..] = params else {
+        return Err(needs_more(b"INVITE"));
+    };
+    let nick = nick.clone()?;
+    let channel = channel.clone()?;
+    Ok(ChannelCommand::Invite { nick, channel })
+}
+
+fn read_topic(params: &[Octets]) -> Result<ChannelCommand, ReadFault>
+    ensures { IsRead (topic_command params.now) result }
+{
+    let [channel, params @ ..] = params else {
+        return Err(needs_more(b"TOPIC"));
+    };
+    let channel = channel.clone()?;
+    let text = copied_first(params)?;
+    Ok(ChannelCommand::Topic { channel, text })
+}
+
+/// What is asked by a name, or the numeric that answers it by what it says alone. `None` where it is no such command's.
+#[tactic(auto, unfolding(crate::specs::Channel::channel_command_of))]
+pub fn read_channel(
+    alloc: Global,
+    name: &[u8],
+    params: &[Octets],
+) -> Option<Result<ChannelCommand, ReadFault>>
+    ensures { IsReadByName (channel_command_of name.now params.now) result }
+{
+    match name {
+        name if is_named(name, b"JOIN") => Some(read_join(alloc, params)),
+        name if is_named(name, b"PART") => Some(read_part(alloc, params)),
+        name if is_named(name, b"KICK") => Some(read_kick(alloc, params)),
+        name if is_named(name, b"INVITE") => Some(read_invite(params)),
+        name if is_named(name, b"TOPIC") => Some(read_topic(params)),
+        _ => None,
+    }
+}
+
+/// That each such command has a name by which it is read.
+pub fn each_channel_is_named()
+    ensures { EachChannelIsNamed }
+{}
+
+/// Does what a command about channels asks for.
+pub fn serve_channel(
+    draft: &mut Draft,
+    session: SessionId,
+    command: &ChannelCommand,
+) -> Result<(), AllocError>
+    requires opened { IsOpened draft.old.facts session }
+    requires first { draft.old.facts ≡ draft.old.base }
+    ensures { OnOk result (draft.new ≡ grown draft.old (serves_channel draft.old.settings draft.old.facts session command.now)) }
+{
+    match command {
+        ChannelCommand::Join { targets } => join(draft, session, targets.as_slice()),
+        ChannelCommand::Part { channels, text } => part(draft, session, channels.as_slice(), text),
+        ChannelCommand::Kick {
+            channel,
+            nicks,
+            text,
+        } => kick(draft, session, channel, nicks.as_slice(), text),
+        ChannelCommand::Invite { nick, channel } => invite(draft, session, nick, channel),
+        ChannelCommand::Topic { channel, text } => set_topic(draft, session, channel, text),
+    }
+}

@@ -1,6 +1,0 @@
-use Rattle.std.proofs.Common.{◌≡◌, map, take}
-use Rattle.deeds.specs.Negotiation.{cap_text}
-use Rattle.deeds.proofs.negotiation.cap_texts.Given as goal
-
-abbrev pub invariant-loop-cap : goal.invariant-loop-cap
-invariant-loop-cap l = l.texts.items ≡ map (cap_text l.shows_values) (take l.cap-index l.caps)

@@ -1,0 +1,3 @@
+pub mod UserNames
+pub mod Support
+pub mod Named

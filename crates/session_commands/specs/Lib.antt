@@ -1,0 +1,4 @@
+pub mod Welcome
+pub mod Registration
+pub mod Negotiation
+pub mod Session

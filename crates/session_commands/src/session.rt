@@ -1,0 +1,335 @@
+//! The commands of a session's own: how each is named and read, and what it does (RFC 2812, sections 3.1.1 to 3.1.3, 3.1.7,
+//! 3.7.2 and 3.7.3; IRCv3 Capability Negotiation and SASL 3.1).
+ghost use Rattle.std.specs.Prelude.{◌≡◌, ◌∷◌, [], IfOk, OnOk};
+ghost use Rattle.std.specs.List.{list_any};
+ghost use Rattle.roster.specs.Legal.{IsOpened};
+ghost use Rattle.drafts.specs.declared.effect.Effect.TheVariants.{Answer};
+ghost use Rattle.drafts.specs.Drafted.{grown};
+ghost use Rattle.drafts.specs.Lines.{pong_line};
+ghost use Rattle.command_params.specs.Lists.{is_present};
+ghost use Rattle.command_params.specs.Params.{IsRead};
+ghost use Rattle.session_commands.specs.Session.{EachSessionIsNamed, session_named, session_of, session_text, cap_req, cap_subcommand, cap_command, authenticate_command, pass_command, pong_command, nick_command, is_user_octet, user_name, user_command, ping_command, quit_command, serves_session, shows_values, told};
+
+use crate::enrolling::{introduce, pass, quit, take_nick};
+use crate::negotiation::{authenticate, negotiate};
+use chronicle::SessionId;
+use command_params::{ReadFault, Texts, first, is_named, needs_more, read_words};
+use drafts::{Draft, pong_line};
+use line_grammar::{Octets, Parameters};
+use std::alloc::{AllocError, Global};
+
+/// What CAP asks for (IRCv3 Capability Negotiation).
+#[derive(Drop)]
+pub enum CapSubcommand {
+    /// The capabilities that there are, with their values where the client's version is 302 or later.
+    Ls { shows_values: bool },
+    /// The capabilities that are on.
+    List,
+    /// To turn capabilities on, or off those after `-`. The words are as given.
+    Req { words: Texts },
+    /// To end the negotiation.
+    End,
+}
+
+/// What a session asks for itself. Names and texts are as given.
+#[derive(Drop)]
+pub enum SessionCommand {
+    /// To end the session, with a text that may be empty (section 3.1.7).
+    Quit { text: Octets },
+    /// To negotiate capabilities (IRCv3 Capability Negotiation).
+    Cap(CapSubcommand),
+    /// A mechanism or a piece of an exchange (IRCv3 SASL 3.1).
+    Authenticate { piece: Octets },
+    /// A password, which isn't looked at (RFC 2812, section 3.1.1).
+    Pass,
+    /// A nickname, which isn't empty (section 3.1.2).
+    Nick { nick: Octets },
+    /// The user name, of 1 to 16 octets, none of them `!`, `@` or below 33; and the real name, of 100
+    /// octets at most (section 3.1.3).
+    User { user: Octets, real: Octets },
+    /// An answer with this text, which isn't empty (section 3.7.2).
+    Ping { token: Octets },
+    /// Nothing (section 3.7.3).
+    Pong,
+}
+
+/// The name of such a command.
+#[derive(Clone, Copy)]
+pub enum SessionName {
+    Quit,
+    Cap,
+    Authenticate,
+    Pass,
+    Nick,
+    User,
+    Ping,
+    Pong,
+}
+
+/// Each of them.
+const KNOWN: [SessionName; 8] = [
+    SessionName::Quit,
+    SessionName::Cap,
+    SessionName::Authenticate,
+    SessionName::Pass,
+    SessionName::Nick,
+    SessionName::User,
+    SessionName::Ping,
+    SessionName::Pong,
+];
+
+impl SessionName {
+    /// The command of a name, in either case. `None` where it is none.
+    #[tactic(auto, unfolding(crate::specs::Session::session_named))]
+    pub fn read(name: &[u8]) -> Option<SessionName>
+        ensures { result ≡ session_named name.now }
+    {
+        KNOWN
+            .iter()
+            .copied()
+            .find(|known| is_named(name, known.text()))
+    }
+
+    /// The name in upper case.
+    pub fn text(&self) -> &'static [u8]
+        ensures { result.now ≡ session_text self.now }
+    {
+        match self {
+            SessionName::Quit => b"QUIT",
+            SessionName::Cap => b"CAP",
+            SessionName::Authenticate => b"AUTHENTICATE",
+            SessionName::Pass => b"PASS",
+            SessionName::Nick => b"NICK",
+            SessionName::User => b"USER",
+            SessionName::Ping => b"PING",
+            SessionName::Pong => b"PONG",
+        }
+    }
+}
+
+/// That none is left out among the names that are known: each is read by its own.
+pub fn each_session_is_named()
+    ensures { EachSessionIsNamed }
+{}
+
+/// Octets of a user name, and of a real name.
+const USERLEN: usize = 16;
+
+const NAMELEN: usize = 100;
+
+/// The version of Capability Negotiation from which on values are shown.
+const VALUES_VERSION: u16 = 302;
+
+/// Whether a version is a number of 302 or more.
+fn shows_values(version: &[u8]) -> bool
+    ensures { result ≡ shows_values version.now }
+{
+    let mut number = 0;
+    for octet in version {
+        if !octet.is_ascii_digit() {
+            return false;
+        }
+        number = (number * 10 + u16::from(*octet - b'0')).min(VALUES_VERSION);
+    }
+    number == VALUES_VERSION
+}
+
+fn read_cap_req(alloc: Global, params: &[Octets]) -> Result<SessionCommand, ReadFault>
+    ensures { IsRead (cap_req params.now) result }
+{
+    let [list, ..] = params else {
+        return Err(needs_more(b"CAP"));
+    };
+    let words = read_words(alloc, list.as_slice())?;
+    Ok(SessionCommand::Cap(CapSubcommand::Req { words }))
+}
+
+fn read_cap_subcommand(
+    alloc: Global,
+    subcommand: Octets,
+    params: &[Octets],
+) -> Result<SessionCommand, ReadFault>
+    ensures { IsRead (cap_subcommand subcommand params.now) result }
+{
+    let name = subcommand.as_slice();
+    if is_named(name, b"LS") {
+        let shows_values = shows_values(first(params));
+        return Ok(SessionCommand::Cap(CapSubcommand::Ls { shows_values }));
+    }
+    if is_named(name, b"LIST") {
+        return Ok(SessionCommand::Cap(CapSubcommand::List));
+    }
+    if is_named(name, b"REQ") {
+        return read_cap_req(alloc, params);
+    }
+    if is_named(name, b"END") {
+        return Ok(SessionCommand::Cap(CapSubcommand::End));
+    }
+    Err(ReadFault::InvalidCapSubcommand { subcommand })
+}
+
+/// An unknown subcommand is moved out of the parameters, so that no growth comes before its fault.
+fn read_cap(alloc: Global, mut params: Vec<Octets>) -> Result<SessionCommand, ReadFault>
+    ensures { IsRead (cap_command params.items) result }
+{
+    if params.is_empty() {
+        return Err(needs_more(b"CAP"));
+    }
+    let subcommand = params.remove(0);
+    read_cap_subcommand(alloc, subcommand, &params)
+}
+
+fn read_authenticate(params: &[Octets]) -> Result<SessionCommand, ReadFault>
+    ensures { IsRead (authenticate_command params.now) result }
+{
+    let [piece, ..] = params else {
+        return Err(needs_more(b"AUTHENTICATE"));
+    };
+    let piece = piece.clone()?;
+    Ok(SessionCommand::Authenticate { piece })
+}
+
+fn read_pass(params: &[Octets]) -> Result<SessionCommand, ReadFault>
+    ensures { IsRead (pass_command params.now) result }
+{
+    match params {
+        [_, ..] => Ok(SessionCommand::Pass),
+        [] => Err(needs_more(b"PASS")),
+    }
+}
+
+fn read_nick(alloc: Global, params: &[Octets]) -> Result<SessionCommand, ReadFault>
+    ensures { IsRead (nick_command params.now) result }
+{
+    let nick = first(params);
+    if nick.is_empty() {
+        return Err(ReadFault::NoNicknameGiven);
+    }
+    let nick = Octets::copied(alloc, nick)?;
+    Ok(SessionCommand::Nick { nick })
+}
+
+/// Whether an octet may stand in a user name.
+fn is_user_octet(octet: u8) -> bool
+    ensures { result ≡ is_user_octet octet }
+{
+    octet != b'!' && octet != b'@' && 33 <= octet
+}
+
+fn has_user_octet(octets: &[u8]) -> bool
+    ensures { result ≡ list_any is_user_octet octets.now }
+{
+    octets.iter().any(|octet| is_user_octet(*octet))
+}
+
+/// Whether something is left of a user name.
+fn has_usable(user: &[u8]) -> bool
+    ensures { result ≡ is_present (user_name user.now) }
+{
+    has_user_octet(user)
+}
+
+/// What is left of a user name, cut.
+fn usable(alloc: Global, user: &[u8]) -> Result<Octets, AllocError>
+    ensures { IfOk result (λ u. u ≡ user_name user.now) }
+{
+    let mut kept: Vec<u8> = user
+        .iter()
+        .copied()
+        .filter(|octet| is_user_octet(*octet))
+        .collect(alloc)?;
+    kept.truncate(USERLEN);
+    Ok(Octets::from_vec(kept))
+}
+
+fn told(alloc: Global, user: &[u8], real: &[u8]) -> Result<SessionCommand, ReadFault>
+    ensures { IsRead (told user.now real.now) result }
+{
+    if !has_usable(user) {
+        return Err(needs_more(b"USER"));
+    }
+    let user = usable(alloc, user)?;
+    let mut real = Vec::from_slice(alloc, real)?;
+    real.truncate(NAMELEN);
+    let real = Octets::from_vec(real);
+    Ok(SessionCommand::User { user, real })
+}
+
+fn read_user(alloc: Global, params: &[Octets]) -> Result<SessionCommand, ReadFault>
+    ensures { IsRead (user_command params.now) result }
+{
+    match params {
+        [user, _, _, real, ..] => told(alloc, user.as_slice(), real.as_slice()),
+        _ => Err(needs_more(b"USER")),
+    }
+}
+
+fn read_ping(alloc: Global, params: &[Octets]) -> Result<SessionCommand, ReadFault>
+    ensures { IsRead (ping_command params.now) result }
+{
+    let token = first(params);
+    if token.is_empty() {
+        return Err(ReadFault::NoOrigin);
+    }
+    let token = Octets::copied(alloc, token)?;
+    Ok(SessionCommand::Ping { token })
+}
+
+fn read_quit(alloc: Global, params: &[Octets]) -> Result<SessionCommand, ReadFault>
+    ensures { IsRead (quit_command params.now) result }
+{
+    let text = Octets::copied(alloc, first(params))?;
+    Ok(SessionCommand::Quit { text })
+}
+
+/// What a command asks for by its parameters, or the numeric that answers it by what it says alone.
+#[tactic(auto, unfolding(crate::specs::Session::session_of))]
+pub fn read_session(
+    alloc: Global,
+    name: SessionName,
+    params: Parameters,
+) -> Result<SessionCommand, ReadFault>
+    ensures { IsRead (session_of name params) result }
+{
+    match name {
+        SessionName::Cap => read_cap(alloc, params.into_vec()),
+        SessionName::Authenticate => read_authenticate(params.as_slice()),
+        SessionName::Pass => read_pass(params.as_slice()),
+        SessionName::Nick => read_nick(alloc, params.as_slice()),
+        SessionName::User => read_user(alloc, params.as_slice()),
+        SessionName::Ping => read_ping(alloc, params.as_slice()),
+        SessionName::Pong => Ok(SessionCommand::Pong),
+        SessionName::Quit => read_quit(alloc, params.as_slice()),
+    }
+}
+
+/// Answers PING.
+fn pong(draft: &mut Draft, token: &[u8]) -> Result<(), AllocError>
+    ensures { OnOk result (draft.new ≡ grown draft.old (Answer (pong_line draft.old.settings.server token.now) ∷ [])) }
+{
+    let server = draft.before().settings().server.as_slice();
+    let line = pong_line(draft.alloc(), server, token)?;
+    draft.answer(line)
+}
+
+/// Does what a session's own command asks for.
+pub fn serve_session(
+    draft: &mut Draft,
+    session: SessionId,
+    command: &SessionCommand,
+) -> Result<(), AllocError>
+    requires opened { IsOpened draft.old.facts session }
+    requires first { draft.old.facts ≡ draft.old.base }
+    ensures { OnOk result (draft.new ≡ grown draft.old (serves_session draft.old.settings draft.old.facts session command.now)) }
+{
+    match command {
+        SessionCommand::Cap(subcommand) => negotiate(draft, session, subcommand),
+        SessionCommand::Authenticate { piece } => authenticate(draft, session, piece.as_slice()),
+        SessionCommand::Pass => pass(draft, session),
+        SessionCommand::Nick { nick } => take_nick(draft, session, nick),
+        SessionCommand::User { user, real } => introduce(draft, session, user, real),
+        SessionCommand::Ping { token } => pong(draft, token.as_slice()),
+        SessionCommand::Pong => Ok(()),
+        SessionCommand::Quit { text } => quit(draft, session, text),
+    }
+}
