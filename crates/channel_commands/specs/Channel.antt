@@ -4,7 +4,7 @@ use Rattle.channel_commands.specs.declared.channel.ChannelCommand.{ChannelComman
 use Rattle.channel_commands.specs.declared.channel.ChannelCommand.TheVariants.{Join, Part, Kick, Invite, Topic}
 use Rattle.command_params.specs.declared.fault.ReadFault.{ReadFault}
 use Rattle.command_params.specs.Lists.{names_of, targets_of}
-use Rattle.command_params.specs.Params.{first_or_empty, first_or_none, needs_more}
+use Rattle.command_params.specs.Params.{HasName, first_or_empty, first_or_none, needs_more}
 use Rattle.std.specs.Str.{str_eq_ignore_ascii_case}
 use Rattle.registration.specs.declared.settings.Settings.{Settings}
 use Rattle.roster.specs.declared.deed.Deed.{Deed}
@@ -54,6 +54,10 @@ channel_text (Topic channel text) = codes "TOPIC"
 -- none is left out
 abbrev pub EachChannelIsNamed : Type 0
 EachChannelIsNamed = (k : ChannelCommand) (ps : List (List ℕ)) → is_some (channel_command_of (channel_text k) ps) ≡ true
+
+-- and none is read by another's name
+abbrev pub NoChannelIsMisnamed : Type 0
+NoChannelIsMisnamed = (n : List ℕ) (ps : List (List ℕ)) → HasName channel_text n (channel_command_of n ps)
 
 -- what a command about channels does
 abbrev pub serves_channel : Settings → List Deed → ℕ → ChannelCommand → List Effect

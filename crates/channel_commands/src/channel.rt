@@ -4,7 +4,7 @@ ghost use Rattle.std.specs.Prelude.{◌≡◌, OnOk};
 ghost use Rattle.roster.specs.Legal.{IsOpened};
 ghost use Rattle.drafts.specs.Drafted.{grown};
 ghost use Rattle.command_params.specs.Params.{IsRead, IsReadByName};
-ghost use Rattle.channel_commands.specs.Channel.{EachChannelIsNamed, channel_command_of, join_command, part_command, kick_command, invite_command, topic_command, serves_channel};
+ghost use Rattle.channel_commands.specs.Channel.{EachChannelIsNamed, NoChannelIsMisnamed, channel_command_of, join_command, part_command, kick_command, invite_command, topic_command, serves_channel};
 
 use crate::{invite, join, kick, part, set_topic};
 use chronicle::SessionId;
@@ -128,6 +128,11 @@ pub fn read_channel(
 /// That each such command has a name by which it is read.
 pub fn each_channel_is_named()
     ensures { EachChannelIsNamed }
+{}
+
+/// That no such command is read by the name of another.
+pub fn no_channel_is_misnamed()
+    ensures { NoChannelIsMisnamed }
 {}
 
 /// Does what a command about channels asks for.

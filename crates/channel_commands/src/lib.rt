@@ -13,7 +13,9 @@ mod lines;
 mod members;
 mod topics;
 
-pub use channel::{ChannelCommand, each_channel_is_named, read_channel, serve_channel};
+pub use channel::{
+    ChannelCommand, each_channel_is_named, no_channel_is_misnamed, read_channel, serve_channel,
+};
 pub use inviting::invite;
 pub use joining::join;
 pub use kicking::kick;

@@ -1,5 +1,6 @@
 -- Parameters that may be left out: RFC 2812, section 2.3.1.
-use Rattle.std.specs.Prelude.{◌≡◌, ℕ, List, [], ◌∷◌, Option, Some, None, Result, Ok, Err, IsOk}
+use Rattle.std.specs.Prelude.{◌≡◌, ℕ, true, List, [], ◌∷◌, Option, Some, None, Result, Ok, Err, IsOk}
+use Rattle.std.specs.Str.{str_eq_ignore_ascii_case}
 use Rattle.command_params.specs.declared.fault.ReadFault.{ReadFault}
 use Rattle.command_params.specs.declared.fault.ReadFault.TheVariants.{NeedMoreParams, Memory}
 
@@ -32,3 +33,9 @@ IsReadByName (Some asked) (Some read) = IsRead asked read
 IsReadByName (Some asked) None = ⊥
 IsReadByName None (Some read) = ⊥
 IsReadByName None None = Unit {0}
+
+-- what was read by a name has it, which is taken in either case
+abbrev pub HasName : {A : Type 0} → (A → List ℕ) → List ℕ → Option (Result A ReadFault) → Type 0
+HasName text n (Some (Ok command)) = str_eq_ignore_ascii_case n (text command) ≡ true
+HasName text n (Some (Err fault)) = Unit {0}
+HasName text n None = Unit {0}

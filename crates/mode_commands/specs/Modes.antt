@@ -2,7 +2,7 @@
 use Rattle.std.specs.Prelude.{◌≡◌, ℕ, Bool, true, false, ◌==◌, ◌||◌, List, [], ◌∷◌, codes, Result, Ok, Option, Some, None, is_some, if◌then◌else◌}
 use Rattle.std.specs.Str.{str_eq_ignore_ascii_case}
 use Rattle.command_params.specs.declared.fault.ReadFault.{ReadFault}
-use Rattle.command_params.specs.Params.{needs_more}
+use Rattle.command_params.specs.Params.{HasName, needs_more}
 use Rattle.numerics.specs.declared.numeric.Numeric.TheVariants.{NoSuchNick, NoSuchChannel, UsersDontMatch}
 use Rattle.registration.specs.declared.settings.Settings.{Settings}
 use Rattle.roster.specs.declared.deed.Deed.{Deed}
@@ -28,6 +28,10 @@ mode_text k = codes "MODE"
 
 abbrev pub EachModeIsNamed : Type 0
 EachModeIsNamed = (k : ModeCommand) (ps : List (List ℕ)) → is_some (mode_of (mode_text k) ps) ≡ true
+
+-- and none is read by another's name
+abbrev pub NoModeIsMisnamed : Type 0
+NoModeIsMisnamed = (n : List ℕ) (ps : List (List ℕ)) → HasName mode_text n (mode_of n ps)
 
 -- a channel's name begins with `#` or `&`
 abbrev pub names_channel : List ℕ → Bool

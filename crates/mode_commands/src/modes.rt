@@ -5,7 +5,7 @@ ghost use Rattle.roster.specs.Legal.{IsOpened};
 ghost use Rattle.drafts.specs.Drafted.{grown};
 ghost use Rattle.drafts.specs.Seen.{seen};
 ghost use Rattle.command_params.specs.Params.{IsRead, IsReadByName};
-ghost use Rattle.mode_commands.specs.Modes.{EachModeIsNamed, mode_command, mode_of, modes, names_channel, of_channel, of_user, serves_mode};
+ghost use Rattle.mode_commands.specs.Modes.{EachModeIsNamed, NoModeIsMisnamed, mode_command, mode_of, modes, names_channel, of_channel, of_user, serves_mode};
 
 use crate::channel_modes::channel_modes;
 use crate::user_modes::own_modes;
@@ -53,6 +53,11 @@ pub fn read_mode(
 /// That the command has a name by which it is read.
 pub fn each_mode_is_named()
     ensures { EachModeIsNamed }
+{}
+
+/// That the command is read by no other name.
+pub fn no_mode_is_misnamed()
+    ensures { NoModeIsMisnamed }
 {}
 
 /// Whether a target is a channel: its name begins with `#` or `&`.

@@ -5,6 +5,7 @@ use Rattle.numerics.specs.declared.numeric.Numeric.{Numeric}
 use Rattle.registration.specs.declared.settings.Settings.{Settings}
 use Rattle.roster.specs.declared.deed.Deed.{Deed}
 use Rattle.command_params.specs.declared.fault.ReadFault.{ReadFault}
+use Rattle.command_params.specs.Params.{HasName}
 use Rattle.drafts.specs.declared.effect.Effect.{Effect}
 use Rattle.drafts.specs.Replies.{tells_all}
 use Rattle.query_commands.specs.declared.query.Query.{Query}
@@ -35,6 +36,10 @@ query_text (query.Motd server) = codes "MOTD"
 -- none is left out
 abbrev pub EachQueryIsNamed : Type 0
 EachQueryIsNamed = (q : Query) (ps : List (List ℕ)) → is_some (query_of (query_text q) ps) ≡ true
+
+-- and none is read by another's name
+abbrev pub NoQueryIsMisnamed : Type 0
+NoQueryIsMisnamed = (n : List ℕ) (ps : List (List ℕ)) → HasName query_text n (query_of n ps)
 
 -- what a session is told that asks, by the settings and the facts before the record
 abbrev pub told : Settings → List Deed → ℕ → Query → List Numeric

@@ -12,4 +12,4 @@ mod whois;
 
 pub use motd::push_motd;
 pub use names::push_members;
-pub use query::{Query, ask, each_query_is_named, read_query};
+pub use query::{Query, ask, each_query_is_named, no_query_is_misnamed, read_query};

@@ -2,7 +2,7 @@
 ghost use Rattle.std.specs.Prelude.{◌≡◌, IfOk, OnOk};
 ghost use Rattle.drafts.specs.Drafted.{grown};
 ghost use Rattle.command_params.specs.Params.{IsReadByName};
-ghost use Rattle.query_commands.specs.Query.{EachQueryIsNamed, queries, query_of, told};
+ghost use Rattle.query_commands.specs.Query.{EachQueryIsNamed, NoQueryIsMisnamed, queries, query_of, told};
 
 use crate::{listing, motd, names, who, whois};
 use chronicle::SessionId;
@@ -46,6 +46,11 @@ pub fn read_query(alloc: Global, name: &[u8], params: &[Octets]) -> Option<Resul
 /// That each query has a name by which it is read.
 pub fn each_query_is_named()
     ensures { EachQueryIsNamed }
+{}
+
+/// That no query is read by the name of another.
+pub fn no_query_is_misnamed()
+    ensures { NoQueryIsMisnamed }
 {}
 
 /// What a session is told that asks.

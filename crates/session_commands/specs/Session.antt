@@ -11,7 +11,7 @@ use Rattle.session_commands.specs.declared.session.SessionName.TheVariants as na
 use Rattle.command_params.specs.declared.fault.ReadFault.{ReadFault}
 use Rattle.command_params.specs.declared.fault.ReadFault.TheVariants.{NoNicknameGiven, NoOrigin, InvalidCapSubcommand}
 use Rattle.command_params.specs.Lists.{is_empty, words_of}
-use Rattle.command_params.specs.Params.{first_or_empty, needs_more}
+use Rattle.command_params.specs.Params.{HasName, first_or_empty, needs_more}
 use Rattle.registration.specs.declared.settings.Settings.{Settings}
 use Rattle.roster.specs.declared.deed.Deed.{Deed}
 use Rattle.drafts.specs.declared.effect.Effect.{Effect}
@@ -122,6 +122,21 @@ named_or_not (Some name) ps = Some (session_of name ps)
 
 abbrev pub session_by_name : List ℕ → List (List ℕ) → Option (Result SessionCommand ReadFault)
 session_by_name n ps = named_or_not (session_named n) ps
+
+-- the name of what was read
+abbrev pub name_of : SessionCommand → SessionName
+name_of (Cap subcommand) = name.Cap
+name_of (Authenticate piece) = name.Authenticate
+name_of Pass = name.Pass
+name_of (Nick nick) = name.Nick
+name_of (User user real) = name.User
+name_of (Ping token) = name.Ping
+name_of Pong = name.Pong
+name_of (Quit text) = name.Quit
+
+-- none is read by another's name
+abbrev pub NoSessionIsMisnamed : Type 0
+NoSessionIsMisnamed = (n : List ℕ) (ps : List (List ℕ)) → HasName (λ k. session_text (name_of k)) n (session_by_name n ps)
 
 -- ---- what each does
 

@@ -11,5 +11,6 @@ mod welcome;
 pub use enrolling::complete;
 pub use laws::support_is_whole;
 pub use session::{
-    CapSubcommand, SessionCommand, SessionName, each_session_is_named, read_session, serve_session,
+    CapSubcommand, SessionCommand, SessionName, each_session_is_named, no_session_is_misnamed,
+    read_session, serve_session,
 };

@@ -8,7 +8,7 @@ ghost use Rattle.drafts.specs.Drafted.{grown};
 ghost use Rattle.drafts.specs.Lines.{pong_line};
 ghost use Rattle.command_params.specs.Lists.{is_present};
 ghost use Rattle.command_params.specs.Params.{IsRead};
-ghost use Rattle.session_commands.specs.Session.{EachSessionIsNamed, session_named, session_of, session_text, cap_req, cap_subcommand, cap_command, authenticate_command, pass_command, pong_command, nick_command, is_user_octet, user_name, user_command, ping_command, quit_command, serves_session, shows_values, told};
+ghost use Rattle.session_commands.specs.Session.{EachSessionIsNamed, NoSessionIsMisnamed, session_named, session_of, session_text, cap_req, cap_subcommand, cap_command, authenticate_command, pass_command, pong_command, nick_command, is_user_octet, user_name, user_command, ping_command, quit_command, serves_session, shows_values, told};
 
 use crate::enrolling::{introduce, pass, quit, take_nick};
 use crate::negotiation::{authenticate, negotiate};
@@ -110,6 +110,11 @@ impl SessionName {
 /// That none is left out among the names that are known: each is read by its own.
 pub fn each_session_is_named()
     ensures { EachSessionIsNamed }
+{}
+
+/// That none is read by the name of another.
+pub fn no_session_is_misnamed()
+    ensures { NoSessionIsMisnamed }
 {}
 
 /// Octets of a user name, and of a real name.

@@ -7,7 +7,7 @@ use Rattle.talk_commands.specs.declared.talk.TalkCommand.TheVariants.{Privmsg, N
 use Rattle.command_params.specs.declared.fault.ReadFault.{ReadFault}
 use Rattle.command_params.specs.declared.fault.ReadFault.TheVariants.{NoRecipient, NoTextToSend}
 use Rattle.command_params.specs.Lists.{is_empty, names_of}
-use Rattle.command_params.specs.Params.{first_or_empty}
+use Rattle.command_params.specs.Params.{HasName, first_or_empty}
 use Rattle.std.specs.Str.{str_eq_ignore_ascii_case}
 use Rattle.registration.specs.declared.settings.Settings.{Settings}
 use Rattle.roster.specs.declared.deed.Deed.{Deed}
@@ -61,6 +61,10 @@ talk_text (Away text) = codes "AWAY"
 -- none is left out
 abbrev pub EachTalkIsNamed : Type 0
 EachTalkIsNamed = (k : TalkCommand) (tag_data : List ℕ) (ps : List (List ℕ)) → is_some (talk_of (talk_text k) tag_data ps) ≡ true
+
+-- and none is read by another's name
+abbrev pub NoTalkIsMisnamed : Type 0
+NoTalkIsMisnamed = (n : List ℕ) (tag_data : List ℕ) (ps : List (List ℕ)) → HasName talk_text n (talk_of n tag_data ps)
 
 -- what a command does that sends something
 abbrev pub serves_talk : Settings → List Deed → ℕ → TalkCommand → List Effect

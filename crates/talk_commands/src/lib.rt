@@ -8,6 +8,8 @@ mod talking;
 mod verb;
 
 pub use away::{AWAYLEN, go_away};
-pub use talk::{TalkCommand, each_talk_is_named, is_unanswered, read_talk, serve_talk};
+pub use talk::{
+    TalkCommand, each_talk_is_named, is_unanswered, no_talk_is_misnamed, read_talk, serve_talk,
+};
 pub use talking::send;
 pub use verb::{Sending, Verb};

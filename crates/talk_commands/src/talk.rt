@@ -5,7 +5,7 @@ ghost use Rattle.drafts.specs.Drafted.{grown};
 ghost use Rattle.command_params.specs.Params.{IsRead, IsReadByName};
 ghost use Rattle.talk_commands.specs.declared.verb.Verb.TheVariants.{Tagmsg};
 ghost use Rattle.talk_commands.specs.Talking.{sends};
-ghost use Rattle.talk_commands.specs.Talk.{EachTalkIsNamed, is_unanswered, serves_talk, talk_of, privmsg_command, notice_command, tagmsg_command, away_command, relayed, second_or_empty};
+ghost use Rattle.talk_commands.specs.Talk.{EachTalkIsNamed, NoTalkIsMisnamed, is_unanswered, serves_talk, talk_of, privmsg_command, notice_command, tagmsg_command, away_command, relayed, second_or_empty};
 
 use crate::{Sending, Verb, go_away, send};
 use chronicle::SessionId;
@@ -149,6 +149,11 @@ pub fn read_talk(
 /// That each such command has a name by which it is read.
 pub fn each_talk_is_named()
     ensures { EachTalkIsNamed }
+{}
+
+/// That no such command is read by the name of another.
+pub fn no_talk_is_misnamed()
+    ensures { NoTalkIsMisnamed }
 {}
 
 /// Sends a text to targets.
