@@ -15,7 +15,7 @@ use crate::base::{Base, Counts};
 use crate::baton::Baton;
 use crate::out::{Done, Hung, Left, Plan, Rolled, Step};
 use crate::outboxes::Outboxes;
-use crate::plan::{Planned, Prepared, commit, prepare_gone, prepare_line};
+use crate::plan::{Planned, Planning, Prepared, commit, prepare_gone, prepare_line};
 use crate::refusals::{
     BookFault, HangRefusal, LineRefusal, OpenRefusal, ReapRefusal, RollRefusal, SweepRefusal,
     TakeRefusal,
@@ -242,15 +242,15 @@ impl<O: Outbox> Book<O> {
         self.check_line(baton, moment)?;
         let number = RecordNumber::new(self.journal.newest() as u64 + 1);
         let told = piece.copy()?;
-        let (prepared, quits) = prepare_line(
-            self.alloc,
-            &self.roster,
-            &self.seats,
-            baton.session,
+        let by = Planning {
+            alloc: self.alloc,
+            roster: &self.roster,
+            seats: &self.seats,
+            actor: baton.session,
             number,
-            piece,
             moment,
-        )?;
+        };
+        let (prepared, quits) = prepare_line(&by, piece)?;
         let Prepared {
             deeds,
             plan,
@@ -485,14 +485,15 @@ impl<O: Outbox> Book<O> {
     {
         let room = self.held();
         let number = RecordNumber::new(self.journal.newest() as u64 + 1);
-        let prepared = prepare_gone(
-            self.alloc,
-            &self.roster,
-            &self.seats,
-            session,
+        let by = Planning {
+            alloc: self.alloc,
+            roster: &self.roster,
+            seats: &self.seats,
+            actor: session,
             number,
             moment,
-        )?;
+        };
+        let prepared = prepare_gone(&by)?;
         let Prepared {
             deeds,
             plan,

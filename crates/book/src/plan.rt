@@ -45,25 +45,34 @@ pub(crate) struct Prepared {
     pub(crate) missed: Vec<SessionId>,
 }
 
+/// What a record is planned by: whose it is, its number and moment, and what is known before it.
+pub(crate) struct Planning<'a> {
+    pub(crate) alloc: Global,
+    pub(crate) roster: &'a Roster,
+    pub(crate) seats: &'a Seats,
+    pub(crate) actor: SessionId,
+    pub(crate) number: RecordNumber,
+    pub(crate) moment: Moment,
+}
+
 /// What the actor of a record is told: the answer, under the label of its line, and what it sent to itself.
 fn own_text(
-    alloc: Global,
-    roster: &Roster,
-    actor: SessionId,
+    by: &Planning<'_>,
     label: Option<Octets>,
-    number: RecordNumber,
-    moment: Moment,
     reply: Vec<Line>,
     copies: &[Line],
 ) -> Result<Octets, AllocError>
-    requires from_1970 { pos 0 ≤ℤ moment }
-    requires to_9998 { moment ≤ℤ pos 253370764799999 }
-    ensures { IfOk result (λ t. t ≡ rendered (caps roster.now.facts actor) moment (answered roster.now.settings.server label number reply.items copies.now)) }
+    requires from_1970 { pos 0 ≤ℤ by.now.moment }
+    requires to_9998 { by.now.moment ≤ℤ pos 253370764799999 }
+    ensures { IfOk result (λ t. t ≡ rendered (caps by.now.roster.now.facts by.now.actor) by.now.moment (answered by.now.roster.now.settings.server label by.now.number reply.items copies.now)) }
 {
-    let server = roster.settings().server.as_slice();
-    let caps = roster.caps_of(actor);
-    let to = Receiver { caps, moment };
-    answer_text(alloc, server, label, number, reply, copies, &to)
+    let server = by.roster.settings().server.as_slice();
+    let caps = by.roster.caps_of(by.actor);
+    let to = Receiver {
+        caps,
+        moment: by.moment,
+    };
+    answer_text(by.alloc, server, label, by.number, reply, copies, &to)
 }
 
 /// Plans, after all others, the delivery of a text to a session that isn't the actor.
@@ -127,17 +136,15 @@ fn plan_others(
 
 /// Plans, before all others, what the actor is told: where it quits by the record, its last item.
 fn plan_own(
-    alloc: Global,
+    by: &Planning<'_>,
     plan: &mut VecDeque<Planned>,
-    seats: &Seats,
-    session: SessionId,
-    number: RecordNumber,
     text: Octets,
     quits: bool,
 ) -> Result<(), AllocError>
-    ensures { OnOk result (plan.new.items ≡ puts session (told_own (not (hears seats.now session)) number text quits) ++ plan.old.items) }
+    ensures { OnOk result (plan.new.items ≡ puts by.now.actor (told_own (not (hears by.now.seats.now by.now.actor)) by.now.number text quits) ++ plan.old.items) }
 {
-    if !seats.is_listening(session) || (!quits && text.is_empty()) {
+    let (session, number) = (by.actor, by.number);
+    if !by.seats.is_listening(session) || (!quits && text.is_empty()) {
         return Ok(());
     }
     let delivery = if quits {
@@ -148,7 +155,7 @@ fn plan_own(
     } else {
         Delivery::Lines {
             number,
-            text: Text::new(alloc, text)?,
+            text: Text::new(by.alloc, text)?,
         }
     };
     plan.push_front(Planned { session, delivery })?;
@@ -157,42 +164,32 @@ fn plan_own(
 
 /// The deliveries of a record: the actor's text first, then what others hear, by session number.
 fn plan_for(
-    alloc: Global,
-    roster: &Roster,
-    seats: &Seats,
-    actor: SessionId,
-    number: RecordNumber,
-    moment: Moment,
+    by: &Planning<'_>,
     own: Octets,
     shown: Vec<Shown>,
     quits: bool,
 ) -> Result<VecDeque<Planned>, AllocError>
-    requires from_1970 { pos 0 ≤ℤ moment }
-    requires to_9998 { moment ≤ℤ pos 253370764799999 }
-    ensures { IfOk result (λ plan. plan.items ≡ planned_with seats.now actor number own (heard_text roster.now.facts moment shown.items) quits) }
+    requires from_1970 { pos 0 ≤ℤ by.now.moment }
+    requires to_9998 { by.now.moment ≤ℤ pos 253370764799999 }
+    ensures { IfOk result (λ plan. plan.items ≡ planned_with by.now.seats.now by.now.actor by.now.number own (heard_text by.now.roster.now.facts by.now.moment shown.items) quits) }
 {
-    let heard = heard_in_order(alloc, roster, shown, moment)?;
-    let mut plan = plan_others(alloc, seats, heard, actor, number)?;
-    plan_own(alloc, &mut plan, seats, actor, number, own, quits)?;
+    let heard = heard_in_order(by.alloc, by.roster, shown, by.moment)?;
+    let mut plan = plan_others(by.alloc, by.seats, heard, by.actor, by.number)?;
+    plan_own(by, &mut plan, own, quits)?;
     Ok(plan)
 }
 
 /// Plans what a verdict on a record tells, and makes room for those who miss it.
 fn with_room(
-    alloc: Global,
-    roster: &Roster,
-    seats: &Seats,
-    actor: SessionId,
-    number: RecordNumber,
-    moment: Moment,
+    by: &Planning<'_>,
     label: Option<Octets>,
     verdict: Verdict,
     quits: bool,
 ) -> Result<Prepared, AllocError>
-    requires from_1970 { pos 0 ≤ℤ moment }
-    requires to_9998 { moment ≤ℤ pos 253370764799999 }
+    requires from_1970 { pos 0 ≤ℤ by.now.moment }
+    requires to_9998 { by.now.moment ≤ℤ pos 253370764799999 }
     ensures deeds { IfOk result (λ p. p.deeds.items ≡ verdict.deeds.items) }
-    ensures plan { IfOk result (λ p. p.plan.items ≡ planned_with seats.now actor number (rendered (caps roster.now.facts actor) moment (answered roster.now.settings.server label number verdict.reply.items verdict.copies.items)) (heard_text roster.now.facts moment verdict.others.items) quits) }
+    ensures plan { IfOk result (λ p. p.plan.items ≡ planned_with by.now.seats.now by.now.actor by.now.number (rendered (caps by.now.roster.now.facts by.now.actor) by.now.moment (answered by.now.roster.now.settings.server label by.now.number verdict.reply.items verdict.copies.items)) (heard_text by.now.roster.now.facts by.now.moment verdict.others.items) quits) }
     ensures missed { IfOk result (λ p. (p.missed.items ≡ []) × (length p.plan.items ≤ vec_capacity p.missed)) }
 {
     let Verdict {
@@ -201,11 +198,9 @@ fn with_room(
         copies,
         others,
     } = verdict;
-    let own = own_text(alloc, roster, actor, label, number, moment, reply, &copies)?;
-    let plan = plan_for(
-        alloc, roster, seats, actor, number, moment, own, others, quits,
-    )?;
-    let missed = Vec::with_capacity(alloc, plan.len())?;
+    let own = own_text(by, label, reply, &copies)?;
+    let plan = plan_for(by, own, others, quits)?;
+    let missed = Vec::with_capacity(by.alloc, plan.len())?;
     Ok(Prepared {
         deeds,
         plan,
@@ -214,76 +209,51 @@ fn with_room(
 }
 
 /// Decides what a piece of a session does, and whether it quits by it.
-fn decide_piece(
-    alloc: Global,
-    roster: &Roster,
-    session: SessionId,
-    piece: &Piece,
-    moment: Moment,
-) -> Result<(Verdict, bool), AllocError>
-    requires known { IsOpened roster.now.facts session }
-    requires from_1970 { pos 0 ≤ℤ moment }
-    requires to_9998 { moment ≤ℤ pos 253370764799999 }
-    ensures verdict { IfOk result (λ v. IsVerdict v.0 session (of_asked roster.now.settings roster.now.facts session (asked_of piece.now))) }
-    ensures next { IfOk result (λ v. AreNext roster.now.facts v.0.deeds.items) }
-    ensures opened { IfOk result (λ v. opened (after roster.now.facts v.0.deeds.items) ≡ opened roster.now.facts) }
+fn decide_piece(by: &Planning<'_>, piece: &Piece) -> Result<(Verdict, bool), AllocError>
+    requires known { IsOpened by.now.roster.now.facts by.now.actor }
+    requires from_1970 { pos 0 ≤ℤ by.now.moment }
+    requires to_9998 { by.now.moment ≤ℤ pos 253370764799999 }
+    ensures verdict { IfOk result (λ v. IsVerdict v.0 by.now.actor (of_asked by.now.roster.now.settings by.now.roster.now.facts by.now.actor (asked_of piece.now))) }
+    ensures next { IfOk result (λ v. AreNext by.now.roster.now.facts v.0.deeds.items) }
+    ensures opened { IfOk result (λ v. opened (after by.now.roster.now.facts v.0.deeds.items) ≡ opened by.now.roster.now.facts) }
     ensures quits { IfOk result (λ v. v.1 ≡ is_quit piece.now) }
 {
-    let asked = read_piece(alloc, piece)?;
-    let verdict = decide(alloc, roster, session, &asked, moment)?;
+    let asked = read_piece(by.alloc, piece)?;
+    let verdict = decide(by.alloc, by.roster, by.actor, &asked, by.moment)?;
     Ok((verdict, asked.is_quit()))
 }
 
 /// Decides what a line of a session does, and plans its deliveries.
-pub(crate) fn prepare_line(
-    alloc: Global,
-    roster: &Roster,
-    seats: &Seats,
-    session: SessionId,
-    number: RecordNumber,
-    piece: &Piece,
-    moment: Moment,
-) -> Result<(Prepared, bool), AllocError>
-    requires known { IsOpened roster.now.facts session }
-    requires from_1970 { pos 0 ≤ℤ moment }
-    requires to_9998 { moment ≤ℤ pos 253370764799999 }
-    ensures deeds { IfOk result (λ p. p.0.deeds.items ≡ deeds_of (of_asked roster.now.settings roster.now.facts session (asked_of piece.now))) }
-    ensures next { IfOk result (λ p. AreNext roster.now.facts p.0.deeds.items) }
-    ensures opened { IfOk result (λ p. opened (after roster.now.facts p.0.deeds.items) ≡ opened roster.now.facts) }
+pub(crate) fn prepare_line(by: &Planning<'_>, piece: &Piece) -> Result<(Prepared, bool), AllocError>
+    requires known { IsOpened by.now.roster.now.facts by.now.actor }
+    requires from_1970 { pos 0 ≤ℤ by.now.moment }
+    requires to_9998 { by.now.moment ≤ℤ pos 253370764799999 }
+    ensures deeds { IfOk result (λ p. p.0.deeds.items ≡ deeds_of (of_asked by.now.roster.now.settings by.now.roster.now.facts by.now.actor (asked_of piece.now))) }
+    ensures next { IfOk result (λ p. AreNext by.now.roster.now.facts p.0.deeds.items) }
+    ensures opened { IfOk result (λ p. opened (after by.now.roster.now.facts p.0.deeds.items) ≡ opened by.now.roster.now.facts) }
     ensures quits { IfOk result (λ p. p.1 ≡ is_quit piece.now) }
-    ensures plan { IfOk result (λ p. p.0.plan.items ≡ planned_from seats.now session number (spelled roster.now.settings roster.now.facts session (label_of (caps roster.now.facts session) piece.now) (of_asked roster.now.settings roster.now.facts session (asked_of piece.now)) moment number) p.1) }
+    ensures plan { IfOk result (λ p. p.0.plan.items ≡ planned_from by.now.seats.now by.now.actor by.now.number (spelled by.now.roster.now.settings by.now.roster.now.facts by.now.actor (label_of (caps by.now.roster.now.facts by.now.actor) piece.now) (of_asked by.now.roster.now.settings by.now.roster.now.facts by.now.actor (asked_of piece.now)) by.now.moment by.now.number) p.1) }
     ensures missed { IfOk result (λ p. (p.0.missed.items ≡ []) × (length p.0.plan.items ≤ vec_capacity p.0.missed)) }
 {
-    let (verdict, quits) = decide_piece(alloc, roster, session, piece, moment)?;
-    let label = label_of(alloc, roster.caps_of(session), piece)?;
-    let prepared = with_room(
-        alloc, roster, seats, session, number, moment, label, verdict, quits,
-    )?;
+    let (verdict, quits) = decide_piece(by, piece)?;
+    let label = label_of(by.alloc, by.roster.caps_of(by.actor), piece)?;
+    let prepared = with_room(by, label, verdict, quits)?;
     Ok((prepared, quits))
 }
 
 /// Decides what it does that a session is gone, and plans who is told.
-pub(crate) fn prepare_gone(
-    alloc: Global,
-    roster: &Roster,
-    seats: &Seats,
-    session: SessionId,
-    number: RecordNumber,
-    moment: Moment,
-) -> Result<Prepared, AllocError>
-    requires known { IsOpened roster.now.facts session }
-    requires from_1970 { pos 0 ≤ℤ moment }
-    requires to_9998 { moment ≤ℤ pos 253370764799999 }
-    ensures deeds { IfOk result (λ p. p.deeds.items ≡ deeds_of (departs roster.now.facts session)) }
-    ensures next { IfOk result (λ p. AreNext roster.now.facts p.deeds.items) }
-    ensures opened { IfOk result (λ p. opened (after roster.now.facts p.deeds.items) ≡ opened roster.now.facts) }
-    ensures plan { IfOk result (λ p. p.plan.items ≡ planned_from seats.now session number (spelled roster.now.settings roster.now.facts session None (departs roster.now.facts session) moment number) false) }
+pub(crate) fn prepare_gone(by: &Planning<'_>) -> Result<Prepared, AllocError>
+    requires known { IsOpened by.now.roster.now.facts by.now.actor }
+    requires from_1970 { pos 0 ≤ℤ by.now.moment }
+    requires to_9998 { by.now.moment ≤ℤ pos 253370764799999 }
+    ensures deeds { IfOk result (λ p. p.deeds.items ≡ deeds_of (departs by.now.roster.now.facts by.now.actor)) }
+    ensures next { IfOk result (λ p. AreNext by.now.roster.now.facts p.deeds.items) }
+    ensures opened { IfOk result (λ p. opened (after by.now.roster.now.facts p.deeds.items) ≡ opened by.now.roster.now.facts) }
+    ensures plan { IfOk result (λ p. p.plan.items ≡ planned_from by.now.seats.now by.now.actor by.now.number (spelled by.now.roster.now.settings by.now.roster.now.facts by.now.actor None (departs by.now.roster.now.facts by.now.actor) by.now.moment by.now.number) false) }
     ensures missed { IfOk result (λ p. (p.missed.items ≡ []) × (length p.plan.items ≤ vec_capacity p.missed)) }
 {
-    let verdict = decide_gone(alloc, roster, session)?;
-    with_room(
-        alloc, roster, seats, session, number, moment, None, verdict, false,
-    )
+    let verdict = decide_gone(by.alloc, by.roster, by.actor)?;
+    with_room(by, None, verdict, false)
 }
 
 /// Establishes the facts of a record, for which room was made. It takes no memory.

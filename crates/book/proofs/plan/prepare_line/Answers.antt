@@ -15,8 +15,8 @@ returns-clause-deeds c = c.in_ok-prepared.ensures.deeds ∙ c.in_ok-verdict.ensu
 
 pub returns-clause-plan : goal.returns-clause-plan
 returns-clause-plan c =
-    let s = c.args.session in let fs = c.args.roster.now.facts in let g = c.args.roster.now.settings in let k = asked_of c.args.piece.now in
-    let v = c.in_ok-verdict.verdict in let seats = c.args.seats.now in let n = c.args.number in let m = c.args.moment in let q = c.in_ok-verdict.quits in
+    let by = c.args.by.now in let s = by.actor in let fs = by.roster.now.facts in let g = by.roster.now.settings in let k = asked_of c.args.piece.now in
+    let v = c.in_ok-verdict.verdict in let seats = by.seats.now in let n = by.number in let m = by.moment in let q = c.in_ok-verdict.quits in
     let label : c.in_ok-label.label ≡ label_of (caps fs s) c.args.piece.now =
     c.in_ok-label.ensures.label ∙ ap (λ (cs : Caps). label_of cs c.args.piece.now) c.caps_of.ensures in
     c.in_ok-prepared.ensures.plan
