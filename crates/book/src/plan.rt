@@ -46,6 +46,7 @@ pub(crate) struct Prepared {
 }
 
 /// What a record is planned by: whose it is, its number and moment, and what is known before it.
+#[derive(Drop)]
 pub(crate) struct Planning<'a> {
     pub(crate) alloc: Global,
     pub(crate) roster: &'a Roster,
