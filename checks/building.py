@@ -57,13 +57,13 @@ def kit_of():
     return os.path.dirname(os.path.dirname(os.path.realpath(rt)))
 
 
-def build(room, root, crate, program):
-    """Builds a crate's program to this file, in a room of its own."""
+def build(room, root, crate, program, more=()):
+    """Builds a crate's program to this file, in a room of its own; its tests with `--test`."""
     kit = kit_of()
     kit_that_keeps(kit, room)
     # (what the program itself ends with doesn't matter)
     how = {"stdin": subprocess.DEVNULL, "capture_output": True, "text": True, "errors": "replace"}
-    ran = subprocess.run([sys.executable, f"{room}/kit/bin/rt", "try"], cwd=f"{root}/crates/{crate}", **how)
+    ran = subprocess.run([sys.executable, f"{room}/kit/bin/rt", "try", *more], cwd=f"{root}/crates/{crate}", **how)
     if not os.path.isfile(f"{room}/module.bc"):
         sys.exit(f"{os.path.basename(sys.argv[0])}: this rt builds in another way\n{ran.stdout}{ran.stderr}")
     with open(f"{room}/words", encoding="utf-8") as it:

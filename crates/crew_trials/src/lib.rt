@@ -14,6 +14,8 @@ mod taking;
 #[cfg(test)]
 mod threads;
 #[cfg(test)]
+mod wanting;
+#[cfg(test)]
 mod writing;
 
 pub use fakes::{Noted, Open, Still, TURNS, Tally, Torn, Turnstile, rest};
