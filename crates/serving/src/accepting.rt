@@ -1,16 +1,19 @@
 //! Accepting connections.
 use crate::connections::{Connections, PAUSE};
-use crate::post::{Arrival, WAKE};
+use crate::post::{Arrival, WAKE, Watch};
 use crate::stopping::Stopping;
 use hall::Naming;
 use mio::net::TcpListener;
-use mio::{Events, Interest, Poll, Token, Waker};
+use mio::{Interest, Token, Waker};
 use std::alloc::Global;
 use std::io::ErrorKind;
 use std::net::{Net, SocketAddr};
 use std::sync::Wait;
 use std::time::{Clock, Duration, Instant};
 use std::{io, net, thread};
+
+/// Events that the thread which accepts looks at at once.
+const EVENTS: usize = 4;
 
 /// Seconds between two lines about connections that were refused.
 const BETWEEN: u64 = 1;
@@ -67,15 +70,12 @@ fn tell_refused<L: Naming, R: Wait + Clock + Eprint + Copy + Drop>(
 /// Accepts connections until the server is asked to stop, and tells of those that are refused, unless it is to be quiet.
 pub(crate) fn accept_on<L: Naming, R: Wait + Clock + Eprint + Copy + Drop>(
     rt: &R,
-    alloc: Global,
     connections: &Connections<L, R>,
-    poll: &mut Poll,
+    watch: &mut Watch,
     listener: Option<&TcpListener>,
     is_quiet: bool,
 ) {
-    let Ok(mut events) = Events::with_capacity(alloc, 4) else {
-        return;
-    };
+    let Watch { poll, events } = watch;
     let mut told = None;
     for _ in rt.forever() {
         let is_all = accept_all(rt, connections, listener);
@@ -90,7 +90,7 @@ pub(crate) fn accept_on<L: Naming, R: Wait + Clock + Eprint + Copy + Drop>(
         } else {
             None
         };
-        if poll.poll(&mut events, wait).is_err() {
+        if poll.poll(events, wait).is_err() {
             thread::sleep(rt, Duration::from_millis(PAUSE));
         }
     }
@@ -99,15 +99,16 @@ pub(crate) fn accept_on<L: Naming, R: Wait + Clock + Eprint + Copy + Drop>(
 /// What a thread waits by that accepts from a listener, and how it is asked to stop.
 pub(crate) fn door_of<R: Net>(
     rt: &R,
+    alloc: Global,
     listener: Option<&mut TcpListener>,
-) -> io::Result<(Poll, Stopping)> {
-    let poll = Poll::new(rt)?;
+) -> io::Result<(Watch, Stopping)> {
+    let watch = Watch::new(rt, alloc, EVENTS)?;
+    let registry = watch.poll.registry();
     if let Some(listener) = listener {
-        poll.registry()
-            .register(listener, Token(0), Interest::READABLE)?;
+        registry.register(listener, Token(0), Interest::READABLE)?;
     }
-    let stopping = Stopping::new(Waker::new(poll.registry(), WAKE)?);
-    Ok((poll, stopping))
+    let stopping = Stopping::new(Waker::new(registry, WAKE)?);
+    Ok((watch, stopping))
 }
 
 /// Listens on an address, for as many at once who connect as the system lets wait.

@@ -1,14 +1,30 @@
 //! What other threads leave for a worker.
 use mio::net::TcpStream;
-use mio::{Registry, Token, Waker};
+use mio::{Events, Poll, Registry, Token, Waker};
 use std::alloc::Global;
-use std::net::SocketAddr;
+use std::net::{Net, SocketAddr};
 use std::sync::atomic::{AtomicU64, Ordering};
 use std::sync::{Mutex, Wait};
 use std::{io, mem};
 
 /// The token by which a thread is woken.
 pub(crate) const WAKE: Token = Token(usize::MAX);
+
+/// What a thread waits by, and room for the events that come.
+#[derive(Drop)]
+pub(crate) struct Watch {
+    pub(crate) poll: Poll,
+    pub(crate) events: Events,
+}
+
+impl Watch {
+    /// Waits for nothing yet, with room for so many events at once.
+    pub(crate) fn new<R: Net>(rt: &R, alloc: Global, events: usize) -> io::Result<Watch> {
+        let poll = Poll::new(rt)?;
+        let events = Events::with_capacity(alloc, events)?;
+        Ok(Watch { poll, events })
+    }
+}
 
 /// A connection that was just accepted.
 #[derive(Drop)]

@@ -6,13 +6,12 @@ use crate::accepting::{accept_on, door_of};
 use crate::clock::SystemClock;
 use crate::connections::{Connections, View};
 use crate::opening::Serving;
-use crate::post::Post;
+use crate::post::{Post, Watch};
 use crate::stopping::{Stopping, read_to_end};
-use crate::worker::{Worker, events};
+use crate::worker::{EVENTS, Worker};
 use chronicle::{SessionId, Why};
 use crew::{Gate, Server, Sockets, moment_in};
 use hall::{BookFault, Hall, Naming, Register, Settings};
-use mio::Poll;
 use mio::net::TcpListener;
 use outbox::{ChannelName, Sender};
 use std::alloc::{AllocError, Global};
@@ -126,11 +125,9 @@ fn work_on<L: Naming, R: Wait + Clock + Copy + Drop, G: Gate, C: crew::Clock>(
     alloc: Global,
     house: &House<'_, L, R, G, C>,
     worker: usize,
-    poll: Poll,
+    watch: Watch,
 ) {
-    let Ok(mut events) = events(alloc) else {
-        return;
-    };
+    let Watch { poll, mut events } = watch;
     let Some(view) = house.views.get(worker) else {
         return;
     };
@@ -182,22 +179,22 @@ fn run_on<
     alloc: Global,
     house: &House<'_, L, R, G, C>,
     connections: &Connections<L, R>,
-    polls: Vec<Poll>,
-    poll: &mut Poll,
+    watches: Vec<Watch>,
+    watch: &mut Watch,
     listener: Option<&TcpListener>,
     is_quiet: bool,
 ) -> bool {
     thread::scope(thread::scope_env(), rt, |scope| {
         let mut are_started = true;
-        for (worker, poll) in polls.into_iter().enumerate() {
+        for (worker, watch) in watches.into_iter().enumerate() {
             let started = Builder::new()
                 .stack_size(STACK)
-                .spawn_scoped(scope, move || work_on(rt, alloc, house, worker, poll));
+                .spawn_scoped(scope, move || work_on(rt, alloc, house, worker, watch));
             are_started = are_started && started.is_ok();
             drop(started);
         }
         if are_started {
-            accept_on(rt, alloc, connections, poll, listener, is_quiet);
+            accept_on(rt, connections, watch, listener, is_quiet);
         }
         end_all(rt, house);
         are_started
@@ -205,15 +202,19 @@ fn run_on<
 }
 
 /// What the workers wait by, and where others leave something for them.
-fn workers_of<R: Net>(rt: &R, alloc: Global, workers: usize) -> io::Result<(Vec<Poll>, Vec<Post>)> {
-    let mut polls = Vec::new(alloc);
+fn workers_of<R: Net>(
+    rt: &R,
+    alloc: Global,
+    workers: usize,
+) -> io::Result<(Vec<Watch>, Vec<Post>)> {
+    let mut watches = Vec::new(alloc);
     let mut posts = Vec::new(alloc);
     for _ in 0..workers {
-        let poll = Poll::new(rt)?;
-        posts.push(Post::new(alloc, poll.registry())?)?;
-        polls.push(poll)?;
+        let watch = Watch::new(rt, alloc, EVENTS)?;
+        posts.push(Post::new(alloc, watch.poll.registry())?)?;
+        watches.push(watch)?;
     }
-    Ok((polls, posts))
+    Ok((watches, posts))
 }
 
 /// A listener that doesn't wait, where there is one.
@@ -229,8 +230,8 @@ fn without_waiting(listener: Option<net::TcpListener>) -> io::Result<Option<TcpL
 #[derive(Drop)]
 struct Doors {
     listener: Option<TcpListener>,
-    poll: Poll,
-    polls: Vec<Poll>,
+    watch: Watch,
+    watches: Vec<Watch>,
     posts: Vec<Post>,
     stopping: Arc<Stopping>,
 }
@@ -243,15 +244,15 @@ fn doors_of<R: Net>(
     workers: usize,
 ) -> io::Result<Doors> {
     let mut listener = without_waiting(tcp)?;
-    let (polls, posts) = workers_of(rt, alloc, workers)?;
-    let (poll, stopping) = door_of(rt, listener.as_mut())?;
+    let (watches, posts) = workers_of(rt, alloc, workers)?;
+    let (watch, stopping) = door_of(rt, alloc, listener.as_mut())?;
     let Ok(stopping) = Arc::new(alloc, stopping) else {
         return Err(io::Error::from(ErrorKind::OutOfMemory));
     };
     Ok(Doors {
         listener,
-        poll,
-        polls,
+        watch,
+        watches,
         posts,
         stopping,
     })
@@ -300,8 +301,8 @@ fn serve_in<
     };
     let Doors {
         listener,
-        mut poll,
-        polls,
+        mut watch,
+        watches,
         posts,
         stopping,
     } = doors;
@@ -333,8 +334,8 @@ fn serve_in<
         alloc,
         &house,
         &connections,
-        polls,
-        &mut poll,
+        watches,
+        &mut watch,
         listener,
         is_quiet,
     ) {

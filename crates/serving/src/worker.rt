@@ -17,7 +17,7 @@ use std::time::{Clock, Duration, Instant};
 use std::{io, mem, thread};
 
 /// How many events are looked at before what was put is written.
-const EVENTS: usize = 256;
+pub(crate) const EVENTS: usize = 256;
 
 /// How many sessions are opened before others have their turn.
 const OPENS: u32 = 16;
@@ -601,9 +601,4 @@ impl<L: Naming, R: Wait + Clock + Copy + Drop> Worker<L, R> {
             }
         }
     }
-}
-
-/// An empty buffer for the events of a worker.
-pub(crate) fn events(alloc: Global) -> Result<Events, AllocError> {
-    Events::with_capacity(alloc, EVENTS)
 }
