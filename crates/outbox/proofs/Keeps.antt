@@ -7,7 +7,7 @@ use Rattle.atomic_table.proofs.Lists.{at_set, at_snoc}
 use Rattle.deliveries.specs.declared.item.Item.{Item}
 use Rattle.outbox.specs.declared.rule.Log.{Log}
 use Rattle.deliveries.specs.Items.{Continues}
-use Rattle.outbox.specs.Rule.{log, Chained, Fits, Delivers, Puts, Takes, EndsSent, Rests}
+use Rattle.outbox.specs.Rule.{log, AreSent, Chained, Fits, Delivers, Puts, Takes, EndsSent, Rests}
 use Rattle.outbox.proofs.Chains.{chained-push, chained-at}
 
 at_end : (l : List Log) (a b : Log) (j : ℕ) → get_elem? l j ≢ some b → get_elem? (l ++ a ∷ []) j ≡ some b → j ≡ length l
@@ -86,3 +86,6 @@ ends_sent port v a items views h at = (h.3, ((h.6 port v at).0 a).1 ∙ h.5)
 
 pub rests : (port : ℕ) (v : Log) → v.sends ≡ true → v.takes ≡ true → Learns Delivers port v (Rests v)
 rests port v a b items views h at = let mine = h.6 port v at in (mine.0 a).1 ∙ h.5 ∙ ap (λ l. l ++ items) (sym (mine.1 b).1)
+
+pub are_sent : (port : ℕ) (v : Log) → v.takes ≡ true → Learns Delivers port v (AreSent v)
+are_sent port v b items views h at = (h.2, h.4, h.5 ∙ ap (λ l. l ++ items) (sym ((h.6 port v at).1 b).1))

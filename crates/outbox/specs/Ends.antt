@@ -7,7 +7,7 @@ use Rattle.deliveries.specs.declared.item.Item.{Item}
 use Rattle.outbox.specs.declared.queue.PutFault.{PutFault}
 use Rattle.outbox.specs.declared.queue.PutFault.TheVariants.{Full}
 use Rattle.outbox.specs.declared.rule.Log.{Log}
-use Rattle.outbox.specs.Rule.{log}
+use Rattle.outbox.specs.Rule.{Chained, log}
 
 -- what a pass knows
 abbrev pub known : Pass Item Log → Log
@@ -31,6 +31,10 @@ pub record Takings : Type 0 where
 -- an item was taken
 abbrev pub with_item : Takings → Item → Takings
 with_item w x = record { taken = w.taken ++ x ∷ []; channel = w.channel }
+
+-- nothing waits: what was sent is just what was taken, and each item may come after those before it
+abbrev pub IsAllTaken : List Item → Type 0
+IsAllTaken taken = (sent : List Item) × Chained [] sent × (sent ≡ taken)
 
 -- an item was put
 abbrev pub with_sent : Puttings → Item → Puttings

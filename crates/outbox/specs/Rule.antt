@@ -40,6 +40,10 @@ Puts v x w = w ≡ log v.sends v.takes (v.sent ++ x ∷ []) v.got
 abbrev pub EndsSent : Log → List Item → Type 0
 EndsSent v held = (got : List Item) × (v.sent ≡ got ++ held)
 
+-- a take finds what the channel holds then: what was sent is what was taken and this, and each may come after those before it
+abbrev pub AreSent : Log → List Item → Type 0
+AreSent v held = (sent : List Item) × Chained [] sent × (sent ≡ v.got ++ held)
+
 -- an item is taken: it may come after those that were taken
 abbrev pub Takes : Log → Item → Log → Type 0
 Takes v x w = (w ≡ log v.sends v.takes v.sent (v.got ++ x ∷ [])) × Continues v.got x

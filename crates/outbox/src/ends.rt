@@ -1,9 +1,10 @@
 //! The two ends of an outbox between two threads.
-ghost use Rattle.std.specs.Prelude.{◌≡◌, ◌<◌, [], All, IfOk, OnErr};
+ghost use Rattle.std.specs.Prelude.{◌≡◌, ◌<◌, [], All, IfOk, OnErr, length};
 ghost use Rattle.deliveries.specs.declared.item.Item.{Item as Delivered};
 ghost use Rattle.deliveries.specs.Items.{deliveries, front, owed_by_front};
+ghost use Rattle.deliveries.specs.Owed.{number_of};
 ghost use Rattle.deliveries.specs.Growth.{Grows};
-ghost use Rattle.outbox.specs.Ends.{with_item};
+ghost use Rattle.outbox.specs.Ends.{IsAllTaken, with_item};
 
 mod draining;
 
@@ -160,14 +161,17 @@ impl<R: Wait + Drop> Outbox for Sender<R> {
 }
 
 impl Writer {
-    /// Takes the item that waits longest, and waits for one where there is none.
+    /// Takes the item that waits longest, and waits for one where there is none. It is of the newest record of the history in which it
+    /// was put. There is none, and none comes, only where at a moment of the call all that was sent was taken.
     pub fn take<R: Wait>(&mut self, rt: &R) -> Result<Item, Closed>
         ensures took { IfOk result (λ x. self.new ≡ with_item self.old x) }
         ensures owed { IfOk result (λ x. deliveries self.new.taken ≡ owed_by_front x) }
+        ensures newest { IfOk result (λ x. number_of x.delivery ≡ length (front x)) }
         ensures whose { IfOk result (λ x. All (λ (y : Delivered). y.session ≡ x.session) self.old.taken) }
         ensures settings { IfOk result (λ x. All (λ (y : Delivered). y.settings ≡ x.settings) self.old.taken) }
         ensures grows { IfOk result (λ x. All (λ (y : Delivered). Grows (front y) (front x)) self.old.taken) }
         ensures none { OnErr result (self.new ≡ self.old) }
+        ensures all_taken { OnErr result (IsAllTaken self.old.taken) }
     {
         match self.receiver.recv_as::<Take, R>(rt, &mut self.pass) {
             Ok(item) => Ok(item),
@@ -175,14 +179,17 @@ impl Writer {
         }
     }
 
-    /// Takes the item that waits longest. It waits for none, and takes no memory.
+    /// Takes the item that waits longest. It waits for none, and takes no memory. It is of the newest record of the history in which it
+    /// was put. There is none only where at a moment of the call all that was sent was taken.
     pub fn take_now<R: Wait>(&mut self, rt: &R) -> Result<Item, Empty>
         ensures took { IfOk result (λ x. self.new ≡ with_item self.old x) }
         ensures owed { IfOk result (λ x. deliveries self.new.taken ≡ owed_by_front x) }
+        ensures newest { IfOk result (λ x. number_of x.delivery ≡ length (front x)) }
         ensures whose { IfOk result (λ x. All (λ (y : Delivered). y.session ≡ x.session) self.old.taken) }
         ensures settings { IfOk result (λ x. All (λ (y : Delivered). y.settings ≡ x.settings) self.old.taken) }
         ensures grows { IfOk result (λ x. All (λ (y : Delivered). Grows (front y) (front x)) self.old.taken) }
         ensures none { OnErr result (self.new ≡ self.old) }
+        ensures all_taken { OnErr result (IsAllTaken self.old.taken) }
     {
         match self.receiver.try_recv_as::<Take, R>(rt, &mut self.pass) {
             Ok(item) => Ok(item),

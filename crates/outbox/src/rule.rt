@@ -58,7 +58,7 @@ impl Lesson<Item, Log> for Put {
     ghost fact = { EndsSent };
 }
 
-// A take. One that finds nothing learns nothing.
+// A take, and what one learns that finds nothing.
 pub(crate) struct Take;
 
 impl Outcome<Item, Log> for Take {
@@ -68,9 +68,9 @@ impl Outcome<Item, Log> for Take {
 }
 
 impl Lesson<Item, Log> for Take {
-    ghost use Rattle.std.specs.Prelude.{⊤};
+    ghost use Rattle.outbox.specs.Rule.{AreSent};
 
-    ghost fact = { λ v items. ⊤ };
+    ghost fact = { AreSent };
 }
 
 // A take by who has both ends, and what it learns where nothing is left.

@@ -1,6 +1,7 @@
 //! A session's writer and the stream on which its items go out.
 ghost use Rattle.std.specs.Prelude.{◌≡◌, [], true, false, Some, IfOk, IfErr, OnOk, OnErr};
 ghost use Rattle.std.specs.Io.KnownBytes.{append_known};
+ghost use Rattle.outbox.specs.Ends.{IsAllTaken};
 ghost use Rattle.wire.specs.declared.wire.Flow.TheVariants.{Idle, Ended};
 ghost use Rattle.wire.specs.Wired.{ends, is_last, IsInStep, IsSameWire};
 
@@ -23,7 +24,7 @@ const TURNS: u32 = 4096;
 /// How a wire stands after it was pumped.
 #[derive(Clone, Copy, Debug, PartialEq)]
 pub enum Flow {
-    /// No item waits, and all went out.
+    /// No item waited at a moment of the call, and all went out.
     Idle,
     /// More may wait.
     More,
@@ -103,7 +104,7 @@ impl<L: Naming, W: Write + Drop> Wire<L, W> {
         requires whole { self.old.is_broken ≡ false }
         ensures same { IsSameWire self.old self.new }
         ensures whole { self.new.is_broken ≡ false }
-        ensures none { result ≡ false → self.new.rest ≡ [] }
+        ensures none { result ≡ false → (self.new.rest ≡ []) × IsAllTaken self.new.taken }
     {
         let Ok(item) = self.writer.take_now(rt) else {
             return false;
@@ -137,24 +138,21 @@ impl<L: Naming, W: Write + Drop> Wire<L, W> {
         }
     }
 
-    /// Writes what waits in the wire.
-    fn flush(&mut self) -> Result<Flow, WriteFault>
+    /// Writes what waits in the wire, and answers whether the stream took all.
+    fn flush(&mut self) -> Result<bool, WriteFault>
         requires rest { self.old.rest ≡ [] }
         requires whole { self.old.is_broken ≡ false }
         ensures same { IsSameWire self.old self.new }
+        ensures taken { self.new.taken ≡ self.old.taken }
+        ensures rest { self.new.rest ≡ [] }
         ensures whole { OnOk result (self.new.is_broken ≡ false) }
-        ensures idle { IfOk result (λ flow. flow ≡ Idle → (self.new.rest ≡ []) × (self.new.waiting ≡ [])) }
-        ensures ended { IfOk result (λ flow. flow ≡ Ended → (self.new.rest ≡ []) × (self.new.waiting ≡ []) × (ends self.new.taken ≡ true)) }
+        ensures all { IfOk result (λ all. all ≡ true → self.new.waiting ≡ []) }
         ensures fault { OnErr result (self.new.is_broken ≡ true) }
     {
         match self.out.flush() {
-            Ok(()) => Ok(if self.has_last {
-                Flow::Ended
-            } else {
-                Flow::Idle
-            }),
+            Ok(()) => Ok(true),
             Err(error) => match stop_of(&error) {
-                Stop::Later => Ok(Flow::Behind),
+                Stop::Later => Ok(false),
                 Stop::Fault(fault) => {
                     self.is_broken = true;
                     Err(fault)
@@ -163,13 +161,14 @@ impl<L: Naming, W: Write + Drop> Wire<L, W> {
         }
     }
 
-    /// Takes the items that wait, and writes them, as many in one write as have room. It waits for none; the stream may wait.
+    /// Takes the items that wait, and writes them, as many in one write as have room. It waits for none; the stream may wait. It is idle
+    /// only where at a moment of the call all that was sent was taken.
     ///
     /// After a fault nothing more is written.
     pub fn pump<R: Wait>(&mut self, rt: &R) -> Result<Flow, WriteFault>
         ensures same { IsSameWire self.old self.new }
         ensures whole { OnOk result (self.new.is_broken ≡ false) }
-        ensures idle { IfOk result (λ flow. flow ≡ Idle → (self.new.rest ≡ []) × (self.new.waiting ≡ [])) }
+        ensures idle { IfOk result (λ flow. flow ≡ Idle → (self.new.rest ≡ []) × (self.new.waiting ≡ []) × IsAllTaken self.new.taken) }
         ensures ended { IfOk result (λ flow. flow ≡ Ended → (self.new.rest ≡ []) × (self.new.waiting ≡ []) × (ends self.new.taken ≡ true)) }
         ensures fault { OnErr result (self.new.is_broken ≡ true) }
     {
@@ -177,8 +176,13 @@ impl<L: Naming, W: Write + Drop> Wire<L, W> {
             return Err(WriteFault::Failed);
         }
         for _ in 0..TURNS {
-            if self.begun.is_none() && (self.has_last || !self.begin_next(rt)) {
-                return self.flush();
+            if self.begun.is_none() && self.has_last {
+                let all = self.flush()?;
+                return Ok(if all { Flow::Ended } else { Flow::Behind });
+            }
+            if self.begun.is_none() && !self.begin_next(rt) {
+                let all = self.flush()?;
+                return Ok(if all { Flow::Idle } else { Flow::Behind });
             }
             if !self.write_begun()? {
                 return Ok(Flow::Behind);
