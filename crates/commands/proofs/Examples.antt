@@ -46,7 +46,7 @@ unfolding asked_of reading parameters with_command command_of session_named sess
 faults = (refl, refl, refl, refl)
 
 abbrev changes : List ℕ → List (List ℕ) → ModeCommand
-changes target changes = record { target = target; changes = changes }
+changes to params = record { target = to; changes = params }
 
 abbrev target : List ℕ → List ℕ → JoinTarget
 target channel key = record { channel = channel; key = key }

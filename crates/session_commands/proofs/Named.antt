@@ -59,7 +59,7 @@ own n Quit e ps = e
 
 found : (n : List ℕ) (names : List SessionName) (ps : List (List ℕ)) → HasName text n (named_or_not (find (is n) names) ps)
 found n [] ps = tt
-found n (name ∷ names) ps = elim (cases_Bool (is n name)) [ inl yes ↦ rw yes (own n name yes ps) | inr no ↦ rw no (found n names ps) ]
+found n (name ∷ names) ps = elim (cases_Bool (is n name)) [ inl same ↦ rw same (own n name same ps) | inr other ↦ rw other (found n names ps) ]
 
 pub none-misnamed : NoSessionIsMisnamed
 unfolding session_named
