@@ -608,6 +608,7 @@ impl<O: Outbox> Book<O> {
         ensures ok { OnOk result (self.new ≡ rolled self.old) }
         ensures dropped { IfOk result (λ r. r.dropped + self.old.limit.dropped ≡ length self.old.history) }
         ensures next { IfOk result (λ r. r.next ≡ length self.old.history + 1) }
+        ensures idle { OnOk result (self.old.busy ≡ false) }
         ensures refusal { IfErr result (λ e. IsRollRefusal self.old e) }
         ensures err { OnErr result (self.new ≡ self.old) }
     {
@@ -622,12 +623,16 @@ impl<O: Outbox> Book<O> {
         Ok(Rolled { dropped, next })
     }
 
-    /// What is known of the records that were dropped, if any were.
+    /// What is known of the records that were dropped. `None` where none was.
     pub fn base(&self) -> Option<&Base>
         ensures base { IfSome result (λ b. base_by b.now ≡ base_of self.now) }
         ensures noted { IfSome result (λ b. (t : ℕ) → 0 < t → t ≤ (base_of self.now).sessions → is_here self.now.outboxes t ≡ true → is_noted b.now t ≡ true) }
         ensures none { result ≡ None → self.now.limit.dropped ≡ 0 }
+        ensures some { IfSome result (λ b. 0 < self.now.limit.dropped) }
     {
+        if self.journal.newest() == self.journal.len() {
+            return None;
+        }
         self.base.as_ref()
     }
 

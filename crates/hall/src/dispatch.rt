@@ -319,6 +319,7 @@ impl<L: Naming, O: Lasting> Book<L, O> {
         ensures ok { OnOk result (self.new ≡ rolled self.old) }
         ensures dropped { IfOk result (λ r. r.dropped + self.old.limit.dropped ≡ length self.old.history) }
         ensures next { IfOk result (λ r. r.next ≡ length self.old.history + 1) }
+        ensures idle { OnOk result (self.old.busy ≡ false) }
         ensures refusal { IfErr result (λ e. IsRollRefusal self.old e) }
         ensures err { OnErr result (self.new ≡ self.old) }
     {
