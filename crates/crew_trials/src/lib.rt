@@ -10,8 +10,6 @@ mod reading;
 #[cfg(test)]
 mod refusing;
 #[cfg(test)]
-mod taking;
-#[cfg(test)]
 mod threads;
 #[cfg(test)]
 mod trial;

@@ -108,11 +108,14 @@ fn answered<L: Naming, R: Wait + Abort + Copy + Drop, W: Write + Drop>(
         stub,
         writer,
     } = open(rt, alloc, lock).ok_or("a session")?;
+    let session = baton.session();
     let piece = line(alloc, b"PING x")?;
     let job = Job { baton, piece };
     let mut told = Told::new(alloc);
     let back = work_one(rt, lock, job, Moment::new(0), &Open, &mut told);
     assert!(rt; matches!(back.outcome, Outcome::Done(_)), "it is done");
+    let is_told = told.sessions() == [session].as_slice() && !told.is_all();
+    assert!(rt; is_told, "one is told");
     let host = Octets::copied(alloc, b"h1")?;
     let Ok(wire) = Wire::new(alloc, writer, stub, stream, host) else {
         return Err("a wire".into());

@@ -3,11 +3,11 @@ ghost use Rattle.std.specs.Prelude.{◌≡◌, ◌<◌, [], IfOk, IfSome, IfErr,
 ghost use Rattle.casemapping.specs.Names.{host_shape};
 
 use crate::again::{copied, line};
-use crate::making::left_of;
 use casemapping::is_host;
 use chronicle::{Moment, SessionId, Why};
 use hall::{
-    Baton, Done, Hall, Lasting, LineRefusal, Naming, OpenRefusal, Outbox, Ring, Stub, SweepRefusal,
+    Baton, Done, Hall, Lasting, LineRefusal, Naming, OpenRefusal, Outbox, ReapRefusal, Ring, Stub,
+    SweepRefusal,
 };
 use line_grammar::{Octets, Piece};
 use outbox::{Sender, Writer, pair};
@@ -220,16 +220,18 @@ impl<L: Naming, O: Lasting<Taker = T>, T: Drop> Guest<L, O, T> {
         true
     }
 
+    /// Gives all up, and answers how many items were left, or why it isn't given up.
+    pub(crate) fn gives_up(self, hall: &mut Hall<L, O>) -> Result<u64, (ReapRefusal, Self)> {
+        let Guest { baton, stub, taker } = self;
+        match hall.reap(baton, stub, taker) {
+            Ok(left) => Ok(left.count()),
+            Err((refusal, baton, stub, taker)) => Err((refusal, Guest { baton, stub, taker })),
+        }
+    }
+
     /// Gives all up, and answers how many items were left; nothing where the session isn't gone.
     pub(crate) fn leaves(self, hall: &mut Hall<L, O>) -> Option<u64> {
-        let Guest { baton, stub, taker } = self;
-        let session = baton.session();
-        let left = left_of(hall, baton, stub, taker)?;
-        if left.session() == session {
-            Some(left.count())
-        } else {
-            None
-        }
+        self.gives_up(hall).ok()
     }
 }
 

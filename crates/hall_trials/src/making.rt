@@ -1,12 +1,10 @@
 //! Halls in which something is tried, over one kind of outbox or over both.
-ghost use Rattle.std.specs.Prelude.{◌≡◌, [], Some, IfSome};
+ghost use Rattle.std.specs.Prelude.{◌≡◌, []};
 
 use crate::again::{copied, new_register};
 use crate::guests::Made;
 use chronicle::Moment;
-use hall::{
-    Baton, BookFault, Hall, Lasting, Left, Naming, ReapRefusal, Register, Ring, Settings, Stub,
-};
+use hall::{BookFault, Hall, Lasting, Naming, Register, Ring, Settings};
 use outbox::{Sender, Writer};
 use registration::Accounts;
 use std::alloc::{AllocError, Global};
@@ -116,37 +114,4 @@ pub(crate) fn over_channels<X: Trial<Sender<R>, R, Writer>, R: Wait + Drop + Cop
     size: (usize, usize),
 ) -> Result<(), Fail> {
     over::<X, Sender<R>, R, Writer>(rt, alloc, trial, size)
-}
-
-/// Why tokens aren't given up, and all of them back; nothing where they are.
-pub(crate) fn refused<L: Naming, O: Lasting>(
-    hall: &mut Hall<L, O>,
-    baton: Baton<L, O>,
-    stub: Stub<L, O::Name>,
-    taker: O::Taker,
-) -> Option<(ReapRefusal, Baton<L, O>, Stub<L, O::Name>, O::Taker)>
-where
-    O::Taker: Drop,
-    requires own { stub.outbox ≡ Some (O.taker_of taker) }
-    ensures back { IfSome result (λ t. (t.1 ≡ baton) × (t.2 ≡ stub) × (t.3 ≡ taker)) }
-{
-    match hall.reap(baton, stub, taker) {
-        Ok(_) => None,
-        Err(refused) => Some(refused),
-    }
-}
-
-/// What a session that is given up left; nothing where it isn't.
-pub(crate) fn left_of<L: Naming, O: Lasting>(
-    hall: &mut Hall<L, O>,
-    baton: Baton<L, O>,
-    stub: Stub<L, O::Name>,
-    taker: O::Taker,
-) -> Option<Left<L>>
-where
-    O::Taker: Drop,
-    requires own { stub.outbox ≡ Some (O.taker_of taker) }
-    ensures whose { IfSome result (λ l. l.session ≡ baton.session) }
-{
-    hall.reap(baton, stub, taker).ok()
 }

@@ -1,6 +1,6 @@
 //! A session is reaped by its own tokens alone.
 use crate::guests::{Guest, Made, end, enter};
-use crate::making::{Trial, over_channels, over_rings, refused};
+use crate::making::{Trial, over_channels, over_rings};
 use hall::{Hall, Naming, ReapRefusal};
 use std::alloc::Global;
 use std::process::Abort;
@@ -18,7 +18,10 @@ fn swapped<L: Naming, O: Made<R, T>, R, T: Drop>(
         stub: their_stub,
         taker: their_taker,
     } = other;
-    let (refusal, baton, their_stub, their_taker) = refused(hall, baton, their_stub, their_taker)?;
+    let Err((refusal, baton, their_stub, their_taker)) = hall.reap(baton, their_stub, their_taker)
+    else {
+        return None;
+    };
     let one = Guest { baton, stub, taker };
     let other = Guest {
         baton: theirs,
@@ -28,16 +31,6 @@ fn swapped<L: Naming, O: Made<R, T>, R, T: Drop>(
     Some((refusal, one, other))
 }
 
-/// Why a session isn't given up, and all that is held of it.
-fn kept<L: Naming, O: Made<R, T>, R, T: Drop>(
-    hall: &mut Hall<L, O>,
-    guest: Guest<L, O, T>,
-) -> Option<(ReapRefusal, Guest<L, O, T>)> {
-    let Guest { baton, stub, taker } = guest;
-    let (refusal, baton, stub, taker) = refused(hall, baton, stub, taker)?;
-    Some((refusal, Guest { baton, stub, taker }))
-}
-
 /// Whether a session isn't given up while it is there, and is when it is gone, with so many items left.
 fn ends_in_steps<L: Naming, O: Made<R, T>, R, T: Drop>(
     hall: &mut Hall<L, O>,
@@ -45,7 +38,7 @@ fn ends_in_steps<L: Naming, O: Made<R, T>, R, T: Drop>(
     left: u64,
 ) -> bool {
     let session = guest.baton.session();
-    let Some((refusal, guest)) = kept::<L, O, R, T>(hall, guest) else {
+    let Err((refusal, guest)) = guest.gives_up(hall) else {
         return false;
     };
     let is_gone = refusal == ReapRefusal::NotGone && end(hall, session);
