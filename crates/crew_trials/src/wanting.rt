@@ -1,18 +1,16 @@
 //! A session in one of whose lines memory is wanting is ended for that, and nobody else is. With all memory each line is done: run
 //! with one allocation refused at a time, this sees each line refused.
-ghost use Rattle.std.specs.Prelude.{◌≡◌, []};
-
-use crate::fakes::{Noted, Open, Still};
-use crate::making::{Tokens, hall, hung_for, open};
+use crate::fakes::{Fakes, Noted, Open, Still};
+use crate::making::{Tokens, hung_for, open};
+use crate::trial::{Trial, in_a_hall};
 use chronicle::{RecordNumber, Why};
 use crew::{Desk, Server, Sockets, work};
-use hall::{Baton, Hall, Naming, Register, Told};
+use hall::{Baton, Hall, Naming, Told};
 use line_grammar::{Octets, Piece};
-use outbox::{ChannelName, Sender};
+use outbox::Sender;
 use std::alloc::{AllocError, Global};
-use std::marker::Brand;
 use std::process::Abort;
-use std::sync::atomic::Ordering;
+use std::sync::atomic::{AtomicBool, Ordering};
 use std::sync::{Mutex, Wait};
 use std::test::Fail;
 
@@ -70,75 +68,54 @@ fn says<'a, L: Naming, R: Wait + Drop>(
     Ok(done)
 }
 
-/// Somebody speaks until a line is refused, and somebody else after that.
-fn wanting<L: Naming, R: Wait + Abort + Copy + Drop>(
-    rt: &R,
-    alloc: Global,
-    lock: &Mutex<Hall<L, Sender<R>>>,
-) -> Result<(), Fail> {
-    let al = opened(rt, alloc, lock).ok_or("a session")?;
-    let bo = opened(rt, alloc, lock).ok_or("another session")?;
-    let (speaker, other) = (al.baton.session(), bo.baton.session());
-    let desk = match Desk::new(rt, alloc, 1) {
-        Ok(desk) => desk,
-        Err(_) => Desk::new(rt, alloc, 1)?,
-    };
-    let sockets = Noted::new();
-    let server = Server {
-        hall: lock,
-        gate: &Open,
-        sockets: &sockets,
-        clock: &Still,
-        burst: 4,
-    };
-    let done = says(rt, alloc, &server, &desk, al.baton)?;
-    let newest = RecordNumber::new(done as u64 + 3);
-    let is_ended = hung_for(&lock.lock(rt), newest) == Some((speaker, Why::Memory));
-    assert_eq!(rt; is_ended, done < AL.len());
-    assert_eq!(rt; sockets.is_shut(speaker), is_ended);
-    assert!(rt; !sockets.is_shut(other), "nobody else is shut");
-    assert!(rt;
-        !sockets.is_stopped.load(Ordering::SeqCst),
-        "the server goes on"
-    );
-    assert!(rt; desk.slot(rt).is_some(), "the slot is there");
-    assert!(rt; lock.try_lock().is_some(), "the hall is given back");
-    Ok(())
+/// Somebody speaks until a line is refused; then they are ended, and nobody else is.
+#[derive(Drop)]
+struct Wanting {
+    is_made: AtomicBool,
 }
 
-/// The same in a hall of its own, whose sessions this register has; nobody speaks where no hall is made.
-fn wanting_in_one<L: Naming, R: Wait + Abort + Copy + Drop>(
-    rt: &R,
-    alloc: Global,
-    register: Register<ChannelName>,
-) -> Result<bool, Fail>
-    requires named { register.table ≡ L.table }
-    requires empty { register.rows ≡ [] }
-{
-    let made: Option<Hall<L, Sender<R>>> = hall(alloc, register);
-    let Some(made) = made else {
-        return Ok(false);
-    };
-    let lock = Mutex::new(made);
-    let told = wanting(rt, alloc, &lock);
-    drop(lock);
-    told?;
-    Ok(true)
-}
-
-/// The same with a register of its own, which is asked for again where there was no memory.
-fn wanting_once<R: Wait + Abort + Copy + Drop>(rt: &R, alloc: Global) -> Result<bool, Fail> {
-    let register = match Register::new(alloc) {
-        Ok(register) => register,
-        Err(_) => Register::new(alloc)?,
-    };
-    wanting_in_one::<Brand, _>(rt, alloc, register)
+impl<R: Wait + Abort + Copy + Drop> Trial<R> for Wanting {
+    fn run<L: Naming + Send + Sync>(
+        &self,
+        rt: &R,
+        alloc: Global,
+        lock: &Mutex<Hall<L, Sender<R>>>,
+    ) -> Result<(), Fail> {
+        self.is_made.store(true, Ordering::SeqCst);
+        let al = opened(rt, alloc, lock).ok_or("a session")?;
+        let bo = opened(rt, alloc, lock).ok_or("another session")?;
+        let (speaker, other) = (al.baton.session(), bo.baton.session());
+        let desk = match Desk::new(rt, alloc, 1) {
+            Ok(desk) => desk,
+            Err(_) => Desk::new(rt, alloc, 1)?,
+        };
+        let fakes = Fakes::new();
+        let server = fakes.server(lock);
+        let done = says(rt, alloc, &server, &desk, al.baton)?;
+        let newest = RecordNumber::new(done as u64 + 3);
+        let is_ended = hung_for(&lock.lock(rt), newest) == Some((speaker, Why::Memory));
+        let sockets = &fakes.sockets;
+        assert_eq!(rt; is_ended, done < AL.len());
+        assert_eq!(rt; sockets.is_shut(speaker), is_ended);
+        assert!(rt; !sockets.is_shut(other), "nobody else is shut");
+        assert!(rt;
+            !sockets.is_stopped.load(Ordering::SeqCst),
+            "the server goes on"
+        );
+        assert!(rt; desk.slot(rt).is_some(), "the slot is there");
+        assert!(rt; lock.try_lock().is_some(), "the hall is given back");
+        Ok(())
+    }
 }
 
 #[test]
 fn who_finds_no_memory_is_ended(rt: HostRuntime) -> Result<(), Fail> {
-    if !wanting_once(&rt, rt.alloc())? {
-        assert!(rt; wanting_once(&rt, rt.alloc())?, "a hall");
+    let trial = Wanting {
+        is_made: AtomicBool::new(false),
+    };
+    let tried = in_a_hall(&rt, rt.alloc(), &trial);
+    if trial.is_made.load(Ordering::SeqCst) {
+        return tried;
     }
-    Ok(())
+    in_a_hall(&rt, rt.alloc(), &trial)
 }

@@ -3,11 +3,11 @@ ghost use Rattle.std.specs.Prelude.{◌≡◌, ◌<◌, [], IfOk, IfSome, IfErr,
 ghost use Rattle.casemapping.specs.Names.{host_shape};
 
 use crate::again::{copied, line};
-use crate::making::left_of;
 use casemapping::is_host;
-use chronicle::{Moment, SessionId};
+use chronicle::{Moment, SessionId, Why};
 use hall::{
-    Baton, Hall, Lasting, LineRefusal, Naming, OpenRefusal, Outbox, Ring, Stub, SweepRefusal,
+    Baton, Done, Hall, Lasting, LineRefusal, Naming, OpenRefusal, Outbox, ReapRefusal, Ring, Stub,
+    SweepRefusal,
 };
 use line_grammar::{Octets, Piece};
 use outbox::{Sender, Writer, pair};
@@ -139,33 +139,67 @@ pub(crate) fn turned_away<L: Naming, O: Made<R, T>, R, T: Drop>(
     }
 }
 
-/// Sweeps one session, and answers whether there was one. Where a growth is refused the hall answers as before, and
-/// sweeps then.
-pub(crate) fn sweeps<L: Naming, O: Lasting>(hall: &mut Hall<L, O>) -> bool {
+/// Sweeps one session, if there is one to sweep. Where a growth is refused the hall answers as before, and sweeps then.
+pub(crate) fn swept<L: Naming, O: Lasting>(hall: &mut Hall<L, O>) -> Option<Done> {
     let before = look(hall);
     match hall.sweep(Moment::new(0)) {
-        Ok(swept) => swept.is_some(),
-        Err(SweepRefusal::Memory) if look(hall) == before => {
-            matches!(hall.sweep(Moment::new(0)), Ok(Some(_)))
-        }
-        Err(_) => false,
+        Ok(swept) => swept,
+        Err(SweepRefusal::Memory) if look(hall) == before => hall.sweep(Moment::new(0)).ok()?,
+        Err(_) => None,
     }
 }
 
+/// Sweeps one session, and answers whether there was one.
+pub(crate) fn sweeps<L: Naming, O: Lasting>(hall: &mut Hall<L, O>) -> bool {
+    swept(hall).is_some()
+}
+
+/// Hangs a session, and sweeps one.
+pub(crate) fn end<L: Naming, O: Lasting>(hall: &mut Hall<L, O>, session: SessionId) -> bool {
+    hall.hang(session, Why::Shutdown, Moment::new(0)).is_ok() && sweeps(hall)
+}
+
+/// Opens a session with an outbox for so many items, holds what it is given, and answers whether it has this number.
+pub(crate) fn comes<L: Naming, O: Made<R, T>, R, T: Drop>(
+    rt: &R,
+    alloc: Global,
+    hall: &mut Hall<L, O>,
+    guests: &mut Vec<Option<Guest<L, O, T>>>,
+    number: u64,
+    cap: usize,
+) -> bool
+    requires { 0 < cap }
+{
+    let Some(guest) = enter(rt, alloc, hall, cap) else {
+        return false;
+    };
+    let is_next = guest.baton.session().number() == number;
+    guests.push(Some(guest)).is_ok() && is_next
+}
+
 impl<L: Naming, O: Lasting<Taker = T>, T: Drop> Guest<L, O, T> {
-    /// Says a line, and answers whether it is accepted. Where a growth is refused the hall answers as before, and accepts
-    /// it then.
-    pub(crate) fn says(&mut self, hall: &mut Hall<L, O>, piece: &Piece) -> bool
+    /// What a line is answered. Where a growth is refused the hall answers as before, and the line is said once more.
+    pub(crate) fn answer(
+        &mut self,
+        hall: &mut Hall<L, O>,
+        piece: &Piece,
+    ) -> Result<Done, LineRefusal>
         ensures { self.new.baton.session ≡ self.old.baton.session }
     {
         let before = look(hall);
         match hall.line(&mut self.baton, piece, Moment::new(0)) {
-            Ok(_) => true,
-            Err(LineRefusal::Memory) if look(hall) == before => hall
-                .line(&mut self.baton, piece, Moment::new(0))
-                .is_ok(),
-            Err(_) => false,
+            Err(LineRefusal::Memory) if look(hall) == before => {
+                hall.line(&mut self.baton, piece, Moment::new(0))
+            }
+            answer => answer,
         }
+    }
+
+    /// Says a line, and answers whether it is accepted.
+    pub(crate) fn says(&mut self, hall: &mut Hall<L, O>, piece: &Piece) -> bool
+        ensures { self.new.baton.session ≡ self.old.baton.session }
+    {
+        self.answer(hall, piece).is_ok()
     }
 
     /// Says lines in turn, and answers whether each is accepted.
@@ -186,15 +220,29 @@ impl<L: Naming, O: Lasting<Taker = T>, T: Drop> Guest<L, O, T> {
         true
     }
 
+    /// Gives all up, and answers how many items were left, or why it isn't given up.
+    pub(crate) fn gives_up(self, hall: &mut Hall<L, O>) -> Result<u64, (ReapRefusal, Self)> {
+        let Guest { baton, stub, taker } = self;
+        match hall.reap(baton, stub, taker) {
+            Ok(left) => Ok(left.count()),
+            Err((refusal, baton, stub, taker)) => Err((refusal, Guest { baton, stub, taker })),
+        }
+    }
+
     /// Gives all up, and answers how many items were left; nothing where the session isn't gone.
     pub(crate) fn leaves(self, hall: &mut Hall<L, O>) -> Option<u64> {
-        let Guest { baton, stub, taker } = self;
-        let session = baton.session();
-        let left = left_of(hall, baton, stub, taker)?;
-        if left.session() == session {
-            Some(left.count())
-        } else {
-            None
+        self.gives_up(hall).ok()
+    }
+}
+
+impl<L: Naming, R: Wait + Drop> Guest<L, Sender<R>, Writer> {
+    /// Takes so many items, and answers whether there were as many and no more.
+    pub(crate) fn hears(&mut self, rt: &R, count: u64) -> bool {
+        for _ in 0..count {
+            if self.taker.take_now(rt).is_err() {
+                return false;
+            }
         }
+        self.taker.take_now(rt).is_err()
     }
 }

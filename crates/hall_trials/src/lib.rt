@@ -1,5 +1,4 @@
-//! Trials of what stands in a lock: a session's tokens come together when it is reaped, over both outboxes, and threads
-//! share a hall.
+//! Trials of what stands in a lock: who misses what and how sessions end, over both kinds of outbox, and threads that share a hall.
 #![tactic(auto)]
 
 #[cfg(test)]
@@ -7,6 +6,8 @@ mod again;
 mod apart;
 #[cfg(test)]
 mod crowd;
+#[cfg(test)]
+mod ends;
 #[cfg(test)]
 mod growths;
 #[cfg(test)]

@@ -1,11 +1,16 @@
-//! What trials do with a hall, as one call each.
-ghost use Rattle.std.specs.Prelude.{◌≡◌, [], Some, IfSome};
+//! Halls in which something is tried, over one kind of outbox or over both.
+ghost use Rattle.std.specs.Prelude.{◌≡◌, []};
 
-use crate::again::copied;
-use chronicle::{Moment, SessionId, Why};
-use hall::{Baton, BookFault, Hall, Lasting, Left, Naming, ReapRefusal, Register, Settings, Stub};
+use crate::again::{copied, new_register};
+use crate::guests::Made;
+use chronicle::Moment;
+use hall::{BookFault, Hall, Lasting, Naming, Register, Ring, Settings};
+use outbox::{Sender, Writer};
 use registration::Accounts;
 use std::alloc::{AllocError, Global};
+use std::marker::Brand;
+use std::sync::Wait;
+use std::test::Fail;
 
 /// The settings of a server for so many sessions, without accounts.
 pub(crate) fn settings(alloc: Global, sessions: usize) -> Result<Settings, AllocError> {
@@ -36,41 +41,77 @@ pub(crate) fn hall_of<L: Naming, O: Lasting>(
     Hall::new(alloc, register, settings, limit)
 }
 
-/// Hangs a session, and sweeps one.
-pub(crate) fn end<L: Naming, O: Lasting>(hall: &mut Hall<L, O>, session: SessionId) -> bool {
-    hall.hang(session, Why::Shutdown, Moment::new(0)).is_ok()
-        && matches!(hall.sweep(Moment::new(0)), Ok(Some(_)))
+/// What is tried in a hall over this kind of outbox.
+pub(crate) trait Trial<O: Made<R, T>, R, T: Drop> {
+    fn run<L: Naming>(&self, rt: &R, alloc: Global, hall: &mut Hall<L, O>) -> Result<(), Fail>;
 }
 
-/// Why tokens aren't given up, and all of them back; nothing where they are.
-pub(crate) fn refused<L: Naming, O: Lasting>(
-    hall: &mut Hall<L, O>,
-    baton: Baton<L, O>,
-    stub: Stub<L, O::Name>,
-    taker: O::Taker,
-) -> Option<(ReapRefusal, Baton<L, O>, Stub<L, O::Name>, O::Taker)>
-where
-    O::Taker: Drop,
-    requires own { stub.outbox ≡ Some (O.taker_of taker) }
-    ensures back { IfSome result (λ t. (t.1 ≡ baton) × (t.2 ≡ stub) × (t.3 ≡ taker)) }
+/// A trial in a hall for so many sessions and records, whose sessions this register has. It answers whether there was memory for the
+/// hall.
+fn tried_in<L: Naming, X: Trial<O, R, T>, O: Made<R, T>, R, T: Drop>(
+    rt: &R,
+    alloc: Global,
+    register: Register<O::Name>,
+    trial: &X,
+    size: (usize, usize),
+) -> Result<bool, Fail>
+    requires named { register.table ≡ L.table }
+    requires empty { register.rows ≡ [] }
 {
-    match hall.reap(baton, stub, taker) {
-        Ok(_) => None,
-        Err(refused) => Some(refused),
+    let (sessions, limit) = size;
+    let mut hall = match hall_of::<L, O>(alloc, register, sessions, limit) {
+        Ok(hall) => hall,
+        Err(BookFault::Memory) => return Ok(false),
+        Err(BookFault::BadSettings) => return Err("a hall".into()),
+    };
+    let run = trial.run(rt, alloc, &mut hall);
+    drop(hall);
+    run?;
+    Ok(true)
+}
+
+/// A trial in a hall with a register of its own.
+fn tried<X: Trial<O, R, T>, O: Made<R, T>, R, T: Drop>(
+    rt: &R,
+    alloc: Global,
+    trial: &X,
+    size: (usize, usize),
+) -> Result<bool, Fail> {
+    let register = new_register(alloc)?;
+    tried_in::<Brand, X, O, R, T>(rt, alloc, register, trial, size)
+}
+
+/// A trial. Where a growth is refused in making the hall, that is told as want of memory, and a hall is made once more.
+fn over<X: Trial<O, R, T>, O: Made<R, T>, R, T: Drop>(
+    rt: &R,
+    alloc: Global,
+    trial: &X,
+    size: (usize, usize),
+) -> Result<(), Fail> {
+    if tried::<X, O, R, T>(rt, alloc, trial, size)?
+        || tried::<X, O, R, T>(rt, alloc, trial, size)?
+    {
+        return Ok(());
     }
+    Err("memory".into())
 }
 
-/// What a session that is given up left; nothing where it isn't.
-pub(crate) fn left_of<L: Naming, O: Lasting>(
-    hall: &mut Hall<L, O>,
-    baton: Baton<L, O>,
-    stub: Stub<L, O::Name>,
-    taker: O::Taker,
-) -> Option<Left<L>>
-where
-    O::Taker: Drop,
-    requires own { stub.outbox ≡ Some (O.taker_of taker) }
-    ensures whose { IfSome result (λ l. l.session ≡ baton.session) }
-{
-    hall.reap(baton, stub, taker).ok()
+/// A trial over rings, in a hall for so many sessions and records.
+pub(crate) fn over_rings<X: Trial<Ring, R, ()>, R>(
+    rt: &R,
+    alloc: Global,
+    trial: &X,
+    size: (usize, usize),
+) -> Result<(), Fail> {
+    over::<X, Ring, R, ()>(rt, alloc, trial, size)
+}
+
+/// A trial over channels.
+pub(crate) fn over_channels<X: Trial<Sender<R>, R, Writer>, R: Wait + Drop + Copy>(
+    rt: &R,
+    alloc: Global,
+    trial: &X,
+    size: (usize, usize),
+) -> Result<(), Fail> {
+    over::<X, Sender<R>, R, Writer>(rt, alloc, trial, size)
 }

@@ -1,13 +1,8 @@
 //! A session is reaped by its own tokens alone.
-ghost use Rattle.std.specs.Prelude.{◌≡◌, []};
-
-use crate::again::new_register;
-use crate::guests::{Guest, Made, enter};
-use crate::making::{end, hall_of, refused};
-use hall::{Hall, Naming, ReapRefusal, Register, Ring};
-use outbox::{Sender, Writer};
+use crate::guests::{Guest, Made, end, enter};
+use crate::making::{Trial, over_channels, over_rings};
+use hall::{Hall, Naming, ReapRefusal};
 use std::alloc::Global;
-use std::marker::Brand;
 use std::process::Abort;
 use std::test::Fail;
 
@@ -23,7 +18,10 @@ fn swapped<L: Naming, O: Made<R, T>, R, T: Drop>(
         stub: their_stub,
         taker: their_taker,
     } = other;
-    let (refusal, baton, their_stub, their_taker) = refused(hall, baton, their_stub, their_taker)?;
+    let Err((refusal, baton, their_stub, their_taker)) = hall.reap(baton, their_stub, their_taker)
+    else {
+        return None;
+    };
     let one = Guest { baton, stub, taker };
     let other = Guest {
         baton: theirs,
@@ -33,16 +31,6 @@ fn swapped<L: Naming, O: Made<R, T>, R, T: Drop>(
     Some((refusal, one, other))
 }
 
-/// Why a session isn't given up, and all that is held of it.
-fn kept<L: Naming, O: Made<R, T>, R, T: Drop>(
-    hall: &mut Hall<L, O>,
-    guest: Guest<L, O, T>,
-) -> Option<(ReapRefusal, Guest<L, O, T>)> {
-    let Guest { baton, stub, taker } = guest;
-    let (refusal, baton, stub, taker) = refused(hall, baton, stub, taker)?;
-    Some((refusal, Guest { baton, stub, taker }))
-}
-
 /// Whether a session isn't given up while it is there, and is when it is gone, with so many items left.
 fn ends_in_steps<L: Naming, O: Made<R, T>, R, T: Drop>(
     hall: &mut Hall<L, O>,
@@ -50,7 +38,7 @@ fn ends_in_steps<L: Naming, O: Made<R, T>, R, T: Drop>(
     left: u64,
 ) -> bool {
     let session = guest.baton.session();
-    let Some((refusal, guest)) = kept::<L, O, R, T>(hall, guest) else {
+    let Err((refusal, guest)) = guest.gives_up(hall) else {
         return false;
     };
     let is_gone = refusal == ReapRefusal::NotGone && end(hall, session);
@@ -71,55 +59,24 @@ fn end_apart<L: Naming, O: Made<R, T>, R, T: Drop>(
     ends_in_steps::<L, O, R, T>(hall, bo, 1) && has_ended && is_stranger
 }
 
-/// Two come, and the first says two lines that are answered.
-fn come<L: Naming, O: Made<R, T>, R, T: Drop>(
-    rt: &R,
-    alloc: Global,
-    hall: &mut Hall<L, O>,
-) -> Option<(Guest<L, O, T>, Guest<L, O, T>)> {
-    let mut al = enter(rt, alloc, hall, 4)?;
-    let bo = enter(rt, alloc, hall, 4)?;
-    if al.says_all(alloc, hall, &["PING x", "PING y"]) {
-        Some((al, bo))
-    } else {
-        None
+/// Two come, of whom the first says two lines that are answered, and go.
+struct Two;
+
+impl<O: Made<R, T>, R: Abort, T: Drop> Trial<O, R, T> for Two {
+    fn run<L: Naming>(&self, rt: &R, alloc: Global, hall: &mut Hall<L, O>) -> Result<(), Fail> {
+        let mut al: Guest<L, O, T> = enter(rt, alloc, hall, 4).ok_or("al")?;
+        let bo: Guest<L, O, T> = enter(rt, alloc, hall, 4).ok_or("bo")?;
+        assert!(rt;
+            al.says_all(alloc, hall, &["PING x", "PING y"]),
+            "al's lines"
+        );
+        assert!(rt; end_apart::<L, O, R, T>(hall, al, bo), "two ends");
+        Ok(())
     }
 }
 
-/// Two come and go.
-fn come_and_go<L: Naming, O: Made<R, T>, R: Abort, T: Drop>(
-    rt: &R,
-    alloc: Global,
-    hall: &mut Hall<L, O>,
-) {
-    let (al, bo) = come(rt, alloc, hall).expect(rt, "two who come");
-    assert!(rt; end_apart::<L, O, R, T>(hall, al, bo));
-}
-
-/// Two come and go in a hall for two.
-fn two_sessions<L: Naming, O: Made<R, T>, R: Abort, T: Drop>(
-    rt: &R,
-    alloc: Global,
-    register: Register<O::Name>,
-) -> Result<(), Fail>
-    requires named { register.table ≡ L.table }
-    requires empty { register.rows ≡ [] }
-{
-    let Ok(mut hall) = hall_of::<L, O>(alloc, register, 2, 16) else {
-        return Err("a hall".into());
-    };
-    come_and_go(rt, alloc, &mut hall);
-    Ok(())
-}
-
 #[test]
-fn strangers_are_handed_back_over_rings(rt: HostRuntime) -> Result<(), Fail> {
-    let register = new_register(rt.alloc())?;
-    two_sessions::<Brand, Ring, HostRuntime, ()>(&rt, rt.alloc(), register)
-}
-
-#[test]
-fn strangers_are_handed_back_over_channels(rt: HostRuntime) -> Result<(), Fail> {
-    let register = new_register(rt.alloc())?;
-    two_sessions::<Brand, Sender<HostRuntime>, HostRuntime, Writer>(&rt, rt.alloc(), register)
+fn strangers_are_handed_back(rt: HostRuntime) -> Result<(), Fail> {
+    over_rings(&rt, rt.alloc(), &Two, (2, 16))?;
+    over_channels(&rt, rt.alloc(), &Two, (2, 16))
 }

@@ -146,20 +146,6 @@ fn said_since<L: Naming, R: Wait + Drop>(
     }
 }
 
-/// Takes so many items, and answers whether there were as many and no more.
-fn hears<L: Naming, R: Wait + Drop>(
-    rt: &R,
-    guest: &mut Guest<L, Sender<R>, Writer>,
-    count: u64,
-) -> bool {
-    for _ in 0..count {
-        if guest.taker.take_now(rt).is_err() {
-            return false;
-        }
-    }
-    guest.taker.take_now(rt).is_err()
-}
-
 /// Al and bo meet on a channel by eight records, and each takes what it is sent: its welcome and its join, and al bo's
 /// join too.
 fn meet<L: Naming, R: Wait + Drop + Copy>(
@@ -171,8 +157,8 @@ fn meet<L: Naming, R: Wait + Drop + Copy>(
     let mut bo = enter(rt, alloc, hall, CAP)?;
     let has_met = al.says_all(alloc, hall, &["NICK al", "USER a 0 * :Al", "JOIN #a"])
         && bo.says_all(alloc, hall, &["NICK bo", "USER b 0 * :Bo", "JOIN #a"])
-        && hears(rt, &mut al, 3)
-        && hears(rt, &mut bo, 2);
+        && al.hears(rt, 3)
+        && bo.hears(rt, 2);
     if has_met { Some((al, bo)) } else { None }
 }
 

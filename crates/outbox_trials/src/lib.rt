@@ -5,6 +5,7 @@
 #[cfg(test)]
 mod bells;
 mod feeding;
+mod narrow;
 #[cfg(test)]
 mod one_thread;
 #[cfg(test)]
@@ -13,3 +14,4 @@ mod two_threads;
 mod writing;
 
 pub use feeding::{Feed, number_of};
+pub use narrow::{Narrow, Shape};

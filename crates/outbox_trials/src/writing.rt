@@ -1,47 +1,10 @@
 //! What goes out of a delivery, octet by octet, also where a writer fails, takes nothing or takes little at a time.
+use crate::narrow::{Narrow, Shape};
 use chronicle::{RecordNumber, Why};
 use deliveries::{Delivery, Text, WriteFault, write_out};
 use line_grammar::Octets;
 use std::alloc::{AllocError, Global};
-use std::io;
-use std::io::{ErrorKind, Write};
 use std::test::Fail;
-
-/// Takes `most` octets in one write and `left` in all. After those it takes none, or fails.
-#[derive(Drop)]
-struct Narrow {
-    octets: Vec<u8>,
-    most: usize,
-    left: usize,
-    fails: bool,
-}
-
-impl Narrow {
-    fn new(alloc: Global, most: usize, left: usize, fails: bool) -> Narrow {
-        Narrow {
-            octets: Vec::new(alloc),
-            most,
-            left,
-            fails,
-        }
-    }
-}
-
-impl Write for Narrow {
-    fn write(&mut self, buf: &[u8]) -> io::Result<usize> {
-        if self.left == 0 && self.fails {
-            return Err(io::Error::from(ErrorKind::BrokenPipe));
-        }
-        let count = buf.len().min(self.most).min(self.left);
-        self.octets.extend_from_slice(&buf[..count])?;
-        self.left -= count;
-        Ok(count)
-    }
-
-    fn flush(&mut self) -> io::Result<()> {
-        Ok(())
-    }
-}
 
 const JOINED: &[u8] = b":al!u@h1 JOIN :#rust\r\n:irc.example 332 al #rust :Words\r\n";
 
@@ -86,7 +49,13 @@ fn last(why: Why) -> Delivery {
 
 /// Whether a delivery goes out whole to a writer that takes `most` octets at a time.
 fn is_whole(alloc: Global, delivery: &Delivery, want: &[u8], most: usize) -> bool {
-    let mut out = Narrow::new(alloc, most, 99, true);
+    let shape = Shape {
+        most,
+        left: 99,
+        period: 0,
+        fails: true,
+    };
+    let mut out = Narrow::new(alloc, shape);
     write_out(delivery, b"h2", &mut out) == (want.len(), Ok(())) && out.octets.as_slice() == want
 }
 
@@ -122,7 +91,13 @@ fn is_front(
     left: usize,
     fault: WriteFault,
 ) -> bool {
-    let mut out = Narrow::new(alloc, 5, left, fault == WriteFault::Failed);
+    let shape = Shape {
+        most: 5,
+        left,
+        period: 0,
+        fails: fault == WriteFault::Failed,
+    };
+    let mut out = Narrow::new(alloc, shape);
     write_out(delivery, b"h2", &mut out) == (left, Err(fault))
         && want.get(..left) == Some(out.octets.as_slice())
 }

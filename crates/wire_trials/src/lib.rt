@@ -2,6 +2,4 @@
 #![tactic(auto)]
 
 #[cfg(test)]
-mod narrow;
-#[cfg(test)]
 mod wires;

@@ -1,12 +1,11 @@
 //! What goes out on a wire is what its writer took, in order, over streams that take little, wait or fail.
 ghost use Rattle.std.specs.Prelude.{◌≡◌, []};
 
-use crate::narrow::{Narrow, Shape};
 use chronicle::SessionId;
 use deliveries::WriteFault;
 use line_grammar::Octets;
 use outbox::{ChannelName, Sender, pair};
-use outbox_trials::Feed;
+use outbox_trials::{Feed, Narrow, Shape};
 use register::{Naming, Register};
 use std::alloc::Global;
 use std::marker::Brand;

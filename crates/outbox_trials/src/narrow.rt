@@ -3,26 +3,27 @@ use std::alloc::Global;
 use std::io;
 use std::io::{ErrorKind, Write};
 
-/// Counts what it is asked to write. It takes `most` octets in one write and `left` in all. Of each `period` writes it takes nothing in one, where that isn't 0. After
-/// what is left it takes none, or fails.
+/// Counts what it is asked to write. It takes `most` octets in one write and `left` in all. Of each `period` writes it takes nothing in
+/// one, where that isn't 0. After what is left it takes none, or fails.
 #[derive(Drop)]
-pub(crate) struct Narrow {
-    pub(crate) octets: Vec<u8>,
-    pub(crate) shape: Shape,
-    pub(crate) writes: u32,
+pub struct Narrow {
+    pub octets: Vec<u8>,
+    pub shape: Shape,
+    pub writes: u32,
 }
 
 /// How narrow a stream is.
 #[derive(Clone, Copy, Debug, Drop)]
-pub(crate) struct Shape {
-    pub(crate) most: usize,
-    pub(crate) left: usize,
-    pub(crate) period: u32,
-    pub(crate) fails: bool,
+pub struct Shape {
+    pub most: usize,
+    pub left: usize,
+    pub period: u32,
+    pub fails: bool,
 }
 
 impl Narrow {
-    pub(crate) fn new(alloc: Global, shape: Shape) -> Narrow {
+    /// A stream of this shape, to which nothing was written.
+    pub fn new(alloc: Global, shape: Shape) -> Narrow {
         Narrow {
             octets: Vec::new(alloc),
             shape,

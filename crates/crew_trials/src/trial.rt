@@ -1,0 +1,47 @@
+//! A trial of a hall in a lock.
+ghost use Rattle.std.specs.Prelude.{◌≡◌, []};
+
+use crate::making::hall;
+use hall::{Hall, Naming, Register};
+use outbox::{ChannelName, Sender};
+use std::alloc::Global;
+use std::marker::Brand;
+use std::sync::{Mutex, Wait};
+use std::test::Fail;
+
+/// What is tried.
+pub(crate) trait Trial<R: Wait + Drop> {
+    fn run<L: Naming + Send + Sync>(
+        &self,
+        rt: &R,
+        alloc: Global,
+        lock: &Mutex<Hall<L, Sender<R>>>,
+    ) -> Result<(), Fail>;
+}
+
+/// A trial of a hall whose sessions this register has.
+fn tried_in<L: Naming + Send + Sync, X: Trial<R>, R: Wait + Drop>(
+    rt: &R,
+    alloc: Global,
+    register: Register<ChannelName>,
+    trial: &X,
+) -> Result<(), Fail>
+    requires named { register.table ≡ L.table }
+    requires empty { register.rows ≡ [] }
+{
+    let made: Hall<L, Sender<R>> = hall(alloc, register).ok_or("a hall")?;
+    let lock = Mutex::new(made);
+    let tried = trial.run(rt, alloc, &lock);
+    drop(lock);
+    tried
+}
+
+/// A trial of a hall with a register of its own.
+pub(crate) fn in_a_hall<X: Trial<R>, R: Wait + Drop>(
+    rt: &R,
+    alloc: Global,
+    trial: &X,
+) -> Result<(), Fail> {
+    let register = Register::new(alloc)?;
+    tried_in::<Brand, X, R>(rt, alloc, register, trial)
+}
