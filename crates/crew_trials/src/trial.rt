@@ -19,29 +19,44 @@ pub(crate) trait Trial<R: Wait + Drop> {
     ) -> Result<(), Fail>;
 }
 
-/// A trial of a hall whose sessions this register has.
+/// A trial of a hall whose sessions this register has. It answers false where no such hall could be made.
 fn tried_in<L: Naming + Send + Sync, X: Trial<R>, R: Wait + Drop>(
     rt: &R,
     alloc: Global,
     register: Register<ChannelName>,
     trial: &X,
-) -> Result<(), Fail>
+) -> Result<bool, Fail>
     requires named { register.table ≡ L.table }
     requires empty { register.rows ≡ [] }
 {
-    let made: Hall<L, Sender<R>> = hall(alloc, register).ok_or("a hall")?;
+    let made: Option<Hall<L, Sender<R>>> = hall(alloc, register);
+    let Some(made) = made else {
+        return Ok(false);
+    };
     let lock = Mutex::new(made);
     let tried = trial.run(rt, alloc, &lock);
     drop(lock);
-    tried
+    tried?;
+    Ok(true)
 }
 
-/// A trial of a hall with a register of its own.
+/// A trial of a hall with a register of its own, which is asked for again where there was no memory.
+fn tried_once<X: Trial<R>, R: Wait + Drop>(rt: &R, alloc: Global, trial: &X) -> Result<bool, Fail> {
+    let register = match Register::new(alloc) {
+        Ok(register) => register,
+        Err(_) => Register::new(alloc)?,
+    };
+    tried_in::<Brand, X, R>(rt, alloc, register, trial)
+}
+
+/// A trial of a hall, which is made again where there was no memory for it.
 pub(crate) fn in_a_hall<X: Trial<R>, R: Wait + Drop>(
     rt: &R,
     alloc: Global,
     trial: &X,
 ) -> Result<(), Fail> {
-    let register = Register::new(alloc)?;
-    tried_in::<Brand, X, R>(rt, alloc, register, trial)
+    if tried_once(rt, alloc, trial)? || tried_once(rt, alloc, trial)? {
+        return Ok(());
+    }
+    Err("a hall".into())
 }

@@ -10,7 +10,7 @@ use line_grammar::{Octets, Piece};
 use outbox::Sender;
 use std::alloc::{AllocError, Global};
 use std::process::Abort;
-use std::sync::atomic::{AtomicBool, Ordering};
+use std::sync::atomic::Ordering;
 use std::sync::{Mutex, Wait};
 use std::test::Fail;
 
@@ -69,10 +69,7 @@ fn says<'a, L: Naming, R: Wait + Drop>(
 }
 
 /// Somebody speaks until a line is refused; then they are ended, and nobody else is.
-#[derive(Drop)]
-struct Wanting {
-    is_made: AtomicBool,
-}
+struct Wanting;
 
 impl<R: Wait + Abort + Copy + Drop> Trial<R> for Wanting {
     fn run<L: Naming + Send + Sync>(
@@ -81,7 +78,6 @@ impl<R: Wait + Abort + Copy + Drop> Trial<R> for Wanting {
         alloc: Global,
         lock: &Mutex<Hall<L, Sender<R>>>,
     ) -> Result<(), Fail> {
-        self.is_made.store(true, Ordering::SeqCst);
         let al = opened(rt, alloc, lock).ok_or("a session")?;
         let bo = opened(rt, alloc, lock).ok_or("another session")?;
         let (speaker, other) = (al.baton.session(), bo.baton.session());
@@ -110,12 +106,5 @@ impl<R: Wait + Abort + Copy + Drop> Trial<R> for Wanting {
 
 #[test]
 fn who_finds_no_memory_is_ended(rt: HostRuntime) -> Result<(), Fail> {
-    let trial = Wanting {
-        is_made: AtomicBool::new(false),
-    };
-    let tried = in_a_hall(&rt, rt.alloc(), &trial);
-    if trial.is_made.load(Ordering::SeqCst) {
-        return tried;
-    }
-    in_a_hall(&rt, rt.alloc(), &trial)
+    in_a_hall(&rt, rt.alloc(), &Wanting)
 }

@@ -1,4 +1,4 @@
-use Rattle.crew_trials.proofs.trial.in_a_hall.Given as goal
+use Rattle.crew_trials.proofs.trial.tried_once.Given as goal
 
 -- the register that was just made
 abbrev pub ghosts-tried_in : goal.ghosts-tried_in
