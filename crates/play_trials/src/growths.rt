@@ -1,14 +1,12 @@
-//! Growths that are refused: a labelled line for which there is no memory changes nothing, and is accepted when it comes again.
-ghost use Rattle.std.specs.Prelude.{◌≡◌, []};
+//! Growths that are refused: a labelled line for which there is no memory changes nothing, and is accepted when it
+//! comes again.
 ghost use Rattle.interleave.specs.Steps.{IsWellShaped};
 
-use crate::acts::{Act, Told, brief, compare, new_register, play};
+use crate::acts::{Act, Told, brief, compare};
 use crate::again::copied;
-use interleave::{
-    Delivery, Event, Moment, Naming, Note, Play, Register, SessionId, StepRefusal, WorkerId,
-};
+use crate::plays::{Story, tell_story};
+use interleave::{Delivery, Event, Moment, Naming, Note, Play, SessionId, StepRefusal, WorkerId};
 use std::alloc::{AllocError, Global};
-use std::marker::Brand;
 use std::process::Abort;
 use std::test::Fail;
 
@@ -151,34 +149,17 @@ fn join<L: Naming>(rt: &impl Abort, alloc: Global, play: &mut Play<L>) -> Result
 }
 
 /// Al and bo come, and al joins the channel.
-fn meet<L: Naming>(rt: &impl Abort, alloc: Global, play: &mut Play<L>) -> Result<(), Fail> {
+pub(crate) fn tell<L: Naming>(
+    rt: &impl Abort,
+    alloc: Global,
+    play: &mut Play<L>,
+) -> Result<(), AllocError> {
     compare(rt, alloc, play, &AL)?;
     compare(rt, alloc, play, &BO)?;
-    join(rt, alloc, play)?;
-    Ok(())
-}
-
-/// They do so in a play of their own. It answers whether there was memory for that.
-fn meet_in<L: Naming>(rt: &impl Abort, alloc: Global, register: Register<()>) -> Result<bool, Fail>
-    requires named { register.table ≡ L.table }
-    requires empty { register.rows ≡ [] }
-{
-    let Some(mut play) = play::<L>(alloc, register, 100, 1, 8)? else {
-        return Ok(false);
-    };
-    let met = meet(rt, alloc, &mut play);
-    drop(play);
-    met?;
-    Ok(true)
+    join(rt, alloc, play)
 }
 
 #[test]
 fn a_labelled_line_without_memory_changes_nothing(rt: HostRuntime) -> Result<(), Fail> {
-    for _ in 0..2 {
-        let register = new_register(rt.alloc())?;
-        if meet_in::<Brand>(&rt, rt.alloc(), register)? {
-            return Ok(());
-        }
-    }
-    Err("a play".into())
+    tell_story(&rt, rt.alloc(), Story::Growths)
 }

@@ -1,5 +1,5 @@
-//! Tests of `book` and `interleave`: that calls succeed, and a thousand steps compared with what the records say. They stand apart
-//! from the crates that they test, so that neither is proved once more with its tests.
+//! Tests of `book` and `interleave` that no script can say. They stand apart from the crates that they test, so that
+//! neither is proved once more with its tests.
 #![tactic(auto)]
 
 #[cfg(test)]
@@ -13,8 +13,8 @@ mod growths;
 #[cfg(test)]
 mod plays;
 #[cfg(test)]
-mod script;
+mod runs;
 #[cfg(test)]
-mod texts;
+mod slow;
 #[cfg(test)]
 mod thousand;

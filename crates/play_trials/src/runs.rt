@@ -1,0 +1,124 @@
+//! A run: each of its events is answered as if it had come alone.
+ghost use Rattle.interleave.specs.Steps.{IsWellShaped};
+
+use crate::acts::{Act, Told, brief, compare, plain_event};
+use crate::plays::{Story, tell_story};
+use interleave::{Event, Moment, Naming, Note, Play, StepRefusal};
+use std::alloc::{AllocError, Global};
+use std::process::Abort;
+use std::test::Fail;
+
+/// Al and bo register by the records 3 to 6, and each has a line that nobody picked.
+const START: [(Act, Told); 18] = [
+    (Act::Connect, Told::Session(1)),
+    (Act::Connect, Told::Session(2)),
+    (
+        Act::Feed(1, "NICK al\r\nUSER a 0 * :Al\r\nPING x\r\n"),
+        Told::Read(3),
+    ),
+    (
+        Act::Feed(2, "NICK bo\r\nUSER b 0 * :Bo\r\nPING y\r\n"),
+        Told::Read(3),
+    ),
+    (Act::Pick(1, 1), Told::Picked),
+    (Act::Begin(1), Told::Record(3)),
+    (Act::End(1), Told::Done(3)),
+    (Act::Pick(1, 1), Told::Picked),
+    (Act::Begin(1), Told::Record(4)),
+    (Act::Put(1), Told::Put(1)),
+    (Act::End(1), Told::Done(4)),
+    (Act::Pick(1, 2), Told::Picked),
+    (Act::Begin(1), Told::Record(5)),
+    (Act::End(1), Told::Done(5)),
+    (Act::Pick(1, 2), Told::Picked),
+    (Act::Begin(1), Told::Record(6)),
+    (Act::Put(1), Told::Put(2)),
+    (Act::End(1), Told::Done(6)),
+];
+
+/// Two workers share the lock, in three runs.
+const RUNS: [[(Act, Told); 6]; 3] = [
+    [
+        (Act::Pick(1, 1), Told::Picked),
+        (Act::Pick(2, 1), Told::Refused(StepRefusal::InFlight)),
+        (Act::Pick(1, 2), Told::Refused(StepRefusal::HasJob)),
+        (Act::Pick(2, 2), Told::Picked),
+        (Act::Begin(1), Told::Record(7)),
+        (Act::Begin(2), Told::Refused(StepRefusal::Locked)),
+    ],
+    [
+        (Act::End(1), Told::Refused(StepRefusal::PutsLeft)),
+        (Act::Put(2), Told::Refused(StepRefusal::NotHolding)),
+        (Act::Put(1), Told::Put(1)),
+        (Act::Put(1), Told::Refused(StepRefusal::NothingLeft)),
+        (Act::End(1), Told::Done(7)),
+        (Act::Begin(2), Told::Record(8)),
+    ],
+    [
+        (Act::Put(2), Told::Put(2)),
+        (Act::End(2), Told::Done(8)),
+        (Act::Begin(2), Told::Refused(StepRefusal::NoJob)),
+        (Act::Pick(1, 1), Told::Refused(StepRefusal::NothingRead)),
+        (Act::Pick(3, 1), Told::Refused(StepRefusal::NoWorker)),
+        (Act::Take(9), Told::Refused(StepRefusal::NoSession)),
+    ],
+];
+
+/// The event of a step.
+fn event(step: (Act, Told)) -> Event
+    ensures { IsWellShaped result }
+{
+    plain_event(step.0, Moment::new(2000))
+}
+
+/// Takes the events of a run at once.
+fn run<L: Naming>(
+    play: &mut Play<L>,
+    [one, two, three, four, five, six]: [(Act, Told); 6],
+) -> Result<Vec<Result<Note, StepRefusal>>, AllocError> {
+    let events = [
+        event(one),
+        event(two),
+        event(three),
+        event(four),
+        event(five),
+        event(six),
+    ];
+    play.run(&events)
+}
+
+/// Takes a run, and compares what became of its events. It ends early where a growth was refused.
+fn compare_run<L: Naming>(
+    rt: &impl Abort,
+    play: &mut Play<L>,
+    events: [(Act, Told); 6],
+) -> Result<(), AllocError> {
+    let notes = run(play, events)?;
+    assert_eq!(rt; notes.len(), events.len());
+    for (note, (_, want)) in notes.iter().zip(events.iter()) {
+        let told = brief(note);
+        if told == Told::Refused(StepRefusal::Memory) {
+            return Err(AllocError);
+        }
+        assert_eq!(rt; told, *want);
+    }
+    Ok(())
+}
+
+/// Al and bo come, and two workers take their lines.
+pub(crate) fn tell<L: Naming>(
+    rt: &impl Abort,
+    alloc: Global,
+    play: &mut Play<L>,
+) -> Result<(), AllocError> {
+    compare(rt, alloc, play, &START)?;
+    for events in &RUNS {
+        compare_run(rt, play, *events)?;
+    }
+    Ok(())
+}
+
+#[test]
+fn each_event_of_a_run_is_answered(rt: HostRuntime) -> Result<(), Fail> {
+    tell_story(&rt, rt.alloc(), Story::Run)
+}
