@@ -17,7 +17,7 @@ const RECORDS: usize = 1000;
 const WORKERS: usize = 2;
 
 /// Items that an outbox has room for.
-const ITEMS: usize = 8;
+const ITEMS: usize = 4;
 
 /// What is done in a play.
 #[derive(Clone, Copy)]

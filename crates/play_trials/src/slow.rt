@@ -1,7 +1,7 @@
-//! What the records of a book say of nicknames and channels, by a plain list of sessions that is searched from its
+//! What the records of a book say of its sessions, by a plain list of them that is searched from its
 //! beginning. It is made anew from the first record each time, and shares no code with the book's tables.
 use book::{Book, Ring};
-use chronicle::{Kind, Record, RecordNumber};
+use chronicle::{Kind, Record, RecordNumber, SessionId};
 use interleave::Piece;
 
 /// What a line asks for. Nicknames and channels are told by their places, so those that differ by case are one.
@@ -12,6 +12,7 @@ pub(crate) enum Wish {
     Join(usize),
     Part(usize),
     Kick(usize, usize),
+    Quit,
     Nothing,
 }
 
@@ -36,7 +37,7 @@ pub(crate) const LINES: [(&str, Wish); 20] = [
     ("KICK #B al :out\n", Wish::Kick(1, 0)),
     ("KICK #A CY\n", Wish::Kick(0, 2)),
     ("KICK #b dee\n", Wish::Kick(1, 3)),
-    ("QUIT\n", Wish::Nothing),
+    ("QUIT\n", Wish::Quit),
 ];
 
 /// What the line of a record asks for.
@@ -61,16 +62,19 @@ enum Rank {
     Operator,
 }
 
-/// A session: its nickname by place and spelling, whether a USER was accepted, and its ranks on `#a` and `#b`.
+/// A session: whether it is open, its nickname by place and spelling, whether a USER was accepted, and its ranks on
+/// `#a` and `#b`.
 #[derive(Clone, Copy)]
 struct Person {
+    is_open: bool,
     nick: Option<(usize, &'static str)>,
     has_user: bool,
     ranks: [Rank; 2],
 }
 
-/// A session that said nothing, or is gone.
+/// A session that didn't come yet, or is gone.
 const NOBODY: Person = Person {
+    is_open: false,
     nick: None,
     has_user: false,
     ranks: [Rank::Outside; 2],
@@ -78,6 +82,11 @@ const NOBODY: Person = Person {
 
 /// More sessions than come.
 const MOST: usize = 32;
+
+/// The place of a session.
+fn place_of(session: SessionId) -> usize {
+    session.number().wrapping_sub(1) as usize
+}
 
 /// What became of lines and ends, so that a test can see what it met.
 #[derive(Clone, Copy)]
@@ -89,11 +98,13 @@ pub(crate) enum Met {
     Parted,
     Kicked,
     NotKicked,
+    Shut,
+    Missed,
     Gone,
 }
 
 /// How many kinds of these there are.
-pub(crate) const KINDS: usize = 8;
+pub(crate) const KINDS: usize = 10;
 
 /// All sessions, that of the number 1 first, and how often each kind was met.
 #[derive(Clone, Copy)]
@@ -213,6 +224,19 @@ impl People {
         }
     }
 
+    fn set_open(&mut self, place: usize, is_open: bool) {
+        let person = Person {
+            is_open,
+            ..self.at(place)
+        };
+        self.set(place, person);
+    }
+
+    fn shut(&mut self, place: usize, kind: Met) {
+        self.set_open(place, false);
+        self.meet(kind);
+    }
+
     fn obey(&mut self, by: usize, wish: Wish) {
         match wish {
             Wish::Nick(nick, spelled) => self.take_nick(by, nick, spelled),
@@ -226,22 +250,24 @@ impl People {
             Wish::Join(channel) if self.is_registered(by) => self.join(by, channel),
             Wish::Part(channel) if self.is_registered(by) => self.part(by, channel),
             Wish::Kick(channel, nick) if self.is_registered(by) => self.kick(by, channel, nick),
+            Wish::Quit => self.shut(by, Met::Shut),
             Wish::Join(_) | Wish::Part(_) | Wish::Kick(_, _) | Wish::Nothing => {}
         }
     }
 
+    /// What a record says, and who missed it.
     fn read(&mut self, record: &Record) {
         match &record.kind {
-            Kind::Said { session, piece, .. } => {
-                let place = session.number().wrapping_sub(1) as usize;
-                self.obey(place, wish_of(piece));
-            }
+            Kind::Opened { session, .. } => self.set_open(place_of(*session), true),
+            Kind::Said { session, piece, .. } => self.obey(place_of(*session), wish_of(piece)),
+            Kind::Hung { session, .. } => self.shut(place_of(*session), Met::Shut),
             Kind::Gone { session } => {
-                let place = session.number().wrapping_sub(1) as usize;
-                self.set(place, NOBODY);
+                self.set(place_of(*session), NOBODY);
                 self.meet(Met::Gone);
             }
-            Kind::Opened { .. } | Kind::Hung { .. } => {}
+        }
+        for session in record.missed.as_slice() {
+            self.shut(place_of(*session), Met::Missed);
         }
     }
 }
@@ -261,15 +287,20 @@ pub(crate) fn read_back(book: &Book<Ring>) -> People {
     people
 }
 
+/// Whether a session is open: it neither quit nor was hung, and missed nothing.
+pub(crate) fn slow_open(people: &People, session: SessionId) -> bool {
+    people.at(place_of(session)).is_open
+}
+
 /// The nickname of a session: the last that it took, until it is gone.
-pub(crate) fn slow_nick(people: &People, session: u64) -> Option<&'static str> {
-    match people.at(session.wrapping_sub(1) as usize).nick {
+pub(crate) fn slow_nick(people: &People, session: SessionId) -> Option<&'static str> {
+    match people.at(place_of(session)).nick {
         Some((_, spelled)) => Some(spelled),
         None => None,
     }
 }
 
 /// Whether a session is on a channel.
-pub(crate) fn slow_on(people: &People, session: u64, channel: usize) -> bool {
-    people.rank(session.wrapping_sub(1) as usize, channel) != Rank::Outside
+pub(crate) fn slow_on(people: &People, session: SessionId, channel: usize) -> bool {
+    people.rank(place_of(session), channel) != Rank::Outside
 }

@@ -1,9 +1,9 @@
-//! A thousand steps from a fixed list of numbers. After each the book says of nicknames, channels and the last
-//! moment what a walk over its records says.
+//! A thousand steps from a fixed list of numbers. After each the book says of its sessions and of its last moment
+//! what a walk over its records says.
 use crate::acts::{Act, Told, take_step};
 use crate::again::copied;
 use crate::plays::{SESSIONS, Story, tell_story};
-use crate::slow::{KINDS, LINES, People, read_back, slow_nick, slow_on};
+use crate::slow::{KINDS, LINES, People, read_back, slow_nick, slow_on, slow_open};
 use book::{Book, Ring};
 use chronicle::{Moment, RecordNumber};
 use interleave::{Naming, Octets, Play, SessionId, Why};
@@ -17,7 +17,7 @@ const TURNS: usize = 100;
 const STEPS: usize = 10;
 
 /// The number from which the others follow.
-const FIRST: u64 = 126;
+const FIRST: u64 = 51;
 
 /// A place for a session: its number, or 0 where nobody is, and how many lines it said.
 #[derive(Clone, Copy)]
@@ -129,10 +129,12 @@ fn compare_session(
 ) {
     let session = SessionId::new(number);
     for (place, channel) in channels.iter().enumerate() {
-        let is_on = slow_on(people, number, place);
+        let is_on = slow_on(people, session, place);
         assert_eq!(rt; book.is_on(session, channel), is_on, "session {number}");
     }
-    match (book.nick_of(session), slow_nick(people, number)) {
+    let is_open = slow_open(people, session);
+    assert_eq!(rt; book.is_open(session), is_open, "session {number}");
+    match (book.nick_of(session), slow_nick(people, session)) {
         (Some(nick), Some(want)) => assert!(rt; nick.as_slice() == want.as_bytes()),
         (nick, want) => assert!(rt; nick.is_none() && want.is_none(), "session {number}"),
     }
@@ -208,6 +210,6 @@ pub(crate) fn tell<L: Naming>(
 }
 
 #[test]
-fn nicknames_and_channels_are_those_of_the_records(rt: HostRuntime) -> Result<(), Fail> {
+fn look_ups_are_those_of_the_records(rt: HostRuntime) -> Result<(), Fail> {
     tell_story(&rt, rt.alloc(), Story::Thousand)
 }
