@@ -1,0 +1,7 @@
+pub mod Roles
+pub mod Lines
+pub mod Written
+pub mod Going
+pub mod Steps
+pub mod Passing
+pub mod Naming

@@ -1,0 +1,13 @@
+-- only pings and pongs were read so far
+use Rattle.std.proofs.Common.{◌≡◌, List, true}
+use Rattle.tungstenite.specs.Socket.{Socket}
+use Rattle.websocket_front.specs.Reading.{Passes}
+use Rattle.websocket_front.proofs.front.Front.next.Given as goal
+
+abbrev pub invariant-loop : goal.invariant-loop
+invariant-loop g l = record {
+  passes : (ss : List (Socket g.row.S.Denot)) × Passes g.S.Read.remaining l.fn.self.socket ss l.self.socket;
+  rest : l.self.rest ≡ l.fn.self.rest;
+  subprotocol : l.self.subprotocol ≡ l.fn.self.subprotocol;
+  is_open : l.self.is_open ≡ true;
+}

@@ -1,0 +1,304 @@
+//! A session's WebSocket after its handshake.
+ghost use Rattle.std.specs.Prelude.{◌≡◌, [], true, false, IfOk, OnOk, IfErr};
+ghost use Rattle.websocket.specs.declared.protocol.config.Role.TheVariants.{Server};
+ghost use Rattle.websocket_front.specs.Faults.{fault_of_breach, MeansOf};
+ghost use Rattle.websocket_front.specs.Reading.{Gives, GivesOne, Fails, FailsOnce, IsGiven};
+
+use crate::subprotocol::Subprotocol;
+use deliveries::Text;
+use std::alloc::Global;
+use std::io;
+use std::io::{ErrorKind, Read, Write};
+use std::marker::Model;
+use tungstenite::{
+    CloseCode, CloseFrame, Error, Message, NoMask, Utf8Bytes, WebSocket, WebSocketConfig,
+};
+use websocket::error::ProtocolError;
+
+/// How many octets one read asks for.
+const ROOM: usize = 4096;
+
+/// How many octets of frames may wait to be written before a line waits for its frame.
+const OUTPUT: usize = 65_536;
+
+/// How many octets a client's message may have, and each frame of it.
+const MESSAGE: usize = 8192;
+
+/// Why a call came to nothing.
+#[derive(Clone, Copy, Debug, PartialEq)]
+pub enum FrontFault {
+    /// The stream failed, or ended without a close.
+    Io,
+    /// The client broke the protocol, or sent what is too long or no UTF-8; or something was to be sent after a close.
+    Protocol,
+    /// There was no memory.
+    Memory,
+}
+
+/// What was read of a client.
+#[derive(Drop)]
+pub enum Got {
+    /// The octets of a text or of a binary message.
+    Payload(Vec<u8>),
+    /// The stream has nothing now.
+    Nothing,
+    /// The client closed.
+    Closed,
+}
+
+/// How a front ended.
+#[derive(Clone, Copy, Debug, PartialEq)]
+pub(crate) enum Ending {
+    /// The client closed.
+    Closed,
+    /// It failed.
+    Failed(FrontFault),
+}
+
+/// What an error of the socket means.
+#[derive(Clone, Copy, Debug, PartialEq)]
+pub(crate) enum Meaning {
+    /// The stream has or takes nothing now.
+    Later,
+    /// The client closed.
+    Closed,
+    /// The front fails.
+    Fault(FrontFault),
+}
+
+/// A session's WebSocket on a stream.
+#[derive(Drop)]
+pub struct Front<S: Read + Write + Drop> {
+    pub(crate) alloc: Global,
+    pub(crate) socket: WebSocket<S, NoMask>,
+    pub(crate) subprotocol: Subprotocol,
+    // The text of the item that was put last, whose lines before a place are in frames.
+    pub(crate) begun: Option<Text>,
+    pub(crate) place: usize,
+    pub(crate) ending: Option<Ending>,
+}
+
+impl<S: Read + Write + Drop> Model for Front<S> {
+    ghost use Rattle.std.specs.Prelude.{◌≡◌, [], true, false};
+    ghost use Rattle.websocket.specs.declared.protocol.config.Role.TheVariants.{Server};
+    ghost use Rattle.websocket_front.specs.Fronted.{Fronted, fronted_code, rest_of, is_open_of};
+
+    ghost Value = { Fronted S };
+
+    ghost coded = { fronted_code S.code };
+
+    ghost view = { λ a. record { socket = a.socket; subprotocol = a.subprotocol; rest = rest_of a.begun a.place; is_open = is_open_of a.ending } };
+
+    ghost invariant = { λ a. (is_open_of a.ending ≡ true → a.socket.conn.role ≡ Server) × (is_open_of a.ending ≡ false → rest_of a.begun a.place ≡ []) };
+}
+
+/// Whether an error only says that the stream has or takes nothing now.
+pub(crate) fn is_later(error: &io::Error) -> bool {
+    match error.kind() {
+        ErrorKind::WouldBlock | ErrorKind::TimedOut | ErrorKind::Interrupted => true,
+        _ => false,
+    }
+}
+
+/// The limits of a session's socket. Nothing is written before a flush.
+pub(crate) fn limits() -> WebSocketConfig {
+    WebSocketConfig::default()
+        .read_buffer_size(ROOM)
+        .write_buffer_size(usize::MAX)
+        .max_write_buffer_size(OUTPUT)
+        .max_message_size(Some(MESSAGE))
+        .max_frame_size(Some(MESSAGE))
+}
+
+/// The fault that a breach of the protocol is.
+fn fault_of_breach(breach: &ProtocolError) -> FrontFault
+    ensures { result ≡ fault_of_breach breach.now }
+{
+    match breach {
+        ProtocolError::ResetWithoutClosingHandshake => FrontFault::Io,
+        _ => FrontFault::Protocol,
+    }
+}
+
+/// What an error of the socket means.
+pub(crate) fn meaning_of(error: &Error) -> Meaning
+    ensures { MeansOf result error.now }
+{
+    match error {
+        Error::Io(cause) => {
+            if is_later(cause) {
+                Meaning::Later
+            } else {
+                Meaning::Fault(FrontFault::Io)
+            }
+        }
+        Error::ConnectionClosed => Meaning::Closed,
+        Error::OutOfMemory => Meaning::Fault(FrontFault::Memory),
+        Error::Protocol(breach) => Meaning::Fault(fault_of_breach(breach)),
+        _ => Meaning::Fault(FrontFault::Protocol),
+    }
+}
+
+/// The code with which to close after an error of the socket (RFC 6455, section 7.4.1), where the client may still
+/// read.
+fn close_code(error: &Error) -> Option<CloseCode> {
+    match error {
+        Error::Protocol(ProtocolError::ResetWithoutClosingHandshake) => None,
+        Error::Protocol(_) => Some(CloseCode::Protocol),
+        Error::Utf8 => Some(CloseCode::Invalid),
+        Error::Capacity(_) => Some(CloseCode::Size),
+        _ => None,
+    }
+}
+
+/// A close without words.
+pub(crate) fn close_frame(code: CloseCode) -> CloseFrame
+    ensures code { result.code ≡ code }
+    ensures no_reason { result.reason ≡ [] }
+{
+    CloseFrame {
+        code,
+        reason: Utf8Bytes::new(),
+    }
+}
+
+/// Sends a client that broke the protocol a close that says so, as far as the stream takes it now.
+fn refuse<S: Read + Write + Drop>(socket: &mut WebSocket<S, NoMask>, error: &Error) {
+    if let Some(code) = close_code(error) {
+        let _ = socket.close(Some(close_frame(code)));
+    }
+}
+
+impl<S: Read + Write + Drop> Front<S> {
+    /// A front of a client that was answered.
+    pub(crate) fn new(
+        alloc: Global,
+        socket: WebSocket<S, NoMask>,
+        subprotocol: Subprotocol,
+    ) -> Front<S>
+        requires server { socket.conn.role ≡ Server }
+        ensures socket { result.socket ≡ socket }
+        ensures subprotocol { result.subprotocol ≡ subprotocol }
+        ensures rest { result.rest ≡ [] }
+        ensures stays_open { result.is_open ≡ true }
+    {
+        Front {
+            alloc,
+            socket,
+            subprotocol,
+            begun: None,
+            place: 0,
+            ending: None,
+        }
+    }
+
+    /// What the messages to the client are.
+    pub fn subprotocol(&self) -> Subprotocol
+        ensures { result ≡ self.now.subprotocol }
+    {
+        self.subprotocol
+    }
+
+    /// The stream.
+    pub fn stream(&self) -> &S
+        ensures { result.now ≡ self.now.socket.stream }
+    {
+        self.socket.get_ref()
+    }
+
+    /// Reads the client's next payload. Pings are answered on the way, however many they are: `read_message` reads one
+    /// message.
+    ///
+    /// A payload has at most 8,192 octets, and is given as it is, whatever the subprotocol. After `Closed` the
+    /// client's close is answered, as far as the stream takes it; a later flush sends the rest. After a breach of the
+    /// protocol the client is sent a close that says which, as far as the stream takes it now. After a fault the front
+    /// is of no more use.
+    pub fn next(&mut self) -> Result<Got, FrontFault>
+        ensures gives { self.old.is_open ≡ true → IfOk result (Gives S.remaining self.old.socket self.new.socket) }
+        ensures fails { self.old.is_open ≡ true → IfErr result (Fails S.remaining self.old.socket) }
+        ensures rest { self.new.is_open ≡ true → self.new.rest ≡ self.old.rest }
+        ensures subprotocol { self.new.subprotocol ≡ self.old.subprotocol }
+    {
+        match self.ending {
+            Some(Ending::Closed) => return Ok(Got::Closed),
+            Some(Ending::Failed(fault)) => return Err(fault),
+            None => {}
+        }
+        for _ in 0..usize::MAX {
+            if let Some(got) = self.read_open()? {
+                return Ok(got);
+            }
+        }
+        Err(FrontFault::Memory)
+    }
+
+    /// Reads one message of the client: nothing where it is a ping, which is answered, or a pong. There may be more
+    /// then, and no event of the stream says so.
+    pub fn read_message(&mut self) -> Result<Option<Got>, FrontFault>
+        ensures gives { self.old.is_open ≡ true → IfOk result (GivesOne S.remaining self.old.socket self.new.socket) }
+        ensures fails { self.old.is_open ≡ true → IfErr result (FailsOnce S.remaining self.old.socket) }
+        ensures rest { self.new.is_open ≡ true → self.new.rest ≡ self.old.rest }
+        ensures subprotocol { self.new.subprotocol ≡ self.old.subprotocol }
+    {
+        match self.ending {
+            Some(Ending::Closed) => Ok(Some(Got::Closed)),
+            Some(Ending::Failed(fault)) => Err(fault),
+            None => self.read_open(),
+        }
+    }
+
+    /// The same where the front is open.
+    fn read_open(&mut self) -> Result<Option<Got>, FrontFault>
+        requires is_open { self.old.is_open ≡ true }
+        ensures gives { IfOk result (GivesOne S.remaining self.old.socket self.new.socket) }
+        ensures stays_open { IfOk result (λ got. got ≡ None → self.new.is_open ≡ true) }
+        ensures fails { IfErr result (FailsOnce S.remaining self.old.socket) }
+        ensures rest { self.new.is_open ≡ true → self.new.rest ≡ self.old.rest }
+        ensures subprotocol { self.new.subprotocol ≡ self.old.subprotocol }
+    {
+        match self.socket.read() {
+            Ok(Message::Text(text)) => self.payload(text.as_str().as_bytes()),
+            Ok(Message::Binary(octets)) => self.payload(octets.as_slice()),
+            Ok(Message::Ping(_)) => Ok(None),
+            Ok(Message::Pong(_)) => Ok(None),
+            Ok(Message::Close(_)) => {
+                let _ = self.socket.flush();
+                self.begun = None;
+                self.ending = Some(Ending::Closed);
+                Ok(Some(Got::Closed))
+            }
+            Err(error) => match meaning_of(&error) {
+                Meaning::Later => Ok(Some(Got::Nothing)),
+                Meaning::Closed => {
+                    self.begun = None;
+                    self.ending = Some(Ending::Closed);
+                    Ok(Some(Got::Closed))
+                }
+                Meaning::Fault(fault) => {
+                    refuse(&mut self.socket, &error);
+                    self.begun = None;
+                    self.ending = Some(Ending::Failed(fault));
+                    Err(fault)
+                }
+            },
+        }
+    }
+
+    /// A payload's octets.
+    fn payload(&mut self, octets: &[u8]) -> Result<Option<Got>, FrontFault>
+        ensures given { IfOk result (IsGiven octets.now) }
+        ensures same { OnOk result (self.new ≡ self.old) }
+        ensures memory { IfErr result (λ e. e ≡ FrontFault.Memory) }
+        ensures ended { IfErr result (λ _. self.new.is_open ≡ false) }
+        ensures subprotocol { self.new.subprotocol ≡ self.old.subprotocol }
+    {
+        match octets.to_vec(self.alloc) {
+            Ok(octets) => Ok(Some(Got::Payload(octets))),
+            Err(_) => {
+                self.begun = None;
+                self.ending = Some(Ending::Failed(FrontFault::Memory));
+                Err(FrontFault::Memory)
+            }
+        }
+    }
+}

@@ -1,0 +1,121 @@
+//! The opening handshake (RFC 6455, section 4.2).
+ghost use Rattle.std.specs.Prelude.{◌≡◌, IfOk, IfErr};
+ghost use Rattle.websocket_front.specs.Faults.{greet_fault_of};
+ghost use Rattle.websocket_front.specs.Fronted.{IsGreeted};
+ghost use Rattle.websocket_front.specs.Greetings.{IfDone};
+
+use crate::front::{Front, limits};
+use crate::subprotocol::{Choice, Chooser};
+use std::alloc::{AllocError, Global};
+use std::io::{Read, Write};
+use tungstenite::handshake::server::start;
+use tungstenite::{Error, HandshakeError, MidHandshake, ServerHandshake};
+
+/// How often `greet` goes on where the stream has or takes nothing.
+const TRIES: u32 = 1024;
+
+/// Why a handshake came to nothing.
+#[derive(Clone, Copy, Debug, PartialEq)]
+pub enum GreetFault {
+    /// The client's request isn't one that opens a WebSocket, or it came in too many parts or with something after it.
+    Handshake,
+    /// The stream failed or ended.
+    Io,
+    /// There was no memory.
+    Memory,
+}
+
+impl From<AllocError> for GreetFault {
+    ghost use Rattle.std.specs.Prelude.{◌≡◌};
+    ghost use Rattle.websocket_front.specs.declared.greeting.GreetFault.TheVariants.{Memory};
+
+    ghost from_gives = { λ _ fault. fault ≡ Memory };
+
+    fn from(_error: AllocError) -> GreetFault {
+        GreetFault::Memory
+    }
+}
+
+/// A handshake that isn't done.
+#[derive(Drop)]
+pub struct Greeting<S: Read + Write + Drop> {
+    alloc: Global,
+    handshake: MidHandshake<ServerHandshake<S, Chooser>>,
+    choice: Choice,
+}
+
+/// How far a handshake came.
+#[derive(Drop)]
+pub enum Greeted<S: Read + Write + Drop> {
+    /// It is done.
+    Done(Front<S>),
+    /// The stream has or takes nothing now: go on when it does.
+    Later(Greeting<S>),
+}
+
+/// Why a handshake that ended by an error came to nothing.
+fn fault_of(error: &Error) -> GreetFault
+    ensures { result ≡ greet_fault_of error.now }
+{
+    match error {
+        Error::Io(_) | Error::HandshakeIncomplete => GreetFault::Io,
+        // A request is refused for want of memory alone.
+        Error::OutOfMemory | Error::Refused(_) => GreetFault::Memory,
+        _ => GreetFault::Handshake,
+    }
+}
+
+impl<S: Read + Write + Drop> Greeting<S> {
+    /// A handshake on a stream of which nothing was read.
+    pub fn new(alloc: Global, stream: S) -> Result<Greeting<S>, GreetFault>
+        ensures { IfErr result (λ e. e ≡ GreetFault.Memory) }
+    {
+        let choice = Choice::new(alloc)?;
+        let chooser = choice.chooser(alloc)?;
+        Ok(Greeting {
+            alloc,
+            handshake: start(alloc, stream, chooser, Some(limits())),
+            choice,
+        })
+    }
+
+    /// The stream.
+    pub fn stream(&self) -> &S {
+        self.handshake.get_ref()
+    }
+
+    /// Reads and writes until the handshake is done or the stream would block.
+    pub fn go_on(self) -> Result<Greeted<S>, GreetFault>
+        ensures { IfOk result (λ greeted. IfDone greeted IsGreeted) }
+    {
+        let Greeting {
+            alloc,
+            handshake,
+            choice,
+        } = self;
+        match handshake.handshake() {
+            Ok(socket) => Ok(Greeted::Done(Front::new(alloc, socket, choice.subprotocol()))),
+            Err(HandshakeError::Interrupted(handshake)) => Ok(Greeted::Later(Greeting {
+                alloc,
+                handshake,
+                choice,
+            })),
+            Err(HandshakeError::Failure(error)) => Err(fault_of(&error)),
+        }
+    }
+}
+
+/// Greets the client of a stream whose reads wait. Where the stream has or takes nothing it tries again, 1,024 times
+/// in all; then it is a fault of the stream.
+pub fn greet<S: Read + Write + Drop>(alloc: Global, stream: S) -> Result<Front<S>, GreetFault>
+    ensures { IfOk result IsGreeted }
+{
+    let mut greeting = Greeting::new(alloc, stream)?;
+    for _ in 0..TRIES {
+        match greeting.go_on()? {
+            Greeted::Done(front) => return Ok(front),
+            Greeted::Later(later) => greeting = later,
+        }
+    }
+    Err(GreetFault::Io)
+}

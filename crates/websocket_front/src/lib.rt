@@ -1,0 +1,15 @@
+//! A session's WebSocket: the opening handshake, its client's payloads, and its items as messages, a line each (RFC
+//! 6455 and the IRCv3 WebSocket specification).
+#![tactic(auto)]
+
+mod front;
+mod greeting;
+mod laws;
+mod sending;
+mod subprotocol;
+
+pub use front::{Front, FrontFault, Got};
+pub use greeting::{GreetFault, Greeted, Greeting, greet};
+pub use laws::lines_stay;
+pub use subprotocol::Subprotocol;
+pub use tungstenite::CloseCode;

@@ -1,0 +1,410 @@
+//! A session's items as messages, a line each.
+ghost use Rattle.std.specs.Prelude.{◌≡◌, ◌≤◌, ◌<◌, ◌+◌, ◌↔◌, [], true, false, length, drop, IsTrue, Ok, Err, IfOk, OnOk, IfErr};
+ghost use Rattle.deliveries.specs.Text.{delivery_text};
+ghost use Rattle.tungstenite.specs.Connection.{can_write};
+ghost use Rattle.tungstenite.specs.Socket.{content_of};
+ghost use Rattle.websocket.specs.declared.protocol.config.Role.TheVariants.{Server};
+ghost use Rattle.websocket_front.specs.Lines.{line_length};
+ghost use Rattle.websocket_front.specs.Frames.{message, frame_of, IsNext, IsSendable};
+ghost use Rattle.websocket_front.specs.Fronted.{waiting, waiting_with, close_of_code, output_with_close, GoesOut, Gains, FramesNext, TakesLines, IsOut};
+
+use crate::front::{Ending, Front, FrontFault, Meaning, close_frame, meaning_of};
+use crate::subprotocol::Subprotocol;
+use deliveries::{Delivery, Item, Text, write_out};
+use line_grammar::Octets;
+use std::alloc::{AllocError, Global};
+use std::io::{Read, Write};
+use tungstenite::{CloseCode, Error, Message, NoMask, Utf8Bytes, WebSocket};
+
+/// How often `send_item` goes on where the stream takes nothing.
+const TRIES: u32 = 1024;
+
+/// What came of the next line.
+#[derive(Clone, Copy, Debug, PartialEq)]
+pub(crate) enum Framed {
+    /// It is in a frame.
+    One,
+    /// There is none.
+    All,
+    /// The output has no room for its frame.
+    Full,
+}
+
+/// Where the line that begins at a place ends.
+fn line_end(text: &[u8], place: usize) -> usize
+    requires { place ≤ length text.now }
+    ensures first { result ≡ place + line_length (drop place text.now) }
+    ensures within { result ≤ length text.now }
+{
+    let mut end = place;
+    while end < text.len() {
+        if text[end..].starts_with(b"\r\n") {
+            return end;
+        }
+        end += 1;
+    }
+    end
+}
+
+/// A line as a message.
+fn message_of(alloc: Global, subprotocol: Subprotocol, line: &[u8]) -> Result<Message, AllocError>
+    ensures { IfOk result (λ m. content_of m ≡ message subprotocol line.now) }
+{
+    match subprotocol {
+        Subprotocol::Text => {
+            let text = String::from_utf8_lossy(alloc, line)?;
+            Ok(Message::Text(Utf8Bytes::from_string(text)?))
+        }
+        Subprotocol::Binary => Message::binary(alloc, line),
+    }
+}
+
+/// A delivery's text, for a session that has this host.
+fn text_of(alloc: Global, delivery: &Delivery, host: &[u8]) -> Result<Text, AllocError>
+    ensures { IfOk result (λ t. t ≡ delivery_text delivery.now host.now) }
+{
+    match delivery {
+        Delivery::Lines { text, .. } => text.clone(),
+        Delivery::Last { .. } => {
+            let mut octets = Vec::new(alloc);
+            match write_out(delivery, host, &mut octets) {
+                (_, Ok(())) => Text::new(alloc, Octets::from_vec(octets)),
+                (_, Err(_)) => Err(AllocError),
+            }
+        }
+    }
+}
+
+/// The line that begins at a place as a message, and where the next begins.
+fn next_message(
+    alloc: Global,
+    subprotocol: Subprotocol,
+    text: &[u8],
+    place: usize,
+) -> Result<(Message, usize), AllocError>
+    requires { place < length text.now }
+    ensures { IfOk result (IsNext subprotocol (drop place text.now) text.now) }
+{
+    let end = line_end(text, place);
+    let message = message_of(alloc, subprotocol, &text[place..end])?;
+    Ok((message, end + 2))
+}
+
+/// Writes a message into a socket's output, where that has room.
+fn write_message<S: Read + Write + Drop>(
+    socket: &mut WebSocket<S, NoMask>,
+    message: Message,
+) -> Result<bool, FrontFault>
+    requires server { socket.old.conn.role ≡ Server }
+    requires sendable { IsSendable (content_of message) }
+    ensures taken { IfOk result (λ b. b ≡ true → Gains S.contents socket.old socket.new (frame_of (content_of message))) }
+    ensures full { IfOk result (λ b. b ≡ false → socket.new ≡ socket.old) }
+    ensures memory { result ≡ Err FrontFault.Memory → socket.new ≡ socket.old }
+{
+    match socket.write(message) {
+        Ok(()) => Ok(true),
+        Err(Error::WriteBufferFull) => Ok(false),
+        Err(error) => match meaning_of(&error) {
+            Meaning::Later => Ok(true),
+            Meaning::Closed => Err(FrontFault::Protocol),
+            Meaning::Fault(fault) => Err(fault),
+        },
+    }
+}
+
+/// Writes the line that begins at a place into a socket's output, where that has room, and answers where the next one
+/// begins.
+fn frame_line<S: Read + Write + Drop>(
+    alloc: Global,
+    socket: &mut WebSocket<S, NoMask>,
+    subprotocol: Subprotocol,
+    text: &[u8],
+    place: usize,
+) -> Result<Option<usize>, FrontFault>
+    requires server { socket.old.conn.role ≡ Server }
+    requires inside { place < length text.now }
+    ensures ok { IfOk result (FramesNext S.contents subprotocol (drop place text.now) text.now socket.old socket.new) }
+    ensures memory { result ≡ Err FrontFault.Memory → socket.new ≡ socket.old }
+{
+    let Ok((message, next)) = next_message(alloc, subprotocol, text, place) else {
+        return Err(FrontFault::Memory);
+    };
+    match write_message(socket, message) {
+        Ok(true) => Ok(Some(next)),
+        Ok(false) => Ok(None),
+        Err(fault) => Err(fault),
+    }
+}
+
+/// Writes a close with this code into a socket's output, and then as much of that as the stream takes now.
+fn close_socket<S: Read + Write + Drop>(
+    socket: &mut WebSocket<S, NoMask>,
+    code: CloseCode,
+) -> Result<(), FrontFault>
+    requires server { socket.old.conn.role ≡ Server }
+    requires opened { can_write socket.old.conn.state ≡ true }
+    ensures taken { OnOk result (Gains S.contents socket.old socket.new (close_of_code code)) }
+    ensures memory { result ≡ Err FrontFault.Memory → socket.new ≡ socket.old }
+{
+    match socket.close(Some(close_frame(code))) {
+        Ok(()) => Ok(()),
+        Err(error) => match meaning_of(&error) {
+            Meaning::Later => Ok(()),
+            Meaning::Closed => Err(FrontFault::Protocol),
+            Meaning::Fault(fault) => Err(fault),
+        },
+    }
+}
+
+impl<S: Read + Write + Drop> Front<S> {
+    /// Whether an item may be put: each line of the one before is in a frame.
+    pub fn is_ready(&self) -> bool
+        ensures { IsTrue result ↔ (self.now.rest ≡ []) }
+    {
+        match &self.begun {
+            Some(text) => text.as_slice().len() <= self.place,
+            None => true,
+        }
+    }
+
+    /// Has an item wait, for a session that has this host: each of its lines for which the output has room as a frame,
+    /// and the others as they are, until a flush makes room. For want of memory it changes nothing.
+    pub fn put_item(&mut self, item: &Item, host: &[u8]) -> Result<(), FrontFault>
+        requires ready { self.old.rest ≡ [] }
+        ensures ok { OnOk result (GoesOut S.contents self.old.socket.stream (waiting_with self.old item.now.delivery host.now) self.new) }
+        ensures memory { result ≡ Err FrontFault.Memory → self.old.is_open ≡ true → self.new ≡ self.old }
+        ensures subprotocol { self.new.subprotocol ≡ self.old.subprotocol }
+    {
+        match self.ending {
+            Some(Ending::Closed) => return Err(FrontFault::Protocol),
+            Some(Ending::Failed(fault)) => return Err(fault),
+            None => {}
+        }
+        if !self.socket.can_write() {
+            return Err(FrontFault::Protocol);
+        }
+        let Ok(text) = text_of(self.alloc, item.delivery(), host) else {
+            return Err(FrontFault::Memory);
+        };
+        self.begun = Some(text);
+        self.place = 0;
+        self.frame_lines()
+    }
+
+    /// Puts the lines at the front of a text into frames, while the output has room and there is memory, and answers how many
+    /// octets of the text those lines have, with their CR LF.
+    pub fn put_lines(&mut self, text: &[u8]) -> Result<usize, FrontFault>
+        requires ready { self.old.rest ≡ [] }
+        ensures ok { IfOk result (TakesLines S.contents self.old text.now self.new) }
+        ensures subprotocol { self.new.subprotocol ≡ self.old.subprotocol }
+    {
+        match self.ending {
+            Some(Ending::Closed) => return Err(FrontFault::Protocol),
+            Some(Ending::Failed(fault)) => return Err(fault),
+            None => {}
+        }
+        let mut place = 0;
+        for _ in 0..text.len() {
+            if text.len() <= place {
+                return Ok(text.len());
+            }
+            match self.frame_line(text, place) {
+                Ok(Some(next)) => place = next,
+                Ok(None) => return Ok(place),
+                Err(FrontFault::Memory) if 0 < place => return Ok(place),
+                Err(fault) => return Err(fault),
+            }
+        }
+        Ok(place.min(text.len()))
+    }
+
+    /// Puts the line that begins at a place of a text into a frame, where the output has room, and answers where the next begins.
+    fn frame_line(&mut self, text: &[u8], place: usize) -> Result<Option<usize>, FrontFault>
+        requires is_open { self.old.is_open ≡ true }
+        requires ready { self.old.rest ≡ [] }
+        requires inside { place < length text.now }
+        ensures ok { IfOk result (FramesNext S.contents self.old.subprotocol (drop place text.now) text.now self.old.socket self.new.socket) }
+        ensures stays_open { OnOk result (self.new.is_open ≡ true) }
+        ensures rest { self.new.rest ≡ [] }
+        ensures memory { result ≡ Err FrontFault.Memory → self.new ≡ self.old }
+        ensures subprotocol { self.new.subprotocol ≡ self.old.subprotocol }
+    {
+        match frame_line(self.alloc, &mut self.socket, self.subprotocol, text, place) {
+            Ok(next) => Ok(next),
+            Err(FrontFault::Memory) => Err(FrontFault::Memory),
+            Err(fault) => {
+                self.begun = None;
+                self.ending = Some(Ending::Failed(fault));
+                Err(fault)
+            }
+        }
+    }
+
+    /// Puts lines into frames while the output has room and there is memory.
+    fn frame_lines(&mut self) -> Result<(), FrontFault>
+        requires is_open { self.old.is_open ≡ true }
+        ensures ok { OnOk result (GoesOut S.contents self.old.socket.stream (waiting self.old) self.new) }
+        ensures memory { IfErr result (λ e. e ≡ FrontFault.Memory → ⊥) }
+        ensures subprotocol { self.new.subprotocol ≡ self.old.subprotocol }
+    {
+        for _ in 0..usize::MAX {
+            match self.frame_next() {
+                Ok(Framed::One) => {}
+                Ok(_) => return Ok(()),
+                Err(FrontFault::Memory) => return Ok(()),
+                Err(fault) => return Err(fault),
+            }
+        }
+        Ok(())
+    }
+
+    /// Puts the next line into a frame.
+    fn frame_next(&mut self) -> Result<Framed, FrontFault>
+        requires is_open { self.old.is_open ≡ true }
+        ensures ok { OnOk result (GoesOut S.contents self.old.socket.stream (waiting self.old) self.new) }
+        ensures stays_open { OnOk result (self.new.is_open ≡ true) }
+        ensures all { result ≡ Ok Framed.All → self.new.rest ≡ [] }
+        ensures memory { result ≡ Err FrontFault.Memory → self.new ≡ self.old }
+        ensures subprotocol { self.new.subprotocol ≡ self.old.subprotocol }
+    {
+        let Some(text) = &self.begun else {
+            return Ok(Framed::All);
+        };
+        if text.as_slice().len() <= self.place {
+            self.begun = None;
+            return Ok(Framed::All);
+        }
+        let (octets, place) = (text.as_slice(), self.place);
+        match frame_line(
+            self.alloc,
+            &mut self.socket,
+            self.subprotocol,
+            octets,
+            place,
+        ) {
+            Ok(Some(next)) => {
+                self.place = next;
+                Ok(Framed::One)
+            }
+            Ok(None) => Ok(Framed::Full),
+            Err(FrontFault::Memory) => Err(FrontFault::Memory),
+            Err(fault) => {
+                self.begun = None;
+                self.ending = Some(Ending::Failed(fault));
+                Err(fault)
+            }
+        }
+    }
+
+    /// Writes what waits, and answers whether all is out: if not, the stream takes no more now. For want of memory
+    /// nothing is lost, and it may be called again.
+    pub fn flush(&mut self) -> Result<bool, FrontFault>
+        ensures ok { OnOk result (GoesOut S.contents self.old.socket.stream (waiting self.old) self.new) }
+        ensures all { result ≡ Ok true → waiting self.new ≡ [] }
+        ensures ready { result ≡ Ok true → self.new.rest ≡ [] }
+        ensures memory { result ≡ Err FrontFault.Memory → self.new.is_open ≡ true → GoesOut S.contents self.old.socket.stream (waiting self.old) self.new }
+        ensures subprotocol { self.new.subprotocol ≡ self.old.subprotocol }
+    {
+        match self.ending {
+            Some(Ending::Closed) => return self.send_output(),
+            Some(Ending::Failed(fault)) => return Err(fault),
+            None => {}
+        }
+        let mut is_out = false;
+        for _ in 0..usize::MAX {
+            match self.frame_next()? {
+                Framed::One => is_out = false,
+                Framed::All => return self.send_output(),
+                Framed::Full => {
+                    if is_out {
+                        return Err(FrontFault::Memory);
+                    }
+                    if !self.send_output()? {
+                        return Ok(false);
+                    }
+                    is_out = true;
+                }
+            }
+        }
+        Ok(false)
+    }
+
+    /// Writes the output, and answers whether all of it is out.
+    fn send_output(&mut self) -> Result<bool, FrontFault>
+        ensures ok { OnOk result (GoesOut S.contents self.old.socket.stream (waiting self.old) self.new) }
+        ensures out { result ≡ Ok true → self.new.socket.output ≡ [] }
+        ensures rest { OnOk result (self.new.rest ≡ self.old.rest) }
+        ensures stays_open { OnOk result (self.new.is_open ≡ self.old.is_open) }
+        ensures io { IfErr result (λ e. e ≡ FrontFault.Io) }
+        ensures subprotocol { self.new.subprotocol ≡ self.old.subprotocol }
+    {
+        match self.socket.flush() {
+            Ok(()) => Ok(true),
+            Err(error) => match meaning_of(&error) {
+                Meaning::Later => Ok(false),
+                _ => {
+                    self.begun = None;
+                    self.ending = Some(Ending::Failed(FrontFault::Io));
+                    Err(FrontFault::Io)
+                }
+            },
+        }
+    }
+
+    /// Flushes until all is out.
+    fn flush_all(&mut self) -> Result<(), FrontFault>
+        ensures ok { OnOk result (GoesOut S.contents self.old.socket.stream (waiting self.old) self.new) }
+        ensures out { OnOk result (waiting self.new ≡ []) }
+        ensures ready { OnOk result (self.new.rest ≡ []) }
+        ensures subprotocol { self.new.subprotocol ≡ self.old.subprotocol }
+    {
+        for _ in 0..TRIES {
+            if self.flush()? {
+                return Ok(());
+            }
+        }
+        self.begun = None;
+        self.ending = Some(Ending::Failed(FrontFault::Io));
+        Err(FrontFault::Io)
+    }
+
+    /// Writes what waits, and then an item for a session that has this host: one message for each of its lines,
+    /// without CR LF. A text message has U+FFFD for what isn't UTF-8. Where the stream takes nothing it tries again,
+    /// 1,024 times in all; then it is a fault of the stream.
+    pub fn send_item(&mut self, item: &Item, host: &[u8]) -> Result<(), FrontFault>
+        ensures ok { OnOk result (IsOut S.contents self.old.socket.stream (waiting_with self.old item.now.delivery host.now) self.new) }
+        ensures subprotocol { self.new.subprotocol ≡ self.old.subprotocol }
+    {
+        self.flush_all()?;
+        self.put_item(item, host)?;
+        self.flush_all()
+    }
+
+    /// Has a close with this code wait, after the frames that wait. Lines that have no frame yet are given up. Where a
+    /// close was sent or the client closed it does nothing.
+    pub fn close(&mut self, code: CloseCode) -> Result<(), FrontFault>
+        ensures ok { OnOk result (can_write self.old.socket.conn.state ≡ true → self.old.is_open ≡ true → GoesOut S.contents self.old.socket.stream (output_with_close self.old code) self.new) }
+        ensures subprotocol { self.new.subprotocol ≡ self.old.subprotocol }
+    {
+        match self.ending {
+            Some(Ending::Closed) => return Ok(()),
+            Some(Ending::Failed(fault)) => return Err(fault),
+            None => {}
+        }
+        if !self.socket.can_write() {
+            return Ok(());
+        }
+        match close_socket(&mut self.socket, code) {
+            Ok(()) => {
+                self.begun = None;
+                Ok(())
+            }
+            Err(FrontFault::Memory) => Err(FrontFault::Memory),
+            Err(fault) => {
+                self.begun = None;
+                self.ending = Some(Ending::Failed(fault));
+                Err(fault)
+            }
+        }
+    }
+}
