@@ -9,6 +9,8 @@ mod crowd;
 #[cfg(test)]
 mod ends;
 #[cfg(test)]
+mod gathering;
+#[cfg(test)]
 mod growths;
 #[cfg(test)]
 mod guests;
