@@ -1,13 +1,16 @@
 //! A session is read to the end of its input.
+ghost use Rattle.std.specs.Prelude.{◌≡◌, []};
+
 use crate::fakes::{Fakes, Torn, Waits};
-use crate::making::{Tokens, hung_for, open};
+use crate::making::{Tokens, hall, hung_for, open};
 use crate::trial::{Trial, in_a_hall};
 use chronicle::{RecordNumber, Why};
 use crew::{Desk, Intake, Next, Sockets, close_now, close_up, hang, read_on, read_some};
-use hall::{Hall, Naming, Told};
+use hall::{Hall, Naming, Register, Told};
 use line_grammar::Octets;
-use outbox::Sender;
+use outbox::{ChannelName, Sender};
 use std::alloc::{AllocError, Global};
+use std::marker::Brand;
 use std::process::Abort;
 use std::sync::atomic::Ordering;
 use std::sync::{Mutex, Wait};
@@ -21,58 +24,65 @@ const INPUT: &[u8; 24] = b"PING x\r\nPING y\r\nPING zzz";
 const OUTPUT: &[u8; 104] =
     b":irc.example PONG irc.example x\r\n:irc.example PONG irc.example y\r\nERROR :Closing Link: h1 (Read error)\r\n";
 
-/// An input that comes in parts of so many octets fails: the lines before that are done and told so, the session is hung by the record
-/// of this number, and the hall and the only slot are there again.
-#[derive(Drop)]
-struct Fails<'a> {
-    input: &'a [u8],
-    most: usize,
-    output: &'a [u8],
+/// An input fails: the lines before that are done and told so, the session is hung by the record of this number, and the hall
+/// and the only slot are there again.
+fn torn<L: Naming, R: Wait + Abort + Copy + Drop>(
+    rt: &R,
+    alloc: Global,
+    lock: &Mutex<Hall<L, Sender<R>>>,
+    mut input: Torn<'_>,
+    output: &[u8],
     records: u64,
+) -> Result<(), Fail> {
+    let Tokens {
+        baton,
+        stub,
+        writer,
+    } = open(rt, alloc, lock).ok_or("a session")?;
+    let session = baton.session();
+    let desk = Desk::new(rt, alloc, 1)?;
+    let fakes = Fakes::new();
+    let server = fakes.server(lock);
+    let host = Octets::copied(alloc, b"h1")?;
+    let Ok(mut wire) = Wire::new(alloc, writer, stub, Vec::new(alloc), host) else {
+        return Err("a wire".into());
+    };
+    let worked = read_on(rt, alloc, &server, &desk, baton, &mut input);
+    assert!(rt; worked.all, "all lines are done");
+    assert!(rt; lock.try_lock().is_some(), "the hall is given back");
+    assert!(rt; desk.slot(rt).is_some(), "the slot is there");
+    assert_eq!(rt; wire.pump(rt), Ok(Flow::Ended));
+    assert_eq!(rt; wire.stream().as_slice(), output);
+    assert_eq!(rt; lock.lock(rt).len() as u64, records);
+    let hung = hung_for(&lock.lock(rt), RecordNumber::new(records));
+    assert_eq!(rt; hung, Some((session, Why::ReadFailed)));
+    assert!(rt; fakes.sockets.is_shut(session), "it is shut");
+    if wire.session() != session {
+        return Err("another's wire".into());
+    }
+    let (writer, stub) = wire.apart();
+    let left = close_up(rt, alloc, &server, worked.baton, stub, writer);
+    assert_eq!(rt; (left.session(), left.count()), (session, 0));
+    Ok(())
 }
 
-impl<R: Wait + Abort + Copy + Drop> Trial<R> for Fails<'_> {
-    fn run<L: Naming + Send + Sync>(
-        &self,
-        rt: &R,
-        alloc: Global,
-        lock: &Mutex<Hall<L, Sender<R>>>,
-    ) -> Result<(), Fail> {
-        let Tokens {
-            baton,
-            stub,
-            writer,
-        } = open(rt, alloc, lock).ok_or("a session")?;
-        let session = baton.session();
-        let mut input = Torn {
-            octets: self.input,
-            most: self.most,
-        };
-        let desk = Desk::new(rt, alloc, 1)?;
-        let fakes = Fakes::new();
-        let server = fakes.server(lock);
-        let host = Octets::copied(alloc, b"h1")?;
-        let Ok(mut wire) = Wire::new(alloc, writer, stub, Vec::new(alloc), host) else {
-            return Err("a wire".into());
-        };
-        let worked = read_on(rt, alloc, &server, &desk, baton, &mut input);
-        assert!(rt; worked.all, "all lines are done");
-        assert!(rt; lock.try_lock().is_some(), "the hall is given back");
-        assert!(rt; desk.slot(rt).is_some(), "the slot is there");
-        assert_eq!(rt; wire.pump(rt), Ok(Flow::Ended));
-        assert_eq!(rt; wire.stream().as_slice(), self.output);
-        assert_eq!(rt; lock.lock(rt).len() as u64, self.records);
-        let hung = hung_for(&lock.lock(rt), RecordNumber::new(self.records));
-        assert_eq!(rt; hung, Some((session, Why::ReadFailed)));
-        assert!(rt; fakes.sockets.is_shut(session), "it is shut");
-        if wire.session() != session {
-            return Err("another's wire".into());
-        }
-        let (writer, stub) = wire.apart();
-        let left = close_up(rt, alloc, &server, worked.baton, stub, writer);
-        assert_eq!(rt; (left.session(), left.count()), (session, 0));
-        Ok(())
-    }
+/// The same in a hall of its own, whose sessions this register has.
+fn torn_in_one<L: Naming, R: Wait + Abort + Copy + Drop>(
+    rt: &R,
+    alloc: Global,
+    register: Register<ChannelName>,
+    input: Torn<'_>,
+    output: &[u8],
+    records: u64,
+) -> Result<(), Fail>
+    requires named { register.table ≡ L.table }
+    requires empty { register.rows ≡ [] }
+{
+    let made: Hall<L, Sender<R>> = hall(alloc, register).ok_or("a hall")?;
+    let lock = Mutex::new(made);
+    let told = torn(rt, alloc, &lock, input, output, records);
+    drop(lock);
+    told
 }
 
 /// An input that has nothing for now between its lines: what comes is done, and reading goes on. While the session isn't ended it
@@ -168,13 +178,12 @@ fn a_client_that_says_nothing_now_is_read_on(rt: HostRuntime) -> Result<(), Fail
 
 #[test]
 fn a_session_is_hung_where_its_input_fails(rt: HostRuntime) -> Result<(), Fail> {
-    let trial = Fails {
-        input: INPUT,
+    let register = Register::new(rt.alloc())?;
+    let input = Torn {
+        octets: INPUT,
         most: 7,
-        output: OUTPUT,
-        records: 4,
     };
-    in_a_hall(&rt, rt.alloc(), &trial)
+    torn_in_one::<Brand, _>(&rt, rt.alloc(), register, input, OUTPUT, 4)
 }
 
 /// How often the long line comes: more octets than are read at first.
@@ -195,20 +204,19 @@ fn long_lines(alloc: Global, front: &[u8], end: &[u8]) -> Result<Vec<u8>, AllocE
 #[test]
 fn a_client_that_sends_much_is_read_whole(rt: HostRuntime) -> Result<(), Fail> {
     let alloc = rt.alloc();
-    let input = long_lines(alloc, b"PING ", b"")?;
-    let output = long_lines(
+    let said = long_lines(alloc, b"PING ", b"")?;
+    let told = long_lines(
         alloc,
         b":irc.example PONG irc.example ",
         b"ERROR :Closing Link: h1 (Read error)\r\n",
     )?;
     for most in [1, 511, 512, 513, 4096] {
-        let trial = Fails {
-            input: &input,
+        let register = Register::new(alloc)?;
+        let input = Torn {
+            octets: &said,
             most,
-            output: &output,
-            records: LONG_LINES + 2,
         };
-        in_a_hall(&rt, alloc, &trial)?;
+        torn_in_one::<Brand, _>(&rt, alloc, register, input, &told, LONG_LINES + 2)?;
     }
     Ok(())
 }

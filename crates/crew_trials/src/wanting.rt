@@ -55,17 +55,16 @@ fn says<'a, L: Naming, R: Wait + Drop>(
     baton: Baton<L, Sender<R>>,
 ) -> Result<usize, AllocError> {
     let mut told = Told::new(alloc);
-    let (mut baton, mut done) = (baton, 0);
-    for octets in AL {
+    let mut baton = baton;
+    for (done, octets) in AL.iter().enumerate() {
         let pieces = [line(alloc, octets)?];
         let worked = work(rt, server, desk, baton, &pieces, &mut told);
         baton = worked.baton;
         if !worked.all {
             return Ok(done);
         }
-        done += 1;
     }
-    Ok(done)
+    Ok(AL.len())
 }
 
 /// Somebody speaks until a line is refused; then they are ended, and nobody else is.
@@ -88,7 +87,7 @@ impl<R: Wait + Abort + Copy + Drop> Trial<R> for Wanting {
         let fakes = Fakes::new();
         let server = fakes.server(lock);
         let done = says(rt, alloc, &server, &desk, al.baton)?;
-        let newest = RecordNumber::new(done as u64 + 3);
+        let newest = RecordNumber::new((done as u64).saturating_add(3));
         let is_ended = hung_for(&lock.lock(rt), newest) == Some((speaker, Why::Memory));
         let sockets = &fakes.sockets;
         assert_eq!(rt; is_ended, done < AL.len());

@@ -1,14 +1,17 @@
 //! What waits for a session is written while the hall is locked.
+ghost use Rattle.std.specs.Prelude.{◌≡◌, []};
+
 use crate::fakes::{Broken, Fakes, Noted, Open, Still, TURNS, Tally, rest};
-use crate::making::{Tokens, hung_for, line, open};
+use crate::making::{Tokens, hall, hung_for, line, open};
 use crate::trial::{Trial, in_a_hall};
 use chronicle::{Moment, RecordNumber, SessionId, Why};
 use crew::{Job, Outcome, Outlet, Server, Sockets, Standing, work_one, write_on, write_some};
-use hall::{Hall, Naming, Told};
+use hall::{Hall, Naming, Register, Told};
 use line_grammar::Octets;
-use outbox::{Bell, Sender};
+use outbox::{Bell, ChannelName, Sender};
 use std::alloc::Global;
 use std::io::Write;
+use std::marker::Brand;
 use std::process::Abort;
 use std::sync::atomic::{AtomicBool, AtomicU64, Ordering};
 use std::sync::{Arc, Mutex, Wait};
@@ -124,53 +127,71 @@ fn answered<L: Naming, R: Wait + Abort + Copy + Drop, W: Write + Drop>(
 }
 
 /// A line is answered, and its answer is written by one thread while another has the hall.
-struct ByAWorker;
+fn by_a_worker<
+    L: Naming + Send + Sync,
+    R: Threads + Wait + Clock + Abort + Copy + Drop + Send + Sync,
+>(rt: &R, alloc: Global, lock: &Mutex<Hall<L, Sender<R>>>) -> Result<(), Fail> {
+    let fakes = Fakes::new();
+    let server = fakes.server(lock);
+    let written = Arc::new(alloc, AtomicU64::new(0))?;
+    let wire = answered(rt, alloc, lock, Tally::new(written.clone()?))?;
+    let session = wire.session();
+    let outlet = Outlet::new();
+    outlet.open(rt, wire);
+    let is_over = write_meanwhile(rt, alloc, &server, session, &outlet, false);
+    assert!(rt; !is_over, "more may come");
+    assert_eq!(rt; written.load(Ordering::SeqCst), PONG.len() as u64);
+    let is_over = write_meanwhile(rt, alloc, &server, session, &outlet, true);
+    assert!(rt; is_over, "it is shut, and nothing waits");
+    Ok(())
+}
 
-impl<R: Threads + Wait + Clock + Abort + Copy + Drop + Send + Sync> Trial<R> for ByAWorker {
-    fn run<L: Naming + Send + Sync>(
-        &self,
-        rt: &R,
-        alloc: Global,
-        lock: &Mutex<Hall<L, Sender<R>>>,
-    ) -> Result<(), Fail> {
-        let fakes = Fakes::new();
-        let server = fakes.server(lock);
-        let written = Arc::new(alloc, AtomicU64::new(0))?;
-        let wire = answered(rt, alloc, lock, Tally::new(written.clone()?))?;
-        let session = wire.session();
-        let outlet = Outlet::new();
-        outlet.open(rt, wire);
-        let is_over = write_meanwhile(rt, alloc, &server, session, &outlet, false);
-        assert!(rt; !is_over, "more may come");
-        assert_eq!(rt; written.load(Ordering::SeqCst), PONG.len() as u64);
-        let is_over = write_meanwhile(rt, alloc, &server, session, &outlet, true);
-        assert!(rt; is_over, "it is shut, and nothing waits");
-        Ok(())
-    }
+/// The same in a hall of its own, whose sessions this register has.
+fn by_a_worker_in_one<
+    L: Naming + Send + Sync,
+    R: Threads + Wait + Clock + Abort + Copy + Drop + Send + Sync,
+>(rt: &R, alloc: Global, register: Register<ChannelName>) -> Result<(), Fail>
+    requires named { register.table ≡ L.table }
+    requires empty { register.rows ≡ [] }
+{
+    let made: Hall<L, Sender<R>> = hall(alloc, register).ok_or("a hall")?;
+    let lock = Mutex::new(made);
+    let told = by_a_worker(rt, alloc, &lock);
+    drop(lock);
+    told
 }
 
 /// A line is answered, and its answer is written by the session's own thread while another has the hall.
-struct ByItsOwn;
+fn by_its_own<
+    L: Naming + Send + Sync,
+    R: Threads + Wait + Clock + Abort + Copy + Drop + Send + Sync,
+>(rt: &R, alloc: Global, lock: &Mutex<Hall<L, Sender<R>>>) -> Result<(), Fail> {
+    let fakes = Fakes::new();
+    let server = fakes.server(lock);
+    let written = Arc::new(alloc, AtomicU64::new(0))?;
+    let wire = answered(rt, alloc, lock, Tally::new(written.clone()?))?;
+    let session = wire.session();
+    let bell = wire.bell().again()?;
+    let (wire, is_written) = is_written_meanwhile(rt, alloc, &server, wire, &bell, &written);
+    assert!(rt; is_written, "it is written");
+    assert_eq!(rt; wire.session(), session);
+    assert_eq!(rt; written.load(Ordering::SeqCst), PONG.len() as u64);
+    Ok(())
+}
 
-impl<R: Threads + Wait + Clock + Abort + Copy + Drop + Send + Sync> Trial<R> for ByItsOwn {
-    fn run<L: Naming + Send + Sync>(
-        &self,
-        rt: &R,
-        alloc: Global,
-        lock: &Mutex<Hall<L, Sender<R>>>,
-    ) -> Result<(), Fail> {
-        let fakes = Fakes::new();
-        let server = fakes.server(lock);
-        let written = Arc::new(alloc, AtomicU64::new(0))?;
-        let wire = answered(rt, alloc, lock, Tally::new(written.clone()?))?;
-        let session = wire.session();
-        let bell = wire.bell().again()?;
-        let (wire, is_written) = is_written_meanwhile(rt, alloc, &server, wire, &bell, &written);
-        assert!(rt; is_written, "it is written");
-        assert_eq!(rt; wire.session(), session);
-        assert_eq!(rt; written.load(Ordering::SeqCst), PONG.len() as u64);
-        Ok(())
-    }
+/// The same in a hall of its own, whose sessions this register has.
+fn by_its_own_in_one<
+    L: Naming + Send + Sync,
+    R: Threads + Wait + Clock + Abort + Copy + Drop + Send + Sync,
+>(rt: &R, alloc: Global, register: Register<ChannelName>) -> Result<(), Fail>
+    requires named { register.table ≡ L.table }
+    requires empty { register.rows ≡ [] }
+{
+    let made: Hall<L, Sender<R>> = hall(alloc, register).ok_or("a hall")?;
+    let lock = Mutex::new(made);
+    let told = by_its_own(rt, alloc, &lock);
+    drop(lock);
+    told
 }
 
 /// A stream fails: the session is ended for that, once, and its connection is shut; by a worker, or by the session's own thread.
@@ -218,10 +239,12 @@ fn a_session_is_hung_where_its_stream_fails(rt: HostRuntime) -> Result<(), Fail>
 
 #[test]
 fn what_waits_is_written_while_the_hall_is_locked(rt: HostRuntime) -> Result<(), Fail> {
-    in_a_hall(&rt, rt.alloc(), &ByAWorker)
+    let register = Register::new(rt.alloc())?;
+    by_a_worker_in_one::<Brand, _>(&rt, rt.alloc(), register)
 }
 
 #[test]
 fn what_waits_is_written_by_the_sessions_own_thread(rt: HostRuntime) -> Result<(), Fail> {
-    in_a_hall(&rt, rt.alloc(), &ByItsOwn)
+    let register = Register::new(rt.alloc())?;
+    by_its_own_in_one::<Brand, _>(&rt, rt.alloc(), register)
 }
