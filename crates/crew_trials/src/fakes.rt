@@ -1,11 +1,10 @@
 //! What stands for gates, connections, a clock and a client's input.
 use chronicle::{Moment, SessionId};
-use crew::{Clock, Gate, Server, Sockets};
-use hall::{Hall, Naming, Told};
-use outbox::Sender;
+use crew::{Clock, Gate, Sockets};
+use hall::Told;
 use std::io::{ErrorKind, Read, Write};
+use std::sync::Arc;
 use std::sync::atomic::{AtomicBool, AtomicU64, Ordering};
-use std::sync::{Arc, Mutex, Wait};
 use std::time::Duration;
 use std::{io, thread, time};
 
@@ -129,39 +128,6 @@ pub struct Still;
 impl Clock for Still {
     fn now(&self) -> Moment {
         Moment::new(0)
-    }
-}
-
-/// What a server has beside its hall.
-#[derive(Drop)]
-pub struct Fakes {
-    gate: Open,
-    pub sockets: Noted,
-    clock: Still,
-}
-
-impl Fakes {
-    /// A gate that is open, connections of which none is shut, and a clock that stands.
-    pub fn new() -> Fakes {
-        Fakes {
-            gate: Open,
-            sockets: Noted::new(),
-            clock: Still,
-        }
-    }
-
-    /// A server whose hall this is.
-    pub fn server<'a, L: Naming, R: Wait + Drop>(
-        &'a self,
-        hall: &'a Mutex<Hall<L, Sender<R>>>,
-    ) -> Server<'a, L, R, Open, Noted, Still> {
-        Server {
-            hall,
-            gate: &self.gate,
-            sockets: &self.sockets,
-            clock: &self.clock,
-            burst: 4,
-        }
     }
 }
 

@@ -10,13 +10,11 @@ mod reading;
 #[cfg(test)]
 mod refusing;
 #[cfg(test)]
+mod taking;
+#[cfg(test)]
 mod threads;
-#[cfg(test)]
-mod trial;
-#[cfg(test)]
-mod wanting;
 #[cfg(test)]
 mod writing;
 
-pub use fakes::{Fakes, Noted, Open, Still, TURNS, Tally, Torn, Turnstile, rest};
+pub use fakes::{Noted, Open, Still, TURNS, Tally, Torn, Turnstile, rest};
 pub use making::{Tokens, ends, hall, hung_for, line, open, work_two, work_under_slot};

@@ -1,10 +1,10 @@
 //! What the trials work with.
 ghost use Rattle.std.specs.Prelude.{◌≡◌, [], Some, IfSome};
 
-use crate::fakes::{Fakes, Turnstile};
+use crate::fakes::{Noted, Open, Still, Turnstile};
 use casemapping::is_host;
 use chronicle::{Kind, Moment, RecordNumber, SessionId, Why};
-use crew::{Desk, Gate, Job, Outcome, close_up, work, work_one};
+use crew::{Desk, Gate, Job, Outcome, Server, close_up, work, work_one};
 use hall::{Baton, Hall, Naming, Register, Settings, Stub, Told};
 use line_grammar::{Octets, Piece};
 use outbox::{ChannelName, Sender, Writer, pair};
@@ -154,8 +154,14 @@ pub fn ends<L: Naming, R: Wait + Drop>(
         writer,
     } = tokens;
     let session = baton.session();
-    let fakes = Fakes::new();
-    let server = fakes.server(hall);
+    let sockets = Noted::new();
+    let server = Server {
+        hall,
+        gate: &Open,
+        sockets: &sockets,
+        clock: &Still,
+        burst: 4,
+    };
     let mut told = Told::new(alloc);
     let quit = [line(alloc, b"QUIT")?];
     let worked = work(rt, &server, desk, baton, &quit, &mut told);

@@ -1,11 +1,10 @@
 //! A session is read to the end of its input.
 ghost use Rattle.std.specs.Prelude.{◌≡◌, []};
 
-use crate::fakes::{Fakes, Torn, Waits};
+use crate::fakes::{Noted, Open, Still, Torn, Waits};
 use crate::making::{Tokens, hall, hung_for, open};
-use crate::trial::{Trial, in_a_hall};
 use chronicle::{RecordNumber, Why};
-use crew::{Desk, Intake, Next, Sockets, close_now, close_up, hang, read_on, read_some};
+use crew::{Desk, Intake, Next, Server, Sockets, close_now, close_up, hang, read_on, read_some};
 use hall::{Hall, Naming, Register, Told};
 use line_grammar::Octets;
 use outbox::{ChannelName, Sender};
@@ -41,8 +40,14 @@ fn torn<L: Naming, R: Wait + Abort + Copy + Drop>(
     } = open(rt, alloc, lock).ok_or("a session")?;
     let session = baton.session();
     let desk = Desk::new(rt, alloc, 1)?;
-    let fakes = Fakes::new();
-    let server = fakes.server(lock);
+    let sockets = Noted::new();
+    let server = Server {
+        hall: lock,
+        gate: &Open,
+        sockets: &sockets,
+        clock: &Still,
+        burst: 4,
+    };
     let host = Octets::copied(alloc, b"h1")?;
     let Ok(mut wire) = Wire::new(alloc, writer, stub, Vec::new(alloc), host) else {
         return Err("a wire".into());
@@ -56,7 +61,7 @@ fn torn<L: Naming, R: Wait + Abort + Copy + Drop>(
     assert_eq!(rt; lock.lock(rt).len() as u64, records);
     let hung = hung_for(&lock.lock(rt), RecordNumber::new(records));
     assert_eq!(rt; hung, Some((session, Why::ReadFailed)));
-    assert!(rt; fakes.sockets.is_shut(session), "it is shut");
+    assert!(rt; sockets.is_shut(session), "it is shut");
     if wire.session() != session {
         return Err("another's wire".into());
     }
@@ -87,93 +92,129 @@ fn torn_in_one<L: Naming, R: Wait + Abort + Copy + Drop>(
 
 /// An input that has nothing for now between its lines: what comes is done, and reading goes on. While the session isn't ended it
 /// can't be given up.
-struct GoesOn;
+fn waits<L: Naming, R: Wait + Abort + Copy + Drop>(
+    rt: &R,
+    alloc: Global,
+    lock: &Mutex<Hall<L, Sender<R>>>,
+) -> Result<(), Fail> {
+    let Tokens {
+        baton,
+        stub,
+        writer,
+    } = open(rt, alloc, lock).ok_or("a session")?;
+    let sockets = Noted::new();
+    let server = Server {
+        hall: lock,
+        gate: &Open,
+        sockets: &sockets,
+        clock: &Still,
+        burst: 4,
+    };
+    let mut input = Waits {
+        octets: b"PING x\r\nPING y\r\n",
+        is_there: false,
+    };
+    let mut intake = Intake::new(alloc)?;
+    let mut told = Told::new(alloc);
+    let took = read_some(rt, &server, &mut intake, baton, &mut input, &mut told);
+    assert_eq!(rt; (took.all, took.next), (true, Next::Nothing));
+    let took = read_some(rt, &server, &mut intake, took.baton, &mut input, &mut told);
+    assert_eq!(rt; (took.all, took.next), (true, Next::Short));
+    assert_eq!(rt; told.records(), 2);
+    let took = read_some(rt, &server, &mut intake, took.baton, &mut input, &mut told);
+    assert_eq!(rt; (took.all, took.next), (true, Next::Nothing));
+    let took = read_some(rt, &server, &mut intake, took.baton, &mut input, &mut told);
+    assert_eq!(rt; (took.all, took.next), (true, Next::Over(Why::ReadEnded)));
+    assert_eq!(rt; lock.lock(rt).len(), 3);
+    let session = took.baton.session();
+    let Err((baton, stub, writer)) = close_now(rt, &server, took.baton, stub, writer, &mut told)
+    else {
+        return Err("it is gone".into());
+    };
+    hang(rt, &server, session, Why::ReadEnded, &mut told);
+    let Ok(left) = close_now(rt, &server, baton, stub, writer, &mut told) else {
+        return Err("it isn't gone".into());
+    };
+    assert_eq!(rt; (left.session(), left.count()), (session, 3));
+    Ok(())
+}
 
-impl<R: Wait + Abort + Copy + Drop> Trial<R> for GoesOn {
-    fn run<L: Naming + Send + Sync>(
-        &self,
-        rt: &R,
-        alloc: Global,
-        lock: &Mutex<Hall<L, Sender<R>>>,
-    ) -> Result<(), Fail> {
-        let Tokens {
-            baton,
-            stub,
-            writer,
-        } = open(rt, alloc, lock).ok_or("a session")?;
-        let fakes = Fakes::new();
-        let server = fakes.server(lock);
-        let mut input = Waits {
-            octets: b"PING x\r\nPING y\r\n",
-            is_there: false,
-        };
-        let mut intake = Intake::new(alloc)?;
-        let mut told = Told::new(alloc);
-        let took = read_some(rt, &server, &mut intake, baton, &mut input, &mut told);
-        assert_eq!(rt; (took.all, took.next), (true, Next::Nothing));
-        let took = read_some(rt, &server, &mut intake, took.baton, &mut input, &mut told);
-        assert_eq!(rt; (took.all, took.next), (true, Next::Short));
-        assert_eq!(rt; told.records(), 2);
-        let took = read_some(rt, &server, &mut intake, took.baton, &mut input, &mut told);
-        assert_eq!(rt; (took.all, took.next), (true, Next::Nothing));
-        let took = read_some(rt, &server, &mut intake, took.baton, &mut input, &mut told);
-        assert_eq!(rt; (took.all, took.next), (true, Next::Over(Why::ReadEnded)));
-        assert_eq!(rt; lock.lock(rt).len(), 3);
-        let session = took.baton.session();
-        let Err((baton, stub, writer)) = close_now(rt, &server, took.baton, stub, writer, &mut told)
-        else {
-            return Err("it is gone".into());
-        };
-        hang(rt, &server, session, Why::ReadEnded, &mut told);
-        let Ok(left) = close_now(rt, &server, baton, stub, writer, &mut told) else {
-            return Err("it isn't gone".into());
-        };
-        assert_eq!(rt; (left.session(), left.count()), (session, 3));
-        Ok(())
-    }
+/// The same in a hall of its own, whose sessions this register has.
+fn waits_in_one<L: Naming, R: Wait + Abort + Copy + Drop>(
+    rt: &R,
+    alloc: Global,
+    register: Register<ChannelName>,
+) -> Result<(), Fail>
+    requires named { register.table ≡ L.table }
+    requires empty { register.rows ≡ [] }
+{
+    let made: Hall<L, Sender<R>> = hall(alloc, register).ok_or("a hall")?;
+    let lock = Mutex::new(made);
+    let told = waits(rt, alloc, &lock);
+    drop(lock);
+    told
 }
 
 /// The same input, read by a thread of the session's own: it pauses where nothing is there, and the session ends with its input.
-struct Pauses;
+fn rests<L: Naming, R: Wait + Abort + Copy + Drop>(
+    rt: &R,
+    alloc: Global,
+    lock: &Mutex<Hall<L, Sender<R>>>,
+) -> Result<(), Fail> {
+    let Tokens {
+        baton,
+        stub,
+        writer,
+    } = open(rt, alloc, lock).ok_or("a session")?;
+    let session = baton.session();
+    let desk = Desk::new(rt, alloc, 1)?;
+    let sockets = Noted::new();
+    let server = Server {
+        hall: lock,
+        gate: &Open,
+        sockets: &sockets,
+        clock: &Still,
+        burst: 4,
+    };
+    let mut input = Waits {
+        octets: b"PING x\r\nPING y\r\n",
+        is_there: false,
+    };
+    let worked = read_on(rt, alloc, &server, &desk, baton, &mut input);
+    assert!(rt; worked.all, "all lines are done");
+    assert_eq!(rt; sockets.paused.load(Ordering::SeqCst), 2);
+    let hung = hung_for(&lock.lock(rt), RecordNumber::new(4));
+    assert_eq!(rt; hung, Some((session, Why::ReadEnded)));
+    drop((stub, writer));
+    Ok(())
+}
 
-impl<R: Wait + Abort + Copy + Drop> Trial<R> for Pauses {
-    fn run<L: Naming + Send + Sync>(
-        &self,
-        rt: &R,
-        alloc: Global,
-        lock: &Mutex<Hall<L, Sender<R>>>,
-    ) -> Result<(), Fail> {
-        let Tokens {
-            baton,
-            stub,
-            writer,
-        } = open(rt, alloc, lock).ok_or("a session")?;
-        let session = baton.session();
-        let desk = Desk::new(rt, alloc, 1)?;
-        let fakes = Fakes::new();
-        let server = fakes.server(lock);
-        let mut input = Waits {
-            octets: b"PING x\r\nPING y\r\n",
-            is_there: false,
-        };
-        let worked = read_on(rt, alloc, &server, &desk, baton, &mut input);
-        assert!(rt; worked.all, "all lines are done");
-        assert_eq!(rt; fakes.sockets.paused.load(Ordering::SeqCst), 2);
-        let hung = hung_for(&lock.lock(rt), RecordNumber::new(4));
-        assert_eq!(rt; hung, Some((session, Why::ReadEnded)));
-        drop((stub, writer));
-        Ok(())
-    }
+/// The same in a hall of its own, whose sessions this register has.
+fn rests_in_one<L: Naming, R: Wait + Abort + Copy + Drop>(
+    rt: &R,
+    alloc: Global,
+    register: Register<ChannelName>,
+) -> Result<(), Fail>
+    requires named { register.table ≡ L.table }
+    requires empty { register.rows ≡ [] }
+{
+    let made: Hall<L, Sender<R>> = hall(alloc, register).ok_or("a hall")?;
+    let lock = Mutex::new(made);
+    let told = rests(rt, alloc, &lock);
+    drop(lock);
+    told
 }
 
 #[test]
 fn a_thread_of_its_own_rests_where_nothing_is_there(rt: HostRuntime) -> Result<(), Fail> {
-    in_a_hall(&rt, rt.alloc(), &Pauses)
+    let register = Register::new(rt.alloc())?;
+    rests_in_one::<Brand, _>(&rt, rt.alloc(), register)
 }
 
 #[test]
 fn a_client_that_says_nothing_now_is_read_on(rt: HostRuntime) -> Result<(), Fail> {
-    in_a_hall(&rt, rt.alloc(), &GoesOn)
+    let register = Register::new(rt.alloc())?;
+    waits_in_one::<Brand, _>(&rt, rt.alloc(), register)
 }
 
 #[test]

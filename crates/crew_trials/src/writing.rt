@@ -1,16 +1,14 @@
 //! What waits for a session is written while the hall is locked.
 ghost use Rattle.std.specs.Prelude.{◌≡◌, []};
 
-use crate::fakes::{Broken, Fakes, Noted, Open, Still, TURNS, Tally, rest};
+use crate::fakes::{Broken, Noted, Open, Still, TURNS, Tally, rest};
 use crate::making::{Tokens, hall, hung_for, line, open};
-use crate::trial::{Trial, in_a_hall};
 use chronicle::{Moment, RecordNumber, SessionId, Why};
 use crew::{Job, Outcome, Outlet, Server, Sockets, Standing, work_one, write_on, write_some};
-use hall::{Hall, Naming, Register, Told};
-use line_grammar::Octets;
+use hall::{Baton, Hall, Naming, Register, Told};
+use line_grammar::{Octets, Piece};
 use outbox::{Bell, ChannelName, Sender};
 use std::alloc::Global;
-use std::io::Write;
 use std::marker::Brand;
 use std::process::Abort;
 use std::sync::atomic::{AtomicBool, AtomicU64, Ordering};
@@ -99,44 +97,54 @@ fn write_meanwhile<L: Naming + Send + Sync, R: Threads + Wait + Clock + Copy + D
     standing == Standing::Over
 }
 
-/// The wire over this stream of a session that comes, one of whose lines was answered.
-fn answered<L: Naming, R: Wait + Abort + Copy + Drop, W: Write + Drop>(
+/// Does a line, and answers whether it was done.
+fn work_once<L: Naming, R: Wait + Drop>(
     rt: &R,
     alloc: Global,
-    lock: &Mutex<Hall<L, Sender<R>>>,
-    stream: W,
-) -> Result<Wire<L, W>, Fail> {
+    hall: &Mutex<Hall<L, Sender<R>>>,
+    baton: Baton<L, Sender<R>>,
+    piece: Piece,
+) -> (Baton<L, Sender<R>>, bool) {
+    let mut told = Told::new(alloc);
+    let back = work_one(
+        rt,
+        hall,
+        Job { baton, piece },
+        Moment::new(0),
+        &Open,
+        &mut told,
+    );
+    (back.baton, matches!(back.outcome, Outcome::Done(_)))
+}
+
+/// A line is answered, and its answer is written by one thread while another has the hall.
+fn written_meanwhile<
+    L: Naming + Send + Sync,
+    R: Threads + Wait + Clock + Abort + Copy + Drop + Send + Sync,
+>(rt: &R, alloc: Global, lock: &Mutex<Hall<L, Sender<R>>>) -> Result<(), Fail> {
     let Tokens {
         baton,
         stub,
         writer,
     } = open(rt, alloc, lock).ok_or("a session")?;
     let session = baton.session();
-    let piece = line(alloc, b"PING x")?;
-    let job = Job { baton, piece };
-    let mut told = Told::new(alloc);
-    let back = work_one(rt, lock, job, Moment::new(0), &Open, &mut told);
-    assert!(rt; matches!(back.outcome, Outcome::Done(_)), "it is done");
-    let is_told = told.sessions() == [session].as_slice() && !told.is_all();
-    assert!(rt; is_told, "one is told");
+    let sockets = Noted::new();
+    let server = Server {
+        hall: lock,
+        gate: &Open,
+        sockets: &sockets,
+        clock: &Still,
+        burst: 4,
+    };
+    let (_, is_done) = work_once(rt, alloc, lock, baton, line(alloc, b"PING x")?);
+    assert!(rt; is_done, "it is done");
+    let written = Arc::new(alloc, AtomicU64::new(0))?;
+    let outlet = Outlet::new();
     let host = Octets::copied(alloc, b"h1")?;
+    let stream = Tally::new(written.clone()?);
     let Ok(wire) = Wire::new(alloc, writer, stub, stream, host) else {
         return Err("a wire".into());
     };
-    Ok(wire)
-}
-
-/// A line is answered, and its answer is written by one thread while another has the hall.
-fn by_a_worker<
-    L: Naming + Send + Sync,
-    R: Threads + Wait + Clock + Abort + Copy + Drop + Send + Sync,
->(rt: &R, alloc: Global, lock: &Mutex<Hall<L, Sender<R>>>) -> Result<(), Fail> {
-    let fakes = Fakes::new();
-    let server = fakes.server(lock);
-    let written = Arc::new(alloc, AtomicU64::new(0))?;
-    let wire = answered(rt, alloc, lock, Tally::new(written.clone()?))?;
-    let session = wire.session();
-    let outlet = Outlet::new();
     outlet.open(rt, wire);
     let is_over = write_meanwhile(rt, alloc, &server, session, &outlet, false);
     assert!(rt; !is_over, "more may come");
@@ -147,7 +155,7 @@ fn by_a_worker<
 }
 
 /// The same in a hall of its own, whose sessions this register has.
-fn by_a_worker_in_one<
+fn written_meanwhile_in_one<
     L: Naming + Send + Sync,
     R: Threads + Wait + Clock + Abort + Copy + Drop + Send + Sync,
 >(rt: &R, alloc: Global, register: Register<ChannelName>) -> Result<(), Fail>
@@ -156,22 +164,39 @@ fn by_a_worker_in_one<
 {
     let made: Hall<L, Sender<R>> = hall(alloc, register).ok_or("a hall")?;
     let lock = Mutex::new(made);
-    let told = by_a_worker(rt, alloc, &lock);
+    let told = written_meanwhile(rt, alloc, &lock);
     drop(lock);
     told
 }
 
 /// A line is answered, and its answer is written by the session's own thread while another has the hall.
-fn by_its_own<
+fn written_by_its_own<
     L: Naming + Send + Sync,
     R: Threads + Wait + Clock + Abort + Copy + Drop + Send + Sync,
 >(rt: &R, alloc: Global, lock: &Mutex<Hall<L, Sender<R>>>) -> Result<(), Fail> {
-    let fakes = Fakes::new();
-    let server = fakes.server(lock);
+    let Tokens {
+        baton,
+        stub,
+        writer,
+    } = open(rt, alloc, lock).ok_or("a session")?;
+    let session = baton.session();
+    let sockets = Noted::new();
+    let server = Server {
+        hall: lock,
+        gate: &Open,
+        sockets: &sockets,
+        clock: &Still,
+        burst: 4,
+    };
+    let (_, is_done) = work_once(rt, alloc, lock, baton, line(alloc, b"PING x")?);
+    assert!(rt; is_done, "it is done");
     let written = Arc::new(alloc, AtomicU64::new(0))?;
-    let wire = answered(rt, alloc, lock, Tally::new(written.clone()?))?;
-    let session = wire.session();
-    let bell = wire.bell().again()?;
+    let bell = writer.bell().again()?;
+    let host = Octets::copied(alloc, b"h1")?;
+    let stream = Tally::new(written.clone()?);
+    let Ok(wire) = Wire::new(alloc, writer, stub, stream, host) else {
+        return Err("a wire".into());
+    };
     let (wire, is_written) = is_written_meanwhile(rt, alloc, &server, wire, &bell, &written);
     assert!(rt; is_written, "it is written");
     assert_eq!(rt; wire.session(), session);
@@ -180,7 +205,7 @@ fn by_its_own<
 }
 
 /// The same in a hall of its own, whose sessions this register has.
-fn by_its_own_in_one<
+fn written_by_its_own_in_one<
     L: Naming + Send + Sync,
     R: Threads + Wait + Clock + Abort + Copy + Drop + Send + Sync,
 >(rt: &R, alloc: Global, register: Register<ChannelName>) -> Result<(), Fail>
@@ -189,50 +214,77 @@ fn by_its_own_in_one<
 {
     let made: Hall<L, Sender<R>> = hall(alloc, register).ok_or("a hall")?;
     let lock = Mutex::new(made);
-    let told = by_its_own(rt, alloc, &lock);
+    let told = written_by_its_own(rt, alloc, &lock);
     drop(lock);
     told
 }
 
 /// A stream fails: the session is ended for that, once, and its connection is shut; by a worker, or by the session's own thread.
-#[derive(Drop)]
-struct Breaks {
+fn broken<L: Naming, R: Wait + Abort + Copy + Drop>(
+    rt: &R,
+    alloc: Global,
+    lock: &Mutex<Hall<L, Sender<R>>>,
     has_own_thread: bool,
+) -> Result<(), Fail> {
+    let Tokens {
+        baton,
+        stub,
+        writer,
+    } = open(rt, alloc, lock).ok_or("a session")?;
+    let session = baton.session();
+    let sockets = Noted::new();
+    let server = Server {
+        hall: lock,
+        gate: &Open,
+        sockets: &sockets,
+        clock: &Still,
+        burst: 4,
+    };
+    let (_, is_done) = work_once(rt, alloc, lock, baton, line(alloc, b"PING x")?);
+    assert!(rt; is_done, "it is done");
+    let host = Octets::copied(alloc, b"h1")?;
+    let Ok(wire) = Wire::new(alloc, writer, stub, Broken, host) else {
+        return Err("a wire".into());
+    };
+    if has_own_thread {
+        let wire = write_on(rt, alloc, &server, wire);
+        assert_eq!(rt; wire.session(), session);
+    } else {
+        let outlet = Outlet::new();
+        outlet.open(rt, wire);
+        let mut told = Told::new(alloc);
+        let standing = write_some(rt, &server, session, &outlet, false, &mut told);
+        assert_eq!(rt; standing, Standing::Over);
+    }
+    let hung = hung_for(&lock.lock(rt), RecordNumber::new(3));
+    assert_eq!(rt; hung, Some((session, Why::WriteFailed)));
+    assert_eq!(rt; lock.lock(rt).len(), 3);
+    assert!(rt; sockets.is_shut(session), "it is shut");
+    Ok(())
 }
 
-impl<R: Wait + Abort + Copy + Drop> Trial<R> for Breaks {
-    fn run<L: Naming + Send + Sync>(
-        &self,
-        rt: &R,
-        alloc: Global,
-        lock: &Mutex<Hall<L, Sender<R>>>,
-    ) -> Result<(), Fail> {
-        let fakes = Fakes::new();
-        let server = fakes.server(lock);
-        let wire = answered(rt, alloc, lock, Broken)?;
-        let session = wire.session();
-        if self.has_own_thread {
-            let wire = write_on(rt, alloc, &server, wire);
-            assert_eq!(rt; wire.session(), session);
-        } else {
-            let outlet = Outlet::new();
-            outlet.open(rt, wire);
-            let mut told = Told::new(alloc);
-            let standing = write_some(rt, &server, session, &outlet, false, &mut told);
-            assert_eq!(rt; standing, Standing::Over);
-        }
-        let hung = hung_for(&lock.lock(rt), RecordNumber::new(3));
-        assert_eq!(rt; hung, Some((session, Why::WriteFailed)));
-        assert_eq!(rt; lock.lock(rt).len(), 3);
-        assert!(rt; fakes.sockets.is_shut(session), "it is shut");
-        Ok(())
-    }
+/// The same in a hall of its own, whose sessions this register has.
+fn broken_in_one<L: Naming, R: Wait + Abort + Copy + Drop>(
+    rt: &R,
+    alloc: Global,
+    register: Register<ChannelName>,
+    has_own_thread: bool,
+) -> Result<(), Fail>
+    requires named { register.table ≡ L.table }
+    requires empty { register.rows ≡ [] }
+{
+    let made: Hall<L, Sender<R>> = hall(alloc, register).ok_or("a hall")?;
+    let lock = Mutex::new(made);
+    let told = broken(rt, alloc, &lock, has_own_thread);
+    drop(lock);
+    told
 }
 
 #[test]
 fn a_session_is_hung_where_its_stream_fails(rt: HostRuntime) -> Result<(), Fail> {
     for has_own_thread in [false, true] {
-        in_a_hall(&rt, rt.alloc(), &Breaks { has_own_thread })?;
+        let register = Register::new(rt.alloc())?;
+        broken_in_one::<Brand, _>(&rt, rt.alloc(), register, has_own_thread)?;
     }
     Ok(())
 }
@@ -240,11 +292,11 @@ fn a_session_is_hung_where_its_stream_fails(rt: HostRuntime) -> Result<(), Fail>
 #[test]
 fn what_waits_is_written_while_the_hall_is_locked(rt: HostRuntime) -> Result<(), Fail> {
     let register = Register::new(rt.alloc())?;
-    by_a_worker_in_one::<Brand, _>(&rt, rt.alloc(), register)
+    written_meanwhile_in_one::<Brand, _>(&rt, rt.alloc(), register)
 }
 
 #[test]
 fn what_waits_is_written_by_the_sessions_own_thread(rt: HostRuntime) -> Result<(), Fail> {
     let register = Register::new(rt.alloc())?;
-    by_its_own_in_one::<Brand, _>(&rt, rt.alloc(), register)
+    written_by_its_own_in_one::<Brand, _>(&rt, rt.alloc(), register)
 }

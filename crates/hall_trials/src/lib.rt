@@ -9,8 +9,6 @@ mod crowd;
 #[cfg(test)]
 mod ends;
 #[cfg(test)]
-mod gathering;
-#[cfg(test)]
 mod growths;
 #[cfg(test)]
 mod guests;
