@@ -1,6 +1,6 @@
 -- What is read of a client, by the readings of its socket: each ends a run of frames, as RFC 6455 (sections 5 to 7)
 -- has them.
-use Rattle.std.specs.Prelude.{◌≡◌, ◌⊎◌, ⊤, ℕ, List, [], ◌∷◌, Option, None, Some, Result, Ok, Err}
+use Rattle.std.specs.Prelude.{◌≡◌, ◌⊎◌, ⊤, ℕ, Bool, true, false, List, [], ◌∷◌, Option, None, Some, Result, Ok, Err}
 use Rattle.tungstenite.specs.Socket.{Socket, Reads}
 use Rattle.tungstenite.specs.Failure.{IsIo}
 use Rattle.tungstenite.specs.declared.error.Error.{Error}
@@ -52,6 +52,17 @@ IsGiven octets (Some (Payload v)) = v.items ≡ octets
 IsGiven octets (Some Nothing) = ⊥
 IsGiven octets (Some Closed) = ⊥
 IsGiven octets None = ⊥
+
+-- the front is open after a payload and where there is nothing now, and it isn't after the client's close
+abbrev pub GoesOn : Bool → Got → Type 0
+GoesOn is_open (Payload v) = is_open ≡ true
+GoesOn is_open Nothing = is_open ≡ true
+GoesOn is_open Closed = is_open ≡ false
+
+-- the same of one reading: it is open after a ping or a pong
+abbrev pub GoesOnOne : Bool → Option Got → Type 0
+GoesOnOne is_open None = is_open ≡ true
+GoesOnOne is_open (Some got) = GoesOn is_open got
 
 module _ {S : Type 0} where
   -- what was given is what the readings that led to a socket came to

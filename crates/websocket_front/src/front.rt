@@ -2,7 +2,7 @@
 ghost use Rattle.std.specs.Prelude.{◌≡◌, [], true, false, IfOk, OnOk, IfErr};
 ghost use Rattle.websocket.specs.declared.protocol.config.Role.TheVariants.{Server};
 ghost use Rattle.websocket_front.specs.Faults.{fault_of_breach, MeansOf};
-ghost use Rattle.websocket_front.specs.Reading.{Gives, GivesOne, Fails, FailsOnce, IsGiven};
+ghost use Rattle.websocket_front.specs.Reading.{Gives, GivesOne, Fails, FailsOnce, IsGiven, GoesOn, GoesOnOne};
 
 use crate::subprotocol::Subprotocol;
 use deliveries::Text;
@@ -216,6 +216,7 @@ impl<S: Read + Write + Drop> Front<S> {
     pub fn next(&mut self) -> Result<Got, FrontFault>
         ensures gives { self.old.is_open ≡ true → IfOk result (Gives S.remaining self.old.socket self.new.socket) }
         ensures fails { self.old.is_open ≡ true → IfErr result (Fails S.remaining self.old.socket) }
+        ensures goes_on { self.old.is_open ≡ true → IfOk result (GoesOn self.new.is_open) }
         ensures rest { self.new.is_open ≡ true → self.new.rest ≡ self.old.rest }
         ensures subprotocol { self.new.subprotocol ≡ self.old.subprotocol }
     {
@@ -237,6 +238,7 @@ impl<S: Read + Write + Drop> Front<S> {
     pub fn read_message(&mut self) -> Result<Option<Got>, FrontFault>
         ensures gives { self.old.is_open ≡ true → IfOk result (GivesOne S.remaining self.old.socket self.new.socket) }
         ensures fails { self.old.is_open ≡ true → IfErr result (FailsOnce S.remaining self.old.socket) }
+        ensures goes_on { self.old.is_open ≡ true → IfOk result (GoesOnOne self.new.is_open) }
         ensures rest { self.new.is_open ≡ true → self.new.rest ≡ self.old.rest }
         ensures subprotocol { self.new.subprotocol ≡ self.old.subprotocol }
     {
@@ -251,7 +253,7 @@ impl<S: Read + Write + Drop> Front<S> {
     fn read_open(&mut self) -> Result<Option<Got>, FrontFault>
         requires is_open { self.old.is_open ≡ true }
         ensures gives { IfOk result (GivesOne S.remaining self.old.socket self.new.socket) }
-        ensures stays_open { IfOk result (λ got. got ≡ None → self.new.is_open ≡ true) }
+        ensures goes_on { IfOk result (GoesOnOne self.new.is_open) }
         ensures fails { IfErr result (FailsOnce S.remaining self.old.socket) }
         ensures rest { self.new.is_open ≡ true → self.new.rest ≡ self.old.rest }
         ensures subprotocol { self.new.subprotocol ≡ self.old.subprotocol }
@@ -286,7 +288,9 @@ impl<S: Read + Write + Drop> Front<S> {
 
     /// A payload's octets.
     fn payload(&mut self, octets: &[u8]) -> Result<Option<Got>, FrontFault>
+        requires is_open { self.old.is_open ≡ true }
         ensures given { IfOk result (IsGiven octets.now) }
+        ensures goes_on { IfOk result (GoesOnOne self.new.is_open) }
         ensures same { OnOk result (self.new ≡ self.old) }
         ensures memory { IfErr result (λ e. e ≡ FrontFault.Memory) }
         ensures ended { IfErr result (λ _. self.new.is_open ≡ false) }

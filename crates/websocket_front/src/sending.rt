@@ -173,6 +173,7 @@ impl<S: Read + Write + Drop> Front<S> {
         requires ready { self.old.rest ≡ [] }
         ensures ok { OnOk result (GoesOut S.contents self.old.socket.stream (waiting_with self.old item.now.delivery host.now) self.new) }
         ensures memory { result ≡ Err FrontFault.Memory → self.old.is_open ≡ true → self.new ≡ self.old }
+        ensures stays_open { OnOk result (self.new.is_open ≡ true) }
         ensures subprotocol { self.new.subprotocol ≡ self.old.subprotocol }
     {
         match self.ending {
@@ -196,6 +197,7 @@ impl<S: Read + Write + Drop> Front<S> {
     pub fn put_lines(&mut self, text: &[u8]) -> Result<usize, FrontFault>
         requires ready { self.old.rest ≡ [] }
         ensures ok { IfOk result (TakesLines S.contents self.old text.now self.new) }
+        ensures stays_open { OnOk result (self.new.is_open ≡ true) }
         ensures subprotocol { self.new.subprotocol ≡ self.old.subprotocol }
     {
         match self.ending {
@@ -245,6 +247,7 @@ impl<S: Read + Write + Drop> Front<S> {
         requires is_open { self.old.is_open ≡ true }
         ensures ok { OnOk result (GoesOut S.contents self.old.socket.stream (waiting self.old) self.new) }
         ensures memory { IfErr result (λ e. e ≡ FrontFault.Memory → ⊥) }
+        ensures stays_open { OnOk result (self.new.is_open ≡ true) }
         ensures subprotocol { self.new.subprotocol ≡ self.old.subprotocol }
     {
         for _ in 0..usize::MAX {
@@ -303,6 +306,7 @@ impl<S: Read + Write + Drop> Front<S> {
         ensures all { result ≡ Ok true → waiting self.new ≡ [] }
         ensures ready { result ≡ Ok true → self.new.rest ≡ [] }
         ensures memory { result ≡ Err FrontFault.Memory → self.new.is_open ≡ true → GoesOut S.contents self.old.socket.stream (waiting self.old) self.new }
+        ensures stays_open { OnOk result (self.new.is_open ≡ self.old.is_open) }
         ensures subprotocol { self.new.subprotocol ≡ self.old.subprotocol }
     {
         match self.ending {
@@ -356,6 +360,7 @@ impl<S: Read + Write + Drop> Front<S> {
         ensures ok { OnOk result (GoesOut S.contents self.old.socket.stream (waiting self.old) self.new) }
         ensures out { OnOk result (waiting self.new ≡ []) }
         ensures ready { OnOk result (self.new.rest ≡ []) }
+        ensures stays_open { OnOk result (self.new.is_open ≡ self.old.is_open) }
         ensures subprotocol { self.new.subprotocol ≡ self.old.subprotocol }
     {
         for _ in 0..TRIES {
@@ -373,6 +378,7 @@ impl<S: Read + Write + Drop> Front<S> {
     /// 1,024 times in all; then it is a fault of the stream.
     pub fn send_item(&mut self, item: &Item, host: &[u8]) -> Result<(), FrontFault>
         ensures ok { OnOk result (IsOut S.contents self.old.socket.stream (waiting_with self.old item.now.delivery host.now) self.new) }
+        ensures stays_open { OnOk result (self.new.is_open ≡ true) }
         ensures subprotocol { self.new.subprotocol ≡ self.old.subprotocol }
     {
         self.flush_all()?;
@@ -384,6 +390,7 @@ impl<S: Read + Write + Drop> Front<S> {
     /// close was sent or the client closed it does nothing.
     pub fn close(&mut self, code: CloseCode) -> Result<(), FrontFault>
         ensures ok { OnOk result (can_write self.old.socket.conn.state ≡ true → self.old.is_open ≡ true → GoesOut S.contents self.old.socket.stream (output_with_close self.old code) self.new) }
+        ensures stays_open { OnOk result (self.new.is_open ≡ self.old.is_open) }
         ensures subprotocol { self.new.subprotocol ≡ self.old.subprotocol }
     {
         match self.ending {

@@ -6,5 +6,6 @@ use Rattle.websocket_front.proofs.front.Front.flush_all.Given as goal
 abbrev pub invariant-loop : goal.invariant-loop
 invariant-loop g l = record {
   out : GoesOut g.S.Write.contents l.fn.self.socket.stream (waiting l.fn.self) l.self;
+  is_open : l.self.is_open ≡ l.fn.self.is_open;
   subprotocol : l.self.subprotocol ≡ l.fn.self.subprotocol;
 }

@@ -10,6 +10,7 @@ returns-in-Ok g c =
     record {
       ok = goes_on g.S.Write.contents old.socket.stream (waiting old) c.loop.self c.frame_next.new.self i.out c.in-Ok.ensures.ok;
       memory = tt;
+      stays_open = c.in-Ok.ensures.stays_open;
       subprotocol = c.in-Ok.ensures.subprotocol ∙ i.subprotocol;
     }
 

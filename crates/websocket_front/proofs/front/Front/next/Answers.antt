@@ -20,7 +20,7 @@ loop-preserved g c =
     let i = c.loop.invariant in
     let h = c.in_ok-got.ensures in
     let new = c.read_open.new.self in
-    let opened = h.stays_open c.in_default.is in
+    let opened = rw c.in_default.is at h.goes_on in
     record {
       passes = (i.passes.0 ++ new.socket ∷ [], passes_more g.S.Read.remaining c.args.self.now.socket c.loop.self.socket new.socket i.passes.0 i.passes.1 (rw c.in_default.is at h.gives));
       rest = h.rest opened ∙ i.rest;
