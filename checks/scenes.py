@@ -3,6 +3,7 @@
 checks/instructions counts them, and checks/bench times them.
 """
 import os
+import string
 import subprocess
 import sys
 from typing import NamedTuple
@@ -16,7 +17,18 @@ MANY = 100_000
 TEXT = "PRIVMSG #room :hello, all"
 USER = "USER u 0 * :Some One"
 LABELS = ("CAP REQ :batch labeled-response", USER, "CAP END")
-TAGGED = "@" + ";".join(f"+example.com/key-{number}=value" for number in range(100)) + " TAGMSG #room"
+TAG_LETTERS = string.ascii_letters + string.digits
+
+
+def tagged(count, line):
+    """A line with so many tags of a client."""
+    return "@" + ";".join(f"+example.com/key-{number}=value" for number in range(count)) + f" {line}"
+
+
+def short_tagged(count, line):
+    """The same with keys of three octets, of which a line may have a thousand."""
+    keys = [f"+{first}{second}" for first in TAG_LETTERS for second in TAG_LETTERS]
+    return "@" + ";".join(keys[:count]) + f" {line}"
 
 
 def on_the_channel(*capabilities):
@@ -43,6 +55,7 @@ class Scene(NamedTuple):
 
 
 PAIR = Scene("2 sessions")
+TAKES_TAGS = PAIR._replace(start=on_the_channel("message-tags"))
 HUNDRED = PAIR._replace(name="100 sessions", members=100, told=(2, 100), lines=4927)
 THOUSAND = PAIR._replace(name="1,000 sessions", members=1000, sendq=1200, told=(2, 1000), lines=500)
 ALONE = PAIR._replace(name="PINGs", members=1, start=(USER,), line="PING x", told=(1, 1), lines=100000)
@@ -56,13 +69,18 @@ SCENES = [
     PAIR._replace(name="2 sessions after 1,000,000 records", before=1000000),
     THOUSAND._replace(name="NAMES of 1,000", line="NAMES #room", told=(1, 1), lines=100),
     ALONE._replace(name="LIST of 1,000 channels", members=50, channels=20, line="LIST", lines=100),
-    PAIR._replace(name="TAGMSG of 100 tags", start=on_the_channel("message-tags"), line=TAGGED, lines=1000),
+    TAKES_TAGS._replace(name="TAGMSG of 100 tags", line=tagged(100, "TAGMSG #room"), lines=1000),
     PAIR,
     PAIR._replace(name="2 sessions with 1,000 idle beside", idle=1000),
     HUNDRED._replace(name="100 sessions with 1,000 idle beside", idle=1000),
     THOUSAND._replace(name="1,000 sessions with 1,000 idle beside", idle=1000),
     PAIR._replace(name="2 sessions after 10,000 came and went", gone=10000),
     ALONE,
+    TAKES_TAGS._replace(name="TAGMSG of 1 tag", line=tagged(1, "TAGMSG #room")),
+    TAKES_TAGS._replace(name="TAGMSG of 10 tags", line=tagged(10, "TAGMSG #room"), lines=5000),
+    TAKES_TAGS._replace(name="TAGMSG of 1,000 short tags", line=short_tagged(1000, "TAGMSG #room"), lines=500),
+    TAKES_TAGS._replace(name="a text with 1 tag", line=tagged(1, TEXT)),
+    TAKES_TAGS._replace(name="a text with 10 tags", line=tagged(10, TEXT), lines=5000),
 ]
 
 

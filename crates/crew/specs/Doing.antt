@@ -1,8 +1,13 @@
 -- What clauses see of lines that are done: this project's own promise of how the threads of a server do them.
-use Rattle.std.specs.Prelude.{◌≡◌, ℕ, Bool, true, false, List, ◌++◌, Option}
+use Rattle.std.specs.Prelude.{◌≡◌, ℕ, ℤ, Bool, true, false, List, ◌++◌, length, All, ◌⊎◌, Option}
 use Rattle.std.specs.Io.KnownBytes.{Consumes}
 use Rattle.line_grammar.specs.declared.splitter.Piece.{Piece}
 use Rattle.line_grammar.specs.Lines.{lines, left_by}
+use Rattle.chronicle.specs.History.{Rec, shut}
+use Rattle.batons.specs.Turn.{Turn}
+use Rattle.book.specs.declared.out.Done.{Done as Told}
+use Rattle.book.specs.Book.{newest_missed}
+use Rattle.crew.specs.Timing.{IsAt}
 use Rattle.crew.specs.declared.working.Outcome.{Outcome}
 use Rattle.crew.specs.declared.working.Outcome.TheVariants.{Done, Refused}
 use Rattle.crew.specs.declared.reading.Next.{Next}
@@ -17,6 +22,35 @@ OnDone (Refused refusal) P = Unit {0}
 abbrev pub OnRefused : Outcome → Type 0 → Type 0
 OnRefused (Done done) P = Unit {0}
 OnRefused (Refused refusal) P = P
+
+-- a fact of what is told of a line that was done
+abbrev pub IfDone : Outcome → (Told → Type 0) → Type 0
+IfDone (Done done) P = P done
+IfDone (Refused refusal) P = Unit {0}
+
+-- what is told of a line is what its record says, which is the newest of this history: its number, who missed it, and whether its own
+-- session is shut
+pub record TellsOf (told : Told) (h : List Rec) (session : ℕ) : Type 0 where
+  pub number : told.number ≡ length h
+  pub missed : told.missed ≡ newest_missed h
+  pub shut : told.shut ≡ shut h session
+
+-- all whom the newest record of a history misses were shut, and so was its own session where that is shut
+pub record AreShut (shuts : ℕ → Type 0) (h : List Rec) (session : ℕ) : Type 0 where
+  pub missed : All shuts (newest_missed h)
+  pub own : shut h session ≡ true → shuts session
+
+-- the newest line of a baton was done at a moment that the clock showed, or at that of the record before it where that is later, and
+-- whom it shut was shut
+pub record IsSeenTo (shows : ℤ → Type 0) (shuts : ℕ → Type 0) (b : Turn) : Type 0 where
+  pub clock : ℤ
+  pub shown : shows clock
+  pub moment : IsAt clock b.front
+  pub shut : AreShut shuts b.front b.session
+
+-- no line was done, or the newest was seen to
+abbrev pub IsNewestSeenTo : (ℤ → Type 0) → (ℕ → Type 0) → Turn → Turn → Type 0
+IsNewestSeenTo shows shuts old new = (new ≡ old) ⊎ IsSeenTo shows shuts new
 
 -- of these pieces the first were done, in order, after the old ones
 pub record DoesFront (old new pieces : List Piece) : Type 0 where

@@ -1,2 +1,5 @@
 pub mod Doing
+pub mod Hanging
 pub mod Taking
+pub mod Timing
+pub mod Writing

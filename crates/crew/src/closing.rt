@@ -1,19 +1,22 @@
 //! The end of a session.
-ghost use Rattle.std.specs.Prelude.{◌≡◌, Some, IfOk, IfErr};
+ghost use Rattle.std.specs.Prelude.{◌≡◌, All, Some, IfOk, IfErr, IfSome};
 
 use crate::server::{Clock, Gate, Server, Sockets, later};
-use crate::working::{tell, tell_many};
-use hall::{Baton, Left, Naming, Stub, Told};
+use crate::shutting::shut_missed;
+use crate::telling::{tell, tell_many};
+use hall::{Baton, Done, Left, Naming, Stub, Told};
 use outbox::{ChannelName, Sender, Writer};
 use std::alloc::Global;
 use std::sync::Wait;
 
-/// Sweeps one session, and answers whether there may be more.
+/// Sweeps one session, shuts all who missed that, and answers what became of it, if there may be more.
 fn sweep_one<L: Naming, R: Wait + Drop, G: Gate, S: Sockets, C: Clock>(
     rt: &R,
     server: &Server<'_, L, R, G, S, C>,
     told: &mut Told,
-) -> bool {
+) -> Option<Done>
+    ensures { IfSome result (λ d. All (S.shuts server.now.sockets.now) d.missed) }
+{
     let moment = server.clock.now();
     let mut hall = server.hall.lock(rt);
     let moment = later(moment, hall.last_moment());
@@ -23,13 +26,11 @@ fn sweep_one<L: Naming, R: Wait + Drop, G: Gate, S: Sockets, C: Clock>(
     hall.swap_told(told);
     drop(hall);
     let Ok(Some(done)) = swept else {
-        return false;
+        return None;
     };
     tell_many(server, told);
-    for missed in done.missed.as_slice() {
-        server.sockets.shut(*missed);
-    }
-    true
+    shut_missed(server.sockets, &done);
+    Some(done)
 }
 
 /// Sweeps until nobody is to be swept, or memory is wanting.
@@ -39,7 +40,7 @@ fn sweep_all<L: Naming, R: Wait + Drop, G: Gate, S: Sockets, C: Clock>(
     told: &mut Told,
 ) {
     for _ in rt.forever() {
-        if !sweep_one(rt, server, told) {
+        if sweep_one(rt, server, told).is_none() {
             break;
         }
     }

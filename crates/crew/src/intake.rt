@@ -49,6 +49,7 @@ pub(crate) struct Ending {
 fn why_of(error: &Error) -> Option<Why> {
     match error.kind() {
         ErrorKind::WouldBlock | ErrorKind::TimedOut | ErrorKind::Interrupted => None,
+        ErrorKind::OutOfMemory => Some(Why::Memory),
         _ => Some(Why::ReadFailed),
     }
 }

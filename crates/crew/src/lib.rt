@@ -9,6 +9,8 @@ mod intake;
 mod outlet;
 mod reading;
 mod server;
+mod shutting;
+mod telling;
 mod working;
 mod writing;
 
@@ -18,5 +20,7 @@ pub use intake::Intake;
 pub use outlet::Outlet;
 pub use reading::{Next, Took, read_on, read_some};
 pub use server::{Clock, Gate, Server, Sockets, moment_in};
-pub use working::{Back, Job, Outcome, Worked, hang, tell, work, work_one};
+pub use shutting::{Ending, hang};
+pub use telling::tell;
+pub use working::{Back, Job, Outcome, Worked, work, work_one};
 pub use writing::{Standing, write_on, write_some};

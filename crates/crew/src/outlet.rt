@@ -95,12 +95,14 @@ impl<L: Naming, W: Write + Drop> Outlet<L, W> {
     }
 
     /// Ends the outlet of a session, and gives back its wire, which tells what went out (`Wire::in_step`), and from which its writer
-    /// and its stub come back. It answers `None` where it has no wire, or is another session's.
+    /// and its stub come back. It answers `None` where it has no wire, or another session's, which it then keeps.
     pub fn end<R: Wait>(&self, rt: &R, session: SessionId) -> Option<Wire<L, W>>
         ensures { IfSome result (λ wire. wire.session ≡ session) }
     {
-        let wire = self.wire.lock(rt).take()?;
+        let mut held = self.wire.lock(rt);
+        let wire = held.take()?;
         if wire.session() != session {
+            *held = Some(wire);
             return None;
         }
         Some(wire)

@@ -5,7 +5,9 @@ ghost use Rattle.crew.specs.Doing.{DoesLines, DoesRead, is_over};
 use crate::desk::Desk;
 use crate::intake::Intake;
 use crate::server::{Clock, Gate, Server, Sockets};
-use crate::working::{Worked, hang, tell, work_by};
+use crate::shutting::hang;
+use crate::telling::tell;
+use crate::working::{Worked, work_by};
 use chronicle::Why;
 use hall::{Baton, Naming, Told};
 use outbox::Sender;
@@ -158,7 +160,7 @@ pub fn read_on<'a, L: Naming, I: Read, R: Wait + Drop, G: Gate, S: Sockets, C: C
     let session = baton.session();
     let mut told = Told::new(alloc);
     let (worked, why) = read_lines(rt, alloc, server, desk, baton, input, &mut told);
-    hang(rt, server, session, why, &mut told);
+    let _ = hang(rt, server, session, why, &mut told);
     tell(server, &mut told);
     worked
 }

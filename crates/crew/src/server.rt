@@ -1,6 +1,6 @@
 //! What the threads of a server share.
-ghost use Rattle.std.specs.Prelude.{◌≡◌, ◌≤ℤ◌, ◌⊎◌};
 ghost use Rattle.chronicle.specs.History.{last_moment};
+ghost use Rattle.crew.specs.Timing.{IsLater};
 
 use chronicle::{Moment, SessionId};
 use hall::{Hall, Naming, Told};
@@ -16,28 +16,54 @@ pub trait Gate {
     fn leave(&self, session: SessionId);
 }
 
-/// The connections of a server's sessions.
+/// The connections of a server's sessions. A clause that says that a session was shut, that those on a list were told, or that the
+/// server was asked to stop, says that this was called for them. What the call does is for its implementation to say.
 pub trait Sockets {
+    ghost use Rattle.std.specs.Prelude.{◌≡◌, ℕ, true};
+    ghost use Rattle.hall.specs.Telling.{Telling};
+
+    /// That a session was shut here.
+    ghost shuts: { Self → ℕ → Type 0 } = { λ s t. Unit {0} };
+
+    /// That a session was found to be shut here.
+    ghost finds_shut: { Self → ℕ → Type 0 } = { λ s t. Unit {0} };
+
+    /// That all on a list were told here.
+    ghost tells: { Self → Telling → Type 0 } = { λ s w. Unit {0} };
+
+    /// That the server was asked to stop.
+    ghost stops: { Self → Type 0 } = { λ s. Unit {0} };
+
     /// A session is shut: what waits for it is still written, and nothing is read of it any more.
-    fn shut(&self, session: SessionId);
+    fn shut(&self, session: SessionId)
+        ensures { shuts self.now session };
 
     /// Whether a session was shut here.
-    fn is_shut(&self, session: SessionId) -> bool;
+    fn is_shut(&self, session: SessionId) -> bool
+        ensures { result ≡ true → finds_shut self.now session };
 
     /// Sees to it that what waits for all who are told is written.
-    fn tell(&self, told: &Told);
+    fn tell(&self, told: &Told)
+        ensures { tells self.now told.now };
 
     /// Waits a little.
     fn pause(&self);
 
     /// Asks the server to stop.
-    fn stop(&self);
+    fn stop(&self)
+        ensures { stops self.now };
 }
 
 /// What time it is.
 pub trait Clock {
+    ghost use Rattle.std.specs.Prelude.{ℤ};
+
+    /// That the clock showed this moment.
+    ghost shows: { Self → ℤ → Type 0 } = { λ c t. Unit {0} };
+
     /// The present moment.
-    fn now(&self) -> Moment;
+    fn now(&self) -> Moment
+        ensures { shows self.now result };
 }
 
 /// What all calls of a server's threads work with.
@@ -53,9 +79,7 @@ pub struct Server<'a, L: Naming, R: Wait + Drop, G: Gate, S: Sockets, C: Clock> 
 
 /// The later of two moments.
 pub(crate) fn later(a: Moment, b: Moment) -> Moment
-    ensures first { a ≤ℤ result }
-    ensures second { b ≤ℤ result }
-    ensures either { (result ≡ a) ⊎ (result ≡ b) }
+    ensures { IsLater a b result }
 {
     if a.milliseconds() < b.milliseconds() {
         b
@@ -66,9 +90,7 @@ pub(crate) fn later(a: Moment, b: Moment) -> Moment
 
 /// A moment, or that of the newest record of a hall where that is later.
 pub fn moment_in<L: Naming, R: Wait + Drop>(hall: &Hall<L, Sender<R>>, moment: Moment) -> Moment
-    ensures given { moment ≤ℤ result }
-    ensures newest { last_moment hall.now.history ≤ℤ result }
-    ensures either { (result ≡ moment) ⊎ (result ≡ last_moment hall.now.history) }
+    ensures { IsLater moment (last_moment hall.now.history) result }
 {
     later(moment, hall.last_moment())
 }

@@ -1,10 +1,13 @@
 //! Doing lines.
-ghost use Rattle.std.specs.Prelude.{◌≡◌, ◌++◌, ◌∷◌, [], true, false, OnOk, OnErr};
-ghost use Rattle.crew.specs.Doing.{OnDone, OnRefused, DoesFront};
+ghost use Rattle.std.specs.Prelude.{◌≡◌, ◌++◌, ◌∷◌, [], true, false, IfOk, OnOk, OnErr};
+ghost use Rattle.crew.specs.Doing.{OnDone, OnRefused, IfDone, TellsOf, IsSeenTo, IsNewestSeenTo, DoesFront};
+ghost use Rattle.crew.specs.Timing.{IsAt, IsNext};
 
 use crate::desk::Desk;
 use crate::server::{Clock, Gate, Server, Sockets, later};
-use chronicle::{Moment, SessionId, Why};
+use crate::shutting::{end_refused, shut_those};
+use crate::telling::{are_many, tell_many};
+use chronicle::{Moment, SessionId};
 use hall::{Baton, Done, Hall, LineRefusal, Naming, RollRefusal, Told};
 use line_grammar::Piece;
 use outbox::Sender;
@@ -41,9 +44,6 @@ pub struct Worked<L: Naming, R: Wait + Drop> {
     pub all: bool,
 }
 
-/// So many who are told are not kept waiting.
-const MANY: usize = 4096;
-
 /// How often a thread looks whether the hall is free before it sleeps.
 const LOOKS: u32 = 50;
 
@@ -67,6 +67,25 @@ fn lock_soon<'a, L: Naming, R: Wait + Drop>(
     hall.lock(rt)
 }
 
+/// Does a line in the hall, if that takes it now.
+fn line_once<L: Naming, R: Wait + Drop>(
+    hall: &mut Hall<L, Sender<R>>,
+    baton: &mut Baton<L, Sender<R>>,
+    piece: &Piece,
+    moment: Moment,
+) -> Result<Done, LineRefusal>
+    ensures done { OnOk result (baton.new.pieces ≡ baton.old.pieces ++ piece.now ∷ []) }
+    ensures refused { OnErr result ((hall.new ≡ hall.old) × (baton.new ≡ baton.old)) }
+    ensures session { baton.new.session ≡ baton.old.session }
+    ensures told { IfOk result (λ d. TellsOf d baton.new.front baton.new.session) }
+    ensures next { OnOk result (IsNext moment hall.old.history baton.new.front) }
+{
+    match hall.line(baton, piece, moment) {
+        Ok(done) => Ok(done),
+        Err(refusal) => Err(refusal),
+    }
+}
+
 /// Does a line in the hall. Where its journal has no room for it, that is rolled, and the line is tried again: nobody else takes the
 /// room, since the hall is held.
 fn line_or_roll<L: Naming, R: Wait + Drop>(
@@ -78,16 +97,38 @@ fn line_or_roll<L: Naming, R: Wait + Drop>(
     ensures done { OnOk result (baton.new.pieces ≡ baton.old.pieces ++ piece.now ∷ []) }
     ensures refused { OnErr result (baton.new ≡ baton.old) }
     ensures session { baton.new.session ≡ baton.old.session }
+    ensures told { IfOk result (λ d. TellsOf d baton.new.front baton.new.session) }
+    ensures next { OnOk result (IsNext moment hall.old.history baton.new.front) }
 {
-    match hall.line(baton, piece, moment) {
+    match line_once(hall, baton, piece, moment) {
         Ok(done) => return Ok(done),
         Err(LineRefusal::JournalFull) => {}
         Err(refusal) => return Err(refusal),
     }
     match hall.roll() {
-        Ok(_) => hall.line(baton, piece, moment),
+        Ok(_) => line_once(hall, baton, piece, moment),
         Err(RollRefusal::Memory) => Err(LineRefusal::Memory),
         Err(RollRefusal::Busy) => Err(LineRefusal::Busy),
+    }
+}
+
+/// Does a line in the hall, at this moment or at that of the newest record where that is later.
+fn line_at<L: Naming, R: Wait + Drop>(
+    hall: &mut Hall<L, Sender<R>>,
+    baton: &mut Baton<L, Sender<R>>,
+    piece: &Piece,
+    moment: Moment,
+) -> Outcome
+    ensures done { OnDone result (baton.new.pieces ≡ baton.old.pieces ++ piece.now ∷ []) }
+    ensures refused { OnRefused result (baton.new ≡ baton.old) }
+    ensures session { baton.new.session ≡ baton.old.session }
+    ensures told { IfDone result (λ d. TellsOf d baton.new.front baton.new.session) }
+    ensures moment { OnDone result (IsAt moment baton.new.front) }
+{
+    let moment = later(moment, hall.last_moment());
+    match line_or_roll(hall, baton, piece, moment) {
+        Ok(done) => Outcome::Done(done),
+        Err(refusal) => Outcome::Refused(refusal),
     }
 }
 
@@ -102,14 +143,12 @@ fn line_in<L: Naming, R: Wait + Drop>(
     ensures done { OnDone result (baton.new.pieces ≡ baton.old.pieces ++ piece.now ∷ []) }
     ensures refused { OnRefused result (baton.new ≡ baton.old) }
     ensures session { baton.new.session ≡ baton.old.session }
+    ensures told { IfDone result (λ d. TellsOf d baton.new.front baton.new.session) }
+    ensures moment { OnDone result (IsAt moment baton.new.front) }
 {
-    let moment = later(moment, hall.last_moment());
     told.begin();
     hall.swap_told(told);
-    let outcome = match line_or_roll(hall, baton, piece, moment) {
-        Ok(done) => Outcome::Done(done),
-        Err(refusal) => Outcome::Refused(refusal),
-    };
+    let outcome = line_at(hall, baton, piece, moment);
     hall.swap_told(told);
     outcome
 }
@@ -118,7 +157,8 @@ fn line_in<L: Naming, R: Wait + Drop>(
 /// rolled first. It adds to `told` who got something, for whom what waits is still to be written.
 ///
 /// Where the line was done, its piece is the newest of those done with the baton that comes back. Where it was refused, the baton
-/// is the one that was given, unchanged.
+/// is the one that was given, unchanged. What is told of a line that was done, and its moment, is what its own record says, which is
+/// the newest of the history that the baton shows.
 pub fn work_one<L: Naming, R: Wait + Drop, G: Gate>(
     rt: &R,
     hall: &Mutex<Hall<L, Sender<R>>>,
@@ -130,6 +170,8 @@ pub fn work_one<L: Naming, R: Wait + Drop, G: Gate>(
     ensures done { OnDone result.outcome (result.baton.pieces ≡ job.baton.pieces ++ job.piece ∷ []) }
     ensures refused { OnRefused result.outcome (result.baton ≡ job.baton) }
     ensures session { result.baton.session ≡ job.baton.session }
+    ensures told { IfDone result.outcome (λ d. TellsOf d result.baton.front result.baton.session) }
+    ensures moment { OnDone result.outcome (IsAt moment result.baton.front) }
 {
     let Job { mut baton, piece } = job;
     let session = baton.session();
@@ -137,83 +179,6 @@ pub fn work_one<L: Naming, R: Wait + Drop, G: Gate>(
     let outcome = line_in(&mut *lock_soon(rt, hall), &mut baton, &piece, moment, told);
     gate.leave(session);
     Back { baton, outcome }
-}
-
-/// Sees to it that what waits for all who are told is written, and for none of them again.
-pub fn tell<L: Naming, R: Wait + Drop, G: Gate, S: Sockets, C: Clock>(
-    server: &Server<'_, L, R, G, S, C>,
-    told: &mut Told,
-) {
-    if told.records() != 0 {
-        server.sockets.tell(told);
-        told.clear();
-    }
-}
-
-/// Whether so many are to be told that they aren't kept waiting.
-fn are_many(told: &Told, burst: usize) -> bool {
-    burst <= told.records() || MANY <= told.sessions().len()
-}
-
-/// Tells where many are to be told.
-pub(crate) fn tell_many<L: Naming, R: Wait + Drop, G: Gate, S: Sockets, C: Clock>(
-    server: &Server<'_, L, R, G, S, C>,
-    told: &mut Told,
-) {
-    if are_many(told, server.burst) {
-        tell(server, told);
-    }
-}
-
-/// Ends a session for a reason, where it is open, and shuts its connection. Who got something is added to `told`.
-pub fn hang<L: Naming, R: Wait + Drop, G: Gate, S: Sockets, C: Clock>(
-    rt: &R,
-    server: &Server<'_, L, R, G, S, C>,
-    session: SessionId,
-    why: Why,
-    told: &mut Told,
-) {
-    let moment = server.clock.now();
-    let mut hall = server.hall.lock(rt);
-    let moment = later(moment, hall.last_moment());
-    told.begin();
-    hall.swap_told(told);
-    let hung = hall.hang(session, why, moment);
-    hall.swap_told(told);
-    drop(hall);
-    tell_many(server, told);
-    if hung.is_ok() {
-        server.sockets.shut(session);
-    }
-}
-
-/// Shuts the connections of all whom a record of this session shut.
-fn shut_those<S: Sockets>(sockets: &S, session: SessionId, done: &Done) {
-    for missed in done.missed.as_slice() {
-        sockets.shut(*missed);
-    }
-    if done.shut {
-        sockets.shut(session);
-    }
-}
-
-/// Ends a session whose line was refused for want of memory, or of room for its record: then the server is asked to stop, too.
-fn after_refusal<L: Naming, R: Wait + Drop, G: Gate, S: Sockets, C: Clock>(
-    rt: &R,
-    server: &Server<'_, L, R, G, S, C>,
-    session: SessionId,
-    refusal: LineRefusal,
-    told: &mut Told,
-) {
-    match refusal {
-        LineRefusal::Memory => hang(rt, server, session, Why::Memory, told),
-        LineRefusal::JournalFull => {
-            hang(rt, server, session, Why::Shutdown, told);
-            server.sockets.stop();
-        }
-        LineRefusal::Busy | LineRefusal::WrongTurn | LineRefusal::Shut | LineRefusal::BadMoment =>
-            {}
-    }
 }
 
 /// The hall while a thread has it, from one line of a session to the next, and the slot under which it has it, where it needs one.
@@ -226,18 +191,22 @@ struct Held<'a, L: Naming, R: Wait + Drop> {
 }
 
 impl<'a, L: Naming, R: Wait + Drop> Held<'a, L, R> {
-    /// The thread has it not. Where there is a desk, it needs a slot of it.
-    fn none(desk: Option<&'a Desk>) -> Held<'a, L, R> {
+    /// The thread has it not, at this moment. Where there is a desk, it needs a slot of it.
+    fn none(desk: Option<&'a Desk>, moment: Moment) -> Held<'a, L, R>
+        ensures { result.moment ≡ moment }
+    {
         Held {
             desk,
             slot: None,
             hall: None,
-            moment: Moment::new(0),
+            moment,
         }
     }
 
     /// Takes a slot where the thread needs one and has none, and answers false where none comes.
-    fn take_slot(&mut self, rt: &R) -> bool {
+    fn take_slot(&mut self, rt: &R) -> bool
+        ensures { self.new.moment ≡ self.old.moment }
+    {
         let Some(desk) = self.desk else {
             return true;
         };
@@ -256,9 +225,13 @@ impl<'a, L: Naming, R: Wait + Drop> Held<'a, L, R> {
         piece: &Piece,
         told: &mut Told,
     ) -> Outcome
+        requires { C.shows server.now.clock.now self.old.moment }
         ensures done { OnDone result (baton.new.pieces ≡ baton.old.pieces ++ piece.now ∷ []) }
         ensures refused { OnRefused result (baton.new ≡ baton.old) }
         ensures session { baton.new.session ≡ baton.old.session }
+        ensures told { IfDone result (λ d. TellsOf d baton.new.front baton.new.session) }
+        ensures shown { C.shows server.now.clock.now self.new.moment }
+        ensures moment { OnDone result (IsAt self.new.moment baton.new.front) }
     {
         if let Some(hall) = &mut self.hall {
             return line_in(&mut **hall, baton, piece, self.moment, told);
@@ -277,7 +250,9 @@ impl<'a, L: Naming, R: Wait + Drop> Held<'a, L, R> {
         rt: &R,
         server: &Server<'a, L, R, G, S, C>,
         session: SessionId,
-    ) {
+    )
+        ensures { self.new.moment ≡ self.old.moment }
+    {
         if let Some(hall) = self.hall.take() {
             drop(hall);
             server.gate.leave(session);
@@ -285,6 +260,23 @@ impl<'a, L: Naming, R: Wait + Drop> Held<'a, L, R> {
         let slot = self.slot.take();
         if let (Some(desk), Some(slot)) = (self.desk, slot) {
             desk.back(rt, slot);
+        }
+    }
+
+    /// Gives the hall and the slot back where somebody is to be shut or many are to be told, whom it then tells.
+    fn give_back_for<G: Gate, S: Sockets, C: Clock>(
+        &mut self,
+        rt: &R,
+        server: &Server<'a, L, R, G, S, C>,
+        session: SessionId,
+        shuts: bool,
+        told: &mut Told,
+    )
+        ensures { self.new.moment ≡ self.old.moment }
+    {
+        if shuts || are_many(told, server.burst) {
+            self.give_back(rt, server, session);
+            tell_many(server, told);
         }
     }
 }
@@ -299,9 +291,12 @@ fn work_next<'a, L: Naming, R: Wait + Drop, G: Gate, S: Sockets, C: Clock>(
     told: &mut Told,
     held: &mut Held<'a, L, R>,
 ) -> Worked<L, R>
+    requires { C.shows server.now.clock.now held.old.moment }
     ensures done { result.all ≡ true → result.baton.pieces ≡ baton.pieces ++ piece.now ∷ [] }
-    ensures not_done { result.all ≡ false → result.baton.pieces ≡ baton.pieces }
+    ensures not_done { result.all ≡ false → result.baton ≡ baton }
     ensures session { result.baton.session ≡ baton.session }
+    ensures seen_to { result.all ≡ true → IsSeenTo (C.shows server.now.clock.now) (S.shuts server.now.sockets.now) result.baton }
+    ensures shown { C.shows server.now.clock.now held.new.moment }
 {
     if !held.take_slot(rt) {
         return Worked { baton, all: false };
@@ -311,16 +306,13 @@ fn work_next<'a, L: Naming, R: Wait + Drop, G: Gate, S: Sockets, C: Clock>(
     match held.line(rt, server, &mut baton, piece, told) {
         Outcome::Done(done) => {
             let shuts = done.shut || !done.missed.as_slice().is_empty();
-            if shuts || are_many(told, server.burst) {
-                held.give_back(rt, server, session);
-                tell_many(server, told);
-                shut_those(server.sockets, session, &done);
-            }
+            held.give_back_for(rt, server, session, shuts, told);
+            shut_those(server.sockets, session, &done);
             Worked { baton, all: true }
         }
         Outcome::Refused(refusal) => {
             held.give_back(rt, server, session);
-            after_refusal(rt, server, session, refusal, told);
+            let _ = end_refused(rt, server, session, refusal, told);
             Worked { baton, all: false }
         }
     }
@@ -335,9 +327,11 @@ fn work_all<'a, L: Naming, R: Wait + Drop, G: Gate, S: Sockets, C: Clock>(
     told: &mut Told,
     held: &mut Held<'a, L, R>,
 ) -> Worked<L, R>
+    requires { C.shows server.now.clock.now held.old.moment }
     ensures front { DoesFront baton.pieces result.baton.pieces pieces.now }
     ensures whole { result.all ≡ true → result.baton.pieces ≡ baton.pieces ++ pieces.now }
     ensures session { result.baton.session ≡ baton.session }
+    ensures newest { IsNewestSeenTo (C.shows server.now.clock.now) (S.shuts server.now.sockets.now) baton result.baton }
 {
     let mut baton = baton;
     for piece in pieces {
@@ -362,9 +356,10 @@ pub(crate) fn work_by<'a, L: Naming, R: Wait + Drop, G: Gate, S: Sockets, C: Clo
     ensures front { DoesFront baton.pieces result.baton.pieces pieces.now }
     ensures whole { result.all ≡ true → result.baton.pieces ≡ baton.pieces ++ pieces.now }
     ensures session { result.baton.session ≡ baton.session }
+    ensures newest { IsNewestSeenTo (C.shows server.now.clock.now) (S.shuts server.now.sockets.now) baton result.baton }
 {
     let session = baton.session();
-    let mut held = Held::none(desk);
+    let mut held = Held::none(desk, server.clock.now());
     let worked = work_all(rt, server, baton, pieces, told, &mut held);
     held.give_back(rt, server, session);
     worked
@@ -377,7 +372,8 @@ pub(crate) fn work_by<'a, L: Naming, R: Wait + Drop, G: Gate, S: Sockets, C: Clo
 /// server is asked to stop. Where memory is wanting it is ended with that reason.
 ///
 /// The pieces done with the baton that comes back are those done before, then the first of these pieces, in order; all of them
-/// where `all` is true.
+/// where `all` is true. The newest line that was done was done at a moment that the clock showed, or at that of the newest record
+/// where that is later, and whom it shut was shut.
 pub fn work<'a, L: Naming, R: Wait + Drop, G: Gate, S: Sockets, C: Clock>(
     rt: &R,
     server: &Server<'a, L, R, G, S, C>,
@@ -389,6 +385,7 @@ pub fn work<'a, L: Naming, R: Wait + Drop, G: Gate, S: Sockets, C: Clock>(
     ensures front { DoesFront baton.pieces result.baton.pieces pieces.now }
     ensures whole { result.all ≡ true → result.baton.pieces ≡ baton.pieces ++ pieces.now }
     ensures session { result.baton.session ≡ baton.session }
+    ensures newest { IsNewestSeenTo (C.shows server.now.clock.now) (S.shuts server.now.sockets.now) baton result.baton }
 {
     work_by(rt, server, Some(desk), baton, pieces, told)
 }

@@ -1,9 +1,11 @@
 //! Writing what waits for a session.
+ghost use Rattle.crew.specs.Writing.{IsOver};
 ghost use Rattle.wire.specs.Wired.{IsSameWire};
 
 use crate::outlet::Outlet;
 use crate::server::{Clock, Gate, Server, Sockets};
-use crate::working::{hang, tell};
+use crate::shutting::hang;
+use crate::telling::tell;
 use chronicle::{SessionId, Why};
 use hall::{Naming, Told};
 use std::alloc::Global;
@@ -44,7 +46,7 @@ pub fn write_some<L: Naming, W: Write + Drop, R: Wait + Drop, G: Gate, S: Socket
         Some(Ok(Flow::Ended)) => Standing::Over,
         Some(Ok(Flow::Idle)) if is_shut => Standing::Over,
         Some(Err(_)) => {
-            hang(rt, server, session, Why::WriteFailed, told);
+            let _ = hang(rt, server, session, Why::WriteFailed, told);
             Standing::Over
         }
         Some(Ok(Flow::Idle | Flow::Behind | Flow::More)) | None => Standing::GoesOn,
@@ -64,6 +66,7 @@ pub fn write_on<L: Naming, W: Write + Drop, R: Wait + Drop, G: Gate, S: Sockets,
     wire: Wire<L, W>,
 ) -> Wire<L, W>
     ensures same { IsSameWire wire result }
+    ensures over { IsOver (S.finds_shut server.now.sockets.now wire.session) wire result }
 {
     let session = wire.session();
     let mut wire = wire;
@@ -71,11 +74,11 @@ pub fn write_on<L: Naming, W: Write + Drop, R: Wait + Drop, G: Gate, S: Sockets,
     for _ in rt.forever() {
         let is_shut = server.sockets.is_shut(session);
         match wire.pump(rt) {
-            Ok(Flow::Ended) => break,
-            Ok(Flow::Idle) if is_shut => break,
+            Ok(Flow::Ended) => return wire,
+            Ok(Flow::Idle) if is_shut => return wire,
             Ok(Flow::Idle) => wire.bell().rest(rt, Duration::from_secs(REST)),
             Ok(Flow::More) => {}
-            Ok(Flow::Behind) if is_shut && TRIES <= tries => break,
+            Ok(Flow::Behind) if is_shut && TRIES <= tries => return wire,
             Ok(Flow::Behind) => {
                 if is_shut {
                     tries += 1;
@@ -84,11 +87,11 @@ pub fn write_on<L: Naming, W: Write + Drop, R: Wait + Drop, G: Gate, S: Sockets,
             }
             Err(_) => {
                 let mut told = Told::new(alloc);
-                hang(rt, server, session, Why::WriteFailed, &mut told);
+                let _ = hang(rt, server, session, Why::WriteFailed, &mut told);
                 tell(server, &mut told);
-                break;
+                return wire;
             }
         }
     }
-    wire
+    unreachable!()
 }

@@ -209,3 +209,32 @@ impl Write for Tally {
         Ok(())
     }
 }
+
+/// A stream that takes nothing so many times, and then everything, and counts its writes.
+#[derive(Drop)]
+pub struct Stuck {
+    left: u64,
+    writes: Arc<AtomicU64>,
+}
+
+impl Stuck {
+    /// A stream that takes nothing so many times, and counts here.
+    pub fn new(left: u64, writes: Arc<AtomicU64>) -> Stuck {
+        Stuck { left, writes }
+    }
+}
+
+impl Write for Stuck {
+    fn write(&mut self, buf: &[u8]) -> io::Result<usize> {
+        self.writes.fetch_add(1, Ordering::SeqCst);
+        if self.left == 0 {
+            return Ok(buf.len());
+        }
+        self.left -= 1;
+        Err(io::Error::from(ErrorKind::WouldBlock))
+    }
+
+    fn flush(&mut self) -> io::Result<()> {
+        Ok(())
+    }
+}

@@ -1,6 +1,8 @@
 //! Trials of a server's threads, over readers and writers in memory.
 #![tactic(auto)]
 
+#[cfg(test)]
+mod behind;
 mod fakes;
 mod making;
 #[cfg(test)]
@@ -13,6 +15,8 @@ mod refusing;
 mod taking;
 #[cfg(test)]
 mod threads;
+#[cfg(test)]
+mod wanting;
 #[cfg(test)]
 mod writing;
 

@@ -4,7 +4,9 @@ ghost use Rattle.std.specs.Prelude.{◌≡◌, []};
 use crate::fakes::{Noted, Open, Still, Torn, Waits};
 use crate::making::{Tokens, hall, hung_for, open};
 use chronicle::{RecordNumber, Why};
-use crew::{Desk, Intake, Next, Server, Sockets, close_now, close_up, hang, read_on, read_some};
+use crew::{
+    Desk, Intake, Next, Server, Sockets, close_now, close_up, hang, read_on, read_some, tell,
+};
 use hall::{Hall, Naming, Register, Told};
 use line_grammar::Octets;
 use outbox::{ChannelName, Sender};
@@ -131,7 +133,10 @@ fn waits<L: Naming, R: Wait + Abort + Copy + Drop>(
     else {
         return Err("it is gone".into());
     };
-    hang(rt, &server, session, Why::ReadEnded, &mut told);
+    tell(&server, &mut told);
+    let ending = hang(rt, &server, session, Why::ReadEnded, &mut told);
+    assert!(rt; ending.hung.is_ok(), "it is ended");
+    assert_eq!(rt; told.sessions(), [session].as_slice());
     let Ok(left) = close_now(rt, &server, baton, stub, writer, &mut told) else {
         return Err("it isn't gone".into());
     };

@@ -151,6 +151,12 @@ fn written_meanwhile<
     assert_eq!(rt; written.load(Ordering::SeqCst), PONG.len() as u64);
     let is_over = write_meanwhile(rt, alloc, &server, session, &outlet, true);
     assert!(rt; is_over, "it is shut, and nothing waits");
+    assert!(rt;
+        outlet.end(rt, SessionId::new(2)).is_none(),
+        "its wire isn't another's"
+    );
+    assert!(rt; outlet.end(rt, session).is_some(), "it still has its wire");
+    assert!(rt; outlet.end(rt, session).is_none(), "now it has none");
     Ok(())
 }
 

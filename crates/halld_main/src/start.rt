@@ -130,6 +130,28 @@ fn settings<'a, R: Ticks + Copy + Drop + Alloc<A = Global>>(
     })
 }
 
+/// Listens on an address, if there is one.
+fn listener<'a, R: Net<Listener = TcpListener, Stream = TcpStream>>(
+    rt: &R,
+    address: Option<SocketAddr>,
+) -> Result<Option<TcpListener>, Ended<'a>> {
+    let Some(address) = address else {
+        return Ok(None);
+    };
+    match listen(rt, address) {
+        Ok(listener) => Ok(Some(listener)),
+        Err(_) => Err(Ended::NotListening(address)),
+    }
+}
+
+/// Tells on which address a listener listens, if there is one: on the one that was wanted, unless the system names another.
+fn tell_of<R: Eprint>(rt: &R, listener: Option<&TcpListener>, wanted: Option<SocketAddr>) {
+    if let (Some(listener), Some(wanted)) = (listener, wanted) {
+        let address = listener.local_addr().unwrap_or(wanted);
+        let _ = eprintln!(rt; "halld: listening on {address}");
+    }
+}
+
 /// Listens, tells where on standard error, and serves until standard input ends.
 fn serve<'a, R, I>(rt: &R, options: ServeOptions<'a>, stop: I) -> Result<(), Ended<'a>>
 where
@@ -145,20 +167,20 @@ where
 {
     let accounts = accounts(rt, options.accounts)?;
     let motd = message_of_the_day(rt, options.motd)?;
-    let Ok(listener) = listen(rt, options.tcp) else {
-        return Err(Ended::NotListening(options.tcp));
-    };
+    let tcp = listener(rt, options.tcp)?;
+    let ws = listener(rt, options.ws)?;
     let settings = settings(rt, options.name, accounts, motd)?;
     if !is_well_set(&settings) {
         return Err(Ended::Settings);
     }
-    let address = listener.local_addr().unwrap_or(options.tcp);
     if !options.is_quiet {
-        let _ = eprintln!(rt; "halld: listening on {address}");
+        tell_of(rt, tcp.as_ref(), options.tcp);
+        tell_of(rt, ws.as_ref(), options.ws);
     }
     let clock = SystemClock { rt: *rt };
     let options = Options {
-        tcp: Some(listener),
+        tcp,
+        ws,
         settings,
         limit: options.limit as usize,
         workers: options.workers as usize,

@@ -1,3 +1,4 @@
 pub mod ClientLemmas
+pub mod LastLemmas
 pub mod TagsLemmas
 pub mod ValueLemmas

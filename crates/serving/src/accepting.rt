@@ -4,7 +4,7 @@ use crate::post::{Arrival, WAKE, Watch};
 use crate::stopping::Stopping;
 use hall::Naming;
 use mio::net::TcpListener;
-use mio::{Interest, Token, Waker};
+use mio::{Interest, Registry, Token, Waker};
 use std::alloc::Global;
 use std::io::ErrorKind;
 use std::net::{Net, SocketAddr};
@@ -18,11 +18,19 @@ const EVENTS: usize = 4;
 /// Seconds between two lines about connections that were refused.
 const BETWEEN: u64 = 1;
 
+/// Where clients connect.
+#[derive(Drop)]
+pub(crate) struct Listeners {
+    pub(crate) tcp: Option<TcpListener>,
+    pub(crate) ws: Option<TcpListener>,
+}
+
 /// Accepts all who wait to connect, and answers whether that is all: where it isn't, the system refuses one for now.
 fn accept_all<L: Naming, R: Wait + Copy + Drop>(
     rt: &R,
     connections: &Connections<L, R>,
     listener: Option<&TcpListener>,
+    is_web: bool,
 ) -> bool {
     let Some(listener) = listener else {
         return true;
@@ -32,7 +40,11 @@ fn accept_all<L: Naming, R: Wait + Copy + Drop>(
             break;
         }
         match listener.accept() {
-            Ok((stream, peer)) => connections.bring(Arrival { stream, peer }),
+            Ok((stream, peer)) => connections.bring(Arrival {
+                stream,
+                peer,
+                is_web,
+            }),
             Err(error) => match error.kind() {
                 ErrorKind::WouldBlock => break,
                 ErrorKind::Interrupted | ErrorKind::ConnectionAborted => {}
@@ -72,18 +84,19 @@ pub(crate) fn accept_on<L: Naming, R: Wait + Clock + Eprint + Copy + Drop>(
     rt: &R,
     connections: &Connections<L, R>,
     watch: &mut Watch,
-    listener: Option<&TcpListener>,
+    listeners: &Listeners,
     is_quiet: bool,
 ) {
     let Watch { poll, events } = watch;
     let mut told = None;
     for _ in rt.forever() {
-        let is_all = accept_all(rt, connections, listener);
+        let is_all_tcp = accept_all(rt, connections, listeners.tcp.as_ref(), false);
+        let is_all_ws = accept_all(rt, connections, listeners.ws.as_ref(), true);
         if connections.is_stopping() {
             break;
         }
         let is_told = is_quiet || tell_refused(rt, connections, &mut told);
-        let wait = if !is_all {
+        let wait = if !is_all_tcp || !is_all_ws {
             Some(Duration::from_millis(PAUSE))
         } else if !is_told {
             Some(Duration::from_secs(BETWEEN))
@@ -96,17 +109,28 @@ pub(crate) fn accept_on<L: Naming, R: Wait + Clock + Eprint + Copy + Drop>(
     }
 }
 
-/// What a thread waits by that accepts from a listener, and how it is asked to stop.
+/// Has events come of a listener, where there is one.
+fn register(
+    registry: &Registry,
+    listener: Option<&mut TcpListener>,
+    token: usize,
+) -> io::Result<()> {
+    match listener {
+        Some(listener) => registry.register(listener, Token(token), Interest::READABLE),
+        None => Ok(()),
+    }
+}
+
+/// What a thread waits by that accepts from listeners, and how it is asked to stop.
 pub(crate) fn door_of<R: Net>(
     rt: &R,
     alloc: Global,
-    listener: Option<&mut TcpListener>,
+    listeners: &mut Listeners,
 ) -> io::Result<(Watch, Stopping)> {
     let watch = Watch::new(rt, alloc, EVENTS)?;
     let registry = watch.poll.registry();
-    if let Some(listener) = listener {
-        registry.register(listener, Token(0), Interest::READABLE)?;
-    }
+    register(registry, listeners.tcp.as_mut(), 0)?;
+    register(registry, listeners.ws.as_mut(), 1)?;
     let stopping = Stopping::new(Waker::new(registry, WAKE)?);
     Ok((watch, stopping))
 }

@@ -1,6 +1,7 @@
 //! The connections of all sessions, as the threads of others know them.
 use crate::post::{Arrival, Post};
 use crate::stopping::Stopping;
+use crate::web::Web;
 use chronicle::SessionId;
 use crew::{Outlet, Sockets};
 use deliveries::WriteFault;
@@ -14,54 +15,73 @@ use std::sync::atomic::{AtomicBool, AtomicU64, Ordering};
 use std::sync::{Arc, RwLock, Wait};
 use std::time::{Clock, Duration};
 use std::{io, thread};
+use websocket_front::CloseCode;
 use wire::Flow;
 
 /// Milliseconds of a pause.
 pub(crate) const PAUSE: u64 = 20;
 
-/// A stream that several threads may write to, one at a time.
+/// What a session's items go out on, to which several threads may write, one at a time: octets as they are, or frames of their lines.
 #[derive(Drop)]
-pub(crate) struct Shared {
-    stream: Arc<TcpStream>,
+pub(crate) enum Output<R: Wait + Copy + Drop> {
+    Octets(Arc<TcpStream>),
+    Frames(Web<R>),
 }
 
-impl Shared {
-    /// Another hold of a stream.
-    pub(crate) fn of(stream: &Arc<TcpStream>) -> Option<Shared> {
-        let Ok(stream) = Arc::try_clone(stream) else {
-            return None;
-        };
-        Some(Shared { stream })
+impl<R: Wait + Copy + Drop> Output<R> {
+    /// What a connection's items go out on.
+    pub(crate) fn of<L: Naming>(connection: &Connection<L, R>) -> Option<Output<R>> {
+        if let Some(web) = &connection.web {
+            return Some(Output::Frames(web.again()?));
+        }
+        match Arc::try_clone(&connection.stream) {
+            Ok(stream) => Some(Output::Octets(stream)),
+            Err(_) => None,
+        }
     }
 }
 
-impl Write for Shared {
+impl<R: Wait + Copy + Drop> Write for Output<R> {
     fn write(&mut self, buf: &[u8]) -> io::Result<usize> {
-        (&*self.stream).write(buf)
+        match self {
+            Output::Octets(stream) => (&**stream).write(buf),
+            Output::Frames(web) => web.write(buf),
+        }
     }
 
     fn flush(&mut self) -> io::Result<()> {
-        Ok(())
+        match self {
+            Output::Octets(_) => Ok(()),
+            Output::Frames(web) => web.flush(),
+        }
     }
 }
 
 /// A session's connection, which one worker reads and ends, at a place of its own, and any thread may write to.
 #[derive(Drop)]
-pub(crate) struct Connection<L: Naming> {
-    pub(crate) outlet: Outlet<L, Shared>,
+pub(crate) struct Connection<L: Naming, R: Wait + Copy + Drop> {
+    pub(crate) outlet: Outlet<L, Output<R>>,
     pub(crate) stream: Arc<TcpStream>,
+    /// Its WebSocket, where it has one.
+    pub(crate) web: Option<Web<R>>,
     worker: usize,
     place: usize,
     is_shut: AtomicBool,
     is_called: AtomicBool,
 }
 
-impl<L: Naming> Connection<L> {
+impl<L: Naming, R: Wait + Copy + Drop> Connection<L, R> {
     /// A connection over this stream, at this place of this worker.
-    pub(crate) fn new(stream: Arc<TcpStream>, worker: usize, place: usize) -> Connection<L> {
+    pub(crate) fn new(
+        stream: Arc<TcpStream>,
+        web: Option<Web<R>>,
+        worker: usize,
+        place: usize,
+    ) -> Connection<L, R> {
         Connection {
             outlet: Outlet::new(),
             stream,
+            web,
             worker,
             place,
             is_shut: AtomicBool::new(false),
@@ -69,8 +89,16 @@ impl<L: Naming> Connection<L> {
         }
     }
 
-    /// Ends the stream in both directions.
-    pub(crate) fn end(&self) {
+    /// Sends a close for this reason, where it is a WebSocket's.
+    pub(crate) fn close(&self, code: CloseCode) {
+        if let Some(web) = &self.web {
+            web.close(code);
+        }
+    }
+
+    /// Ends the stream in both directions, after a close where it is a WebSocket's.
+    pub(crate) fn end(&self, code: CloseCode) {
+        self.close(code);
         let _ = self.stream.shutdown(Shutdown::Both);
     }
 
@@ -89,7 +117,7 @@ impl<L: Naming> Connection<L> {
 #[derive(Drop)]
 pub(crate) struct Connections<L: Naming, R: Wait + Copy + Drop> {
     rt: R,
-    by_session: RwLock<IndexMap<u64, Arc<Connection<L>>>>,
+    by_session: RwLock<IndexMap<u64, Arc<Connection<L, R>>>>,
     posts: Vec<Post>,
     stopping: Arc<Stopping>,
     is_closed: AtomicBool,
@@ -138,6 +166,11 @@ impl<L: Naming, R: Wait + Copy + Drop> Connections<L, R> {
         self.posts.get(worker)
     }
 
+    /// What one worker has of so many that all may have together.
+    pub(crate) fn share_of(&self, all: usize) -> usize {
+        (all / self.posts.len().max(1)).max(1)
+    }
+
     /// Leaves a connection to the worker that has the fewest.
     pub(crate) fn bring(&self, arrival: Arrival) {
         let mut best: Option<&Post> = None;
@@ -162,7 +195,7 @@ impl<L: Naming, R: Wait + Copy + Drop> Connections<L, R> {
     }
 
     /// A session is connected, in room that was made since another was.
-    pub(crate) fn add(&self, session: SessionId, connection: Arc<Connection<L>>) {
+    pub(crate) fn add(&self, session: SessionId, connection: Arc<Connection<L, R>>) {
         let _ = self
             .by_session
             .write(&self.rt)
@@ -217,7 +250,7 @@ pub(crate) struct View<'a, L: Naming, R: Wait + Copy + Drop> {
 
 impl<L: Naming, R: Wait + Copy + Drop> View<'_, L, R> {
     /// Has a connection's worker look at it.
-    fn call(&self, connection: &Connection<L>) {
+    fn call(&self, connection: &Connection<L, R>) {
         if connection.is_called.swap(true, Ordering::SeqCst) {
             return;
         }
@@ -228,7 +261,7 @@ impl<L: Naming, R: Wait + Copy + Drop> View<'_, L, R> {
     }
 
     /// Has a connection's worker look at it where it is to be ended.
-    fn call_after(&self, connection: &Connection<L>, flow: Option<Result<Flow, WriteFault>>) {
+    fn call_after(&self, connection: &Connection<L, R>, flow: Option<Result<Flow, WriteFault>>) {
         let is_over = matches!(flow, Some(Ok(Flow::Ended) | Err(_)));
         if is_over || connection.is_shut() {
             self.call(connection);
@@ -236,13 +269,13 @@ impl<L: Naming, R: Wait + Copy + Drop> View<'_, L, R> {
     }
 
     /// Writes what waits for a connection.
-    fn write_on(&self, connection: &Connection<L>) {
+    fn write_on(&self, connection: &Connection<L, R>) {
         let flow = connection.outlet.write_now(&self.all.rt);
         self.call_after(connection, flow);
     }
 
     /// Writes what waits for a connection whose stream takes more.
-    pub(crate) fn go_on(&self, connection: &Connection<L>) {
+    pub(crate) fn go_on(&self, connection: &Connection<L, R>) {
         if let Some(flow) = connection.outlet.go_on(&self.all.rt) {
             self.call_after(connection, Some(flow));
         }

@@ -2,15 +2,20 @@
 #![tactic(auto)]
 
 mod accepting;
+mod client;
 mod clock;
 mod connections;
+mod guests;
 mod hosts;
+mod lingering;
 mod opening;
 mod post;
 mod serve;
 mod stopping;
+mod web;
 mod worker;
 
 pub use accepting::listen;
 pub use clock::SystemClock;
+pub use crew::Gate;
 pub use serve::{OpenGate, Options, ServeFault, serve_on, serve_with};

@@ -2,11 +2,12 @@
 ghost use Rattle.std.specs.Prelude.{◌≡◌, [], true, Some, IfSome};
 ghost use Rattle.casemapping.specs.Names.{host_shape};
 
-use crate::connections::{Connection, Shared, View};
+use crate::connections::{Connection, Output, View};
 use crate::hosts::host_of;
+use crate::web::Web;
 use chronicle::{Moment, SessionId};
 use crew::{Gate, Server, moment_in};
-use deliveries::write_out;
+use deliveries::{Item, write_out};
 use hall::{Baton, Hall, Naming, OpenRefusal, Stub};
 use line_grammar::Octets;
 use mio::net::TcpStream;
@@ -35,16 +36,16 @@ pub(crate) struct Tokens<L: Naming, R: Wait + Drop> {
 
 /// A session that was just opened.
 #[derive(Drop)]
-pub(crate) struct Opened<L: Naming, R: Wait + Drop> {
+pub(crate) struct Opened<L: Naming, R: Wait + Copy + Drop> {
     pub(crate) tokens: Tokens<L, R>,
-    pub(crate) connection: Arc<Connection<L>>,
+    pub(crate) connection: Arc<Connection<L, R>>,
     pub(crate) host: Octets,
 }
 
 /// A session whose connection has its wire, or one that there was no memory to connect.
 #[derive(Drop)]
-pub(crate) enum Connected<L: Naming, R: Wait + Drop> {
-    Wired(Baton<L, Sender<R>>, Arc<Connection<L>>),
+pub(crate) enum Connected<L: Naming, R: Wait + Copy + Drop> {
+    Wired(Baton<L, Sender<R>>, Arc<Connection<L, R>>),
     Refused(Opened<L, R>),
 }
 
@@ -101,13 +102,14 @@ fn open<L: Naming, R: Wait + Clock + Copy + Drop, G: Gate, C: crew::Clock>(
     server: &Serving<'_, L, R, G, C>,
     sendq: usize,
     stream: Arc<TcpStream>,
+    web: Option<Web<R>>,
     place: usize,
     peer: SocketAddr,
 ) -> Option<Opened<L, R>> {
     let Ok((sender, writer)) = pair(*rt, alloc, sendq.max(1)) else {
         return None;
     };
-    let connection = Connection::new(stream, server.sockets.worker, place);
+    let connection = Connection::new(stream, web, server.sockets.worker, place);
     let Ok(connection) = Arc::new(alloc, connection) else {
         return None;
     };
@@ -135,7 +137,7 @@ fn open<L: Naming, R: Wait + Clock + Copy + Drop, G: Gate, C: crew::Clock>(
 }
 
 /// Gives a session's connection its wire.
-fn connect<L: Naming, R: Wait + Drop>(
+fn connect<L: Naming, R: Wait + Copy + Drop>(
     rt: &R,
     alloc: Global,
     opened: Opened<L, R>,
@@ -145,7 +147,7 @@ fn connect<L: Naming, R: Wait + Drop>(
         connection,
         host,
     } = opened;
-    let Some(shared) = Shared::of(&connection.stream) else {
+    let Some(output) = Output::of(&*connection) else {
         return Connected::Refused(Opened {
             tokens,
             connection,
@@ -157,7 +159,7 @@ fn connect<L: Naming, R: Wait + Drop>(
         stub,
         writer,
     } = tokens;
-    match Wire::new(alloc, writer, stub, shared, host) {
+    match Wire::new(alloc, writer, stub, output, host) {
         Ok(wire) => {
             connection.outlet.open(rt, wire);
             Connected::Wired(baton, connection)
@@ -181,22 +183,34 @@ pub(crate) fn open_connected<L: Naming, R: Wait + Clock + Copy + Drop, G: Gate, 
     server: &Serving<'_, L, R, G, C>,
     sendq: usize,
     stream: Arc<TcpStream>,
+    web: Option<Web<R>>,
     place: usize,
     peer: SocketAddr,
 ) -> Option<Connected<L, R>> {
-    let opened = open(rt, alloc, server, sendq, stream, place, peer)?;
+    let opened = open(rt, alloc, server, sendq, stream, web, place, peer)?;
     Some(connect(rt, alloc, opened))
 }
 
-/// Writes what waits for a session that has no wire, as far as its stream takes it. It takes no memory.
-pub(crate) fn write_rest<L: Naming, R: Wait + Drop>(rt: &R, opened: &mut Opened<L, R>) {
-    let mut stream = &*opened.connection.stream;
+/// Writes an item for a session that has no wire, and answers whether it was written.
+fn write_item<L: Naming, R: Wait + Copy + Drop>(opened: &Opened<L, R>, item: &Item) -> bool {
+    let host = opened.host.as_slice();
+    match &opened.connection.web {
+        Some(web) => web.send_item(item, host),
+        None => {
+            let mut stream = &*opened.connection.stream;
+            let (_, written) = write_out(item.delivery(), host, &mut stream);
+            written.is_ok()
+        }
+    }
+}
+
+/// Writes what waits for a session that has no wire, as far as its stream takes it.
+pub(crate) fn write_rest<L: Naming, R: Wait + Copy + Drop>(rt: &R, opened: &mut Opened<L, R>) {
     for _ in 0..REST {
         let Ok(item) = opened.tokens.writer.take_now(rt) else {
             return;
         };
-        let (_, written) = write_out(item.delivery(), opened.host.as_slice(), &mut stream);
-        if written.is_err() {
+        if !write_item(&*opened, &item) {
             return;
         }
     }

@@ -31,6 +31,8 @@ impl Watch {
 pub(crate) struct Arrival {
     pub(crate) stream: TcpStream,
     pub(crate) peer: SocketAddr,
+    /// Whether it came to the listener of WebSocket.
+    pub(crate) is_web: bool,
 }
 
 /// What was left for a worker.

@@ -2,7 +2,7 @@
 ghost use Rattle.std.specs.Prelude.{◌≡◌, ◌<◌, [], Err};
 ghost use Rattle.serving.specs.declared.serve.ServeFault.TheVariants.{BadSettings, Memory};
 
-use crate::accepting::{accept_on, door_of};
+use crate::accepting::{Listeners, accept_on, door_of};
 use crate::clock::SystemClock;
 use crate::connections::{Connections, View};
 use crate::opening::Serving;
@@ -68,6 +68,8 @@ fn burst_of(sendq: usize, workers: usize) -> usize {
 pub struct Options<'a, G: Gate, C: crew::Clock> {
     /// Where clients connect; nobody does where there is none.
     pub tcp: Option<net::TcpListener>,
+    /// Where clients connect that come by WebSocket; nobody does where there is none.
+    pub ws: Option<net::TcpListener>,
     pub settings: Settings,
     /// How many records its journal keeps, 1 to 10,000,000.
     pub limit: usize,
@@ -181,7 +183,7 @@ fn run_on<
     connections: &Connections<L, R>,
     watches: Vec<Watch>,
     watch: &mut Watch,
-    listener: Option<&TcpListener>,
+    listeners: &Listeners,
     is_quiet: bool,
 ) -> bool {
     thread::scope(thread::scope_env(), rt, |scope| {
@@ -194,7 +196,7 @@ fn run_on<
             drop(started);
         }
         if are_started {
-            accept_on(rt, connections, watch, listener, is_quiet);
+            accept_on(rt, connections, watch, listeners, is_quiet);
         }
         end_all(rt, house);
         are_started
@@ -229,7 +231,7 @@ fn without_waiting(listener: Option<net::TcpListener>) -> io::Result<Option<TcpL
 /// What a server waits by.
 #[derive(Drop)]
 struct Doors {
-    listener: Option<TcpListener>,
+    listeners: Listeners,
     watch: Watch,
     watches: Vec<Watch>,
     posts: Vec<Post>,
@@ -241,16 +243,20 @@ fn doors_of<R: Net>(
     rt: &R,
     alloc: Global,
     tcp: Option<net::TcpListener>,
+    ws: Option<net::TcpListener>,
     workers: usize,
 ) -> io::Result<Doors> {
-    let mut listener = without_waiting(tcp)?;
+    let mut listeners = Listeners {
+        tcp: without_waiting(tcp)?,
+        ws: without_waiting(ws)?,
+    };
     let (watches, posts) = workers_of(rt, alloc, workers)?;
-    let (watch, stopping) = door_of(rt, alloc, listener.as_mut())?;
+    let (watch, stopping) = door_of(rt, alloc, &mut listeners)?;
     let Ok(stopping) = Arc::new(alloc, stopping) else {
         return Err(io::Error::from(ErrorKind::OutOfMemory));
     };
     Ok(Doors {
-        listener,
+        listeners,
         watch,
         watches,
         posts,
@@ -293,14 +299,15 @@ fn serve_in<
     alloc: Global,
     hall: &Mutex<Hall<L, Sender<R>>>,
     tcp: Option<net::TcpListener>,
+    ws: Option<net::TcpListener>,
     terms: &Terms<'_, G, C>,
     stop: I,
 ) -> Result<(), ServeFault> {
-    let Ok(doors) = doors_of(rt, alloc, tcp, terms.workers) else {
+    let Ok(doors) = doors_of(rt, alloc, tcp, ws, terms.workers) else {
         return Err(ServeFault::Memory);
     };
     let Doors {
-        listener,
+        listeners,
         mut watch,
         watches,
         posts,
@@ -328,7 +335,7 @@ fn serve_in<
         sendq: terms.sendq,
         burst: burst_of(terms.sendq, terms.workers),
     };
-    let (listener, is_quiet) = (listener.as_ref(), terms.is_quiet);
+    let is_quiet = terms.is_quiet;
     if !run_on(
         rt,
         alloc,
@@ -336,7 +343,7 @@ fn serve_in<
         &connections,
         watches,
         &mut watch,
-        listener,
+        &listeners,
         is_quiet,
     ) {
         return Err(ServeFault::Memory);
@@ -373,17 +380,17 @@ fn serve_named<
     };
     let hall: Hall<L, Sender<R>> = Hall::new(alloc, register, options.settings, options.limit)?;
     let hall = Mutex::new(hall);
-    let served = serve_in(rt, alloc, &hall, options.tcp, &terms, stop);
+    let served = serve_in(rt, alloc, &hall, options.tcp, options.ws, &terms, stop);
     drop(hall);
     served
 }
 
 /// Serves whoever connects, until `stop` ends or fails.
 ///
-/// Each line is done by one of the workers, between two calls of the gate. Who connects is a session, whose host is its address; a
-/// connection that isn't taken is closed without a line, and told of on standard error: how many there were, at most once a second,
-/// unless the server is to be quiet. At the end every session is told that the server shuts down, and all threads are joined but
-/// the one that reads `stop`.
+/// Each line is done by one of the workers, between two calls of the gate. Who connects is a session, by WebSocket after its
+/// handshake, whose host is its address. A connection that isn't taken is closed without a line, and told of on standard error: how
+/// many there were, at most once a second, unless the server is to be quiet. At the end every session is told that the server shuts
+/// down, and all threads are joined but the one that reads `stop`.
 ///
 /// # Errors
 ///
@@ -408,8 +415,7 @@ pub fn serve_with<
     serve_named::<Brand, R, G, C, I>(rt, alloc, register, options, stop)
 }
 
-/// Serves whoever connects to `tcp`, as `serve_with` does by the machine's clock. `ws` is for WebSocket, which isn't served
-/// yet: with a listener there it is BadSettings.
+/// Serves whoever connects to `tcp`, or to `ws` by WebSocket, as `serve_with` does by the machine's clock.
 ///
 /// # Errors
 ///
@@ -430,12 +436,10 @@ pub fn serve_on<
     gate: &G,
     stop: I,
 ) -> Result<(), ServeFault> {
-    if ws.is_some() {
-        return Err(ServeFault::BadSettings);
-    }
     let clock = SystemClock { rt: *rt };
     let options = Options {
         tcp,
+        ws,
         settings,
         limit,
         workers,

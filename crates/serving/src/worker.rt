@@ -1,20 +1,26 @@
 //! A worker: a thread that does the lines of its clients, and opens and ends their sessions.
 ghost use Rattle.std.specs.Prelude.{◌≡◌};
 
+use crate::client::{Client, Place, read_client};
 use crate::connections::{Connection, PAUSE};
+use crate::guests;
+use crate::guests::{Came, Guest, Guests};
+use crate::lingering::{Lingerers, TRIES};
 use crate::opening::{Connected, Opened, Serving, Tokens, open_connected, write_rest};
 use crate::post::{Arrival, Mail, Post, WAKE};
+use crate::web::{Payloads, Web};
 use chronicle::Why;
-use crew::{Gate, Intake, Next, Standing, close_now, hang, read_some, tell, write_some};
-use hall::{Baton, Naming, Told};
+use crew::{Gate, Intake, Standing, close_now, hang, tell, write_some};
+use hall::{Naming, Told};
 use mio::net::TcpStream;
 use mio::{Events, Interest, Poll, Token};
-use outbox::Sender;
 use std::alloc::{AllocError, Global};
 use std::collections::VecDeque;
+use std::net::SocketAddr;
 use std::sync::{Arc, Wait};
 use std::time::{Clock, Duration, Instant};
 use std::{io, mem, thread};
+use websocket_front::CloseCode;
 
 /// How many events are looked at before what was put is written.
 pub(crate) const EVENTS: usize = 256;
@@ -22,42 +28,19 @@ pub(crate) const EVENTS: usize = 256;
 /// How many sessions are opened before others have their turn.
 const OPENS: u32 = 16;
 
-/// After how many pauses a shut session is ended whose client takes nothing: five seconds.
-const TRIES: u32 = 250;
-
-/// A client, whose session is open or whose last lines still go out.
-#[derive(Drop)]
-struct Client<L: Naming, R: Wait + Drop> {
-    baton: Baton<L, Sender<R>>,
-    connection: Arc<Connection<L>>,
-    intake: Intake,
-    /// It stands in the list of those who may have more to be read.
-    is_listed: bool,
-    /// It is shut, and is looked at again at each pause.
-    is_waiting: bool,
-    tries: u32,
-}
-
-/// A place for a client.
-#[derive(Drop)]
-enum Place<L: Naming, R: Wait + Drop> {
-    /// Nobody's, if it stands in the list of free places; else of a client that is just seen to.
-    Empty,
-    /// A client's.
-    Held(Client<L, R>),
-    /// Of a session that isn't given up yet.
-    Leaving(Tokens<L, R>),
-}
+/// How many streams may wait for their clients to close them, of all workers.
+const MOST_LINGERING: usize = 1024;
 
 /// What a worker has for itself.
 #[derive(Drop)]
-pub(crate) struct Worker<L: Naming, R: Wait + Drop> {
+pub(crate) struct Worker<L: Naming, R: Wait + Copy + Drop> {
     alloc: Global,
     poll: Poll,
     sendq: usize,
     places: Vec<Place<L, R>>,
     free: Vec<usize>,
-    /// How many places are held or leaving.
+    guests: Guests,
+    /// How many places aren't free.
     live: u64,
     told: Told,
     mail: Mail,
@@ -67,52 +50,11 @@ pub(crate) struct Worker<L: Naming, R: Wait + Drop> {
     more: VecDeque<usize>,
     /// Whose session is to be given up now.
     closing: Vec<usize>,
+    lingerers: Lingerers,
     /// Who is looked at again after a pause; all where there was no memory for the list.
     again: Vec<usize>,
     is_all_again: bool,
     paused: Option<Instant>,
-}
-
-/// Reads a client once, and has the lines done that end in what that brings. It answers whether more is to be read: where that filled
-/// the room, or something was there and `has_ended` says that its input has an end, up to which it is read.
-fn read_client<L: Naming, R: Wait + Clock + Copy + Drop, G: Gate, C: crew::Clock>(
-    rt: &R,
-    server: &Serving<'_, L, R, G, C>,
-    client: Client<L, R>,
-    has_ended: bool,
-    told: &mut Told,
-) -> (Client<L, R>, bool) {
-    if client.connection.is_shut() {
-        return (client, false);
-    }
-    let session = client.baton.session();
-    let Client {
-        baton,
-        connection,
-        mut intake,
-        is_listed,
-        is_waiting,
-        tries,
-    } = client;
-    let mut input = &*connection.stream;
-    let took = read_some(rt, server, &mut intake, baton, &mut input, told);
-    let client = Client {
-        baton: took.baton,
-        connection,
-        intake,
-        is_listed,
-        is_waiting,
-        tries,
-    };
-    match took.next {
-        Next::More => (client, true),
-        Next::Short => (client, has_ended),
-        Next::Nothing => (client, false),
-        Next::Over(why) => {
-            hang(rt, server, session, why, told);
-            (client, false)
-        }
-    }
 }
 
 impl<L: Naming, R: Wait + Clock + Copy + Drop> Worker<L, R> {
@@ -124,12 +66,14 @@ impl<L: Naming, R: Wait + Clock + Copy + Drop> Worker<L, R> {
             sendq,
             places: Vec::new(alloc),
             free: Vec::new(alloc),
+            guests: Guests::new(alloc),
             live: 0,
             told: Told::new(alloc),
             mail: Mail::new(alloc),
             arrivals: Vec::new(alloc),
             more: VecDeque::new(alloc),
             closing: Vec::new(alloc),
+            lingerers: Lingerers::new(alloc),
             again: Vec::new(alloc),
             is_all_again: false,
             paused: None,
@@ -185,7 +129,7 @@ impl<L: Naming, R: Wait + Clock + Copy + Drop> Worker<L, R> {
         let (mut client, is_more) = read_client(rt, server, client, has_ended, &mut self.told);
         client.is_listed = is_more && self.more.push_back(at).is_ok();
         if is_more && !client.is_listed {
-            hang(rt, server, session, Why::Memory, &mut self.told);
+            let _ = hang(rt, server, session, Why::Memory, &mut self.told);
         }
         self.put(at, Place::Held(client));
     }
@@ -195,6 +139,7 @@ impl<L: Naming, R: Wait + Clock + Copy + Drop> Worker<L, R> {
         &mut self,
         rt: &R,
         server: &Serving<'_, L, R, G, C>,
+        post: &Post,
         at: usize,
         is_writable: bool,
         is_readable: bool,
@@ -202,7 +147,13 @@ impl<L: Naming, R: Wait + Clock + Copy + Drop> Worker<L, R> {
     ) {
         match self.take(at) {
             Place::Held(client) => {
+                let mut is_readable = is_readable;
                 if is_writable {
+                    if let Some(web) = &client.connection.web {
+                        web.go_on();
+                        // A message may have waited for room for its answer.
+                        is_readable = true;
+                    }
                     server.sockets.go_on(&client.connection);
                 }
                 // One that may have more has its turn, also where its input has ended.
@@ -212,6 +163,7 @@ impl<L: Naming, R: Wait + Clock + Copy + Drop> Worker<L, R> {
                     self.put(at, Place::Held(client));
                 }
             }
+            Place::Greeting(guest) => self.greet(rt, server, post, at, guest),
             other => self.put(at, other),
         }
     }
@@ -231,6 +183,24 @@ impl<L: Naming, R: Wait + Clock + Copy + Drop> Worker<L, R> {
         }
     }
 
+    /// Has a stream closed that nothing more is written to, once its client has closed it, or after a while.
+    fn part<G: Gate, C: crew::Clock>(
+        &mut self,
+        server: &Serving<'_, L, R, G, C>,
+        connection: &Connection<L, R>,
+        code: CloseCode,
+        tries: u32,
+    ) {
+        let most = server.sockets.all.share_of(MOST_LINGERING);
+        match Arc::try_clone(&connection.stream) {
+            Ok(stream) => {
+                connection.close(code);
+                self.lingerers.add(stream, tries, most);
+            }
+            Err(_) => connection.end(code),
+        }
+    }
+
     /// Ends the connection of a session that nothing more is written for.
     fn end<G: Gate, C: crew::Clock>(
         &mut self,
@@ -243,16 +213,23 @@ impl<L: Naming, R: Wait + Clock + Copy + Drop> Worker<L, R> {
         let Client {
             baton,
             connection,
+            tries,
             ..
         } = client;
         let session = baton.session();
-        connection.end();
+        let code = if server.sockets.all.is_stopping() {
+            CloseCode::Away
+        } else {
+            CloseCode::Normal
+        };
         server.sockets.all.remove(session);
         // It has its wire, since nobody else ends it.
         let Some(wire) = connection.outlet.end(rt, session) else {
+            connection.end(code);
             return self.free_place(at, post);
         };
         let (writer, stub) = wire.apart();
+        self.part(server, &connection, code, tries);
         let tokens = Tokens {
             baton,
             stub,
@@ -379,34 +356,40 @@ impl<L: Naming, R: Wait + Clock + Copy + Drop> Worker<L, R> {
     ) {
         let mut opened = opened;
         let session = opened.tokens.baton.session();
-        hang(rt, server, session, Why::Memory, &mut self.told);
+        let _ = hang(rt, server, session, Why::Memory, &mut self.told);
         server.sockets.all.remove(session);
         write_rest(rt, &mut opened);
-        opened.connection.end();
+        self.part(server, &opened.connection, CloseCode::Error, 0);
         self.leave(at, opened.tokens);
     }
 
-    /// Opens a session for who connected, at a place. It answers whether the place is taken now.
+    /// Opens a session for a connection, at a place. It answers whether the place is taken now.
     fn open_at<G: Gate, C: crew::Clock>(
         &mut self,
         rt: &R,
         server: &Serving<'_, L, R, G, C>,
         at: usize,
-        arrival: Arrival,
+        stream: Arc<TcpStream>,
+        web: Option<Web<R>>,
+        peer: SocketAddr,
     ) -> bool {
-        let Arrival { stream, peer } = arrival;
         let Ok(intake) = Intake::new(self.alloc) else {
             return false;
         };
-        let Ok(stream) = self.watch(at, stream) else {
-            return false;
+        let payloads = match &web {
+            Some(web) => match web.again() {
+                Some(web) => Some(Payloads::new(self.alloc, web)),
+                None => return false,
+            },
+            None => None,
         };
-        match open_connected(rt, self.alloc, server, self.sendq, stream, at, peer) {
+        match open_connected(rt, self.alloc, server, self.sendq, stream, web, at, peer) {
             Some(Connected::Wired(baton, connection)) => {
                 let client = Client {
                     baton,
                     connection,
                     intake,
+                    payloads,
                     is_listed: false,
                     is_waiting: false,
                     tries: 0,
@@ -419,6 +402,118 @@ impl<L: Naming, R: Wait + Clock + Copy + Drop> Worker<L, R> {
                 true
             }
             None => false,
+        }
+    }
+
+    /// Serves who connected at a place, where the server takes one.
+    fn open_or_free<G: Gate, C: crew::Clock>(
+        &mut self,
+        rt: &R,
+        server: &Serving<'_, L, R, G, C>,
+        post: &Post,
+        at: usize,
+        stream: Arc<TcpStream>,
+        web: Option<Web<R>>,
+        peer: SocketAddr,
+    ) {
+        if self.open_at(rt, server, at, stream, web, peer) {
+            // Somebody may have put something before the connection had its wire.
+            self.look(rt, server, post, at, false);
+        } else {
+            self.free_place(at, post);
+            server.sockets.all.refuse();
+        }
+    }
+
+    /// Goes on with the handshake of who greets at a place.
+    fn greet<G: Gate, C: crew::Clock>(
+        &mut self,
+        rt: &R,
+        server: &Serving<'_, L, R, G, C>,
+        post: &Post,
+        at: usize,
+        guest: Guest,
+    ) {
+        match guest.go_on() {
+            Came::In(front, stream, peer) => {
+                self.guests.remove(at);
+                let web = Web::new(*rt, self.alloc, front);
+                if web.is_none() {
+                    self.free_place(at, post);
+                    return server.sockets.all.refuse();
+                }
+                self.open_or_free(rt, server, post, at, stream, web, peer);
+            }
+            Came::Later(guest) => self.put(at, Place::Greeting(guest)),
+            Came::Out(stream) => {
+                self.guests.remove(at);
+                self.show_out(post, at, &stream);
+            }
+        }
+    }
+
+    /// Ends the stream of who greeted at a place, which is free then.
+    fn show_out(&mut self, post: &Post, at: usize, stream: &TcpStream) {
+        guests::end(stream);
+        self.free_place(at, post);
+    }
+
+    /// Gives up who greets at a place.
+    fn give_up(&mut self, post: &Post, at: usize) {
+        match self.take(at) {
+            Place::Greeting(guest) => self.show_out(post, at, &guest.stream),
+            other => self.put(at, other),
+        }
+    }
+
+    /// Has who connected by WebSocket greet at a place. Where too many do, who has greeted longest is given up. It answers whether the
+    /// place is taken now.
+    fn receive(
+        &mut self,
+        rt: &R,
+        post: &Post,
+        at: usize,
+        most: usize,
+        stream: Arc<TcpStream>,
+        peer: SocketAddr,
+    ) -> bool {
+        let Ok(now) = Instant::now(rt) else {
+            return false;
+        };
+        let Some(guest) = Guest::new(self.alloc, stream, peer) else {
+            return false;
+        };
+        let Ok(oldest) = self.guests.add(at, now, most) else {
+            return false;
+        };
+        self.put(at, Place::Greeting(guest));
+        if let Some(oldest) = oldest {
+            self.give_up(post, oldest);
+        }
+        true
+    }
+
+    /// Takes who has greeted longest off the list, if that is too long, or the server is closed.
+    fn take_late_guest(&mut self, rt: &R, is_closed: bool) -> Option<usize> {
+        if self.guests.is_empty() {
+            return None;
+        }
+        if is_closed {
+            return self.guests.take_first();
+        }
+        match Instant::now(rt) {
+            Ok(now) => self.guests.take_late(now),
+            Err(_) => None,
+        }
+    }
+
+    /// Gives up those who have greeted for too long, and all where the server is closed.
+    fn hurry(&mut self, rt: &R, post: &Post, is_closed: bool) {
+        for _ in 0..guests::MOST {
+            let Some(at) = self.take_late_guest(rt, is_closed) else {
+                return;
+            };
+            self.give_up(post, at);
         }
     }
 
@@ -436,10 +531,20 @@ impl<L: Naming, R: Wait + Clock + Copy + Drop> Worker<L, R> {
             return;
         };
         self.live = self.live.saturating_add(1);
-        if self.open_at(rt, server, at, arrival) {
-            // Somebody may have put something before the connection had its wire.
-            self.look(rt, server, post, at, false);
-        } else {
+        let Arrival {
+            stream,
+            peer,
+            is_web,
+        } = arrival;
+        let Ok(stream) = self.watch(at, stream) else {
+            self.free_place(at, post);
+            return server.sockets.all.refuse();
+        };
+        if !is_web {
+            return self.open_or_free(rt, server, post, at, stream, None, peer);
+        }
+        let most = server.sockets.all.share_of(guests::MOST);
+        if !self.receive(rt, post, at, most, stream, peer) {
             self.free_place(at, post);
             server.sockets.all.refuse();
         }
@@ -512,7 +617,7 @@ impl<L: Naming, R: Wait + Clock + Copy + Drop> Worker<L, R> {
 
     /// Whether somebody is to be looked at again after a pause.
     fn is_waiting(&self) -> bool {
-        self.is_all_again || !self.again.is_empty()
+        self.is_all_again || !self.again.is_empty() || !self.lingerers.is_empty()
     }
 
     /// Whether a pause is over.
@@ -540,6 +645,7 @@ impl<L: Naming, R: Wait + Clock + Copy + Drop> Worker<L, R> {
         if !self.is_waiting() || !self.is_pause_over(rt) {
             return;
         }
+        self.lingerers.look();
         let again = mem::replace(&mut self.again, Vec::new(self.alloc));
         for at in again.iter() {
             self.look(rt, server, post, *at, true);
@@ -560,6 +666,8 @@ impl<L: Naming, R: Wait + Clock + Copy + Drop> Worker<L, R> {
             Some(Duration::from_millis(0))
         } else if self.is_waiting() {
             Some(Duration::from_millis(PAUSE))
+        } else if !self.guests.is_empty() {
+            Some(Duration::from_secs(1))
         } else {
             None
         }
@@ -577,7 +685,9 @@ impl<L: Naming, R: Wait + Clock + Copy + Drop> Worker<L, R> {
             self.open_some(rt, server, post);
             self.try_again(rt, server, post);
             self.settle(rt, server, post);
-            if server.sockets.all.is_closed() && self.live == 0 {
+            let is_closed = server.sockets.all.is_closed();
+            self.hurry(rt, post, is_closed);
+            if is_closed && self.live == 0 && self.lingerers.is_empty() {
                 return;
             }
             let wait = self.wait();
@@ -593,6 +703,7 @@ impl<L: Naming, R: Wait + Clock + Copy + Drop> Worker<L, R> {
                 self.see_to(
                     rt,
                     server,
+                    post,
                     event.token().0,
                     event.is_writable(),
                     event.is_readable() || has_ended,

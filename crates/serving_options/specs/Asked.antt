@@ -1,5 +1,5 @@
 -- Limits of what a server is started with: this project's own choice.
-use Rattle.std.specs.Prelude.{◌≤◌, ⊤}
+use Rattle.std.specs.Prelude.{◌≡◌, ◌≤◌, ⊤, None, IsSome}
 use Rattle.serving_options.specs.declared.command_line.ServeOptions.{ServeOptions}
 use Rattle.serving_options.specs.declared.command_line.Asked.{Asked}
 use Rattle.serving_options.specs.declared.command_line.Asked.TheVariants.{Play, Serve}
@@ -12,6 +12,14 @@ pub record IsWithinLimits (o : ServeOptions) : Type 0 where
   pub some_records : 1 ≤ o.limit
   pub few_records : o.limit ≤ 10000000
 
+-- it listens somewhere: where not by TCP, by WebSocket
+abbrev pub IsSomewhere : ServeOptions → Type 0
+IsSomewhere o = o.tcp ≡ None → IsSome o.ws
+
 abbrev pub IsAskedWithinLimits : Asked → Type 0
 IsAskedWithinLimits Play = ⊤
 IsAskedWithinLimits (Serve o) = IsWithinLimits o
+
+abbrev pub IsAskedSomewhere : Asked → Type 0
+IsAskedSomewhere Play = ⊤
+IsAskedSomewhere (Serve o) = IsSomewhere o

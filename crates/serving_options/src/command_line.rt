@@ -1,6 +1,6 @@
 //! The command line of `halld`.
-ghost use Rattle.std.specs.Prelude.{◌≡◌, ◌≤◌, IfOk, IfSome};
-ghost use Rattle.serving_options.specs.Asked.{IsWithinLimits, IsAskedWithinLimits};
+ghost use Rattle.std.specs.Prelude.{◌≡◌, ◌≤◌, None, IsSome, IfOk, IfSome};
+ghost use Rattle.serving_options.specs.Asked.{IsWithinLimits, IsSomewhere, IsAskedWithinLimits, IsAskedSomewhere};
 
 use clap::builder::ValueParser;
 use clap::error::ErrorKind;
@@ -21,8 +21,10 @@ pub enum Asked<'a> {
 /// Options of `halld serve`.
 #[derive(Clone, Copy, Debug, PartialEq)]
 pub struct ServeOptions<'a> {
-    /// Where it listens.
-    pub tcp: SocketAddr,
+    /// Where it listens. There is an address here or for WebSocket.
+    pub tcp: Option<SocketAddr>,
+    /// Where it listens for clients that come by WebSocket.
+    pub ws: Option<SocketAddr>,
     /// The server's name, of which nothing is checked yet.
     pub name: &'a str,
     /// How many lines may be worked on at a time, 1 to 64.
@@ -69,6 +71,12 @@ fn serve_command<'a>(alloc: Global) -> Result<Command<'a>, AllocError> {
         "ADDR",
         "Listen on this address, as 127.0.0.1:6667",
     );
+    let ws = option(
+        alloc,
+        "ws",
+        "ADDR",
+        "Listen on this address for WebSocket, as 127.0.0.1:8067",
+    );
     let name = option(alloc, "name", "HOST", "The server's name");
     let workers = "Lines that are worked on at a time, 1 to 64";
     let sendq = "Items that may wait for a session, 1 to 4096";
@@ -78,7 +86,8 @@ fn serve_command<'a>(alloc: Global) -> Result<Command<'a>, AllocError> {
     let quiet = "Don't say where it listens, nor whom it refuses";
     Command::new(alloc, "serve")
         .about("Serve clients until standard input ends")
-        .arg(tcp.required(true))?
+        .arg(tcp)?
+        .arg(ws)?
         .arg(name.default_value("irc.example"))?
         .arg(number(alloc, "workers", (1, 64), "2", workers))?
         .arg(number(alloc, "sendq", (1, 4096), "256", sendq))?
@@ -118,23 +127,53 @@ fn within(number: Option<u64>, limits: (u64, u64), usual: u64) -> u64
     }
 }
 
-/// Why an address is refused.
-fn bad_address(alloc: Global) -> Result<Error, AllocError> {
-    serve_command(alloc)?.bin_name("halld serve")?.error(
-        ErrorKind::ValueValidation,
-        "'--tcp <ADDR>' wants an address and a port, as 127.0.0.1:6667 or [::1]:6667",
-    )
+/// A refusal of addresses.
+fn refusal(alloc: Global, kind: ErrorKind, text: &str) -> Result<Error, AllocError> {
+    serve_command(alloc)?
+        .bin_name("halld serve")?
+        .error(kind, text)
+}
+
+/// The address of an option, if there is one.
+fn address(
+    alloc: Global,
+    matches: &ArgMatches<'_>,
+    id: &str,
+    refused: &str,
+) -> Result<Option<SocketAddr>, Error> {
+    match matches.try_get_one::<SocketAddr>(id) {
+        Ok(found) => Ok(found),
+        Err(_) => Err(refusal(alloc, ErrorKind::ValueValidation, refused)?),
+    }
+}
+
+/// Where to listen, and where for WebSocket: somewhere at least.
+fn addresses(
+    alloc: Global,
+    matches: &ArgMatches<'_>,
+) -> Result<(Option<SocketAddr>, Option<SocketAddr>), Error>
+    ensures { IfOk result (λ a. a.0 ≡ None → IsSome a.1) }
+{
+    let refused = "'--tcp <ADDR>' wants an address and a port, as 127.0.0.1:6667 or [::1]:6667";
+    let tcp = address(alloc, matches, "tcp", refused)?;
+    let refused = "'--ws <ADDR>' wants an address and a port, as 127.0.0.1:8067 or [::1]:8067";
+    let ws = address(alloc, matches, "ws", refused)?;
+    if tcp.is_none() && ws.is_none() {
+        let missing = "'--tcp <ADDR>' or '--ws <ADDR>' is wanted";
+        return Err(refusal(alloc, ErrorKind::MissingRequiredArgument, missing)?);
+    }
+    Ok((tcp, ws))
 }
 
 /// The options of `serve`.
 fn serve_options<'a>(alloc: Global, matches: &ArgMatches<'a>) -> Result<ServeOptions<'a>, Error>
-    ensures { IfOk result IsWithinLimits }
+    ensures limits { IfOk result IsWithinLimits }
+    ensures somewhere { IfOk result IsSomewhere }
 {
-    let Ok(Some(tcp)) = matches.try_get_one::<SocketAddr>("tcp") else {
-        return Err(bad_address(alloc)?);
-    };
+    let (tcp, ws) = addresses(alloc, matches)?;
     Ok(ServeOptions {
         tcp,
+        ws,
         name: matches.get_str("name").unwrap_or("irc.example"),
         workers: within(matches.get_one("workers"), (1, 64), 2),
         sendq: within(matches.get_one("sendq"), (1, 4096), 256),
@@ -153,7 +192,8 @@ pub fn parse<'a, S: AsStr>(
     words: &'a [S],
     script: &'a str,
 ) -> Result<Asked<'a>, Error>
-    ensures { IfOk result IsAskedWithinLimits }
+    ensures limits { IfOk result IsAskedWithinLimits }
+    ensures somewhere { IfOk result IsAskedSomewhere }
 {
     let matches = whole_command(alloc, script)?.try_get_matches_from(words)?;
     match matches.subcommand() {

@@ -8,7 +8,7 @@ use std::test::Fail;
 /// Words after `serve`, and the workers, items and records that they ask for.
 type Numbers = (&'static [&'static str], (u64, u64, u64));
 
-const NUMBERS: [Numbers; 5] = [
+const NUMBERS: [Numbers; 6] = [
     (
         &["halld", "serve", "--tcp", "127.0.0.1:6667"],
         (2, 256, 1_000_000),
@@ -16,6 +16,10 @@ const NUMBERS: [Numbers; 5] = [
     (
         &["halld", "serve", "--workers", "1", "--tcp=[::1]:1"],
         (1, 256, 1_000_000),
+    ),
+    (
+        &["halld", "serve", "--ws", "127.0.0.1:8067"],
+        (2, 256, 1_000_000),
     ),
     (
         &["halld", "serve", "--tcp", "0.0.0.0:0", "--workers", "64"],
@@ -64,6 +68,16 @@ fn numbers_are_read(rt: HostRuntime) {
 }
 
 #[test]
+fn addresses_are_read(rt: HostRuntime) {
+    let words = ["halld", "serve", "--ws", "127.0.0.1:8067"];
+    let found = served(rt.alloc(), &words).map(|it| (it.tcp.is_some(), it.ws.map(|a| a.port())));
+    assert_eq!(rt; found, Some((false, Some(8067))));
+    let words = ["halld", "serve", "--tcp", "127.0.0.1:6667"];
+    let found = served(rt.alloc(), &words).map(|it| (it.tcp.map(|a| a.port()), it.ws.is_some()));
+    assert_eq!(rt; found, Some((Some(6667), false)));
+}
+
+#[test]
 fn texts_are_read(rt: HostRuntime) {
     let words = ["halld", "serve", "--tcp", "127.0.0.1:6667"];
     let found = served(rt.alloc(), &words).map(|it| (it.name, it.accounts, it.motd));
@@ -85,7 +99,7 @@ fn texts_are_read(rt: HostRuntime) {
 }
 
 /// Words that are refused, and why; help and the version are asked for in the same way.
-const REFUSED: [(&[&str], ErrorKind); 12] = [
+const REFUSED: [(&[&str], ErrorKind); 13] = [
     (&["halld"], ErrorKind::MissingSubcommand),
     (&["halld", "sing"], ErrorKind::InvalidSubcommand),
     (&["halld", "serve"], ErrorKind::MissingRequiredArgument),
@@ -95,6 +109,10 @@ const REFUSED: [(&[&str], ErrorKind); 12] = [
     ),
     (
         &["halld", "serve", "--tcp", "127.0.0.1"],
+        ErrorKind::ValueValidation,
+    ),
+    (
+        &["halld", "serve", "--ws", "localhost:1"],
         ErrorKind::ValueValidation,
     ),
     (
@@ -147,8 +165,8 @@ const REFUSED: [(&[&str], ErrorKind); 12] = [
             "serve",
             "--tcp",
             "127.0.0.1:6667",
-            "--ws",
-            "127.0.0.1:1",
+            "--tls",
+            "127.0.0.1:6697",
         ],
         ErrorKind::UnknownArgument,
     ),

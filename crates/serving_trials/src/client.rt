@@ -48,6 +48,13 @@ impl Client {
         Ok(heard.as_slice().strip_suffix(b"\r\n") == Some(line))
     }
 
+    /// Whether these octets come next.
+    pub(crate) fn receives(&mut self, alloc: Global, octets: &[u8]) -> io::Result<bool> {
+        let mut heard = vec![in alloc; 0u8; octets.len()]?;
+        self.stream.read_exact(&mut heard)?;
+        Ok(heard.as_slice() == octets)
+    }
+
     /// Reads lines up to one that ends so; whether there is one among the next twenty.
     pub(crate) fn hears_end(&mut self, alloc: Global, end: &[u8]) -> io::Result<bool> {
         for _ in 0..20u32 {

@@ -1,7 +1,7 @@
 //! A gate at which two lines have to be done at once.
 use crate::client::{TURNS, rest};
 use chronicle::SessionId;
-use crew::Gate;
+use serving::Gate;
 use std::sync::atomic::{AtomicBool, AtomicU64, Ordering};
 use std::time::Clock;
 

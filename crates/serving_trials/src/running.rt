@@ -51,10 +51,13 @@ where
         rt: *rt,
         has_ended: again,
     };
+    let (tcp, ws) = match story {
+        Story::ByWebSocket => (None, Some(listener)),
+        _ => (Some(listener), None),
+    };
     let served = thread::scope(thread::scope_env(), rt, |scope| {
         let serving = scope.spawn(move || {
-            let tcp = Some(listener);
-            serve_on(rt, alloc, tcp, None, settings, 1000, 2, 16, gate, stop).is_ok()
+            serve_on(rt, alloc, tcp, ws, settings, 1000, 2, 16, gate, stop).is_ok()
         });
         let heard = talk(rt, alloc, address, gate, story).unwrap_or(false);
         has_ended.store(true, Ordering::SeqCst);

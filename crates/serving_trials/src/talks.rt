@@ -15,6 +15,8 @@ pub(crate) enum Story {
     TwoPeople,
     /// Two ask at once, each of whose lines has to wait for the other's.
     AtOnce,
+    /// One comes by WebSocket, asks and leaves.
+    ByWebSocket,
 }
 
 /// A client that has registered.
@@ -67,6 +69,45 @@ fn at_once<R: Clock + Drop>(
     Ok(are_answered && gate.has_served())
 }
 
+/// A request that opens a WebSocket, as RFC 6455 has it in section 1.3.
+const REQUEST: &[u8] =
+    b"GET /chat HTTP/1.1\r\nHost: server.example.com\r\nUpgrade: websocket\r\nConnection: Upgrade\r\nSec-WebSocket-Key: dGhlIHNhbXBsZSBub25jZQ==\r\nSec-WebSocket-Version: 13\r\n\r\n";
+
+/// Whether a session that comes by WebSocket and isn't registered is answered, and told of its end.
+fn by_websocket<R: Net<Stream = TcpStream>>(
+    rt: &R,
+    alloc: Global,
+    address: SocketAddr,
+) -> io::Result<bool> {
+    let mut client = Client::connect(rt, alloc, address)?;
+    client.send(REQUEST)?;
+    let is_greeted = client.hears(alloc, b"HTTP/1.1 101 Switching Protocols")?
+        && client.hears_end(alloc, b": s3pPLMBiTxaQ9kYGzzhZRbK+xOo=\r\n")?
+        && client.hears(alloc, b"")?;
+    client.send(b"\x81\x86\x00\x00\x00\x00PING x")?;
+    let is_answered = client.receives(alloc, b"\x81\x1f:irc.example PONG irc.example x")?;
+    client.send(b"\x81\x84\x00\x00\x00\x00QUIT")?;
+    let is_told = client.receives(
+        alloc,
+        b"\x81\x2cERROR :Closing Link: 127.0.0.1 (Client Quit)\x88\x02\x03\xe8",
+    )?;
+    Ok(is_greeted && is_answered && is_told)
+}
+
+/// Two clients that have registered.
+fn both<R: Net<Stream = TcpStream>>(
+    rt: &R,
+    alloc: Global,
+    address: SocketAddr,
+) -> io::Result<Option<(Client, Client)>> {
+    let al = registered(rt, alloc, address, b"NICK al\r\nUSER a 0 * :Al\r\n")?;
+    let bo = registered(rt, alloc, address, b"NICK bo\r\nUSER b 0 * :Bo\r\n")?;
+    match (al, bo) {
+        (Some(al), Some(bo)) => Ok(Some((al, bo))),
+        _ => Ok(None),
+    }
+}
+
 /// Whether all is heard as it should be.
 pub(crate) fn talk<R: Clock + Drop + Net<Stream = TcpStream>>(
     rt: &R,
@@ -75,14 +116,15 @@ pub(crate) fn talk<R: Clock + Drop + Net<Stream = TcpStream>>(
     gate: &Turnstile<R>,
     story: Story,
 ) -> io::Result<bool> {
-    let al = registered(rt, alloc, address, b"NICK al\r\nUSER a 0 * :Al\r\n")?;
-    let bo = registered(rt, alloc, address, b"NICK bo\r\nUSER b 0 * :Bo\r\n")?;
-    let (Some(mut al), Some(mut bo)) = (al, bo) else {
+    if let Story::ByWebSocket = story {
+        return by_websocket(rt, alloc, address);
+    }
+    let Some((mut al, mut bo)) = both(rt, alloc, address)? else {
         return Ok(false);
     };
     match story {
-        Story::TwoPeople => two_people(alloc, &mut al, &mut bo),
         Story::AtOnce => at_once(alloc, gate, &mut al, &mut bo),
+        _ => two_people(alloc, &mut al, &mut bo),
     }
 }
 
@@ -90,6 +132,13 @@ pub(crate) fn talk<R: Clock + Drop + Net<Stream = TcpStream>>(
 fn two_people_talk_over_the_loopback(rt: HostRuntime) -> Result<(), Fail> {
     let gate = Turnstile::new(rt);
     assert!(rt; is_served(&rt, rt.alloc(), &gate, Story::TwoPeople)?);
+    Ok(())
+}
+
+#[test]
+fn ping_by_websocket_is_answered(rt: HostRuntime) -> Result<(), Fail> {
+    let gate = Turnstile::new(rt);
+    assert!(rt; is_served(&rt, rt.alloc(), &gate, Story::ByWebSocket)?);
     Ok(())
 }
 

@@ -162,7 +162,7 @@ fn values(rt: HostRuntime) -> Result<(), Fail> {
 }
 
 /// Tag data, and the tags of the client alone.
-const CLIENT_TAGS: [(&str, &str); 9] = [
+const CLIENT_TAGS: [(&str, &str); 11] = [
     ("", ""),
     ("y=2", ""),
     ("+x=1;y=2", "+x=1"),
@@ -172,6 +172,14 @@ const CLIENT_TAGS: [(&str, &str); 9] = [
     ("+a=1;+a", "+a"),
     ("a=1;+a=\\s\\n;b=2;+v.w/c=\\\\", "+a=\\s\\n;+v.w/c=\\\\"),
     ("+a_b=1;+c=2", "+c=2"),
+    (
+        "+b=0;a;+b=1;+c;d=2;+e;+f;+g;+h;+i;+j;+k;+l;+m;+n;+o;+p;+b=\\s;+c=3",
+        "+e;+f;+g;+h;+i;+j;+k;+l;+m;+n;+o;+p;+b=\\s;+c=3",
+    ),
+    (
+        "+a=1;+a=2;+a=3;+a=4;+a=5;+a=6;+a=7;+a=8;+a;+a;+a;+a;+a;+a;+a;+a;+a=9",
+        "+a=9",
+    ),
 ];
 
 /// Whether these are the tags of the client.

@@ -1,10 +1,8 @@
 -- A text goes out part by part.
 use Rattle.std.proofs.Common.{◌≡◌, ℕ, ◌+◌, ◌-◌, List, [], ◌∷◌, ◌++◌, length, take, drop, subst, Option, Some, None, refl, ap, sym, ◌∙◌, append_assoc, append-nil}
 use Rattle.std.proofs.KnownBytes.{Appends-nil, Appends-trans, Appends-kept}
-use Rattle.std.specs.Prelude.{Result, Ok, Err, OnErr}
 use Rattle.std.proofs.lemmas.List.{take-append-drop, drop-drop, take_rest}
 use Rattle.std.specs.Io.KnownBytes.{Appends, Keeps, append_known}
-use Rattle.deliveries.specs.declared.delivery.Delivery.{Delivery}
 use Rattle.deliveries.specs.declared.item.Item.{Item}
 use Rattle.deliveries.specs.Text.{delivery_text}
 use Rattle.wire.specs.declared.begun.Begun.{Begun}
@@ -38,6 +36,14 @@ goes_further a b text c n appended = record {
 pub goes_after : (a b c : Option (List ℕ)) (xs : List ℕ) (n : ℕ) → Keeps a b → Appends b c (take n xs) → GoesOut a c xs (drop n xs)
 goes_after a b c xs n kept appended = goes_on a b c xs xs (drop n xs) (goes_nothing a b xs kept) (goes_front b c xs n appended)
 
+-- octets wait, after those that waited
+pub goes_waiting : (a told : Option (List ℕ)) (xs ys text : List ℕ) (n : ℕ) → Keeps a (append_known told xs) → Appends (Some xs) (Some ys) (take n text) → GoesOut a (append_known told ys) text (drop n text)
+goes_waiting a told xs ys text n kept more = goes_after a (append_known told xs) (append_known told ys) text n kept (longer told)
+  where
+    longer : (o : Option (List ℕ)) → Appends (append_known o xs) (append_known o ys) (take n text)
+    longer None = tt
+    longer (Some zs) = ap (λ l. zs ++ l) more ∙ sym (append_assoc zs xs (take n text))
+
 -- a stream that nothing waits for
 pub starts_out : (a b : Option (List ℕ)) (waiting : List ℕ) → b ≡ a → waiting ≡ [] → GoesOut a (append_known b waiting) [] []
 starts_out a b waiting same none = goes_nothing a (append_known b waiting) [] (subst (λ o. Keeps a (append_known o waiting)) (sym same) (subst (λ l. Keeps a (append_known a l)) (sym none) (with_none a)))
@@ -45,17 +51,6 @@ starts_out a b waiting same none = goes_nothing a (append_known b waiting) [] (s
     with_none : (o : Option (List ℕ)) → Keeps o (append_known o [])
     with_none None = tt
     with_none (Some xs) = append-nil xs
-
--- what holds anyway holds of an error
-pub anyway : {A E : Type 0} (r : Result A E) (P : Type 0) → P → OnErr r P
-anyway (Ok x) P p = tt
-anyway (Err e) P p = p
-
--- what is left of a last item that isn't begun is what is left of its text
-pub last_front : (a b : Option (List ℕ)) (d e : Delivery) (host : List ℕ) (count : ℕ) → d ≡ e → count ≡ 0 → ((left : List ℕ) × GoesOut a b (delivery_text d host) left) → (left : List ℕ) × GoesOut a b (drop count (delivery_text e host)) left
-last_front a b d e host count same none front =
-    subst (λ (x : Delivery). (left : List ℕ) × GoesOut a b (drop count (delivery_text x host)) left) same
-    (subst (λ (n : ℕ). (left : List ℕ) × GoesOut a b (drop n (delivery_text d host)) left) (sym none) front)
 
 -- the texts of one item more
 pub texts_more : (host : List ℕ) (xs : List Item) (x : Item) → texts host (xs ++ x ∷ []) ≡ texts host xs ++ delivery_text x.delivery host

@@ -1,5 +1,5 @@
 -- What clauses see of a wire, a session's writer with the stream on which its items go out: this project's own.
-use Rattle.std.specs.Prelude.{◌≡◌, ℕ, Bool, true, false, List, [], ◌∷◌, ◌++◌, drop, Option, Some, None}
+use Rattle.std.specs.Prelude.{◌≡◌, ◌≤◌, ℕ, Bool, true, false, List, [], ◌∷◌, ◌++◌, drop, Option, Some, None}
 use Rattle.std.specs.Io.KnownBytes.{Appends}
 use Rattle.crossbeam_channel.specs.Claims.{Pass}
 use Rattle.deliveries.specs.declared.delivery.Delivery.{Delivery}
@@ -36,7 +36,8 @@ ends (x ∷ []) = is_last x.delivery
 ends (x ∷ y ∷ xs) = ends (y ∷ xs)
 
 -- all items that the writer has taken, and which outbox it is of; the octets that the stream was given, with those that wait in
--- the wire; what is left of the newest item; and how both stood when the wire was made
+-- the wire; what is left of the newest item; how often the stream answered that it takes nothing now; and how both ends stood when the
+-- wire was made
 pub record Wired : Type 0 where
   pub session : ℕ
   pub taken : List Item
@@ -44,6 +45,7 @@ pub record Wired : Type 0 where
   pub told : Option (List ℕ)
   pub waiting : List ℕ
   pub rest : List ℕ
+  pub pauses : ℕ
   pub host : List ℕ
   pub is_broken : Bool
   pub taken_before : List Item
@@ -65,3 +67,4 @@ pub record IsSameWire (w v : Wired) : Type 0 where
   pub host : v.host ≡ w.host
   pub taken_before : v.taken_before ≡ w.taken_before
   pub told_before : v.told_before ≡ w.told_before
+  pub pauses : w.pauses ≤ v.pauses

@@ -1,11 +1,13 @@
 //! A stream, and the octets that wait to be written to it in one write.
-ghost use Rattle.std.specs.Prelude.{◌≡◌, ◌≤◌, ◌++◌, [], true, false, length, take, drop, vec_len, IfOk, OnOk};
-ghost use Rattle.std.specs.Io.KnownBytes.{Appends, Keeps};
-ghost use Rattle.wire.specs.Gathering.{gathered_contents};
+ghost use Rattle.std.specs.Prelude.{◌≡◌, ◌≤◌, ◌<◌, ◌++◌, [], true, false, length, take, drop, vec_len, IfOk, IfErr, OnOk};
+ghost use Rattle.std.specs.Io.KnownBytes.{Appends, Keeps, WriteAppends};
+ghost use Rattle.wire.specs.declared.stream.Stop.TheVariants.{Later};
+ghost use Rattle.wire.specs.Gathering.{gathered_contents, pauses_of};
 
+use crate::stream::{Stop, Stream};
+use deliveries::WriteFault;
 use std::alloc::{AllocError, Global};
-use std::io;
-use std::io::{Error, ErrorKind, Write};
+use std::io::Write;
 
 /// How many octets there is always room for.
 const KEPT: usize = 512;
@@ -20,22 +22,24 @@ const MOST: usize = 65_536;
 /// on which nothing goes out takes little memory.
 #[derive(Drop)]
 pub(crate) struct Gathered<W: Write + Drop> {
-    pub(crate) stream: W,
+    pub(crate) stream: Stream<W>,
     pub(crate) waiting: Vec<u8>,
 }
 
 /// Writes octets until all are written or a write fails, and answers how many were written.
-fn write_front<W: Write>(octets: &[u8], to: &mut W) -> (usize, io::Result<()>)
+fn write_front<W: Write + Drop>(octets: &[u8], to: &mut Stream<W>) -> (usize, Result<(), Stop>)
     ensures within { result.0 ≤ length octets.now }
     ensures all { OnOk result.1 (result.0 ≡ length octets.now) }
-    ensures written { Appends (W.contents to.old) (W.contents to.new) (take result.0 octets.now) }
+    ensures written { Appends (W.contents to.old.inner) (W.contents to.new.inner) (take result.0 octets.now) }
+    ensures pauses { to.old.pauses.value ≤ to.new.pauses.value }
+    ensures later { IfErr result.1 (λ s. s ≡ Later → to.old.pauses.value < to.new.pauses.value) }
 {
     let mut count = 0;
     while count < octets.len() {
         match to.write(&octets[count..]) {
-            Ok(0) => return (count, Err(Error::from(ErrorKind::WriteZero))),
+            Ok(0) => return (count, Err(Stop::Fault(WriteFault::Zero))),
             Ok(more) => count += more,
-            Err(error) => return (count, Err(error)),
+            Err(stop) => return (count, Err(stop)),
         }
     }
     (count, Ok(()))
@@ -54,11 +58,14 @@ fn remove_front(octets: &mut Vec<u8>, count: usize)
 impl<W: Write + Drop> Gathered<W> {
     /// A stream for which nothing waits.
     pub(crate) fn new(alloc: Global, stream: W) -> Result<Gathered<W>, AllocError>
-        ensures stream { IfOk result (λ g. g.stream ≡ stream) }
+        ensures stream { IfOk result (λ g. g.stream.inner ≡ stream) }
         ensures none { IfOk result (λ g. g.waiting.items ≡ []) }
     {
         let waiting = Vec::with_capacity(alloc, KEPT)?;
-        Ok(Gathered { stream, waiting })
+        Ok(Gathered {
+            stream: Stream::new(stream),
+            waiting,
+        })
     }
 
     /// Makes room for so many octets more, and answers whether there is. There is none for more than may wait, or where its growth
@@ -80,8 +87,10 @@ impl<W: Write + Drop> Gathered<W> {
     }
 
     /// Sees to it that there is room for so many octets more, by writing what waits where there is none.
-    pub(crate) fn ready_for(&mut self, more: usize) -> io::Result<()>
-        ensures { Keeps (gathered_contents W.contents self.old) (gathered_contents W.contents self.new) }
+    pub(crate) fn ready_for(&mut self, more: usize) -> Result<(), Stop>
+        ensures octets { Keeps (gathered_contents W.contents self.old) (gathered_contents W.contents self.new) }
+        ensures pauses { pauses_of self.old ≤ pauses_of self.new }
+        ensures later { IfErr result (λ s. s ≡ Later → pauses_of self.old < pauses_of self.new) }
     {
         if self.make_room(more) {
             Ok(())
@@ -100,20 +109,24 @@ impl<W: Write + Drop> Gathered<W> {
     }
 
     /// Writes what waits. What the stream doesn't take waits on.
-    fn write_waiting(&mut self) -> io::Result<()>
+    fn write_waiting(&mut self) -> Result<(), Stop>
         ensures octets { Keeps (gathered_contents W.contents self.old) (gathered_contents W.contents self.new) }
         ensures none { OnOk result (self.new.waiting.items ≡ []) }
+        ensures pauses { pauses_of self.old ≤ pauses_of self.new }
+        ensures later { IfErr result (λ s. s ≡ Later → pauses_of self.old < pauses_of self.new) }
     {
         let (count, written) = write_front(self.waiting.as_slice(), &mut self.stream);
         remove_front(&mut self.waiting, count);
         written
     }
-}
 
-impl<W: Write + Drop> Write for Gathered<W> {
-    ghost contents = { gathered_contents W.contents };
-
-    fn write(&mut self, octets: &[u8]) -> io::Result<usize> {
+    /// Has octets wait, or writes the first of them where there is no room for them, and answers how many that are.
+    pub(crate) fn write(&mut self, octets: &[u8]) -> Result<usize, Stop>
+        ensures bound { IfOk result (λ n. n ≤ length octets.now) }
+        ensures octets { WriteAppends (gathered_contents W.contents self.old) (gathered_contents W.contents self.new) result octets.now }
+        ensures pauses { pauses_of self.old ≤ pauses_of self.new }
+        ensures later { IfErr result (λ s. s ≡ Later → pauses_of self.old < pauses_of self.new) }
+    {
         if self.keep(octets) {
             return Ok(octets.len());
         }
@@ -124,9 +137,12 @@ impl<W: Write + Drop> Write for Gathered<W> {
         self.stream.write(octets)
     }
 
-    fn flush(&mut self) -> io::Result<()>
-        ensures bytes { Keeps (gathered_contents W.contents self.old) (gathered_contents W.contents self.new) }
+    /// Writes what waits, and has the stream give it on.
+    pub(crate) fn flush(&mut self) -> Result<(), Stop>
+        ensures octets { Keeps (gathered_contents W.contents self.old) (gathered_contents W.contents self.new) }
         ensures none { OnOk result (self.new.waiting.items ≡ []) }
+        ensures pauses { pauses_of self.old ≤ pauses_of self.new }
+        ensures later { IfErr result (λ s. s ≡ Later → pauses_of self.old < pauses_of self.new) }
     {
         self.write_waiting()?;
         self.waiting.shrink_to(KEPT);

@@ -3,6 +3,7 @@
 
 mod begun;
 mod gathered;
+mod stream;
 mod wire;
 
 pub use wire::{Flow, Wire};

@@ -1,12 +1,13 @@
 //! A session's writer and the stream on which its items go out.
-ghost use Rattle.std.specs.Prelude.{◌≡◌, [], true, false, Some, IfOk, IfErr, OnOk, OnErr};
+ghost use Rattle.std.specs.Prelude.{◌≡◌, ◌≤◌, ◌<◌, [], true, false, Some, length, IfOk, IfErr, OnOk, OnErr};
 ghost use Rattle.std.specs.Io.KnownBytes.{append_known};
 ghost use Rattle.outbox.specs.Ends.{IsAllTaken};
-ghost use Rattle.wire.specs.declared.wire.Flow.TheVariants.{Idle, Ended};
+ghost use Rattle.wire.specs.declared.wire.Flow.TheVariants.{Idle, More, Behind, Ended};
 ghost use Rattle.wire.specs.Wired.{ends, is_last, IsInStep, IsSameWire};
 
-use crate::begun::{Begun, Stop, stop_of};
+use crate::begun::Begun;
 use crate::gathered::Gathered;
+use crate::stream::Stop;
 use chronicle::SessionId;
 use deliveries::{Delivery, WriteFault};
 use ghosts::Snapshot;
@@ -18,7 +19,7 @@ use std::io::Write;
 use std::marker::Model;
 use std::sync::Wait;
 
-/// How many writes one call makes at most before it answers.
+/// How many items one call takes at most before it answers.
 const TURNS: u32 = 4096;
 
 /// How a wire stands after it was pumped.
@@ -26,9 +27,9 @@ const TURNS: u32 = 4096;
 pub enum Flow {
     /// No item waited at a moment of the call, and all went out.
     Idle,
-    /// More may wait.
+    /// Items were taken, and more may wait.
     More,
-    /// The stream takes nothing now.
+    /// The stream answered that it takes nothing now.
     Behind,
     /// The session's last item went out.
     Ended,
@@ -51,14 +52,14 @@ pub struct Wire<L: Naming, W: Write + Drop> {
 
 impl<L: Naming, W: Write + Drop> Model for Wire<L, W> {
     ghost use Rattle.std.specs.Prelude.{◌≡◌, true, Some};
-    ghost use Rattle.wire.specs.Gathering.{gathered_contents};
+    ghost use Rattle.wire.specs.Gathering.{gathered_contents, pauses_of};
     ghost use Rattle.wire.specs.Wired.{Wired, IsInStep, rest_of, ends};
 
     ghost Value = { Wired };
 
-    ghost view = { λ a. record { session = a.stub.session; taken = a.writer.taken; channel = a.writer.channel; told = gathered_contents W.contents a.out; waiting = a.out.waiting.items; rest = rest_of a.host a.begun; host = a.host; is_broken = a.is_broken; taken_before = a.writer_before.value.taken; told_before = W.contents a.stream_before.value } };
+    ghost view = { λ a. record { session = a.stub.session; taken = a.writer.taken; channel = a.writer.channel; told = gathered_contents W.contents a.out; waiting = a.out.waiting.items; rest = rest_of a.host a.begun; pauses = pauses_of a.out; host = a.host; is_broken = a.is_broken; taken_before = a.writer_before.value.taken; told_before = W.contents a.stream_before.value } };
 
-    ghost invariant = { λ a. (a.stub.outbox ≡ Some a.writer.channel) × IsInStep (record { session = a.stub.session; taken = a.writer.taken; channel = a.writer.channel; told = gathered_contents W.contents a.out; waiting = a.out.waiting.items; rest = rest_of a.host a.begun; host = a.host; is_broken = a.is_broken; taken_before = a.writer_before.value.taken; told_before = W.contents a.stream_before.value }) × (a.has_last ≡ true → ends a.writer.taken ≡ true) };
+    ghost invariant = { λ a. (a.stub.outbox ≡ Some a.writer.channel) × IsInStep (record { session = a.stub.session; taken = a.writer.taken; channel = a.writer.channel; told = gathered_contents W.contents a.out; waiting = a.out.waiting.items; rest = rest_of a.host a.begun; pauses = pauses_of a.out; host = a.host; is_broken = a.is_broken; taken_before = a.writer_before.value.taken; told_before = W.contents a.stream_before.value }) × (a.has_last ≡ true → ends a.writer.taken ≡ true) };
 }
 
 impl<L: Naming, W: Write + Drop> Wire<L, W> {
@@ -104,7 +105,9 @@ impl<L: Naming, W: Write + Drop> Wire<L, W> {
         requires whole { self.old.is_broken ≡ false }
         ensures same { IsSameWire self.old self.new }
         ensures whole { self.new.is_broken ≡ false }
+        ensures some { result ≡ true → length self.old.taken < length self.new.taken }
         ensures none { result ≡ false → (self.new.rest ≡ []) × IsAllTaken self.new.taken }
+        ensures grows { length self.old.taken ≤ length self.new.taken }
     {
         let Ok(item) = self.writer.take_now(rt) else {
             return false;
@@ -114,22 +117,24 @@ impl<L: Naming, W: Write + Drop> Wire<L, W> {
         true
     }
 
-    /// Writes more of the item that was begun. It answers whether the stream takes more.
+    /// Writes what is left of the item that was begun. It answers whether that is all; else the stream takes nothing now.
     fn write_begun(&mut self) -> Result<bool, WriteFault>
         requires whole { self.old.is_broken ≡ false }
         ensures same { IsSameWire self.old self.new }
+        ensures taken { self.new.taken ≡ self.old.taken }
         ensures whole { OnOk result (self.new.is_broken ≡ false) }
+        ensures all { IfOk result (λ all. all ≡ true → self.new.rest ≡ []) }
+        ensures later { IfOk result (λ all. all ≡ false → self.old.pauses < self.new.pauses) }
         ensures fault { OnErr result (self.new.is_broken ≡ true) }
     {
         let Some(begun) = &mut self.begun else {
             return Ok(true);
         };
-        match begun.write_more(self.host.as_slice(), &mut self.out) {
-            Ok(true) => {
+        match begun.write_rest(self.host.as_slice(), &mut self.out) {
+            Ok(()) => {
                 self.begun = None;
                 Ok(true)
             }
-            Ok(false) => Ok(true),
             Err(Stop::Later) => Ok(false),
             Err(Stop::Fault(fault)) => {
                 self.is_broken = true;
@@ -147,40 +152,45 @@ impl<L: Naming, W: Write + Drop> Wire<L, W> {
         ensures rest { self.new.rest ≡ [] }
         ensures whole { OnOk result (self.new.is_broken ≡ false) }
         ensures all { IfOk result (λ all. all ≡ true → self.new.waiting ≡ []) }
+        ensures later { IfOk result (λ all. all ≡ false → self.old.pauses < self.new.pauses) }
         ensures fault { OnErr result (self.new.is_broken ≡ true) }
     {
         match self.out.flush() {
             Ok(()) => Ok(true),
-            Err(error) => match stop_of(&error) {
-                Stop::Later => Ok(false),
-                Stop::Fault(fault) => {
-                    self.is_broken = true;
-                    Err(fault)
-                }
-            },
+            Err(Stop::Later) => Ok(false),
+            Err(Stop::Fault(fault)) => {
+                self.is_broken = true;
+                Err(fault)
+            }
         }
     }
 
     /// Takes the items that wait, and writes them, as many in one write as have room. It waits for none; the stream may wait. It is idle
-    /// only where at a moment of the call all that was sent was taken.
+    /// only where at a moment of the call all that was sent was taken, behind only where the stream answered in this call that it takes
+    /// nothing now, and more may wait only where something was taken.
     ///
     /// After a fault nothing more is written.
     pub fn pump<R: Wait>(&mut self, rt: &R) -> Result<Flow, WriteFault>
         ensures same { IsSameWire self.old self.new }
         ensures whole { OnOk result (self.new.is_broken ≡ false) }
         ensures idle { IfOk result (λ flow. flow ≡ Idle → (self.new.rest ≡ []) × (self.new.waiting ≡ []) × IsAllTaken self.new.taken) }
+        ensures more { IfOk result (λ flow. flow ≡ More → length self.old.taken < length self.new.taken) }
+        ensures behind { IfOk result (λ flow. flow ≡ Behind → self.old.pauses < self.new.pauses) }
         ensures ended { IfOk result (λ flow. flow ≡ Ended → (self.new.rest ≡ []) × (self.new.waiting ≡ []) × (ends self.new.taken ≡ true)) }
         ensures fault { OnErr result (self.new.is_broken ≡ true) }
     {
         if self.is_broken {
             return Err(WriteFault::Failed);
         }
-        for _ in 0..TURNS {
-            if self.begun.is_none() && self.has_last {
+        if !self.write_begun()? {
+            return Ok(Flow::Behind);
+        }
+        for _turn in 0..TURNS {
+            if self.has_last {
                 let all = self.flush()?;
                 return Ok(if all { Flow::Ended } else { Flow::Behind });
             }
-            if self.begun.is_none() && !self.begin_next(rt) {
+            if !self.begin_next(rt) {
                 let all = self.flush()?;
                 return Ok(if all { Flow::Idle } else { Flow::Behind });
             }
@@ -195,7 +205,7 @@ impl<L: Naming, W: Write + Drop> Wire<L, W> {
     pub fn stream(&self) -> &W
         ensures { self.now.told ≡ append_known (W.contents result.now) self.now.waiting }
     {
-        &self.out.stream
+        self.out.stream.get()
     }
 
     /// The bell that ends a rest of whoever pumps.

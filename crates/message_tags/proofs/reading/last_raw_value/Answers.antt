@@ -1,4 +1,4 @@
-use Rattle.std.proofs.Common.{◌==◌, ◌∷◌, [], length, take, rules, refl, sym, ap, ◌∙◌, tests}
+use Rattle.std.proofs.Common.{◌==◌, length, take, rules, refl, sym, ap, ◌∙◌, tests}
 use Rattle.std.specs.Option.{option_map}
 use Rattle.std.proofs.lemmas.List.{length_push}
 use Rattle.std.proofs.lemmas.Iterator.Splits.{YieldsList-from_slice_split}

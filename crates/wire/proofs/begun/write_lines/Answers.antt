@@ -1,7 +1,16 @@
+use Rattle.std.proofs.Common.{◌+◌, drop, arith}
 use Rattle.wire.specs.Gathering.{gathered_contents}
-use Rattle.wire.proofs.Going.{goes_further}
+use Rattle.wire.proofs.Going.{goes_on, goes_further}
 use Rattle.wire.proofs.begun.write_lines.Goals as goal
 
-pub returns-in-Ok-clause-more : goal.returns-in-Ok-clause-more
-returns-in-Ok-clause-more g c =
-    goes_further (gathered_contents g.W.Write.contents c.args.out.now) (gathered_contents g.W.Write.contents c.write.new.self) c.args.text.now c.args.count c.in-Ok.more c.in-Ok.ensures.bytes
+pub loop-count-preserved : goal.loop-count-preserved
+loop-count-preserved g c =
+    let known = gathered_contents g.W.Write.contents in
+    let text = c.args.text.now in
+    let done = c.loop-count.count in
+    let n = c.in-Ok.more in
+    let before = c.loop-count.invariant in
+    record {
+      more = goes_on (known c.args.out.now) (known c.loop-count.out) (known c.write.new.self) (drop c.args.from text) (drop done text) (drop (done + n) text) before.more (goes_further (known c.loop-count.out) (known c.write.new.self) text done n c.in-Ok.ensures.octets);
+      pauses = omega arith;
+    }

@@ -4,7 +4,11 @@ use Rattle.std.specs.Io.KnownBytes.{Appends}
 use Rattle.wire.proofs.gathered.write_front.Given as goal
 
 abbrev pub invariant-loop-count : goal.invariant-loop-count
-invariant-loop-count g l = (l.count ≤ length l.octets) × Appends (g.W.Write.contents l.initial.to) (g.W.Write.contents l.to) (take l.count l.octets)
+invariant-loop-count g l = record {
+  within : l.count ≤ length l.octets;
+  written : Appends (g.W.Write.contents l.initial.to.inner) (g.W.Write.contents l.to.inner) (take l.count l.octets);
+  pauses : l.initial.to.pauses.value ≤ l.to.pauses.value;
+}
 
 abbrev pub decreases-loop-count : goal.decreases-loop-count
 decreases-loop-count g l = length l.octets - l.count

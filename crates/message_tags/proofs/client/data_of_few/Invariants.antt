@@ -1,7 +1,7 @@
 use Rattle.std.proofs.Common.{◌≡◌, [], length}
 use Rattle.message_tags.specs.ClientOnly.{spellings}
 use Rattle.message_tags.proofs.ClientLemmas.{joined_onto}
-use Rattle.message_tags.proofs.client.client_only.Given as goal
+use Rattle.message_tags.proofs.client.data_of_few.Given as goal
 
 -- what is left, added to the tag data so far, gives the whole
 abbrev pub invariant-loop-tag : goal.invariant-loop-tag

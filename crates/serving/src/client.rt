@@ -1,0 +1,91 @@
+//! A client as its worker has it, and its place.
+use crate::connections::Connection;
+use crate::guests::Guest;
+use crate::opening::{Serving, Tokens};
+use crate::web::Payloads;
+use crew::{Gate, Intake, Next, hang, read_some};
+use hall::{Baton, Naming, Told};
+use outbox::Sender;
+use std::sync::{Arc, Wait};
+use std::time::Clock;
+
+/// A client, whose session is open or whose last lines still go out.
+#[derive(Drop)]
+pub(crate) struct Client<L: Naming, R: Wait + Copy + Drop> {
+    pub(crate) baton: Baton<L, Sender<R>>,
+    pub(crate) connection: Arc<Connection<L, R>>,
+    pub(crate) intake: Intake,
+    /// What is read of it, where it came by WebSocket.
+    pub(crate) payloads: Option<Payloads<R>>,
+    /// It stands in the list of those who may have more to be read.
+    pub(crate) is_listed: bool,
+    /// It is shut, and is looked at again at each pause.
+    pub(crate) is_waiting: bool,
+    pub(crate) tries: u32,
+}
+
+/// A place for a client.
+#[derive(Drop)]
+pub(crate) enum Place<L: Naming, R: Wait + Copy + Drop> {
+    /// Nobody's, if it stands in the list of free places; else of a client that is just seen to.
+    Empty,
+    /// Of who greets.
+    Greeting(Guest),
+    /// A client's.
+    Held(Client<L, R>),
+    /// Of a session that isn't given up yet.
+    Leaving(Tokens<L, R>),
+}
+
+/// Reads a client once, and has the lines done that end in what that brings. It answers whether more is to be read: where that filled
+/// the room, or something was there and `has_ended` says that its input has an end, up to which it is read.
+pub(crate) fn read_client<L: Naming, R: Wait + Clock + Copy + Drop, G: Gate, C: crew::Clock>(
+    rt: &R,
+    server: &Serving<'_, L, R, G, C>,
+    client: Client<L, R>,
+    has_ended: bool,
+    told: &mut Told,
+) -> (Client<L, R>, bool) {
+    if client.connection.is_shut() {
+        return (client, false);
+    }
+    let session = client.baton.session();
+    let Client {
+        baton,
+        connection,
+        mut intake,
+        mut payloads,
+        is_listed,
+        is_waiting,
+        tries,
+    } = client;
+    let took = match &mut payloads {
+        Some(payloads) => read_some(rt, server, &mut intake, baton, payloads, told),
+        None => {
+            let mut input = &*connection.stream;
+            read_some(rt, server, &mut intake, baton, &mut input, told)
+        }
+    };
+    let has_more = match &payloads {
+        Some(payloads) => payloads.has_more,
+        None => false,
+    };
+    let client = Client {
+        baton: took.baton,
+        connection,
+        intake,
+        payloads,
+        is_listed,
+        is_waiting,
+        tries,
+    };
+    match took.next {
+        Next::More => (client, true),
+        Next::Short => (client, has_ended || has_more),
+        Next::Nothing => (client, has_more),
+        Next::Over(why) => {
+            let _ = hang(rt, server, session, why, told);
+            (client, false)
+        }
+    }
+}

@@ -1,0 +1,142 @@
+//! Who connected by WebSocket and greets: no session yet.
+use crate::web::{REFUSAL, WebStream};
+use mio::net::TcpStream;
+use std::alloc::{AllocError, Global};
+use std::collections::VecDeque;
+use std::io::Write;
+use std::net::{Shutdown, SocketAddr};
+use std::sync::Arc;
+use std::time::{Duration, Instant};
+use websocket_front::{Front, GreetFault, Greeted, Greeting};
+
+/// How many may greet at a time.
+pub(crate) const MOST: usize = 256;
+
+/// For how many seconds each may.
+const PATIENCE: u64 = 10;
+
+/// Who greets.
+#[derive(Drop)]
+pub(crate) struct Guest {
+    greeting: Greeting<WebStream>,
+    pub(crate) stream: Arc<TcpStream>,
+    peer: SocketAddr,
+}
+
+/// How far a guest came.
+#[derive(Drop)]
+pub(crate) enum Came {
+    /// It is to be a session.
+    In(Front<WebStream>, Arc<TcpStream>, SocketAddr),
+    /// Its stream has or takes nothing now.
+    Later(Guest),
+    /// It is given up.
+    Out(Arc<TcpStream>),
+}
+
+impl Guest {
+    /// Who has just connected.
+    pub(crate) fn new(alloc: Global, stream: Arc<TcpStream>, peer: SocketAddr) -> Option<Guest> {
+        match Greeting::new(alloc, WebStream::of(&stream)?) {
+            Ok(greeting) => Some(Guest {
+                greeting,
+                stream,
+                peer,
+            }),
+            Err(_) => None,
+        }
+    }
+
+    /// Goes on with the handshake. Whose request opens no WebSocket is told so, by one write.
+    pub(crate) fn go_on(self) -> Came {
+        let Guest {
+            greeting,
+            stream,
+            peer,
+        } = self;
+        match greeting.go_on() {
+            Ok(Greeted::Done(front)) => Came::In(front, stream, peer),
+            Ok(Greeted::Later(greeting)) => Came::Later(Guest {
+                greeting,
+                stream,
+                peer,
+            }),
+            Err(GreetFault::Handshake) => {
+                let _ = (&*stream).write(REFUSAL);
+                Came::Out(stream)
+            }
+            Err(_) => Came::Out(stream),
+        }
+    }
+}
+
+/// Ends a guest's stream.
+pub(crate) fn end(stream: &TcpStream) {
+    let _ = stream.shutdown(Shutdown::Both);
+}
+
+/// Where somebody greets, and since when.
+#[derive(Clone, Copy, Drop)]
+struct Entry {
+    place: usize,
+    since: Instant,
+}
+
+/// Those who greet at a worker, who has longest first.
+#[derive(Drop)]
+pub(crate) struct Guests {
+    entries: VecDeque<Entry>,
+}
+
+impl Guests {
+    /// Nobody.
+    pub(crate) fn new(alloc: Global) -> Guests {
+        Guests {
+            entries: VecDeque::new(alloc),
+        }
+    }
+
+    /// Whether nobody greets.
+    pub(crate) fn is_empty(&self) -> bool {
+        self.entries.is_empty()
+    }
+
+    /// One more, who connected now at this place. It answers who is to go for it, where more than `most` are there then.
+    pub(crate) fn add(
+        &mut self,
+        place: usize,
+        since: Instant,
+        most: usize,
+    ) -> Result<Option<usize>, AllocError> {
+        self.entries.push_back(Entry { place, since })?;
+        if most < self.entries.len() {
+            return Ok(self.take_first());
+        }
+        Ok(None)
+    }
+
+    /// One less, at this place.
+    pub(crate) fn remove(&mut self, place: usize) {
+        if let Some(at) = self.entries.iter().position(|entry| entry.place == place) {
+            let _ = self.entries.remove(at);
+        }
+    }
+
+    /// Takes who has greeted longest off the list.
+    pub(crate) fn take_first(&mut self) -> Option<usize> {
+        match self.entries.pop_front() {
+            Some(entry) => Some(entry.place),
+            None => None,
+        }
+    }
+
+    /// The same where that is too long by now.
+    pub(crate) fn take_late(&mut self, now: Instant) -> Option<usize> {
+        match self.entries.front() {
+            Some(entry) if now.duration_since(entry.since) >= Duration::from_secs(PATIENCE) => {
+                self.take_first()
+            }
+            _ => None,
+        }
+    }
+}

@@ -1,0 +1,14 @@
+-- what went out so far is the front of what comes after so many octets
+use Rattle.std.proofs.Common.{◌-◌, ◌≤◌, length, drop}
+use Rattle.wire.specs.Gathering.{gathered_contents, pauses_of}
+use Rattle.wire.specs.Wired.{GoesOut}
+use Rattle.wire.proofs.begun.write_lines.Given as goal
+
+abbrev pub invariant-loop-count : goal.invariant-loop-count
+invariant-loop-count g l = record {
+  more : GoesOut (gathered_contents g.W.Write.contents l.initial.out) (gathered_contents g.W.Write.contents l.out) (drop l.from l.text) (drop l.count l.text);
+  pauses : pauses_of l.initial.out ≤ pauses_of l.out;
+}
+
+abbrev pub decreases-loop-count : goal.decreases-loop-count
+decreases-loop-count g l = length l.text - l.count
