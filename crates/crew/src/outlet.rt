@@ -1,13 +1,25 @@
 //! A session's wire as threads share it.
 ghost use Rattle.std.specs.Prelude.{◌≡◌, IfSome};
+ghost use Rattle.crew.specs.Writing.{Pumps};
 
 use chronicle::SessionId;
 use deliveries::WriteFault;
+use ghosts::Snapshot;
 use hall::Naming;
 use std::io::Write;
 use std::sync::atomic::{AtomicBool, Ordering};
 use std::sync::{Mutex, Wait};
 use wire::{Flow, Wire};
+
+/// What came of pumping a session's wire, with the wire before that and after it, which exist for clauses alone.
+#[derive(Drop)]
+pub struct Pumped<L: Naming, W: Write + Drop> {
+    pub flow: Result<Flow, WriteFault>,
+    /// The session whose wire it is.
+    pub session: SessionId,
+    pub before: Snapshot<Wire<L, W>>,
+    pub after: Snapshot<Wire<L, W>>,
+}
 
 /// A session's wire, on which whoever put something into the session's outbox writes at once. No call waits for another that
 /// writes: it leaves word instead, and the other writes once more. A stream that didn't take all is left alone until it is told to
@@ -39,17 +51,21 @@ impl<L: Naming, W: Write + Drop> Outlet<L, W> {
         *self.wire.lock(rt) = Some(wire);
     }
 
-    /// Writes what waits, as far as the stream takes it, and answers how the wire stands then; or `None` where another thread writes,
-    /// which so writes once more, or there is no wire. Where the stream didn't take all before, nothing is tried.
-    pub fn write_now<R: Wait>(&self, rt: &R) -> Option<Result<Flow, WriteFault>> {
+    /// Writes what waits, as far as the stream takes it, and answers what came of that; or `None` where another thread writes, which so
+    /// writes once more, where there is no wire, or where the stream didn't take all before: then nothing is tried.
+    pub fn write_now<R: Wait>(&self, rt: &R) -> Option<Pumped<L, W>>
+        ensures { IfSome result (λ p. Pumps p.before.value p.after.value p.session p.flow) }
+    {
         if self.is_behind.load(Ordering::SeqCst) {
-            return Some(Ok(Flow::Behind));
+            return None;
         }
         self.write(rt)
     }
 
     /// The stream takes more: writes what waits, if it didn't take all before, or if a write is under way that may find so.
-    pub fn go_on<R: Wait>(&self, rt: &R) -> Option<Result<Flow, WriteFault>> {
+    pub fn go_on<R: Wait>(&self, rt: &R) -> Option<Pumped<L, W>>
+        ensures { IfSome result (λ p. Pumps p.before.value p.after.value p.session p.flow) }
+    {
         // Busy is looked at first: who writes says first that it is behind, and then that it is no longer busy.
         if !self.is_busy.load(Ordering::SeqCst) && !self.is_behind.load(Ordering::SeqCst) {
             return None;
@@ -58,8 +74,10 @@ impl<L: Naming, W: Write + Drop> Outlet<L, W> {
     }
 
     /// Writes what waits, or has the thread do so that writes now.
-    fn write<R: Wait>(&self, rt: &R) -> Option<Result<Flow, WriteFault>> {
-        let mut flow = None;
+    fn write<R: Wait>(&self, rt: &R) -> Option<Pumped<L, W>>
+        ensures { IfSome result (λ p. Pumps p.before.value p.after.value p.session p.flow) }
+    {
+        let mut pumped = None;
         // Said before the lock is asked for: who has it looks again when it has given it back.
         self.is_wanted.store(true, Ordering::SeqCst);
         for _ in rt.forever() {
@@ -73,17 +91,21 @@ impl<L: Naming, W: Write + Drop> Outlet<L, W> {
             let Some(wire) = &mut *wire else {
                 return None;
             };
-            flow = Some(self.pump(rt, wire));
+            pumped = Some(self.pump(rt, wire));
         }
-        flow
+        pumped
     }
 
     /// Writes what waits on the wire, which this thread has.
-    fn pump<R: Wait>(&self, rt: &R, wire: &mut Wire<L, W>) -> Result<Flow, WriteFault> {
+    fn pump<R: Wait>(&self, rt: &R, wire: &mut Wire<L, W>) -> Pumped<L, W>
+        ensures { Pumps result.before.value result.after.value result.session result.flow }
+    {
         self.is_busy.store(true, Ordering::SeqCst);
         // Before anything is taken: who left what it put alone, since the stream was behind, has put it before.
         self.is_behind.store(false, Ordering::SeqCst);
+        let before = Snapshot::of(&*wire);
         let flow = wire.pump(rt);
+        let after = Snapshot::of(&*wire);
         match flow {
             // Before busy is taken back: the event that the stream takes more may have come already.
             Ok(Flow::Behind) => self.is_behind.store(true, Ordering::SeqCst),
@@ -91,7 +113,12 @@ impl<L: Naming, W: Write + Drop> Outlet<L, W> {
             Ok(Flow::Idle | Flow::Ended) | Err(_) => {}
         }
         self.is_busy.store(false, Ordering::SeqCst);
-        flow
+        Pumped {
+            flow,
+            session: wire.session(),
+            before,
+            after,
+        }
     }
 
     /// Ends the outlet of a session, and gives back its wire, which tells what went out (`Wire::in_step`), and from which its writer

@@ -49,6 +49,9 @@ pub trait Sockets {
     /// Waits a little.
     fn pause(&self);
 
+    /// The journal was rolled for a line, and so many records were dropped. The hall is held meanwhile.
+    fn rolled(&self, dropped: usize);
+
     /// Asks the server to stop.
     fn stop(&self)
         ensures { stops self.now };

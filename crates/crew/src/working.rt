@@ -181,6 +181,39 @@ pub fn work_one<L: Naming, R: Wait + Drop, G: Gate>(
     Back { baton, outcome }
 }
 
+/// How many records a hall dropped that had so many, and has so many now, of which one is new where a line was done.
+fn dropped_of(before: usize, after: usize, outcome: &Outcome) -> usize {
+    let grown = match outcome {
+        Outcome::Done(_) => before.saturating_add(1),
+        Outcome::Refused(_) => before,
+    };
+    grown.saturating_sub(after)
+}
+
+/// Does a line in the hall, adds who got something, and says so where the journal was rolled for it.
+fn line_told<L: Naming, R: Wait + Drop, S: Sockets>(
+    sockets: &S,
+    hall: &mut Hall<L, Sender<R>>,
+    baton: &mut Baton<L, Sender<R>>,
+    piece: &Piece,
+    moment: Moment,
+    told: &mut Told,
+) -> Outcome
+    ensures done { OnDone result (baton.new.pieces ≡ baton.old.pieces ++ piece.now ∷ []) }
+    ensures refused { OnRefused result (baton.new ≡ baton.old) }
+    ensures session { baton.new.session ≡ baton.old.session }
+    ensures told { IfDone result (λ d. TellsOf d baton.new.front baton.new.session) }
+    ensures moment { OnDone result (IsAt moment baton.new.front) }
+{
+    let before = hall.len();
+    let outcome = line_in(hall, baton, piece, moment, told);
+    let dropped = dropped_of(before, hall.len(), &outcome);
+    if dropped != 0 {
+        sockets.rolled(dropped);
+    }
+    outcome
+}
+
 /// The hall while a thread has it, from one line of a session to the next, and the slot under which it has it, where it needs one.
 #[derive(Drop)]
 struct Held<'a, L: Naming, R: Wait + Drop> {
@@ -234,12 +267,12 @@ impl<'a, L: Naming, R: Wait + Drop> Held<'a, L, R> {
         ensures moment { OnDone result (IsAt self.new.moment baton.new.front) }
     {
         if let Some(hall) = &mut self.hall {
-            return line_in(&mut **hall, baton, piece, self.moment, told);
+            return line_told(server.sockets, &mut **hall, baton, piece, self.moment, told);
         }
         server.gate.enter(baton.session());
         self.moment = server.clock.now();
         let mut hall = lock_soon(rt, server.hall);
-        let outcome = line_in(&mut *hall, baton, piece, self.moment, told);
+        let outcome = line_told(server.sockets, &mut *hall, baton, piece, self.moment, told);
         self.hall = Some(hall);
         outcome
     }

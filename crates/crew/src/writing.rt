@@ -1,8 +1,10 @@
 //! Writing what waits for a session.
-ghost use Rattle.crew.specs.Writing.{IsOver};
+ghost use Rattle.std.specs.Prelude.{◌≡◌, true, IsSomeAnd};
+ghost use Rattle.crew.specs.declared.writing.Standing.TheVariants.{Over};
+ghost use Rattle.crew.specs.Writing.{IsOver, IsWritten};
 ghost use Rattle.wire.specs.Wired.{IsSameWire};
 
-use crate::outlet::Outlet;
+use crate::outlet::{Outlet, Pumped};
 use crate::server::{Clock, Gate, Server, Sockets};
 use crate::shutting::hang;
 use crate::telling::tell;
@@ -29,11 +31,19 @@ pub enum Standing {
     Over,
 }
 
+/// How a session's writing stands after what waited was written, and what came of that where this thread did it.
+#[derive(Drop)]
+pub struct Written<L: Naming, W: Write + Drop> {
+    pub standing: Standing,
+    pub pumped: Option<Pumped<L, W>>,
+}
+
 /// Writes what waits for a session, as far as its stream takes it, for the thread that ends the session once its writing is over.
 /// `is_shut` says whether the session was shut before this call. After a fault of the stream the session is ended with that reason.
 ///
-/// What went out is said by the wire itself (`Wire::in_step`), whoever pumped it: the texts of the items that its writer took, in
-/// order, but for a rest. The writer comes back out of the wire.
+/// It is over only where the session's last item went out; where the session is shut, and all that was sent at a moment of the call
+/// went out; or where its stream has a fault. What went out is said by the wire itself (`Wire::in_step`), whoever pumped it: the
+/// texts of the items that its writer took, in order, but for a rest. The writer comes back out of the wire.
 pub fn write_some<L: Naming, W: Write + Drop, R: Wait + Drop, G: Gate, S: Sockets, C: Clock>(
     rt: &R,
     server: &Server<'_, L, R, G, S, C>,
@@ -41,15 +51,33 @@ pub fn write_some<L: Naming, W: Write + Drop, R: Wait + Drop, G: Gate, S: Socket
     outlet: &Outlet<L, W>,
     is_shut: bool,
     told: &mut Told,
-) -> Standing {
-    match outlet.write_now(rt) {
-        Some(Ok(Flow::Ended)) => Standing::Over,
-        Some(Ok(Flow::Idle)) if is_shut => Standing::Over,
-        Some(Err(_)) => {
+) -> Written<L, W>
+    ensures over { result.standing ≡ Over → IsSomeAnd result.pumped (λ p. IsWritten (is_shut ≡ true) session p.after.value) }
+{
+    let Some(pumped) = outlet.write_now(rt) else {
+        return Written {
+            standing: Standing::GoesOn,
+            pumped: None,
+        };
+    };
+    let is_over = match pumped.flow {
+        _ if pumped.session != session => false,
+        Ok(Flow::Ended) => true,
+        Ok(Flow::Idle) => is_shut,
+        Ok(Flow::Behind | Flow::More) => false,
+        Err(_) => {
             let _ = hang(rt, server, session, Why::WriteFailed, told);
-            Standing::Over
+            true
         }
-        Some(Ok(Flow::Idle | Flow::Behind | Flow::More)) | None => Standing::GoesOn,
+    };
+    let standing = if is_over {
+        Standing::Over
+    } else {
+        Standing::GoesOn
+    };
+    Written {
+        standing,
+        pumped: Some(pumped),
     }
 }
 

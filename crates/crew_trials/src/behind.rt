@@ -4,7 +4,7 @@ ghost use Rattle.std.specs.Prelude.{◌≡◌, []};
 use crate::fakes::{Open, Stuck};
 use crate::making::{Tokens, hall, line, open};
 use chronicle::Moment;
-use crew::{Job, Outcome, Outlet, work_one};
+use crew::{Job, Outcome, Outlet, Pumped, work_one};
 use hall::{Hall, Naming, Register, Told};
 use line_grammar::Octets;
 use outbox::{ChannelName, Sender};
@@ -50,6 +50,11 @@ fn waiting<L: Naming, R: Wait + Copy + Drop>(
     Ok(outlet)
 }
 
+/// How a wire stands after it was written to, if it was.
+fn flow_of<L: Naming>(pumped: Option<Pumped<L, Stuck>>) -> Option<Flow> {
+    pumped?.flow.ok()
+}
+
 /// The first write finds the stream behind; then it isn't written to before it takes more, and is once, and has nothing more to go on
 /// with.
 fn behind<L: Naming, R: Wait + Abort + Copy + Drop>(
@@ -59,14 +64,15 @@ fn behind<L: Naming, R: Wait + Abort + Copy + Drop>(
 ) -> Result<(), Fail> {
     let writes = Arc::new(alloc, AtomicU64::new(0))?;
     let outlet = waiting(rt, alloc, lock, writes.clone()?)?;
+    assert_eq!(rt; flow_of(outlet.write_now(rt)), Some(Flow::Behind));
     for _ in 0..3u32 {
-        assert_eq!(rt; outlet.write_now(rt), Some(Ok(Flow::Behind)));
+        assert!(rt; outlet.write_now(rt).is_none(), "nothing is tried");
         assert_eq!(rt; writes.load(Ordering::SeqCst), 1);
     }
-    assert_eq!(rt; outlet.go_on(rt), Some(Ok(Flow::Idle)));
+    assert_eq!(rt; flow_of(outlet.go_on(rt)), Some(Flow::Idle));
     assert_eq!(rt; writes.load(Ordering::SeqCst), 2);
-    assert_eq!(rt; outlet.go_on(rt), None);
-    assert_eq!(rt; outlet.write_now(rt), Some(Ok(Flow::Idle)));
+    assert!(rt; outlet.go_on(rt).is_none(), "it isn't behind");
+    assert_eq!(rt; flow_of(outlet.write_now(rt)), Some(Flow::Idle));
     Ok(())
 }
 

@@ -76,11 +76,13 @@ impl<R: time::Clock + Drop> Gate for Turnstile<R> {
     }
 }
 
-/// Connections of which is noted who was shut, how often a thread paused, and whether the server is to stop.
+/// Connections of which is noted who was shut, how often a thread paused, how many records were dropped, and whether the server is to
+/// stop.
 #[derive(Drop)]
 pub struct Noted {
     shut: AtomicU64,
     pub paused: AtomicU64,
+    pub dropped: AtomicU64,
     pub is_stopped: AtomicBool,
 }
 
@@ -90,6 +92,7 @@ impl Noted {
         Noted {
             shut: AtomicU64::new(0),
             paused: AtomicU64::new(0),
+            dropped: AtomicU64::new(0),
             is_stopped: AtomicBool::new(false),
         }
     }
@@ -114,6 +117,10 @@ impl Sockets for Noted {
     fn pause(&self) {
         self.paused.fetch_add(1, Ordering::SeqCst);
         thread::yield_now();
+    }
+
+    fn rolled(&self, dropped: usize) {
+        self.dropped.fetch_add(dropped as u64, Ordering::SeqCst);
     }
 
     fn stop(&self) {

@@ -85,7 +85,7 @@ fn write_meanwhile<L: Naming + Send + Sync, R: Threads + Wait + Clock + Copy + D
     is_shut: bool,
 ) -> bool {
     let hall = server.hall.lock(rt);
-    let (standing, ()) = join(
+    let (written, ()) = join(
         rt,
         || {
             let mut told = Told::new(alloc);
@@ -94,7 +94,7 @@ fn write_meanwhile<L: Naming + Send + Sync, R: Threads + Wait + Clock + Copy + D
         || {},
     );
     drop(hall);
-    standing == Standing::Over
+    written.standing == Standing::Over
 }
 
 /// Does a line, and answers whether it was done.
@@ -259,8 +259,8 @@ fn broken<L: Naming, R: Wait + Abort + Copy + Drop>(
         let outlet = Outlet::new();
         outlet.open(rt, wire);
         let mut told = Told::new(alloc);
-        let standing = write_some(rt, &server, session, &outlet, false, &mut told);
-        assert_eq!(rt; standing, Standing::Over);
+        let written = write_some(rt, &server, session, &outlet, false, &mut told);
+        assert_eq!(rt; written.standing, Standing::Over);
     }
     let hung = hung_for(&lock.lock(rt), RecordNumber::new(3));
     assert_eq!(rt; hung, Some((session, Why::WriteFailed)));

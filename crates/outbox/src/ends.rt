@@ -9,6 +9,7 @@ ghost use Rattle.outbox.specs.Ends.{IsAllTaken, with_item};
 mod draining;
 
 use crate::bell::Bell;
+use crate::gauge::{Gauge, octets_of};
 use crate::queue::{Outbox, PutFault};
 use crate::rule::{Ends, InOrder, Log, Put, Take};
 use crossbeam_channel::{Pass, RecvError, RuledReceiver, RuledSender, TrySendError, bounded_with};
@@ -34,6 +35,7 @@ pub struct Sender<R: Wait + Drop> {
     sender: RuledSender<Item, Log, InOrder>,
     pass: Pass<Item, Log>,
     bell: Bell,
+    gauge: Gauge,
 }
 
 impl<R: Wait + Drop> Model for Sender<R> {
@@ -55,6 +57,7 @@ pub struct Writer {
     receiver: RuledReceiver<Item, Log, InOrder>,
     pass: Pass<Item, Log>,
     bell: Bell,
+    gauge: Gauge,
 }
 
 impl Model for Writer {
@@ -84,6 +87,8 @@ pub fn pair<R: Wait + Drop>(
 {
     let bell = Bell::new(alloc)?;
     let heard = bell.again()?;
+    let gauge = Gauge::new(alloc)?;
+    let seen = gauge.again()?;
     let (sender, receiver, mut pass) = bounded_with::<Item, Log, InOrder, Global>(alloc, cap)?;
     let other = sender.another::<Ends>(&mut pass);
     Ok((
@@ -92,11 +97,13 @@ pub fn pair<R: Wait + Drop>(
             sender,
             pass,
             bell,
+            gauge,
         },
         Writer {
             receiver,
             pass: other,
             bell: heard,
+            gauge: seen,
         },
     ))
 }
@@ -133,11 +140,15 @@ impl<R: Wait + Drop> Outbox for Sender<R> {
     ghost refuses = { refuses };
 
     fn put(&mut self, item: Item) -> Result<(), (PutFault, Item)> {
+        let octets = octets_of(item.delivery());
         match self
             .sender
             .try_send_as::<Put, R>(&self.rt, &mut self.pass, item)
         {
-            Ok(()) => Ok(()),
+            Ok(()) => {
+                self.gauge.put(octets);
+                Ok(())
+            }
             Err(TrySendError::Full(item)) => Err((PutFault::Full, item)),
             Err(e) => Err((PutFault::Cut, e.into_inner())),
         }
@@ -149,11 +160,13 @@ impl<R: Wait + Drop> Outbox for Sender<R> {
             sender,
             mut pass,
             bell: _,
+            gauge: _,
         } = self;
         let Writer {
             receiver,
             pass: other,
             bell: _,
+            gauge: _,
         } = taker;
         sender.absorb::<Ends>(&mut pass, other);
         drain(&rt, &receiver, pass)
@@ -200,6 +213,11 @@ impl Writer {
     /// The bell that ends a rest.
     pub fn bell(&self) -> &Bell {
         &self.bell
+    }
+
+    /// How much waits. Whoever writes what was taken tells it what went out.
+    pub fn gauge(&self) -> &Gauge {
+        &self.gauge
     }
 
     /// Rests until the bell is rung, or for so long at most. There may be no item after it, so take again and rest again.

@@ -3,12 +3,14 @@
 
 mod bell;
 mod ends;
+mod gauge;
 mod queue;
 mod ring;
 mod rule;
 
 pub use bell::Bell;
 pub use ends::{Closed, Empty, Sender, Writer, pair};
+pub use gauge::Gauge;
 pub use queue::{Outbox, PutFault};
 pub use ring::Ring;
 pub use rule::ChannelName;

@@ -15,7 +15,7 @@ use std::{io, net, thread};
 /// Events that the thread which accepts looks at at once.
 const EVENTS: usize = 4;
 
-/// Seconds between two lines about connections that were refused.
+/// Seconds between two times at which it is told what happened.
 const BETWEEN: u64 = 1;
 
 /// Where clients connect.
@@ -55,14 +55,14 @@ fn accept_all<L: Naming, R: Wait + Copy + Drop>(
     true
 }
 
-/// Tells of connections that were refused, where some were and the last line about some is long enough ago. It answers whether there
-/// is nothing more to tell.
-fn tell_refused<L: Naming, R: Wait + Clock + Eprint + Copy + Drop>(
+/// Tells of connections that were refused and of rolls of the journal, where there were some and the last line about some is long
+/// enough ago. It answers whether there is nothing more to tell.
+fn tell_news<L: Naming, R: Wait + Clock + Eprint + Copy + Drop>(
     rt: &R,
     connections: &Connections<L, R>,
     told: &mut Option<Instant>,
 ) -> bool {
-    if connections.refused() == 0 {
+    if connections.refused() == 0 && !connections.kept.has_rolls() {
         return true;
     }
     let Ok(now) = Instant::now(rt) else {
@@ -74,12 +74,20 @@ fn tell_refused<L: Naming, R: Wait + Clock + Eprint + Copy + Drop>(
         }
     }
     *told = Some(now);
-    let count = connections.tell_refused();
-    let _ = eprintln!(rt; "halld: connections refused: {count}");
+    let refused = connections.tell_refused();
+    if refused != 0 {
+        let _ = eprintln!(rt; "halld: connections refused: {refused}");
+    }
+    let rolls = connections.kept.take_rolls();
+    if rolls.count != 0 {
+        let (count, dropped) = (rolls.count, rolls.dropped);
+        let _ = eprintln!(rt; "halld: journal rolled: {count}, records dropped: {dropped}");
+    }
     true
 }
 
-/// Accepts connections until the server is asked to stop, and tells of those that are refused, unless it is to be quiet.
+/// Accepts connections until the server is asked to stop, and tells of those that are refused and of rolls of the journal, unless it is
+/// to be quiet.
 pub(crate) fn accept_on<L: Naming, R: Wait + Clock + Eprint + Copy + Drop>(
     rt: &R,
     connections: &Connections<L, R>,
@@ -95,7 +103,7 @@ pub(crate) fn accept_on<L: Naming, R: Wait + Clock + Eprint + Copy + Drop>(
         if connections.is_stopping() {
             break;
         }
-        let is_told = is_quiet || tell_refused(rt, connections, &mut told);
+        let is_told = is_quiet || tell_news(rt, connections, &mut told);
         let wait = if !is_all_tcp || !is_all_ws {
             Some(Duration::from_millis(PAUSE))
         } else if !is_told {

@@ -3,9 +3,11 @@ use crate::connections::Connection;
 use crate::guests::Guest;
 use crate::opening::{Serving, Tokens};
 use crate::web::Payloads;
-use crew::{Gate, Intake, Next, hang, read_some};
+use crew::{Gate, Intake, Next, Took, hang, read_some};
 use hall::{Baton, Naming, Told};
 use outbox::Sender;
+use std::io;
+use std::io::Read;
 use std::sync::{Arc, Wait};
 use std::time::Clock;
 
@@ -19,6 +21,8 @@ pub(crate) struct Client<L: Naming, R: Wait + Copy + Drop> {
     pub(crate) payloads: Option<Payloads<R>>,
     /// It stands in the list of those who may have more to be read.
     pub(crate) is_listed: bool,
+    /// So much waits for it that nothing more of it is done before less does.
+    pub(crate) is_held_up: bool,
     /// It is shut, and is looked at again at each pause.
     pub(crate) is_waiting: bool,
     pub(crate) tries: u32,
@@ -35,6 +39,37 @@ pub(crate) enum Place<L: Naming, R: Wait + Copy + Drop> {
     Held(Client<L, R>),
     /// Of a session that isn't given up yet.
     Leaving(Tokens<L, R>),
+}
+
+/// An input, and how many octets were read of it.
+#[derive(Drop)]
+struct Counted<'a, I: Read> {
+    input: &'a mut I,
+    count: u64,
+}
+
+impl<I: Read> Read for Counted<'_, I> {
+    fn read(&mut self, buf: &mut [u8]) -> io::Result<usize> {
+        let count = self.input.read(buf)?;
+        self.count = self.count.saturating_add(count as u64);
+        Ok(count)
+    }
+}
+
+/// Reads an input of a client once, where what waits for it lets that be, and has the lines done that end in what that brings.
+fn read_counted<L: Naming, I: Read, R: Wait + Clock + Copy + Drop, G: Gate, C: crew::Clock>(
+    rt: &R,
+    server: &Serving<'_, L, R, G, C>,
+    connection: &Connection<L, R>,
+    intake: &mut Intake,
+    baton: Baton<L, Sender<R>>,
+    input: &mut I,
+    told: &mut Told,
+) -> Took<L, R> {
+    let mut input = Counted { input, count: 0 };
+    let took = read_some(rt, server, intake, baton, connection, &mut input, told);
+    server.sockets.all.kept.add(input.count);
+    took
 }
 
 /// Reads a client once, and has the lines done that end in what that brings. It answers whether more is to be read: where that filled
@@ -56,14 +91,16 @@ pub(crate) fn read_client<L: Naming, R: Wait + Clock + Copy + Drop, G: Gate, C: 
         mut intake,
         mut payloads,
         is_listed,
+        is_held_up: _,
         is_waiting,
         tries,
     } = client;
+    let to = &*connection;
     let took = match &mut payloads {
-        Some(payloads) => read_some(rt, server, &mut intake, baton, payloads, told),
+        Some(payloads) => read_counted(rt, server, to, &mut intake, baton, payloads, told),
         None => {
             let mut input = &*connection.stream;
-            read_some(rt, server, &mut intake, baton, &mut input, told)
+            read_counted(rt, server, to, &mut intake, baton, &mut input, told)
         }
     };
     let has_more = match &payloads {
@@ -76,6 +113,7 @@ pub(crate) fn read_client<L: Naming, R: Wait + Clock + Copy + Drop, G: Gate, C: 
         intake,
         payloads,
         is_listed,
+        is_held_up: took.next == Next::Left,
         is_waiting,
         tries,
     };
@@ -83,6 +121,7 @@ pub(crate) fn read_client<L: Naming, R: Wait + Clock + Copy + Drop, G: Gate, C: 
         Next::More => (client, true),
         Next::Short => (client, has_ended || has_more),
         Next::Nothing => (client, has_more),
+        Next::Left => (client, false),
         Next::Over(why) => {
             let _ = hang(rt, server, session, why, told);
             (client, false)

@@ -1,13 +1,14 @@
 //! The connections of all sessions, as the threads of others know them.
+use crate::journal::Kept;
 use crate::post::{Arrival, Post};
 use crate::stopping::Stopping;
 use crate::web::Web;
 use chronicle::SessionId;
-use crew::{Outlet, Sockets};
-use deliveries::WriteFault;
+use crew::{Backlog, Outlet, Pumped, Sockets};
 use hall::{Naming, Told};
 use indexmap::IndexMap;
 use mio::net::TcpStream;
+use outbox::Gauge;
 use std::alloc::{AllocError, Global};
 use std::io::Write;
 use std::net::Shutdown;
@@ -20,6 +21,9 @@ use wire::Flow;
 
 /// Milliseconds of a pause.
 pub(crate) const PAUSE: u64 = 20;
+
+/// While more octets than these wait for a client, nothing more of it is done.
+const MUCH: u64 = 65_536;
 
 /// What a session's items go out on, to which several threads may write, one at a time: octets as they are, or frames of their lines.
 #[derive(Drop)]
@@ -64,17 +68,21 @@ pub(crate) struct Connection<L: Naming, R: Wait + Copy + Drop> {
     pub(crate) stream: Arc<TcpStream>,
     /// Its WebSocket, where it has one.
     pub(crate) web: Option<Web<R>>,
+    gauge: Gauge,
     worker: usize,
     place: usize,
     is_shut: AtomicBool,
     is_called: AtomicBool,
+    // More waits for it than may.
+    is_beyond: AtomicBool,
 }
 
 impl<L: Naming, R: Wait + Copy + Drop> Connection<L, R> {
-    /// A connection over this stream, at this place of this worker.
+    /// A connection over this stream, at this place of this worker. The gauge is that of its session's outbox.
     pub(crate) fn new(
         stream: Arc<TcpStream>,
         web: Option<Web<R>>,
+        gauge: Gauge,
         worker: usize,
         place: usize,
     ) -> Connection<L, R> {
@@ -82,11 +90,18 @@ impl<L: Naming, R: Wait + Copy + Drop> Connection<L, R> {
             outlet: Outlet::new(),
             stream,
             web,
+            gauge,
             worker,
             place,
             is_shut: AtomicBool::new(false),
             is_called: AtomicBool::new(false),
+            is_beyond: AtomicBool::new(false),
         }
+    }
+
+    /// Whether more waits for it than may, so that its session is to be ended.
+    pub(crate) fn is_beyond(&self) -> bool {
+        self.is_beyond.load(Ordering::SeqCst)
     }
 
     /// Sends a close for this reason, where it is a WebSocket's.
@@ -113,6 +128,12 @@ impl<L: Naming, R: Wait + Copy + Drop> Connection<L, R> {
     }
 }
 
+impl<L: Naming, R: Wait + Copy + Drop> Backlog for Connection<L, R> {
+    fn is_much(&self) -> bool {
+        MUCH < self.gauge.waiting()
+    }
+}
+
 /// The connections of all sessions, and the workers that serve them.
 #[derive(Drop)]
 pub(crate) struct Connections<L: Naming, R: Wait + Copy + Drop> {
@@ -120,24 +141,32 @@ pub(crate) struct Connections<L: Naming, R: Wait + Copy + Drop> {
     by_session: RwLock<IndexMap<u64, Arc<Connection<L, R>>>>,
     posts: Vec<Post>,
     stopping: Arc<Stopping>,
+    /// How many octets may wait for a session besides its newest delivery.
+    most: u64,
+    pub(crate) kept: Kept,
     is_closed: AtomicBool,
     // Connections that were refused and aren't told of yet.
     refused: AtomicU64,
 }
 
 impl<L: Naming, R: Wait + Copy + Drop> Connections<L, R> {
-    /// No connection, of a server with these workers that is asked to stop in this way.
+    /// No connection, of a server with these workers that is asked to stop in this way. So many octets may wait for a session besides
+    /// its newest delivery, and so many octets are read before the journal is rolled.
     pub(crate) fn new(
         rt: R,
         alloc: Global,
         posts: Vec<Post>,
         stopping: Arc<Stopping>,
+        most: u64,
+        journal: u64,
     ) -> Connections<L, R> {
         Connections {
             rt,
             by_session: RwLock::new(IndexMap::new(alloc)),
             posts,
             stopping,
+            most,
+            kept: Kept::new(journal),
             is_closed: AtomicBool::new(false),
             refused: AtomicU64::new(0),
         }
@@ -149,6 +178,12 @@ impl<L: Naming, R: Wait + Copy + Drop> Connections<L, R> {
             self.refused.fetch_add(1, Ordering::SeqCst);
             self.stopping.wake();
         }
+    }
+
+    /// The journal was rolled, which the thread that accepts tells of.
+    pub(crate) fn rolled(&self, dropped: usize) {
+        self.kept.rolled(dropped);
+        self.stopping.wake();
     }
 
     /// How many connections were refused that weren't told of.
@@ -261,23 +296,30 @@ impl<L: Naming, R: Wait + Copy + Drop> View<'_, L, R> {
     }
 
     /// Has a connection's worker look at it where it is to be ended.
-    fn call_after(&self, connection: &Connection<L, R>, flow: Option<Result<Flow, WriteFault>>) {
-        let is_over = matches!(flow, Some(Ok(Flow::Ended) | Err(_)));
+    fn call_after(&self, connection: &Connection<L, R>, pumped: Option<Pumped<L, Output<R>>>) {
+        let is_over = match pumped {
+            Some(pumped) => matches!(pumped.flow, Ok(Flow::Ended) | Err(_)),
+            None => false,
+        };
         if is_over || connection.is_shut() {
             self.call(connection);
         }
     }
 
-    /// Writes what waits for a connection.
+    /// Writes what waits for a connection. Where its stream leaves more waiting than may, its worker ends the session.
     fn write_on(&self, connection: &Connection<L, R>) {
-        let flow = connection.outlet.write_now(&self.all.rt);
-        self.call_after(connection, flow);
+        let pumped = connection.outlet.write_now(&self.all.rt);
+        if self.all.most < connection.gauge.waiting_besides_newest() {
+            connection.is_beyond.store(true, Ordering::SeqCst);
+            self.call(connection);
+        }
+        self.call_after(connection, pumped);
     }
 
     /// Writes what waits for a connection whose stream takes more.
     pub(crate) fn go_on(&self, connection: &Connection<L, R>) {
-        if let Some(flow) = connection.outlet.go_on(&self.all.rt) {
-            self.call_after(connection, Some(flow));
+        if let Some(pumped) = connection.outlet.go_on(&self.all.rt) {
+            self.call_after(connection, Some(pumped));
         }
     }
 
@@ -340,6 +382,10 @@ impl<L: Naming, R: Wait + Clock + Copy + Drop> Sockets for View<'_, L, R> {
 
     fn pause(&self) {
         thread::sleep(&self.all.rt, Duration::from_millis(PAUSE));
+    }
+
+    fn rolled(&self, dropped: usize) {
+        self.all.rolled(dropped);
     }
 
     fn stop(&self) {

@@ -7,6 +7,7 @@ mod clock;
 mod connections;
 mod guests;
 mod hosts;
+mod journal;
 mod lingering;
 mod opening;
 mod post;

@@ -2,7 +2,7 @@
 ghost use Rattle.std.specs.Prelude.{◌≡◌, [], true, Some, IfSome};
 ghost use Rattle.casemapping.specs.Names.{host_shape};
 
-use crate::connections::{Connection, Output, View};
+use crate::connections::{Connection, Connections, Output, View};
 use crate::hosts::host_of;
 use crate::web::Web;
 use chronicle::{Moment, SessionId};
@@ -65,12 +65,13 @@ fn host_twice(alloc: Global, peer: SocketAddr) -> Option<(Octets, Octets)>
 type Given<L, R> = (SessionId, Baton<L, Sender<R>>, Stub<L, ChannelName>);
 
 /// Opens a session in the hall. Where its journal has no room for it, that is rolled, and it is tried again, by the host's copy.
-fn open_or_roll<L: Naming, R: Wait + Drop>(
+fn open_or_roll<L: Naming, R: Wait + Copy + Drop>(
     hall: &mut Hall<L, Sender<R>>,
     host: Octets,
     again: &Octets,
     moment: Moment,
     sender: Sender<R>,
+    all: &Connections<L, R>,
 ) -> Option<Given<L, R>>
     requires host { host_shape host ≡ true }
     requires again { again.now ≡ host }
@@ -86,8 +87,9 @@ fn open_or_roll<L: Naming, R: Wait + Drop>(
     let Ok(host) = again.clone() else {
         return None;
     };
-    if hall.roll().is_err() {
-        return None;
+    match hall.roll() {
+        Ok(rolled) => all.rolled(rolled.dropped),
+        Err(_) => return None,
     }
     match hall.open(host, moment, sender) {
         Ok(given) => Some(given),
@@ -109,7 +111,10 @@ fn open<L: Naming, R: Wait + Clock + Copy + Drop, G: Gate, C: crew::Clock>(
     let Ok((sender, writer)) = pair(*rt, alloc, sendq.max(1)) else {
         return None;
     };
-    let connection = Connection::new(stream, web, server.sockets.worker, place);
+    let Ok(gauge) = writer.gauge().again() else {
+        return None;
+    };
+    let connection = Connection::new(stream, web, gauge, server.sockets.worker, place);
     let Ok(connection) = Arc::new(alloc, connection) else {
         return None;
     };
@@ -123,7 +128,7 @@ fn open<L: Naming, R: Wait + Clock + Copy + Drop, G: Gate, C: crew::Clock>(
         return None;
     }
     let moment = moment_in(&*hall, server.clock.now());
-    let (session, baton, stub) = open_or_roll(&mut *hall, host, &told, moment, sender)?;
+    let (session, baton, stub) = open_or_roll(&mut *hall, host, &told, moment, sender, all)?;
     all.add(session, again);
     Some(Opened {
         tokens: Tokens {

@@ -1,5 +1,5 @@
 //! A server from its start to its end.
-ghost use Rattle.std.specs.Prelude.{◌≡◌, ◌<◌, [], Err};
+ghost use Rattle.std.specs.Prelude.{◌≡◌, ◌<◌, [], false, Err};
 ghost use Rattle.serving.specs.declared.serve.ServeFault.TheVariants.{BadSettings, Memory};
 
 use crate::accepting::{Listeners, accept_on, door_of};
@@ -25,6 +25,18 @@ use std::{io, net, thread};
 
 /// Octets of a worker's stack.
 const STACK: usize = 1_048_576;
+
+/// How many octets may wait for a session besides its newest delivery, where nothing is said.
+const SENDQ_BYTES: u64 = 4_194_304;
+
+/// The least and the most that may be said of it.
+const SENDQ_LIMITS: (u64, u64) = (65_536, 1_073_741_824);
+
+/// How many octets are read of clients before the journal is rolled, where nothing is said.
+const JOURNAL_BYTES: u64 = 67_108_864;
+
+/// The least and the most that may be said of it.
+const JOURNAL_LIMITS: (u64, u64) = (65_536, 68_719_476_736);
 
 /// Why a server didn't start, or ended by itself.
 #[derive(Clone, Copy, Debug, PartialEq)]
@@ -73,10 +85,14 @@ pub struct Options<'a, G: Gate, C: crew::Clock> {
     pub settings: Settings,
     /// How many records its journal keeps, 1 to 10,000,000.
     pub limit: usize,
+    /// How many octets are read of clients before the journal is rolled, 65,536 to 68,719,476,736.
+    pub journal_bytes: u64,
     /// How many threads do its clients' lines, 1 to 64.
     pub workers: usize,
     /// How many deliveries may wait for a session, 1 to 4,096.
     pub sendq: usize,
+    /// How many octets may wait for a session besides its newest delivery, 65,536 to 1,073,741,824.
+    pub sendq_bytes: u64,
     /// What stands round the lines that are done in one hold of the lock.
     pub gate: &'a G,
     pub clock: &'a C,
@@ -284,6 +300,8 @@ struct Terms<'a, G: Gate, C: crew::Clock> {
     clock: &'a C,
     workers: usize,
     sendq: usize,
+    sendq_bytes: u64,
+    journal_bytes: u64,
     is_quiet: bool,
 }
 
@@ -313,7 +331,9 @@ fn serve_in<
         posts,
         stopping,
     } = doors;
-    let connections = Connections::new(*rt, alloc, posts, Arc::try_clone(&stopping)?);
+    let asked = Arc::try_clone(&stopping)?;
+    let (most, journal) = (terms.sendq_bytes, terms.journal_bytes);
+    let connections = Connections::new(*rt, alloc, posts, asked, most, journal);
     if !has_stop(rt, stop, Arc::try_clone(&stopping)?) {
         return Err(ServeFault::Memory);
     }
@@ -376,6 +396,8 @@ fn serve_named<
         clock: options.clock,
         workers: options.workers,
         sendq: options.sendq,
+        sendq_bytes: options.sendq_bytes,
+        journal_bytes: options.journal_bytes,
         is_quiet: options.is_quiet,
     };
     let hall: Hall<L, Sender<R>> = Hall::new(alloc, register, options.settings, options.limit)?;
@@ -385,11 +407,19 @@ fn serve_named<
     served
 }
 
+/// Whether a number is within limits.
+fn is_within(number: u64, limits: (u64, u64)) -> bool
+    ensures low { number < limits.0 → result ≡ false }
+    ensures high { limits.1 < number → result ≡ false }
+{
+    limits.0 <= number && number <= limits.1
+}
+
 /// Serves whoever connects, until `stop` ends or fails.
 ///
 /// Each line is done by one of the workers, between two calls of the gate. Who connects is a session, by WebSocket after its
 /// handshake, whose host is its address. A connection that isn't taken is closed without a line, and told of on standard error: how
-/// many there were, at most once a second, unless the server is to be quiet. At the end every session is told that the server shuts
+/// many there were, at most once a second, unless the server is to be quiet; so are the times that the journal was rolled. At the end every session is told that the server shuts
 /// down, and all threads are joined but the one that reads `stop`.
 ///
 /// # Errors
@@ -406,9 +436,17 @@ pub fn serve_with<
     ensures many_workers { 64 < options.entry.workers → result ≡ Err BadSettings }
     ensures no_room { options.entry.sendq ≡ 0 → result ≡ Err BadSettings }
     ensures much_room { 4096 < options.entry.sendq → result ≡ Err BadSettings }
+    ensures few_octets { options.entry.sendq_bytes < 65536 → result ≡ Err BadSettings }
+    ensures many_octets { 1073741824 < options.entry.sendq_bytes → result ≡ Err BadSettings }
+    ensures small_journal { options.entry.journal_bytes < 65536 → result ≡ Err BadSettings }
+    ensures large_journal { 68719476736 < options.entry.journal_bytes → result ≡ Err BadSettings }
 {
     let (workers, sendq) = (options.workers, options.sendq);
     if workers < 1 || 64 < workers || sendq < 1 || 4096 < sendq {
+        return Err(ServeFault::BadSettings);
+    }
+    let (sendq_bytes, journal_bytes) = (options.sendq_bytes, options.journal_bytes);
+    if !is_within(sendq_bytes, SENDQ_LIMITS) || !is_within(journal_bytes, JOURNAL_LIMITS) {
         return Err(ServeFault::BadSettings);
     }
     let register = Register::new(alloc)?;
@@ -442,8 +480,10 @@ pub fn serve_on<
         ws,
         settings,
         limit,
+        journal_bytes: JOURNAL_BYTES,
         workers,
         sendq,
+        sendq_bytes: SENDQ_BYTES,
         gate,
         clock: &clock,
         is_quiet: false,

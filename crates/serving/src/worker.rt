@@ -21,6 +21,7 @@ use std::sync::{Arc, Wait};
 use std::time::{Clock, Duration, Instant};
 use std::{io, mem, thread};
 use websocket_front::CloseCode;
+use wire::Flow;
 
 /// How many events are looked at before what was put is written.
 pub(crate) const EVENTS: usize = 256;
@@ -55,6 +56,26 @@ pub(crate) struct Worker<L: Naming, R: Wait + Copy + Drop> {
     again: Vec<usize>,
     is_all_again: bool,
     paused: Option<Instant>,
+}
+
+/// Rolls the journal where so much was read since it was last rolled. Where there is no memory for that, it is put off.
+fn roll_where_much<L: Naming, R: Wait + Clock + Copy + Drop, G: Gate, C: crew::Clock>(
+    rt: &R,
+    server: &Serving<'_, L, R, G, C>,
+) {
+    let all = server.sockets.all;
+    if !all.kept.is_much() {
+        return;
+    }
+    let mut hall = server.hall.lock(rt);
+    // Another worker may have done it meanwhile.
+    if !all.kept.is_much() {
+        return;
+    }
+    match hall.roll() {
+        Ok(rolled) => all.rolled(rolled.dropped),
+        Err(_) => all.kept.put_off(),
+    }
 }
 
 impl<L: Naming, R: Wait + Clock + Copy + Drop> Worker<L, R> {
@@ -116,6 +137,37 @@ impl<L: Naming, R: Wait + Clock + Copy + Drop> Worker<L, R> {
         }
     }
 
+    /// Has a client read again in its turn. Where there is no memory for that, its session is ended.
+    fn list<G: Gate, C: crew::Clock>(
+        &mut self,
+        rt: &R,
+        server: &Serving<'_, L, R, G, C>,
+        at: usize,
+        client: Client<L, R>,
+    ) {
+        let mut client = client;
+        client.is_listed = self.more.push_back(at).is_ok();
+        if !client.is_listed {
+            let session = client.baton.session();
+            let _ = hang(rt, server, session, Why::Memory, &mut self.told);
+        }
+        self.put(at, Place::Held(client));
+    }
+
+    /// Puts a client back for which much waits. Where its stream takes nothing now, an event tells when it takes more; where another
+    /// thread writes for it, it is looked at again after a pause.
+    fn hold_up(&mut self, rt: &R, at: usize, client: Client<L, R>) {
+        // What another thread found of the stream may be older than the last event, so this thread tries for itself.
+        let is_told = match client.connection.outlet.go_on(rt) {
+            Some(pumped) => matches!(pumped.flow, Ok(Flow::Behind)),
+            None => false,
+        };
+        self.put(at, Place::Held(client));
+        if !is_told {
+            self.look_again(at);
+        }
+    }
+
     /// Reads a client, and has it read again in its turn where more may be there.
     fn read_at<G: Gate, C: crew::Clock>(
         &mut self,
@@ -125,13 +177,15 @@ impl<L: Naming, R: Wait + Clock + Copy + Drop> Worker<L, R> {
         client: Client<L, R>,
         has_ended: bool,
     ) {
-        let session = client.baton.session();
-        let (mut client, is_more) = read_client(rt, server, client, has_ended, &mut self.told);
-        client.is_listed = is_more && self.more.push_back(at).is_ok();
-        if is_more && !client.is_listed {
-            let _ = hang(rt, server, session, Why::Memory, &mut self.told);
+        let (client, is_more) = read_client(rt, server, client, has_ended, &mut self.told);
+        if is_more {
+            self.list(rt, server, at, client);
+        } else if client.is_held_up {
+            self.hold_up(rt, at, client);
+        } else {
+            self.put(at, Place::Held(client));
         }
-        self.put(at, Place::Held(client));
+        roll_where_much(rt, server);
     }
 
     /// Sees to a client that something happened to.
@@ -156,6 +210,9 @@ impl<L: Naming, R: Wait + Clock + Copy + Drop> Worker<L, R> {
                     }
                     server.sockets.go_on(&client.connection);
                 }
+                // What its input has is read once less waits, also its end, of which no other event tells.
+                let has_ended = has_ended || client.is_held_up;
+                let is_readable = is_readable || client.is_held_up;
                 // One that may have more has its turn, also where its input has ended.
                 if is_readable && !client.is_listed {
                     self.read_at(rt, server, at, client, has_ended);
@@ -251,10 +308,13 @@ impl<L: Naming, R: Wait + Clock + Copy + Drop> Worker<L, R> {
             return;
         };
         client.connection.begin_look();
-        let is_shut = client.connection.is_shut();
         let session = client.baton.session();
+        if client.connection.is_beyond() && !client.connection.is_shut() {
+            let _ = hang(rt, server, session, Why::SendQ, &mut self.told);
+        }
+        let is_shut = client.connection.is_shut();
         let outlet = &client.connection.outlet;
-        let standing = write_some(rt, server, session, outlet, is_shut, &mut self.told);
+        let standing = write_some(rt, server, session, outlet, is_shut, &mut self.told).standing;
         if is_pause && client.is_waiting {
             client.tries = client.tries.saturating_add(1);
         }
@@ -264,6 +324,9 @@ impl<L: Naming, R: Wait + Clock + Copy + Drop> Worker<L, R> {
         if is_shut && (is_pause || !client.is_waiting) {
             client.is_waiting = true;
             self.look_again(at);
+        }
+        if client.is_held_up && !client.is_listed && !is_shut {
+            return self.read_at(rt, server, at, client, true);
         }
         self.put(at, Place::Held(client));
     }
@@ -391,6 +454,7 @@ impl<L: Naming, R: Wait + Clock + Copy + Drop> Worker<L, R> {
                     intake,
                     payloads,
                     is_listed: false,
+                    is_held_up: false,
                     is_waiting: false,
                     tries: 0,
                 };

@@ -9,8 +9,12 @@ pub record IsWithinLimits (o : ServeOptions) : Type 0 where
   pub few_workers : o.workers ≤ 64
   pub some_items : 1 ≤ o.sendq
   pub few_items : o.sendq ≤ 4096
+  pub some_octets : 65536 ≤ o.sendq_bytes
+  pub few_octets : o.sendq_bytes ≤ 1073741824
   pub some_records : 1 ≤ o.limit
   pub few_records : o.limit ≤ 10000000
+  pub small_journal : 65536 ≤ o.journal_bytes
+  pub large_journal : o.journal_bytes ≤ 68719476736
 
 -- it listens somewhere: where not by TCP, by WebSocket
 abbrev pub IsSomewhere : ServeOptions → Type 0

@@ -31,8 +31,12 @@ pub struct ServeOptions<'a> {
     pub workers: u64,
     /// How many items may wait for a session, 1 to 4,096.
     pub sendq: u64,
+    /// How many octets may wait for a session besides its newest item, 65,536 to 1,073,741,824.
+    pub sendq_bytes: u64,
     /// How many records the journal keeps, 1 to 10,000,000.
     pub limit: u64,
+    /// How many octets are read of clients before the journal drops its records, 65,536 to 68,719,476,736.
+    pub journal_bytes: u64,
     /// The file of the accounts.
     pub accounts: Option<&'a str>,
     /// The file of the message of the day.
@@ -80,7 +84,9 @@ fn serve_command<'a>(alloc: Global) -> Result<Command<'a>, AllocError> {
     let name = option(alloc, "name", "HOST", "The server's name");
     let workers = "Lines that are worked on at a time, 1 to 64";
     let sendq = "Items that may wait for a session, 1 to 4096";
+    let bytes = "Octets that may wait for a session besides its newest item, 65536 to 1073741824";
     let limit = "Records that the journal keeps, 1 to 10000000";
+    let journal = "Octets that are read before the journal's records go, 65536 to 68719476736";
     let accounts = "Accounts, a line NAME SALT DIGEST each";
     let motd = "The message of the day";
     let quiet = "Don't say where it listens, nor whom it refuses";
@@ -91,7 +97,21 @@ fn serve_command<'a>(alloc: Global) -> Result<Command<'a>, AllocError> {
         .arg(name.default_value("irc.example"))?
         .arg(number(alloc, "workers", (1, 64), "2", workers))?
         .arg(number(alloc, "sendq", (1, 4096), "256", sendq))?
-        .arg(number(alloc, "limit", (1, 10_000_000), "1000000", limit))?
+        .arg(number(
+            alloc,
+            "sendq-bytes",
+            (65_536, 1_073_741_824),
+            "4194304",
+            bytes,
+        ))?
+        .arg(number(alloc, "limit", (1, 10_000_000), "100000", limit))?
+        .arg(number(
+            alloc,
+            "journal-bytes",
+            (65_536, 68_719_476_736),
+            "67108864",
+            journal,
+        ))?
         .arg(option(alloc, "accounts", "FILE", accounts))?
         .arg(option(alloc, "motd", "FILE", motd))?
         .arg(
@@ -177,7 +197,17 @@ fn serve_options<'a>(alloc: Global, matches: &ArgMatches<'a>) -> Result<ServeOpt
         name: matches.get_str("name").unwrap_or("irc.example"),
         workers: within(matches.get_one("workers"), (1, 64), 2),
         sendq: within(matches.get_one("sendq"), (1, 4096), 256),
-        limit: within(matches.get_one("limit"), (1, 10_000_000), 1_000_000),
+        sendq_bytes: within(
+            matches.get_one("sendq-bytes"),
+            (65_536, 1_073_741_824),
+            4_194_304,
+        ),
+        limit: within(matches.get_one("limit"), (1, 10_000_000), 100_000),
+        journal_bytes: within(
+            matches.get_one("journal-bytes"),
+            (65_536, 68_719_476_736),
+            67_108_864,
+        ),
         accounts: matches.get_str("accounts"),
         motd: matches.get_str("motd"),
         is_quiet: matches.get_flag("quiet"),

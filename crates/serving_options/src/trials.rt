@@ -11,19 +11,19 @@ type Numbers = (&'static [&'static str], (u64, u64, u64));
 const NUMBERS: [Numbers; 6] = [
     (
         &["halld", "serve", "--tcp", "127.0.0.1:6667"],
-        (2, 256, 1_000_000),
+        (2, 256, 100_000),
     ),
     (
         &["halld", "serve", "--workers", "1", "--tcp=[::1]:1"],
-        (1, 256, 1_000_000),
+        (1, 256, 100_000),
     ),
     (
         &["halld", "serve", "--ws", "127.0.0.1:8067"],
-        (2, 256, 1_000_000),
+        (2, 256, 100_000),
     ),
     (
         &["halld", "serve", "--tcp", "0.0.0.0:0", "--workers", "64"],
-        (64, 256, 1_000_000),
+        (64, 256, 100_000),
     ),
     (
         &[
@@ -67,6 +67,46 @@ fn numbers_are_read(rt: HostRuntime) {
     }
 }
 
+/// Words after `serve`, and the octets that may wait and that are read before the journal's records go.
+const OCTETS: [(&[&str], (u64, u64)); 3] = [
+    (
+        &["halld", "serve", "--tcp", "0.0.0.0:0"],
+        (4_194_304, 67_108_864),
+    ),
+    (
+        &[
+            "halld",
+            "serve",
+            "--tcp",
+            "0.0.0.0:0",
+            "--sendq-bytes",
+            "65536",
+            "--journal-bytes=68719476736",
+        ],
+        (65_536, 68_719_476_736),
+    ),
+    (
+        &[
+            "halld",
+            "serve",
+            "--tcp",
+            "0.0.0.0:0",
+            "--sendq-bytes=1073741824",
+            "--journal-bytes",
+            "65536",
+        ],
+        (1_073_741_824, 65_536),
+    ),
+];
+
+#[test]
+fn octets_are_read(rt: HostRuntime) {
+    for (words, octets) in OCTETS {
+        let found = served(rt.alloc(), words).map(|it| (it.sendq_bytes, it.journal_bytes));
+        assert_eq!(rt; found, Some(octets), "{words:?}");
+    }
+}
+
 #[test]
 fn addresses_are_read(rt: HostRuntime) {
     let words = ["halld", "serve", "--ws", "127.0.0.1:8067"];
@@ -99,7 +139,7 @@ fn texts_are_read(rt: HostRuntime) {
 }
 
 /// Words that are refused, and why; help and the version are asked for in the same way.
-const REFUSED: [(&[&str], ErrorKind); 13] = [
+const REFUSED: [(&[&str], ErrorKind); 17] = [
     (&["halld"], ErrorKind::MissingSubcommand),
     (&["halld", "sing"], ErrorKind::InvalidSubcommand),
     (&["halld", "serve"], ErrorKind::MissingRequiredArgument),
@@ -156,6 +196,50 @@ const REFUSED: [(&[&str], ErrorKind); 13] = [
             "127.0.0.1:6667",
             "--limit",
             "10000001",
+        ],
+        ErrorKind::ValueValidation,
+    ),
+    (
+        &[
+            "halld",
+            "serve",
+            "--tcp",
+            "127.0.0.1:6667",
+            "--sendq-bytes",
+            "65535",
+        ],
+        ErrorKind::ValueValidation,
+    ),
+    (
+        &[
+            "halld",
+            "serve",
+            "--tcp",
+            "127.0.0.1:6667",
+            "--sendq-bytes",
+            "1073741825",
+        ],
+        ErrorKind::ValueValidation,
+    ),
+    (
+        &[
+            "halld",
+            "serve",
+            "--tcp",
+            "127.0.0.1:6667",
+            "--journal-bytes",
+            "65535",
+        ],
+        ErrorKind::ValueValidation,
+    ),
+    (
+        &[
+            "halld",
+            "serve",
+            "--tcp",
+            "127.0.0.1:6667",
+            "--journal-bytes",
+            "68719476737",
         ],
         ErrorKind::ValueValidation,
     ),

@@ -6,6 +6,7 @@ ghost use Rattle.wire.specs.Gathering.{gathered_contents, pauses_of};
 
 use crate::stream::{Stop, Stream};
 use deliveries::WriteFault;
+use outbox::Gauge;
 use std::alloc::{AllocError, Global};
 use std::io::Write;
 
@@ -24,6 +25,8 @@ const MOST: usize = 65_536;
 pub(crate) struct Gathered<W: Write + Drop> {
     pub(crate) stream: Stream<W>,
     pub(crate) waiting: Vec<u8>,
+    /// It is told what the stream took.
+    gauge: Gauge,
 }
 
 /// Writes octets until all are written or a write fails, and answers how many were written.
@@ -56,8 +59,8 @@ fn remove_front(octets: &mut Vec<u8>, count: usize)
 }
 
 impl<W: Write + Drop> Gathered<W> {
-    /// A stream for which nothing waits.
-    pub(crate) fn new(alloc: Global, stream: W) -> Result<Gathered<W>, AllocError>
+    /// A stream for which nothing waits, and the gauge of what goes out on it.
+    pub(crate) fn new(alloc: Global, stream: W, gauge: Gauge) -> Result<Gathered<W>, AllocError>
         ensures stream { IfOk result (λ g. g.stream.inner ≡ stream) }
         ensures none { IfOk result (λ g. g.waiting.items ≡ []) }
     {
@@ -65,6 +68,7 @@ impl<W: Write + Drop> Gathered<W> {
         Ok(Gathered {
             stream: Stream::new(stream),
             waiting,
+            gauge,
         })
     }
 
@@ -117,6 +121,7 @@ impl<W: Write + Drop> Gathered<W> {
     {
         let (count, written) = write_front(self.waiting.as_slice(), &mut self.stream);
         remove_front(&mut self.waiting, count);
+        self.gauge.go_out(count as u64);
         written
     }
 
@@ -134,7 +139,9 @@ impl<W: Write + Drop> Gathered<W> {
         if self.keep(octets) {
             return Ok(octets.len());
         }
-        self.stream.write(octets)
+        let count = self.stream.write(octets)?;
+        self.gauge.go_out(count as u64);
+        Ok(count)
     }
 
     /// Writes what waits, and has the stream give it on.

@@ -12,7 +12,7 @@ use chronicle::SessionId;
 use deliveries::{Delivery, WriteFault};
 use ghosts::Snapshot;
 use line_grammar::Octets;
-use outbox::{Bell, ChannelName, Writer};
+use outbox::{Bell, ChannelName, Gauge, Writer};
 use register::{Naming, Stub};
 use std::alloc::Global;
 use std::io::Write;
@@ -83,7 +83,10 @@ impl<L: Naming, W: Write + Drop> Wire<L, W> {
     {
         let writer_before = Snapshot::of(&writer);
         let stream_before = Snapshot::of(&stream);
-        let Ok(out) = Gathered::new(alloc, stream) else {
+        let Ok(gauge) = writer.gauge().again() else {
+            return Err((writer, stub, host));
+        };
+        let Ok(out) = Gathered::new(alloc, stream, gauge) else {
             return Err((writer, stub, host));
         };
         Ok(Wire {
@@ -211,6 +214,11 @@ impl<L: Naming, W: Write + Drop> Wire<L, W> {
     /// The bell that ends a rest of whoever pumps.
     pub fn bell(&self) -> &Bell {
         self.writer.bell()
+    }
+
+    /// How much waits for its session: in its outbox, and in the wire itself.
+    pub fn gauge(&self) -> &Gauge {
+        self.writer.gauge()
     }
 
     /// What holds of every wire: what went out is the texts of the items taken since it was made, in order, but for a rest.

@@ -172,6 +172,53 @@ fn writes_for<L: Naming, R: Wait + Abort + Drop + Copy>(
     }
 }
 
+/// Whether the gauge of a wire over a stream of this shape tells, after each call, of all octets that the stream hasn't.
+fn is_gauged<L: Naming, R: Wait + Abort + Drop + Copy>(
+    rt: &R,
+    alloc: Global,
+    register: Register<ChannelName>,
+    shape: Shape,
+) -> bool
+    requires named { register.table ≡ L.table }
+    requires new { register.rows ≡ [] }
+{
+    let (_feed, mut wire) = fed::<L, R>(rt, alloc, register, shape, ITEMS);
+    let besides = OCTETS - TOLD.len();
+    if wire.gauge().waiting_besides_newest() != besides as u64 {
+        return false;
+    }
+    for _ in 0..CALLS {
+        let waiting = OCTETS.saturating_sub(wire.stream().octets.len());
+        if wire.gauge().waiting() != waiting as u64 {
+            return false;
+        }
+        match wire.pump(rt) {
+            Ok(Flow::Idle) => return wire.gauge().waiting() == 0,
+            Ok(_) => {}
+            Err(_) => return false,
+        }
+    }
+    false
+}
+
+#[test]
+fn a_gauge_tells_what_waits(rt: HostRuntime) -> Result<(), Fail> {
+    for (most, period) in SLOW {
+        let shape = Shape {
+            most,
+            left: 99_999,
+            period,
+            fails: true,
+        };
+        let register = Register::new(rt.alloc())?;
+        assert!(rt;
+            is_gauged::<Brand, _>(&rt, rt.alloc(), register, shape),
+            "{most} at a time"
+        );
+    }
+    Ok(())
+}
+
 /// Items, and the writes in which they go out: 1,456 items have 65,520 octets, and one more would have more than 65,536.
 const WRITES: [(u64, u32); 5] = [(0, 0), (1, 1), (100, 1), (1456, 1), (1457, 2)];
 
