@@ -11,7 +11,7 @@ use Rattle.crew.specs.Timing.{IsAt}
 use Rattle.crew.specs.declared.working.Outcome.{Outcome}
 use Rattle.crew.specs.declared.working.Outcome.TheVariants.{Done, Refused}
 use Rattle.crew.specs.declared.reading.Next.{Next}
-use Rattle.crew.specs.declared.reading.Next.TheVariants.{More, Short, Nothing, Over}
+use Rattle.crew.specs.declared.reading.Next.TheVariants.{More, Short, Nothing, Left, Over}
 
 -- a fact of a line that was done
 abbrev pub OnDone : Outcome → Type 0 → Type 0
@@ -66,31 +66,38 @@ pub record DoesLines (before after : Option (List ℕ)) (old new : List Piece) (
   pub front : DoesFront old new (lines octets)
   pub whole : all ≡ true → new ≡ old ++ lines octets
 
--- octets come after a stream: of the pieces that end in them the first were done, in order, after the old ones
-pub record DoesNext (stream octets : List ℕ) (old new : List Piece) : Type 0 where
+-- what a clause sees of an intake: what is kept of the unfinished line, and the pieces that were read and aren't done
+pub record Taken : Type 0 where
+  pub kept : Option (List ℕ)
+  pub pieces : List Piece
+
+-- octets come after a stream: of the pieces that an intake had left and those that end in the octets the first were done, in order,
+-- after the old ones; where `all` is true the others are left in the intake, in order, and it keeps the unfinished line
+pub record DoesNext (stream octets : List ℕ) (was now : Taken) (old new : List Piece) (all : Bool) : Type 0 where
   pub pieces : List Piece
   pub adds : lines (stream ++ octets) ≡ lines stream ++ pieces
-  pub front : DoesFront old new pieces
+  pub front : DoesFront old new (was.pieces ++ pieces)
+  pub leaves : all ≡ true → now.pieces ≡ front.left
+  pub keeps : all ≡ true → now.kept ≡ left_by (stream ++ octets)
 
--- octets come after a stream: all pieces that end in them were done, in order, after the old ones, and this is kept of the
--- unfinished line
-pub record DoesAllNext (stream octets : List ℕ) (now : Option (List ℕ)) (old new : List Piece) : Type 0 where
-  pub pieces : List Piece
-  pub adds : lines (stream ++ octets) ≡ lines stream ++ pieces
-  pub grown : new ≡ old ++ pieces
-  pub keeps : now ≡ left_by (stream ++ octets)
-
--- one read of a stream of which this was kept: the next octets were read, of whose pieces the first were done; all of them where
--- `all` is true
-pub record DoesRead (before after : Option (List ℕ)) (kept now : Option (List ℕ)) (old new : List Piece) (all : Bool) : Type 0 where
+-- the next octets of a stream were read, whatever came before, of which the intake kept what was unfinished
+pub record DoesRead (before after : Option (List ℕ)) (was now : Taken) (old new : List Piece) (all : Bool) : Type 0 where
   pub octets : List ℕ
   pub read : Consumes before after octets
-  pub next : (stream : List ℕ) → kept ≡ left_by stream → DoesNext stream octets old new
-  pub whole : all ≡ true → (stream : List ℕ) → kept ≡ left_by stream → DoesAllNext stream octets now old new
+  pub next : (stream : List ℕ) → was.kept ≡ left_by stream → DoesNext stream octets was now old new all
 
 -- no more is read
 abbrev pub is_over : Next → Bool
 is_over More = false
 is_over Short = false
 is_over Nothing = false
+is_over Left = false
 is_over (Over why) = true
+
+-- nothing more is read, nor done, for now
+abbrev pub is_left : Next → Bool
+is_left More = false
+is_left Short = false
+is_left Nothing = false
+is_left Left = true
+is_left (Over why) = false

@@ -1,19 +1,22 @@
 -- What is read of a stream: words of private contracts.
-use Rattle.std.specs.Prelude.{◌≡◌, ℕ, List, [], ◌++◌, Option}
+use Rattle.std.specs.Prelude.{◌≡◌, ℕ, Bool, true, List, [], ◌++◌, Option}
 use Rattle.std.specs.Io.KnownBytes.{Consumes}
 use Rattle.line_grammar.specs.declared.splitter.Piece.{Piece}
 use Rattle.line_grammar.specs.Lines.{lines, left_by, Feeds}
-
--- what a clause sees of an intake: what is kept of the unfinished line, and the pieces of the last read
-pub record Taken : Type 0 where
-  pub kept : Option (List ℕ)
-  pub pieces : List Piece
+use Rattle.crew.specs.Doing.{Taken, DoesFront}
 
 -- the next octets were read, and these are the pieces that end in them
 pub record TakesIn (before after : Option (List ℕ)) (kept now : Option (List ℕ)) (pieces : List Piece) : Type 0 where
   pub octets : List ℕ
   pub read : Consumes before after octets
   pub feeds : (stream : List ℕ) → kept ≡ left_by stream → Feeds stream octets now [] pieces
+
+-- of the pieces of an intake the first were done, in order, after the old ones; where `all` is true the others are left in it, in
+-- order. What is unfinished stays as it was
+pub record DoesPieces (was now : Taken) (old new : List Piece) (all : Bool) : Type 0 where
+  pub front : DoesFront old new was.pieces
+  pub leaves : all ≡ true → now.pieces ≡ front.left
+  pub keeps : now.kept ≡ was.kept
 
 -- octets were read, all of whose lines were done after the old ones, and this is kept of the unfinished one
 pub record HasDone (before after : Option (List ℕ)) (old new : List Piece) (now : Option (List ℕ)) : Type 0 where

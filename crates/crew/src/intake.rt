@@ -1,5 +1,5 @@
 //! What is read of a session's input.
-ghost use Rattle.std.specs.Prelude.{◌≡◌, ℕ, List, [], true, None, OnOk, OnErr, IfOk, IfErr};
+ghost use Rattle.std.specs.Prelude.{◌≡◌, ◌≤◌, ◌↔◌, ℕ, List, [], length, drop, true, false, None, OnOk, OnErr, IfOk, IfErr};
 ghost use Rattle.std.specs.Io.KnownBytes.{Consumes};
 ghost use Rattle.line_grammar.specs.Lines.{left_by};
 ghost use Rattle.crew.specs.Taking.{TakesIn};
@@ -19,22 +19,27 @@ const MUCH: usize = 4096;
 /// Lines of one read for which room is kept.
 const LINES: usize = 16;
 
-/// What is read of a session's input and isn't done: the lines as they come, and room for what is read: for much after a read that
-/// filled the room, and for little again after one that brought little.
+/// What is read of a session's input and isn't done: the lines of the last read, of which some may be left, the unfinished line, and
+/// room for what is read: for much after a read that filled the room, and for little again after one that brought little.
 #[derive(Drop)]
 pub struct Intake {
     splitter: Splitter,
     pieces: Vec<Piece>,
+    /// How many of the pieces are done.
+    done: usize,
     buffer: Vec<u8>,
     last: usize,
 }
 
 impl Model for Intake {
-    ghost use Rattle.crew.specs.Taking.{Taken};
+    ghost use Rattle.std.specs.Prelude.{◌≤◌, drop, length};
+    ghost use Rattle.crew.specs.Doing.{Taken};
 
     ghost Value = { Taken };
 
-    ghost view = { λ a. record { kept = a.splitter; pieces = a.pieces.items } };
+    ghost view = { λ a. record { kept = a.splitter; pieces = drop a.done a.pieces.items } };
+
+    ghost invariant = { λ a. a.done ≤ length a.pieces.items };
 }
 
 /// Why nothing was read, or nothing more can be, and whether all that was read was cut.
@@ -57,21 +62,39 @@ fn why_of(error: &Error) -> Option<Why> {
 impl Intake {
     /// Nothing is read yet.
     pub fn new(alloc: Global) -> Result<Intake, AllocError>
-        ensures { IfOk result (λ i. i.kept ≡ left_by []) }
+        ensures kept { IfOk result (λ i. i.kept ≡ left_by []) }
+        ensures none { IfOk result (λ i. i.pieces ≡ []) }
     {
         Ok(Intake {
             splitter: Splitter::new(alloc),
             pieces: Vec::new(alloc),
+            done: 0,
             buffer: vec![in alloc; 0u8; LITTLE]?,
             last: 0,
         })
     }
 
-    /// The lines that ended in what was read last.
+    /// Whether lines were read that aren't done.
+    pub fn has_lines(&self) -> bool
+        ensures { (result ≡ false) ↔ (self.now.pieces ≡ []) }
+    {
+        self.done < self.pieces.len()
+    }
+
+    /// The lines that were read and aren't done.
     pub(crate) fn pieces(&self) -> &[Piece]
         ensures { result.now ≡ self.now.pieces }
     {
-        &self.pieces
+        &self.pieces[self.done..]
+    }
+
+    /// So many more of the lines are done.
+    pub(crate) fn advance(&mut self, count: usize)
+        requires { count ≤ length self.old.pieces }
+        ensures kept { self.new.kept ≡ self.old.kept }
+        ensures pieces { self.new.pieces ≡ drop count self.old.pieces }
+    {
+        self.done += count;
     }
 
     /// Whether the last read filled the room, so that more may be there at once.
@@ -84,6 +107,7 @@ impl Intake {
         ensures kept { self.new.kept ≡ self.old.kept }
         ensures none { self.new.pieces ≡ [] }
     {
+        self.done = 0;
         self.pieces.clear();
         self.pieces.shrink_to(LINES);
         if self.is_full() {
@@ -94,11 +118,12 @@ impl Intake {
         }
     }
 
-    /// Reads once, and cuts what that brings into lines.
+    /// Reads once, and cuts what that brings into lines, which stand in place of those before.
     pub(crate) fn take_in<I: Read>(&mut self, input: &mut I) -> Result<(), Ending>
         ensures ok { OnOk result (TakesIn (I.remaining input.old) (I.remaining input.new) self.old.kept self.new.kept self.new.pieces) }
         ensures all { IfErr result (λ e. e.all ≡ true → TakesIn (I.remaining input.old) (I.remaining input.new) self.old.kept self.new.kept []) }
         ensures nothing { IfErr result (λ e. e.why ≡ None → e.all ≡ true) }
+        ensures none { OnErr result (self.new.pieces ≡ []) }
         ensures some { OnErr result ((octets : List ℕ) × Consumes (I.remaining input.old) (I.remaining input.new) octets) }
     {
         self.make_ready();

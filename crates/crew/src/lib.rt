@@ -3,6 +3,7 @@
 //! A call that waits owes no return. What is promised of it holds if it returns.
 #![tactic(auto)]
 
+mod backlog;
 mod closing;
 mod desk;
 mod intake;
@@ -14,6 +15,7 @@ mod telling;
 mod working;
 mod writing;
 
+pub use backlog::{Backlog, NoBacklog};
 pub use closing::{close_now, close_up};
 pub use desk::Desk;
 pub use intake::Intake;

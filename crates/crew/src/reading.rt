@@ -1,13 +1,15 @@
 //! Reading a session's lines.
-ghost use Rattle.std.specs.Prelude.{◌≡◌, true, false};
-ghost use Rattle.crew.specs.Doing.{DoesLines, DoesRead, is_over};
+ghost use Rattle.std.specs.Prelude.{◌≡◌, [], true, false};
+ghost use Rattle.crew.specs.Doing.{DoesLines, DoesRead, is_left, is_over};
+ghost use Rattle.crew.specs.Taking.{DoesPieces};
 
+use crate::backlog::{Backlog, NoBacklog};
 use crate::desk::Desk;
 use crate::intake::Intake;
 use crate::server::{Clock, Gate, Server, Sockets};
 use crate::shutting::hang;
 use crate::telling::tell;
-use crate::working::{Worked, work_by};
+use crate::working::{Front, Until, Worked, work_by};
 use chronicle::Why;
 use hall::{Baton, Naming, Told};
 use outbox::Sender;
@@ -24,6 +26,8 @@ pub enum Next {
     Short,
     /// Nothing was there.
     Nothing,
+    /// Much waits for the session: nothing is read until less does, and lines may be left in the intake.
+    Left,
     /// No more is read. The session, if it is still open, is to be ended for this reason.
     Over(Why),
 }
@@ -36,20 +40,65 @@ pub struct Took<L: Naming, R: Wait + Drop> {
     pub next: Next,
 }
 
-/// Reads once, as `read_some` does, and has the lines done under a slot where there is a desk.
-fn read_by<'a, L: Naming, I: Read, R: Wait + Drop, G: Gate, S: Sockets, C: Clock>(
+/// Has the lines done that the intake has, until one is refused or much waits for the session. Where all were, reading goes on so.
+fn do_lines<'a, L: Naming, R: Wait + Drop, G: Gate, S: Sockets, C: Clock, B: Backlog>(
     rt: &R,
     server: &Server<'a, L, R, G, S, C>,
     desk: Option<&'a Desk>,
+    backlog: &B,
+    intake: &mut Intake,
+    baton: Baton<L, Sender<R>>,
+    then: Next,
+    told: &mut Told,
+) -> Took<L, R>
+    requires { is_left then ≡ false }
+    ensures lines { DoesPieces intake.old intake.new baton.pieces result.baton.pieces result.all }
+    ensures goes_on { is_over result.next ≡ false → result.all ≡ true }
+    ensures none_left { result.all ≡ true → is_left result.next ≡ false → intake.new.pieces ≡ [] }
+    ensures much { is_left result.next ≡ true → B.finds_much backlog.now }
+    ensures session { result.baton.session ≡ baton.session }
+{
+    let Front {
+        baton,
+        count,
+        until,
+    } = work_by(rt, server, desk, backlog, baton, intake.pieces(), told);
+    intake.advance(count);
+    let (all, next) = match until {
+        Until::Done => (true, then),
+        Until::Refused => (false, Next::Over(Why::ReadFailed)),
+        Until::Much => (true, Next::Left),
+    };
+    Took { baton, all, next }
+}
+
+/// Does the lines that are left or reads once, as `read_some` does, and has the lines done under a slot where there is a desk.
+fn read_by<'a, L: Naming, I: Read, R: Wait + Drop, G: Gate, S: Sockets, C: Clock, B: Backlog>(
+    rt: &R,
+    server: &Server<'a, L, R, G, S, C>,
+    desk: Option<&'a Desk>,
+    backlog: &B,
     intake: &mut Intake,
     baton: Baton<L, Sender<R>>,
     input: &mut I,
     told: &mut Told,
 ) -> Took<L, R>
-    ensures lines { DoesRead (I.remaining input.old) (I.remaining input.new) intake.old.kept intake.new.kept baton.pieces result.baton.pieces result.all }
+    ensures lines { DoesRead (I.remaining input.old) (I.remaining input.new) intake.old intake.new baton.pieces result.baton.pieces result.all }
     ensures goes_on { is_over result.next ≡ false → result.all ≡ true }
+    ensures none_left { result.all ≡ true → is_left result.next ≡ false → intake.new.pieces ≡ [] }
+    ensures much { is_left result.next ≡ true → B.finds_much backlog.now }
     ensures session { result.baton.session ≡ baton.session }
 {
+    if backlog.is_much() {
+        return Took {
+            baton,
+            all: true,
+            next: Next::Left,
+        };
+    }
+    if intake.has_lines() {
+        return do_lines(rt, server, desk, backlog, intake, baton, Next::More, told);
+    }
     if let Err(ending) = intake.take_in(input) {
         let next = match ending.why {
             Some(why) => Next::Over(why),
@@ -61,36 +110,38 @@ fn read_by<'a, L: Naming, I: Read, R: Wait + Drop, G: Gate, S: Sockets, C: Clock
             next,
         };
     }
-    let Worked { baton, all } = work_by(rt, server, desk, baton, intake.pieces(), told);
-    let next = if !all {
-        Next::Over(Why::ReadFailed)
-    } else if intake.is_full() {
+    let then = if intake.is_full() {
         Next::More
     } else {
         Next::Short
     };
-    Took { baton, all, next }
+    do_lines(rt, server, desk, backlog, intake, baton, then, told)
 }
 
-/// Reads once, and has the lines done that end in what that brings, as `work` does, but without a slot: the caller is one of the
-/// server's workers. Who got something stands in `told`, as after `work`. A stream that has nothing now is no fault:
-/// `Next::Nothing`.
+/// Has the lines done that the intake has left, if there are any, and else reads once and has the lines done that end in what that
+/// brings, as `work` does, but without a slot: the caller is one of the server's workers. While much waits for the session, by its
+/// backlog, nothing is read and no further line is done: `Next::Left`; before that, all who got something are told. Else who got
+/// something stands in `told`, as after `work`. A stream that has nothing now is no fault: `Next::Nothing`.
 ///
-/// Whatever stream came before, of which the intake kept what is unfinished: of the pieces that end in the octets that were read, the
-/// first were done with the baton that comes back, in order, and all of them where `all` is true, which it is where reading goes on.
-pub fn read_some<L: Naming, I: Read, R: Wait + Drop, G: Gate, S: Sockets, C: Clock>(
+/// Whatever stream came before, of which the intake kept what is unfinished: of the lines that were left in the intake, and then of
+/// those that end in the octets that were read, the first were done with the baton that comes back, in order. Where `all` is true,
+/// which it is where reading goes on, the others are left in the intake, in order, and there are none unless much was found to wait.
+pub fn read_some<L: Naming, I: Read, B: Backlog, R: Wait + Drop, G: Gate, S: Sockets, C: Clock>(
     rt: &R,
     server: &Server<'_, L, R, G, S, C>,
     intake: &mut Intake,
     baton: Baton<L, Sender<R>>,
+    backlog: &B,
     input: &mut I,
     told: &mut Told,
 ) -> Took<L, R>
-    ensures lines { DoesRead (I.remaining input.old) (I.remaining input.new) intake.old.kept intake.new.kept baton.pieces result.baton.pieces result.all }
+    ensures lines { DoesRead (I.remaining input.old) (I.remaining input.new) intake.old intake.new baton.pieces result.baton.pieces result.all }
     ensures goes_on { is_over result.next ≡ false → result.all ≡ true }
+    ensures none_left { result.all ≡ true → is_left result.next ≡ false → intake.new.pieces ≡ [] }
+    ensures much { is_left result.next ≡ true → B.finds_much backlog.now }
     ensures session { result.baton.session ≡ baton.session }
 {
-    read_by(rt, server, None, intake, baton, input, told)
+    read_by(rt, server, None, backlog, intake, baton, input, told)
 }
 
 /// Waits a little where nothing was there to be read.
@@ -123,7 +174,16 @@ fn read_lines<'a, L: Naming, I: Read, R: Wait + Drop, G: Gate, S: Sockets, C: Cl
         if server.sockets.is_shut(session) {
             break;
         }
-        let took = read_by(rt, server, Some(desk), &mut intake, baton, input, told);
+        let took = read_by(
+            rt,
+            server,
+            Some(desk),
+            &NoBacklog,
+            &mut intake,
+            baton,
+            input,
+            told,
+        );
         tell(server, told);
         rest_after(server.sockets, took.next);
         match took.next {
@@ -134,7 +194,7 @@ fn read_lines<'a, L: Naming, I: Read, R: Wait + Drop, G: Gate, S: Sockets, C: Cl
                 },
                 why,
             ),
-            Next::More | Next::Short | Next::Nothing => baton = took.baton,
+            Next::More | Next::Short | Next::Nothing | Next::Left => baton = took.baton,
         }
     }
     (Worked { baton, all: true }, Why::ReadFailed)

@@ -1,12 +1,13 @@
 //! Doing lines.
-ghost use Rattle.std.specs.Prelude.{◌≡◌, ◌++◌, ◌∷◌, [], true, false, IfOk, OnOk, OnErr};
+ghost use Rattle.std.specs.Prelude.{◌≡◌, ◌≤◌, ◌++◌, ◌∷◌, [], length, take, true, false, IfOk, OnOk, OnErr};
 ghost use Rattle.crew.specs.Doing.{OnDone, OnRefused, IfDone, TellsOf, IsSeenTo, IsNewestSeenTo, DoesFront};
 ghost use Rattle.crew.specs.Timing.{IsAt, IsNext};
 
+use crate::backlog::{Backlog, NoBacklog};
 use crate::desk::Desk;
 use crate::server::{Clock, Gate, Server, Sockets, later};
 use crate::shutting::{end_refused, shut_those};
-use crate::telling::{are_many, tell_many};
+use crate::telling::{are_many, tell, tell_many};
 use chronicle::{Moment, SessionId};
 use hall::{Baton, Done, Hall, LineRefusal, Naming, RollRefusal, Told};
 use line_grammar::Piece;
@@ -42,6 +43,25 @@ pub struct Back<L: Naming, R: Wait + Drop> {
 pub struct Worked<L: Naming, R: Wait + Drop> {
     pub baton: Baton<L, Sender<R>>,
     pub all: bool,
+}
+
+/// Why no further line was done.
+#[derive(Clone, Copy, Debug, Drop, PartialEq)]
+pub(crate) enum Until {
+    /// All were done.
+    Done,
+    /// One wasn't.
+    Refused,
+    /// Much waits for the session.
+    Much,
+}
+
+/// What comes back of lines of which the first were done: their baton, how many were done, and why no more.
+#[derive(Drop)]
+pub(crate) struct Front<L: Naming, R: Wait + Drop> {
+    pub(crate) baton: Baton<L, Sender<R>>,
+    pub(crate) count: usize,
+    pub(crate) until: Until,
 }
 
 /// How often a thread looks whether the hall is free before it sleeps.
@@ -312,6 +332,27 @@ impl<'a, L: Naming, R: Wait + Drop> Held<'a, L, R> {
             tell_many(server, told);
         }
     }
+
+    /// Whether much waits for the session. Where it does, this gives the hall and the slot back, has all told who got something, by
+    /// which what waits is written as far as the stream takes it, and looks again.
+    fn finds_much<G: Gate, S: Sockets, C: Clock, B: Backlog>(
+        &mut self,
+        rt: &R,
+        server: &Server<'a, L, R, G, S, C>,
+        session: SessionId,
+        backlog: &B,
+        told: &mut Told,
+    ) -> bool
+        ensures moment { self.new.moment ≡ self.old.moment }
+        ensures much { result ≡ true → B.finds_much backlog.now }
+    {
+        if !backlog.is_much() {
+            return false;
+        }
+        self.give_back(rt, server, session);
+        tell(server, told);
+        backlog.is_much()
+    }
 }
 
 /// Does one piece, in the hall that is held or that it takes. Where the line shut somebody, many are to be told, or it was refused,
@@ -351,51 +392,75 @@ fn work_next<'a, L: Naming, R: Wait + Drop, G: Gate, S: Sockets, C: Clock>(
     }
 }
 
-/// Does pieces of a session in turn, until one isn't done.
-fn work_all<'a, L: Naming, R: Wait + Drop, G: Gate, S: Sockets, C: Clock>(
+/// Does pieces of a session in turn, until one isn't done or much waits for the session.
+fn work_all<'a, L: Naming, R: Wait + Drop, G: Gate, S: Sockets, C: Clock, B: Backlog>(
     rt: &R,
     server: &Server<'a, L, R, G, S, C>,
+    backlog: &B,
     baton: Baton<L, Sender<R>>,
     pieces: &[Piece],
     told: &mut Told,
     held: &mut Held<'a, L, R>,
-) -> Worked<L, R>
+) -> Front<L, R>
     requires { C.shows server.now.clock.now held.old.moment }
-    ensures front { DoesFront baton.pieces result.baton.pieces pieces.now }
-    ensures whole { result.all ≡ true → result.baton.pieces ≡ baton.pieces ++ pieces.now }
+    ensures count { result.count ≤ length pieces.now }
+    ensures front { result.baton.pieces ≡ baton.pieces ++ take result.count pieces.now }
+    ensures whole { result.until ≡ Until.Done → result.count ≡ length pieces.now }
+    ensures much { result.until ≡ Until.Much → B.finds_much backlog.now }
     ensures session { result.baton.session ≡ baton.session }
     ensures newest { IsNewestSeenTo (C.shows server.now.clock.now) (S.shuts server.now.sockets.now) baton result.baton }
 {
+    let session = baton.session();
     let mut baton = baton;
+    let mut count = 0;
     for piece in pieces {
         let worked = work_next(rt, server, baton, piece, told, held);
-        if !worked.all {
-            return worked;
-        }
         baton = worked.baton;
+        if !worked.all {
+            return Front {
+                baton,
+                count,
+                until: Until::Refused,
+            };
+        }
+        count += 1;
+        if held.finds_much(rt, server, session, backlog, told) {
+            return Front {
+                baton,
+                count,
+                until: Until::Much,
+            };
+        }
     }
-    Worked { baton, all: true }
+    Front {
+        baton,
+        count,
+        until: Until::Done,
+    }
 }
 
-/// Does pieces of a session in turn, as `work` does where there is a desk, and else without a slot.
-pub(crate) fn work_by<'a, L: Naming, R: Wait + Drop, G: Gate, S: Sockets, C: Clock>(
+/// Does pieces of a session in turn, as `work` does where there is a desk, and else without a slot, until much waits for the session.
+pub(crate) fn work_by<'a, L: Naming, R: Wait + Drop, G: Gate, S: Sockets, C: Clock, B: Backlog>(
     rt: &R,
     server: &Server<'a, L, R, G, S, C>,
     desk: Option<&'a Desk>,
+    backlog: &B,
     baton: Baton<L, Sender<R>>,
     pieces: &[Piece],
     told: &mut Told,
-) -> Worked<L, R>
-    ensures front { DoesFront baton.pieces result.baton.pieces pieces.now }
-    ensures whole { result.all ≡ true → result.baton.pieces ≡ baton.pieces ++ pieces.now }
+) -> Front<L, R>
+    ensures count { result.count ≤ length pieces.now }
+    ensures front { result.baton.pieces ≡ baton.pieces ++ take result.count pieces.now }
+    ensures whole { result.until ≡ Until.Done → result.count ≡ length pieces.now }
+    ensures much { result.until ≡ Until.Much → B.finds_much backlog.now }
     ensures session { result.baton.session ≡ baton.session }
     ensures newest { IsNewestSeenTo (C.shows server.now.clock.now) (S.shuts server.now.sockets.now) baton result.baton }
 {
     let session = baton.session();
     let mut held = Held::none(desk, server.clock.now());
-    let worked = work_all(rt, server, baton, pieces, told, &mut held);
+    let front = work_all(rt, server, backlog, baton, pieces, told, &mut held);
     held.give_back(rt, server, session);
-    worked
+    front
 }
 
 /// Does pieces of a session in turn, until one is refused or no slot comes, under one slot and one hold of the lock but where
@@ -420,5 +485,9 @@ pub fn work<'a, L: Naming, R: Wait + Drop, G: Gate, S: Sockets, C: Clock>(
     ensures session { result.baton.session ≡ baton.session }
     ensures newest { IsNewestSeenTo (C.shows server.now.clock.now) (S.shuts server.now.sockets.now) baton result.baton }
 {
-    work_by(rt, server, Some(desk), baton, pieces, told)
+    let front = work_by(rt, server, Some(desk), &NoBacklog, baton, pieces, told);
+    Worked {
+        baton: front.baton,
+        all: front.until == Until::Done,
+    }
 }

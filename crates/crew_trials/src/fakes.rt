@@ -1,10 +1,10 @@
 //! What stands for gates, connections, a clock and a client's input.
 use chronicle::{Moment, SessionId};
-use crew::{Clock, Gate, Sockets};
+use crew::{Backlog, Clock, Gate, Sockets};
 use hall::Told;
 use std::io::{ErrorKind, Read, Write};
 use std::sync::Arc;
-use std::sync::atomic::{AtomicBool, AtomicU64, Ordering};
+use std::sync::atomic::{AtomicBool, AtomicU64, AtomicUsize, Ordering};
 use std::time::Duration;
 use std::{io, thread, time};
 
@@ -135,6 +135,30 @@ pub struct Still;
 impl Clock for Still {
     fn now(&self) -> Moment {
         Moment::new(0)
+    }
+}
+
+/// A backlog that is much at each look at which it is told to be, and never after those.
+#[derive(Drop)]
+pub struct Heap<'a> {
+    is_much: &'a [bool],
+    looks: AtomicUsize,
+}
+
+impl<'a> Heap<'a> {
+    /// A backlog of which this is so, one look after another.
+    pub fn new(is_much: &'a [bool]) -> Heap<'a> {
+        Heap {
+            is_much,
+            looks: AtomicUsize::new(0),
+        }
+    }
+}
+
+impl Backlog for Heap<'_> {
+    fn is_much(&self) -> bool {
+        let look = self.looks.fetch_add(1, Ordering::SeqCst);
+        self.is_much.get(look) == Some(&true)
     }
 }
 

@@ -4,6 +4,8 @@
 #[cfg(test)]
 mod behind;
 mod fakes;
+#[cfg(test)]
+mod leaving;
 mod making;
 #[cfg(test)]
 mod missing;
@@ -20,5 +22,5 @@ mod wanting;
 #[cfg(test)]
 mod writing;
 
-pub use fakes::{Noted, Open, Still, TURNS, Tally, Torn, Turnstile, rest};
+pub use fakes::{Heap, Noted, Open, Still, TURNS, Tally, Torn, Turnstile, rest};
 pub use making::{Tokens, ends, hall, hung_for, line, open, work_two, work_under_slot};

@@ -5,7 +5,8 @@ use crate::fakes::{Noted, Open, Still, Torn, Waits};
 use crate::making::{Tokens, hall, hung_for, open};
 use chronicle::{RecordNumber, Why};
 use crew::{
-    Desk, Intake, Next, Server, Sockets, close_now, close_up, hang, read_on, read_some, tell,
+    Desk, Intake, Next, NoBacklog, Server, Sockets, close_now, close_up, hang, read_on, read_some,
+    tell,
 };
 use hall::{Hall, Naming, Register, Told};
 use line_grammar::Octets;
@@ -118,14 +119,46 @@ fn waits<L: Naming, R: Wait + Abort + Copy + Drop>(
     };
     let mut intake = Intake::new(alloc)?;
     let mut told = Told::new(alloc);
-    let took = read_some(rt, &server, &mut intake, baton, &mut input, &mut told);
+    let took = read_some(
+        rt,
+        &server,
+        &mut intake,
+        baton,
+        &NoBacklog,
+        &mut input,
+        &mut told,
+    );
     assert_eq!(rt; (took.all, took.next), (true, Next::Nothing));
-    let took = read_some(rt, &server, &mut intake, took.baton, &mut input, &mut told);
+    let took = read_some(
+        rt,
+        &server,
+        &mut intake,
+        took.baton,
+        &NoBacklog,
+        &mut input,
+        &mut told,
+    );
     assert_eq!(rt; (took.all, took.next), (true, Next::Short));
     assert_eq!(rt; told.records(), 2);
-    let took = read_some(rt, &server, &mut intake, took.baton, &mut input, &mut told);
+    let took = read_some(
+        rt,
+        &server,
+        &mut intake,
+        took.baton,
+        &NoBacklog,
+        &mut input,
+        &mut told,
+    );
     assert_eq!(rt; (took.all, took.next), (true, Next::Nothing));
-    let took = read_some(rt, &server, &mut intake, took.baton, &mut input, &mut told);
+    let took = read_some(
+        rt,
+        &server,
+        &mut intake,
+        took.baton,
+        &NoBacklog,
+        &mut input,
+        &mut told,
+    );
     assert_eq!(rt; (took.all, took.next), (true, Next::Over(Why::ReadEnded)));
     assert_eq!(rt; lock.lock(rt).len(), 3);
     let session = took.baton.session();

@@ -5,7 +5,7 @@ ghost use Rattle.std.specs.Prelude.{◌≡◌, []};
 use crate::fakes::{Noted, Open, Still, Torn};
 use crate::making::{Tokens, hall, hung_for, open};
 use chronicle::{RecordNumber, SessionId, Why};
-use crew::{Intake, Next, Server, Sockets, hang, read_some};
+use crew::{Intake, Next, NoBacklog, Server, Sockets, hang, read_some};
 use hall::{Baton, Hall, Naming, Register, Told};
 use outbox::{ChannelName, Sender};
 use std::alloc::{AllocError, Global};
@@ -51,7 +51,15 @@ fn says<'a, L: Naming, R: Wait + Drop>(
         octets: SAID,
         most: 512,
     };
-    let took = read_some(rt, server, &mut intake, baton, &mut input, &mut told);
+    let took = read_some(
+        rt,
+        server,
+        &mut intake,
+        baton,
+        &NoBacklog,
+        &mut input,
+        &mut told,
+    );
     if let Next::Over(why) = took.next {
         let _ = hang(rt, server, session, why, &mut told);
     }

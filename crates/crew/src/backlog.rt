@@ -1,0 +1,28 @@
+//! What waits to be written for a session.
+
+/// What waits to be written for a session. A clause that says that it was found to be much says that a call of it answered so: it may
+/// be less by now.
+pub trait Backlog {
+    ghost use Rattle.std.specs.Prelude.{◌≡◌, true};
+
+    /// That much was found to wait here.
+    ghost finds_much: { Self → Type 0 } = { λ b. Unit {0} };
+
+    /// Whether so much waits that no further line of the session is done for now.
+    fn is_much(&self) -> bool
+        ensures { result ≡ true → finds_much self.now };
+}
+
+/// The backlog of a session that has threads of its own: it is never much.
+#[derive(Drop)]
+pub struct NoBacklog;
+
+impl Backlog for NoBacklog {
+    ghost use Rattle.std.specs.Prelude.{⊥};
+
+    ghost finds_much = { λ b. ⊥ };
+
+    fn is_much(&self) -> bool {
+        false
+    }
+}
