@@ -1,17 +1,12 @@
 -- Records as the history has them: how many, the newest, and one that `get` of a slice finds.
-use Rattle.std.proofs.Common.{arith, ◌≡◌, ℕ, ◌+◌, ◌<◌, ◌≤◌, List, [], ◌∷◌, ◌++◌, length, length-append, map, reverse, get_or, slice_get, Option, Some, None, inl, inr, Bor, refl, sym, ap, ◌∙◌}
+use Rattle.std.proofs.Common.{arith, ◌≡◌, ℕ, ◌+◌, ◌<◌, ◌≤◌, List, [], ◌∷◌, ◌++◌, length, length-append, map, reverse, slice_get, Option, inl, inr, Bor, refl, sym, ap, ◌∙◌}
 use mathlib.Core.List.{reverse_aux}
-use Rattle.std.specs.Option.{IfSome, MatchOption, option_map}
-use Rattle.std.specs.List.{HoldsAt}
+use Rattle.std.specs.Option.{option_map}
 use Rattle.std.proofs.lemmas.Option.{slice_get-map, slice_get_past, slice_get_read, slice_get_cases}
 use Rattle.std.proofs.lemmas.List.{get_or-append-add, length-map, length-reverse, reverse-reverse, reverse-append}
 use Rattle.chronicle.specs.declared.record.Record.{Record}
 use Rattle.chronicle.specs.History.{Rec, rec_of}
 use Rattle.chronicle.specs.Journal.{record_at, history_of}
-
-found : (xs : List Record) (i : ℕ) (r : Option (Bor Record)) → IfSome r (λ x. x.now ≡ get_or xs i x.now) → MatchOption r (length xs ≤ i) (λ x. (i < length xs) × HoldsAt (λ y. x.now ≡ y) xs i) → record_at r ≡ option_map rec_of (slice_get xs i)
-found xs i None e m = sym (ap (option_map rec_of) (slice_get_past xs i m))
-found xs i (Some x) e m = sym (ap (option_map rec_of) (slice_get_read xs (length xs) i x.now refl m.0 e))
 
 map-reverse_aux : (xs ys : List Record) → map rec_of (reverse_aux xs ys) ≡ reverse_aux (map rec_of xs) (map rec_of ys)
 map-reverse_aux [] ys = refl
@@ -39,9 +34,9 @@ behind xs ys i =
     ]
 
 -- a record that was found among those that are kept is the history's, behind those that were dropped
-pub looked : (xs : List Record) (past h : List Rec) (i : ℕ) (r : Option (Bor Record)) → history_of xs past ≡ h → IfSome r (λ x. x.now ≡ get_or xs i x.now) → MatchOption r (length xs ≤ i) (λ x. (i < length xs) × HoldsAt (λ y. x.now ≡ y) xs i) → record_at r ≡ slice_get (reverse h) (length past + i)
-looked xs past h i r eh e m =
-    let kept : record_at r ≡ slice_get (reverse (map rec_of (reverse xs))) i = found xs i r e m ∙ sym (slice_get-map rec_of xs i) ∙ ap (λ ys. slice_get ys i) (map-reverse xs) in
+pub looked : (xs : List Record) (past h : List Rec) (i : ℕ) (r : Option (Bor Record)) → history_of xs past ≡ h → record_at r ≡ option_map rec_of (slice_get xs i) → record_at r ≡ slice_get (reverse h) (length past + i)
+looked xs past h i r eh e =
+    let kept : record_at r ≡ slice_get (reverse (map rec_of (reverse xs))) i = e ∙ sym (slice_get-map rec_of xs i) ∙ ap (λ ys. slice_get ys i) (map-reverse xs) in
     let all : slice_get (reverse (map rec_of (reverse xs))) i ≡ slice_get (reverse (history_of xs past)) (length past + i) =
     sym (behind (reverse past) (reverse (map rec_of (reverse xs))) i)
     ∙ ap (λ n. slice_get (reverse past ++ reverse (map rec_of (reverse xs))) (n + i)) (length-reverse past)

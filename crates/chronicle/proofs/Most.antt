@@ -25,8 +25,8 @@ unfolding most
 most_kept limit dropped kept h = omega arith
 
 -- room for one less after one more record
-pub room_less : (cap len m n : ℕ) → 0 < min (cap - len) (m - n) → min (cap - (len + 1)) (m - (n + 1)) + 1 ≡ min (cap - len) (m - n)
-room_less cap len m n h = omega arith
+pub room_less : (free' free m n : ℕ) → free' + 1 ≡ free → 0 < min free (m - n) → min free' (m - (n + 1)) + 1 ≡ min free (m - n)
+room_less free' free m n e h = omega arith
 
 room_there : (free m n : ℕ) → 0 < min free (m - n) → n < m
 room_there free m n h = omega arith
@@ -41,6 +41,6 @@ room_low free limit dropped kept h =
     omega (arith, n, most_low limit dropped)
 
 -- and no less after all were dropped
-pub room_cut : (cap len cap' len' limit dropped kept new none : ℕ) → cap' ≡ cap → len' ≡ 0 → new ≡ dropped + kept → none ≡ 0 → min (cap - len) (most (record { records = limit; dropped = dropped }) - (dropped + kept)) ≤ min (cap' - len') (most (record { records = limit; dropped = new }) - (new + none))
+pub room_cut : (free free' limit dropped kept new none : ℕ) → free ≤ free' → new ≡ dropped + kept → none ≡ 0 → min free (most (record { records = limit; dropped = dropped }) - (dropped + kept)) ≤ min free' (most (record { records = limit; dropped = new }) - (new + none))
 unfolding most
-room_cut cap len cap' len' limit dropped kept new none c l e n = omega arith
+room_cut free free' limit dropped kept new none c e n = omega arith

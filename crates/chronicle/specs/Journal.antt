@@ -1,11 +1,10 @@
 -- What clauses see of a journal: the history, how much of it was dropped, and the room that was made.
 use Rattle.std.specs.Prelude.{◌≡◌, ℕ, ℤ, ◌+◌, ◌-◌, ◌^◌, ◌≤◌, List, [], ◌∷◌, ◌++◌, length, map, reverse, min, slice_get, nat_le, cond, Option, Some, None}
-use Rattle.std.specs.declared.vec.Vec.{Vec}
-use Rattle.std.specs.declared.alloc.Global.{Global}
 use Rattle.std.specs.Borrow.{Bor}
 use Rattle.chronicle.specs.declared.record.Kind.{Kind}
 use Rattle.chronicle.specs.declared.record.Record.{Record}
 use Rattle.chronicle.specs.History.{Rec, rec_of}
+use Rattle.chronicle.specs.Kept.{Row}
 
 -- how many records may be kept, after how many that were dropped
 pub record Limit : Type 0 where
@@ -30,7 +29,7 @@ abbrev pub history_of : List Record → List Rec → List Rec
 history_of kept past = map rec_of (reverse kept) ++ past
 
 -- the history of whoever drops the records that it kept
-abbrev pub with_kept : List Rec → Vec Record Global → List Rec
+abbrev pub with_kept : List Rec → Row → List Rec
 with_kept past kept = history_of kept.items past
 
 abbrev pub room_left : List Record → ℕ

@@ -1,3 +1,4 @@
 pub mod Reasons
 pub mod History
+pub mod Kept
 pub mod Journal

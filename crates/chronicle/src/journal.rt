@@ -1,6 +1,7 @@
 //! The list of records, and the room that is made before a record is written. Records may be dropped, and still count.
 ghost use Rattle.std.specs.Prelude.{◌≡◌, ◌<◌, ◌≤◌, ◌+◌, ◌-◌, ◌^◌, ◌↔◌, ◌∷◌, [], length, OnOk, OnErr, IfOk, IsErrOf};
 
+use crate::kept::Kept;
 use crate::{Kind, Moment, Record, RecordNumber, SessionId};
 use ghosts::{Change, Snapshot, apply};
 use smallvec::SmallVec;
@@ -36,7 +37,7 @@ impl Model for Past {
 // The records that were kept are dropped.
 struct Drops;
 
-impl Change<Past, Vec<Record>> for Drops {
+impl Change<Past, Kept> for Drops {
     ghost use Rattle.chronicle.specs.Journal.{with_kept};
 
     ghost changed = { with_kept };
@@ -46,7 +47,7 @@ impl Change<Past, Vec<Record>> for Drops {
 #[derive(Drop)]
 pub struct Journal {
     /// Those that weren't dropped.
-    records: Vec<Record>,
+    records: Kept,
     limit: usize,
     prepared: SmallVec<SessionId, 1>,
     /// How many were dropped.
@@ -57,13 +58,13 @@ pub struct Journal {
 }
 
 impl Model for Journal {
-    ghost use Rattle.std.specs.Prelude.{◌≡◌, [], reverse, length, min, ◌+◌, ◌-◌, ◌^◌, ◌≤◌, vec_len, vec_capacity};
+    ghost use Rattle.std.specs.Prelude.{◌≡◌, [], reverse, length, min, ◌+◌, ◌-◌, ◌^◌, ◌≤◌};
     ghost use Rattle.chronicle.specs.History.{last_moment};
     ghost use Rattle.chronicle.specs.Journal.{Shown, room_left, most, history_of};
 
     ghost Value = { Shown };
 
-    ghost view = { λ a. record { history = history_of a.records.items a.past.value; limit = record { records = a.limit; dropped = a.dropped }; room = min (vec_capacity a.records - vec_len a.records) (most (record { records = a.limit; dropped = a.dropped }) - (a.dropped + length a.records.items)); prepared = a.prepared.capacity - length a.prepared.items; left = room_left (reverse a.records.items) } };
+    ghost view = { λ a. record { history = history_of a.records.items a.past.value; limit = record { records = a.limit; dropped = a.dropped }; room = min a.records.free (most (record { records = a.limit; dropped = a.dropped }) - (a.dropped + length a.records.items)); prepared = a.prepared.capacity - length a.prepared.items; left = room_left (reverse a.records.items) } };
 
     ghost invariant = { λ a. (length a.records.items ≤ a.limit) × (a.dropped + length a.records.items ≤ 2 ^ 60) × (a.dropped ≡ length a.past.value) × (a.last ≡ last_moment (history_of a.records.items a.past.value)) × (a.prepared.items ≡ []) × (1 ≤ a.prepared.capacity) };
 }
@@ -77,7 +78,7 @@ impl Journal {
         ensures { IfOk result (λ j. (j.history ≡ []) × (j.limit ≡ record { records = limit; dropped = 0 })) }
     {
         Ok(Journal {
-            records: Vec::new(alloc),
+            records: Kept::new(alloc),
             limit,
             prepared: SmallVec::new(alloc),
             dropped: 0,
@@ -128,7 +129,7 @@ impl Journal {
         let fresh = SmallVec::new(*self.prepared.allocator());
         let missed = mem::replace(&mut self.prepared, fresh);
         self.last = moment;
-        self.records.push_reserved(Record {
+        self.records.push(Record {
             number,
             moment,
             kind,
@@ -142,17 +143,14 @@ impl Journal {
         requires { 0 < self.old.left }
         ensures { Misses self.old self.new session }
     {
-        if let Some(mut newest) = self.records.pop() {
-            newest.missed.push_reserved(session);
-            self.records.push_reserved(newest);
-        }
+        self.records.miss(session);
     }
 
     /// Drops all records, and keeps the room that was made. Numbers go on. It takes no memory.
     pub fn cut(&mut self)
         ensures { Cuts self.old self.new }
     {
-        apply::<Drops, Past, Vec<Record>>(&mut self.past, &self.records);
+        apply::<Drops, Past, Kept>(&mut self.past, &self.records);
         self.dropped += self.records.len();
         self.records.clear();
     }

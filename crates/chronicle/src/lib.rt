@@ -2,6 +2,7 @@
 #![tactic(auto)]
 
 mod journal;
+mod kept;
 mod names;
 mod record;
 mod why;

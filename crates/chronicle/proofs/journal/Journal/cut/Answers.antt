@@ -1,4 +1,4 @@
-use Rattle.std.proofs.Common.{arith, ◌≡◌, ℕ, ◌+◌, ◌-◌, ◌≤◌, min, length, vec_len, vec_capacity, ap, ◌∙◌, sym, subst}
+use Rattle.std.proofs.Common.{arith, ◌≡◌, ℕ, ◌+◌, ◌-◌, ◌≤◌, min, length, ap, ◌∙◌, sym, subst}
 use Rattle.std.proofs.lemmas.Grind.{common_steps}
 use Rattle.chronicle.specs.History.{last_moment}
 use Rattle.chronicle.specs.Journal.{most, history_of}
@@ -26,12 +26,12 @@ returns c =
     let all : history_of c.clear.new.self.items c.apply.new.told.value ≡ history_of a.records.items a.past.value = ap (λ xs. history_of xs c.apply.new.told.value) c.clear.ensures.items ∙ past in
     let new : a.dropped + c.len.result ≡ a.dropped + length a.records.items = grind (arith, common_steps) in
     let none : length c.clear.new.self.items ≡ 0 = ap length c.clear.ensures.items in
-    let grown = room_cut (vec_capacity a.records) (vec_len a.records) (vec_capacity c.clear.new.self) (vec_len c.clear.new.self) a.limit a.dropped (length a.records.items) (a.dropped + c.len.result) (length c.clear.new.self.items) c.clear.ensures.capacity c.clear.ensures.len new none in
-    let room : min (vec_capacity a.records - vec_len a.records) (most (record { records = a.limit; dropped = a.dropped }) - (a.dropped + length a.records.items)) ≡ c.args.self.now.room = ap (λ j. j.room) v in
+    let grown = room_cut a.records.free c.clear.new.self.free a.limit a.dropped (length a.records.items) (a.dropped + c.len.result) (length c.clear.new.self.items) c.clear.ensures.free new none in
+    let room : min (a.records.free) (most (record { records = a.limit; dropped = a.dropped }) - (a.dropped + length a.records.items)) ≡ c.args.self.now.room = ap (λ j. j.room) v in
     let dropped : a.dropped + c.len.result ≡ length c.args.self.now.history = new ∙ grind (arith, common_steps, n, i.2, ap (λ j. length j.history) v) in
     record {
       history = all ∙ ap (λ j. j.history) v;
       limit = ap (λ (d : ℕ). record { records = a.limit; dropped = d }) dropped ∙ ap (λ (l : ℕ). record { records = l; dropped = length c.args.self.now.history }) (ap (λ j. j.limit.records) v);
-      room = subst (λ (r : ℕ). r ≤ min (vec_capacity c.clear.new.self - vec_len c.clear.new.self) (most (record { records = a.limit; dropped = a.dropped + c.len.result }) - (a.dropped + c.len.result + length c.clear.new.self.items))) room grown;
+      room = subst (λ (r : ℕ). r ≤ min (c.clear.new.self.free) (most (record { records = a.limit; dropped = a.dropped + c.len.result }) - (a.dropped + c.len.result + length c.clear.new.self.items))) room grown;
       prepared = ap (λ j. j.prepared) v;
     }
