@@ -115,6 +115,9 @@ pub(crate) fn accept_on<L: Naming, R: Wait + Clock + Eprint + Copy + Drop>(
             thread::sleep(rt, Duration::from_millis(PAUSE));
         }
     }
+    if !is_quiet {
+        let _ = tell_news(rt, connections, &mut None);
+    }
 }
 
 /// Has events come of a listener, where there is one.
