@@ -37,6 +37,7 @@ module _ {O : Type 0} where
         settings = i.settings;
         opened = omega arith;
         noted = λ t from to here. i.noted t from to (came t from (omega arith) here);
+        early = i.early;
       }
 
   none_came : (boxes : List (Option O)) → NoneCame boxes boxes

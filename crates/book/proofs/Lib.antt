@@ -17,5 +17,6 @@ pub mod Sweeps
 pub mod Appends
 pub mod Based
 pub mod Owes
+pub mod Noting
 pub mod Rolling
 pub mod Examples

@@ -1,77 +1,20 @@
 -- All records are dropped, and what has to be known of them is kept.
-use Rattle.std.proofs.lemmas.List.{map-append}
-use Rattle.std.proofs.lemmas.Bool.Decides.{eqb_tells}
-use Rattle.std.proofs.Common.{arith, ◌≡◌, ◌⊎◌, inl, inr, ℕ, zero, suc, ◌+◌, ◌-◌, ◌<◌, ◌≤◌, Bool, true, false, ◌==◌, cond, List, [], ◌∷◌, ◌++◌, length, drop, map, min, slice_index_or, Option, Some, None, refl, sym, ap, ◌∙◌, subst, eq-eqb, ne_eqb}
-use Rattle.std.specs.Prelude.{IfSome}
-use Rattle.std.specs.Option.{is_some}
+use Rattle.std.proofs.Common.{arith, ◌≡◌, ℕ, ◌+◌, ◌-◌, ◌<◌, ◌≤◌, Bool, true, false, List, [], length, drop, min, Option, sym, ap, ◌∙◌, subst}
 use Rattle.chronicle.specs.History.{Rec, sessions}
 use Rattle.chronicle.specs.Journal.{Limit, most, Cuts}
 use Rattle.chronicle.specs.Journal as journal
 use Rattle.registration.specs.declared.settings.Settings.{Settings}
 use Rattle.roster.specs.declared.deed.Deed.{Deed}
-use Rattle.roster.specs.LookBack.{numbers}
 use Rattle.deliveries.specs.declared.item.Item.{Item}
 use Rattle.deliveries.specs.Base.{dropped_part}
 use Rattle.deeds.specs.Deeds.{facts}
-use Rattle.book.specs.declared.base.Counts.{Counts}
 use Rattle.book.specs.declared.plan.Planned.{Planned}
 use Rattle.book.specs.declared.seat.Seat.{Seat}
 use Rattle.book.specs.Seats.{IsSeat, seat_at}
-use Rattle.book.specs.Book.{Shown, empty_book, rolled, is_here, held, IsSound}
+use Rattle.book.specs.Book.{empty_book, rolled, is_here, held, IsSound}
 use Rattle.book.specs.Kept.{IsKept}
-use Rattle.book.specs.Noted.{Noted, counts_at, is_noted, counted, counted_in, AreCounts, IsOfDropped}
-use Rattle.book.proofs.Opened.{numbers_push}
+use Rattle.book.specs.Noted.{Noted, is_noted, IsOfDropped}
 use Rattle.book.proofs.KeptSteps.{shown}
-
--- ---- counts, of each session in turn
-
-pub counts_push : (f : ℕ → Option Counts) (cs : List (Option Counts)) (n : ℕ) → cs ≡ map f (numbers 1 n) → cs ++ f (n + 1) ∷ [] ≡ map f (numbers 1 (n + 1))
-counts_push f cs n e =
-    let more : n + 1 ≡ suc n = omega arith in let next : n + 1 ≡ 1 + n = omega arith in
-    ap (λ xs. xs ++ f (n + 1) ∷ []) e ∙ ap (λ (i : ℕ). map f (numbers 1 n) ++ f i ∷ []) next ∙ sym (ap (λ (i : ℕ). map f (numbers 1 i)) more ∙ ap (map f) (numbers_push 1 n) ∙ map-append f (numbers 1 n) ((1 + n) ∷ []))
-
--- one of them, or none past the end
-read : (f : ℕ → Option Counts) (k n i : ℕ) → (slice_index_or (map f (numbers k n)) i None ≡ f (k + i)) ⊎ ((slice_index_or (map f (numbers k n)) i None ≡ None) × (n ≤ i))
-read f k zero i = inr (refl, (omega arith))
-read f k (suc n) zero = let e : k ≡ k + 0 = omega arith in inl (ap f e)
-read f k (suc n) (suc i) =
-    let e : k + 1 + i ≡ k + suc i = omega arith in
-    elim (read f (k + 1) n i) [
-      | inl x ↦ inl (x ∙ ap f e)
-      | inr x ↦ inr (x.0, (let l = x.1 in omega arith))
-    ]
-
-by_here : {O : Type 0} (m : Shown O) (t : ℕ) (b : Bool) → IfSome (cond b (Some (counted m.settings m.history t)) None) (λ c. c ≡ counted m.settings m.history t)
-by_here m t true = refl
-by_here m t false = tt
-
-pub are_counts : {O : Type 0} (m : Shown O) (cs : List (Option Counts)) (n : ℕ) → cs ≡ map (counted_in m) (numbers 1 n) → AreCounts m.settings m.history cs
-are_counts m cs n e t =
-    let P : Option Counts → Type 0 = λ o. IfSome o (λ c. c ≡ counted m.settings m.history t) in
-    elim (eqb_tells t 0) [
-      | inl none ↦ subst P (sym (ap (λ b. cond b None (slice_index_or cs (t - 1) None)) none.0)) tt
-      | inr some ↦
-          let at : counts_at cs t ≡ slice_index_or (map (counted_in m) (numbers 1 n)) (t - 1) None = ap (λ b. cond b None (slice_index_or cs (t - 1) None)) some.0 ∙ ap (λ xs. slice_index_or xs (t - 1) None) e in
-          let here : 1 + (t - 1) ≡ t = let ne = some.1 in omega arith in
-          elim (read (counted_in m) 1 n (t - 1)) [
-            | inl x ↦ subst P (sym (at ∙ x ∙ ap (counted_in m) here)) (by_here m t (is_here m.outboxes t))
-            | inr x ↦ subst P (sym (at ∙ x.0)) tt
-          ]
-    ]
-
-some_where : {X : Type 0} (b : Bool) (x : X) → is_some (cond b (Some x) None) ≡ b
-some_where true x = refl
-some_where false x = refl
-
--- who is there is noted
-pub noted_here : {O : Type 0} (m : Shown O) (cs : List (Option Counts)) (n t : ℕ) → cs ≡ map (counted_in m) (numbers 1 n) → 0 < t → t ≤ n → is_some (counts_at cs t) ≡ is_here m.outboxes t
-noted_here m cs n t e from to =
-    let not_0 : (t == 0) ≡ false = ne_eqb t 0 (omega arith) in let here : 1 + (t - 1) ≡ t = omega arith in
-    let at : counts_at cs t ≡ slice_index_or (map (counted_in m) (numbers 1 n)) (t - 1) None = ap (λ b. cond b None (slice_index_or cs (t - 1) None)) not_0 ∙ ap (λ xs. slice_index_or xs (t - 1) None) e in
-    elim (read (counted_in m) 1 n (t - 1)) [
-      | inl x ↦ ap is_some (at ∙ x ∙ ap (counted_in m) here) ∙ some_where (is_here m.outboxes t) (counted m.settings m.history t)
-      | inr x ↦ absurd (let l = x.1 in omega arith)
-    ]
 
 -- ---- the journal is cut
 
@@ -106,8 +49,9 @@ module _ {O : Type 0} (sent : O → List Item) where
 all_dropped : (h : List Rec) → dropped_part (length h) h ≡ h
 all_dropped h = let e : length h - length h ≡ 0 = omega arith in ap (λ (i : ℕ). drop i h) e
 
-pub cut_based : {O : Type 0} (j k : journal.Shown) (g : Settings) (boxes : List (Option O)) (b : Noted) → Cuts j k → b.front ≡ j.history → b.settings ≡ g → sessions j.history ≡ length boxes → ((t : ℕ) → 0 < t → t ≤ sessions j.history → is_noted b t ≡ is_here boxes t) → IsOfDropped b k.history k.limit.dropped g boxes
-cut_based j k g boxes b cut ef es many noted =
+pub cut_based : {O : Type 0} (j k : journal.Shown) (g : Settings) (boxes : List (Option O)) (b : Noted) → Cuts j k → b.front ≡ j.history → b.settings ≡ g → sessions j.history ≡ length boxes → ((t : ℕ) → 0 < t → t ≤ sessions j.history → is_noted b t ≡ is_here boxes t)
+    → ((t : ℕ) → is_noted b t ≡ true → (0 < t) × (t ≤ sessions j.history)) → IsOfDropped b k.history k.limit.dropped g boxes
+cut_based j k g boxes b cut ef es many noted early =
     let dropped : k.limit.dropped ≡ length j.history = ap (λ (l : Limit). l.dropped) cut.limit in let longer = ap length cut.history in let opened : sessions b.front ≡ sessions j.history = ap sessions ef in
     record {
       few = omega arith;
@@ -115,6 +59,7 @@ cut_based j k g boxes b cut ef es many noted =
       settings = es;
       opened = omega arith;
       noted = λ t from to here. noted t from (omega arith) ∙ here;
+      early = λ t is. let l = (early t is).1 in ((early t is).0, (omega arith));
     }
 
 -- ---- the state

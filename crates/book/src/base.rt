@@ -5,6 +5,7 @@ ghost use Rattle.book.specs.Noted.{base_by, counts_at, is_noted, AreCounts};
 
 use chronicle::{Journal, SessionId};
 use ghosts::Snapshot;
+use indexmap::IndexMap;
 use roster::Roster;
 use std::marker::Model;
 
@@ -19,8 +20,8 @@ pub(crate) struct Counts {
 #[derive(Drop)]
 pub struct Base {
     roster: Roster,
-    /// By the numbers of the sessions, of each that wasn't reaped.
-    counts: Vec<Option<Counts>>,
+    /// By the numbers of the sessions that weren't reaped.
+    counts: IndexMap<u64, Counts>,
     history: Snapshot<Journal>,
 }
 
@@ -31,33 +32,19 @@ impl Model for Base {
 
     ghost Value = { Noted };
 
-    ghost view = { λ a. record { front = a.history.value.history; settings = a.roster.settings; counts = a.counts.items } };
+    ghost view = { λ a. record { front = a.history.value.history; settings = a.roster.settings; counts = a.counts.entries } };
 
-    ghost invariant = { λ a. (a.roster.facts ≡ facts a.roster.settings a.history.value.history) × AreCounts a.roster.settings a.history.value.history a.counts.items };
-}
-
-/// The counts of a session.
-fn find_counts(counts: &[Option<Counts>], session: SessionId) -> Option<Counts>
-    ensures { result ≡ counts_at counts.now session }
-{
-    let number = session.number();
-    if number == 0 {
-        return None;
-    }
-    match counts.get(number as usize - 1) {
-        Some(found) => *found,
-        None => None,
-    }
+    ghost invariant = { λ a. (a.roster.facts ≡ facts a.roster.settings a.history.value.history) × AreCounts a.roster.settings a.history.value.history a.counts.entries };
 }
 
 impl Base {
     ghost use Rattle.std.specs.Option.{is_some};
 
     /// What is known at the end of a journal, by a roster that knows it and by counts of its sessions.
-    pub(crate) fn new(roster: Roster, counts: Vec<Option<Counts>>, journal: &Journal) -> Base
+    pub(crate) fn new(roster: Roster, counts: IndexMap<u64, Counts>, journal: &Journal) -> Base
         requires facts { roster.facts ≡ facts roster.settings journal.now.history }
-        requires counts { AreCounts roster.settings journal.now.history counts.items }
-        ensures { result ≡ record { front = journal.now.history; settings = roster.settings; counts = counts.items } }
+        requires counts { AreCounts roster.settings journal.now.history counts.entries }
+        ensures { result ≡ record { front = journal.now.history; settings = roster.settings; counts = counts.entries } }
     {
         Base {
             roster,
@@ -74,12 +61,22 @@ impl Base {
         &self.roster
     }
 
+    /// The counts of a session.
+    fn counts(&self, session: SessionId) -> Option<Counts>
+        ensures { result ≡ counts_at self.now.counts session }
+    {
+        match self.counts.get(&session.number()) {
+            Some(found) => Some(*found),
+            None => None,
+        }
+    }
+
     /// How many pieces of a session were accepted. `None` where the session was opened later, or reaped before.
     pub fn accepted(&self, session: SessionId) -> Option<u64>
         ensures count { IfSome result (λ n. n ≡ (base_by self.now).accepted session) }
         ensures noted { is_some result ≡ is_noted self.now session }
     {
-        match find_counts(&self.counts, session) {
+        match self.counts(session) {
             Some(counts) => Some(counts.accepted),
             None => None,
         }
@@ -90,7 +87,7 @@ impl Base {
         ensures count { IfSome result (λ n. n ≡ (base_by self.now).owed session) }
         ensures noted { is_some result ≡ is_noted self.now session }
     {
-        match find_counts(&self.counts, session) {
+        match self.counts(session) {
             Some(counts) => Some(counts.owed),
             None => None,
         }

@@ -11,7 +11,7 @@ ghost use Rattle.book.specs.Settings.{IsWellSet};
 ghost use Rattle.book.specs.Book.{box_at, outbox_at};
 ghost use Rattle.book.specs.Seats.{IsSeat};
 
-use crate::base::{Base, Counts};
+use crate::base::Base;
 use crate::baton::Baton;
 use crate::out::{Done, Hung, Left, Plan, Rolled, Step};
 use crate::outboxes::Outboxes;
@@ -70,7 +70,7 @@ fn reserve(journal: &mut Journal, records: usize, missed: usize) -> Result<(), A
 
 impl<O: Outbox> Book<O> {
     ghost use Rattle.book.specs.Book.{empty_book, opened, begun, finished, reaped, IsPutNext, IsPutAll, IsDone, IsLeft, to_sweep, IsKnown, IsTurn, MayOpen, MayBegin, MayHang, MaySweep, MayReap, IsOpenRefusal, IsLineRefusal, IsHangRefusal, IsSweepRefusal, IsReapRefusal, IsSound, IsOut, newest_missed, held, is_here, rolled, base_of, IsRollRefusal};
-    ghost use Rattle.book.specs.Noted.{base_by, is_noted, counted_in};
+    ghost use Rattle.book.specs.Noted.{base_by, is_noted};
 
     /// An empty book for at most `limit` records.
     pub fn new(alloc: Global, settings: Settings, limit: usize) -> Result<Book<O>, BookFault>
@@ -574,31 +574,15 @@ impl<O: Outbox> Book<O> {
         }
     }
 
-    /// What is counted of a session that isn't reaped. No plan is out.
-    fn counts_of(&self, session: SessionId) -> Option<Counts>
-        requires idle { self.now.busy ≡ false }
-        requires from_1 { 0 < session }
-        requires opened { session ≤ sessions self.now.history }
-        ensures { result ≡ counted_in self.now session }
-    {
-        let seat = self.seat(session)?;
-        Some(Counts {
-            accepted: seat.accepted,
-            owed: self.outboxes.count(session),
-        })
-    }
-
     /// The base of all records. No plan is out.
     fn note_base(&self) -> Result<Base, AllocError>
         requires idle { self.now.busy ≡ false }
         ensures front { IfOk result (λ b. (b.front ≡ self.now.history) × (b.settings ≡ self.now.settings)) }
         ensures noted { IfOk result (λ b. (t : ℕ) → 0 < t → t ≤ sessions self.now.history → is_noted b t ≡ is_here self.now.outboxes t) }
+        ensures opened { IfOk result (λ b. (t : ℕ) → is_noted b t ≡ true → (0 < t) × (t ≤ sessions self.now.history)) }
     {
         let roster = self.roster.copy()?;
-        let mut counts = Vec::new(self.alloc);
-        for number in 0..self.seats.opened() {
-            counts.push(self.counts_of(SessionId::new(number + 1)))?;
-        }
+        let counts = self.outboxes.counts(self.alloc, &self.seats)?;
         Ok(Base::new(roster, counts, &self.journal))
     }
 
@@ -627,6 +611,7 @@ impl<O: Outbox> Book<O> {
     pub fn base(&self) -> Option<&Base>
         ensures base { IfSome result (λ b. base_by b.now ≡ base_of self.now) }
         ensures noted { IfSome result (λ b. (t : ℕ) → 0 < t → t ≤ (base_of self.now).sessions → is_here self.now.outboxes t ≡ true → is_noted b.now t ≡ true) }
+        ensures opened { IfSome result (λ b. (t : ℕ) → is_noted b.now t ≡ true → (0 < t) × (t ≤ (base_of self.now).sessions)) }
         ensures none { result ≡ None → self.now.limit.dropped ≡ 0 }
         ensures some { IfSome result (λ b. 0 < self.now.limit.dropped) }
     {

@@ -1,10 +1,13 @@
 //! The outboxes of all sessions, and how many there are.
-ghost use Rattle.std.specs.Prelude.{◌≡◌, ◌<◌, ◌+◌, ◌-◌, ◌^◌, ◌++◌, ◌∷◌, [], true, false, length, slice_get, slice_set, Some, None, IfSome, OnOk};
+ghost use Rattle.std.specs.Prelude.{◌≡◌, ℕ, ◌<◌, ◌+◌, ◌-◌, ◌^◌, ◌++◌, ◌∷◌, [], true, false, length, slice_get, slice_set, Some, None, IfSome, IfOk, OnOk};
 ghost use Rattle.outbox.specs.Ring.{with_taken};
-ghost use Rattle.book.specs.Book.{box_at, sent_by, outbox_at, count_here, IsLeft};
-ghost use Rattle.book.specs.Seats.{IsThere, MayFollow, IsTaken, IsNotTaken};
+ghost use Rattle.book.specs.Book.{box_at, outbox_at, count_here, IsLeft};
+ghost use Rattle.book.specs.Seats.{stands, seat_at, IsSeated, IsThere, MayFollow, IsTaken, IsNotTaken};
+ghost use Rattle.book.specs.Noted.{AreCountsOf};
 
+use crate::base::Counts;
 use crate::counting::Counting;
+use crate::seats::Seats;
 use chronicle::SessionId;
 use deliveries::Item;
 use indexmap::IndexMap;
@@ -92,15 +95,31 @@ impl<O: Outbox> Outboxes<O> {
         outbox.put(item)
     }
 
-    /// How many items were ever put for a session that isn't reaped.
-    pub(crate) fn count(&self, session: SessionId) -> u64
-        requires there { IsThere self.now.boxes session }
-        ensures { result ≡ length (sent_by O.sent (box_at self.now.boxes session)) }
+    /// What is counted of each session that isn't reaped, by its seat and its outbox.
+    pub(crate) fn counts(
+        &self,
+        alloc: Global,
+        seats: &Seats,
+    ) -> Result<IndexMap<u64, Counts>, AllocError>
+        requires seated { (t : ℕ) → IsThere self.now.boxes t → IsSeated seats.now t × (stands (seat_at seats.now t) ≡ true) }
+        ensures { IfOk result (λ m. AreCountsOf O.sent seats.now self.now.boxes m.entries) }
     {
-        let Some(outbox) = self.outboxes.get(&session.number()) else {
-            unreachable!();
-        };
-        outbox.count()
+        let mut counts = IndexMap::new(alloc);
+        counts.reserve(self.outboxes.len())?;
+        for place in 0..self.outboxes.len() {
+            let Some((number, outbox)) = self.outboxes.get_index(place) else {
+                unreachable!();
+            };
+            let Some(seat) = seats.seat(SessionId::new(*number)) else {
+                unreachable!();
+            };
+            let counted = Counts {
+                accepted: seat.accepted,
+                owed: outbox.count(),
+            };
+            counts.insert(*number, counted)?;
+        }
+        Ok(counts)
     }
 
     /// Gives up the outbox of a session with its taker, and answers how many items were left in it.

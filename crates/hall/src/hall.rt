@@ -194,6 +194,7 @@ impl<L: Naming, O: Lasting> Hall<L, O> {
     pub fn base(&self) -> Option<&Base>
         ensures base { IfSome result (λ b. base_by b.now ≡ base_of self.now) }
         ensures noted { IfSome result (λ b. (t : ℕ) → 0 < t → t ≤ (base_of self.now).sessions → is_here self.now.outboxes t ≡ true → is_noted b.now t ≡ true) }
+        ensures opened { IfSome result (λ b. (t : ℕ) → is_noted b.now t ≡ true → (0 < t) × (t ≤ (base_of self.now).sessions)) }
         ensures none { result ≡ None → self.now.limit.dropped ≡ 0 }
         ensures some { IfSome result (λ b. 0 < self.now.limit.dropped) }
     {

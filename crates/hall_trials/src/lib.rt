@@ -21,6 +21,8 @@ mod reaping;
 #[cfg(test)]
 mod rolled;
 #[cfg(test)]
+mod rolled_threads;
+#[cfg(test)]
 mod threads;
 
 pub use apart::line_apart;

@@ -1,10 +1,11 @@
 //! Four threads share a hall by a lock: two say lines of a session each, two take what comes of them.
-ghost use Rattle.std.specs.Prelude.{◌≡◌, []};
+ghost use Rattle.std.specs.Prelude.{◌≡◌, ◌<◌, []};
 
 use crate::again::{line, new_register};
 use crate::guests::{Guest, enter, sweeps};
 use crate::making::hall_of;
-use chronicle::{Kind, Moment, RecordNumber, SessionId};
+use crate::rolled_threads::{Said, Speaker, are_counted, are_each_once};
+use chronicle::{Kind, RecordNumber, SessionId};
 use deliveries::{Delivery, Item};
 use hall::{Baton, Hall, Lasting, Naming, Register};
 use line_grammar::Piece;
@@ -12,45 +13,77 @@ use outbox::{Outbox, Sender, Writer};
 use std::alloc::{AllocError, Global};
 use std::marker::Brand;
 use std::process::Abort;
-use std::sync::{Mutex, Wait};
+use std::sync::{Condvar, Mutex, Wait};
 use std::test::Fail;
 use std::thread::{Threads, join};
 
 /// How many lines each says.
-const LINES: u64 = 100_000;
-
-/// How many items of the other each takes; the rest is left.
-const TAKEN: usize = 90_000;
-
-/// Room for all items at once, so that nobody is missed however the threads run.
-const CAP: usize = 100_010;
-
-/// Room for all records, and for those that are kept free for the ends while both quit.
-const RECORDS: usize = 200_016;
+pub(crate) const LINES: u64 = 100_000;
 
 /// How many records there are when both have met.
 const MET: u64 = 8;
 
+/// How far threads get, and what they have room for.
+#[derive(Clone, Copy)]
+pub(crate) struct Run {
+    /// How many items of the other each takes; the rest is left.
+    pub(crate) taken: usize,
+    /// How many items an outbox has room for: so many that nobody is missed however the threads run.
+    pub(crate) cap: usize,
+    /// How many items who says lines may be ahead of who takes them.
+    pub(crate) ahead: u64,
+    /// How many records the journal has room for.
+    pub(crate) records: usize,
+}
+
 type Name<R> = <Sender<R> as Outbox>::Name;
 
-/// Has a line accepted so often, each time under the lock, and answers how often it was.
-fn work_often<L: Naming, R: Wait + Drop>(
-    rt: &R,
-    hall: &Mutex<Hall<L, Sender<R>>>,
-    mut baton: Baton<L, Sender<R>>,
-    piece: &Piece,
-) -> (Baton<L, Sender<R>>, u64) {
-    let mut count = 0;
-    for _ in 0..LINES {
-        if hall
-            .lock(rt)
-            .line(&mut baton, piece, Moment::new(0))
-            .is_ok()
-        {
-            count = u64::saturating_add(count, 1);
+/// How many items were taken, for who waits until few are left.
+#[derive(Drop)]
+struct Pace {
+    count: Mutex<u64>,
+    more: Condvar,
+}
+
+impl Pace {
+    fn new() -> Pace {
+        Pace {
+            count: Mutex::new(0),
+            more: Condvar::new(),
         }
     }
-    (baton, count)
+
+    /// Notes one more.
+    fn note<R: Wait>(&self, rt: &R) {
+        let mut count = self.count.lock(rt);
+        *count = u64::saturating_add(*count, 1);
+        self.more.notify_one();
+    }
+
+    /// Waits until of so many fewer are left than this.
+    fn wait<R: Wait>(&self, rt: &R, said: u64, ahead: u64) {
+        let count = self.count.lock(rt);
+        let _ = self.more.wait_while(rt, count, |count: &mut u64| {
+            u64::saturating_sub(said, *count) >= ahead
+        });
+    }
+}
+
+/// Has a line done so often, each time under the lock, while the other takes what comes of it.
+fn work_often<L: Naming, R: Wait + Drop>(
+    rt: &R,
+    alloc: Global,
+    hall: &Mutex<Hall<L, Sender<R>>>,
+    mut baton: Baton<L, Sender<R>>,
+    speaker: &Speaker<'_>,
+    pace: (&Pace, u64),
+) -> (Baton<L, Sender<R>>, Said) {
+    let mut said = Said::new(alloc);
+    for count in 0..LINES {
+        pace.0.wait(rt, count, pace.1);
+        said.line(&mut hall.lock(rt), &mut baton, speaker);
+    }
+    (baton, said)
 }
 
 /// The number of an item's record.
@@ -61,23 +94,30 @@ fn number_of(item: &Item) -> u64 {
 }
 
 /// Takes so many items as they come, and answers the numbers of their records.
-fn take_often<R: Wait>(rt: &R, alloc: Global, mut writer: Writer) -> (Writer, Vec<u64>)
+fn take_often<R: Wait>(
+    rt: &R,
+    alloc: Global,
+    mut writer: Writer,
+    taken: usize,
+    pace: &Pace,
+) -> (Writer, Vec<u64>)
     ensures { result.0.channel ≡ writer.channel }
 {
     let mut numbers = Vec::new(alloc);
-    for _ in 0..TAKEN {
+    for _ in 0..taken {
         if let Ok(item) = writer.take(rt) {
             let _ = numbers.push(number_of(&item));
+            pace.note(rt);
         }
     }
     (writer, numbers)
 }
 
-/// A session after its lines: how many were accepted, and the numbers of the records whose items it took.
+/// A session after its lines: what came of them, and the numbers of the records whose items it took.
 #[derive(Drop)]
 struct Served<L: Naming, O: Lasting<Taker = T>, T: Drop> {
     guest: Guest<L, O, T>,
-    said: u64,
+    said: Said,
     numbers: Vec<u64>,
 }
 
@@ -87,15 +127,18 @@ fn serve<L: Naming + Send + Sync, R: Threads + Wait + Drop + Send + Sync>(
     alloc: Global,
     hall: &Mutex<Hall<L, Sender<R>>>,
     guest: Guest<L, Sender<R>, Writer>,
-    piece: &Piece,
+    speaker: &Speaker<'_>,
+    run: Run,
+    paces: (&Pace, &Pace),
 ) -> Served<L, Sender<R>, Writer> {
     let Guest { baton, stub, taker } = guest;
+    let (own, other) = paces;
     let ((baton, said), (taker, numbers)) = join(
         rt,
-        || work_often(rt, hall, baton, piece),
+        || work_often(rt, alloc, hall, baton, speaker, (other, run.ahead)),
         move || -> (Writer, Vec<u64>)
             ensures { result.0.channel ≡ taker.channel }
-        { take_often(rt, alloc, taker) },
+        { take_often(rt, alloc, taker, run.taken, own) },
     );
     let guest = Guest { baton, stub, taker };
     Served {
@@ -106,7 +149,7 @@ fn serve<L: Naming + Send + Sync, R: Threads + Wait + Drop + Send + Sync>(
 }
 
 /// Whether a record says this line of a session.
-fn is_said<L: Naming, R: Wait + Drop>(
+pub(crate) fn is_said<L: Naming, R: Wait + Drop>(
     hall: &Hall<L, Sender<R>>,
     number: u64,
     by: SessionId,
@@ -152,9 +195,12 @@ fn meet<L: Naming, R: Wait + Drop + Copy>(
     rt: &R,
     alloc: Global,
     hall: &mut Hall<L, Sender<R>>,
-) -> Option<(Guest<L, Sender<R>, Writer>, Guest<L, Sender<R>, Writer>)> {
-    let mut al = enter(rt, alloc, hall, CAP)?;
-    let mut bo = enter(rt, alloc, hall, CAP)?;
+    cap: usize,
+) -> Option<(Guest<L, Sender<R>, Writer>, Guest<L, Sender<R>, Writer>)>
+    requires { 0 < cap }
+{
+    let mut al = enter(rt, alloc, hall, cap)?;
+    let mut bo = enter(rt, alloc, hall, cap)?;
     let has_met = al.says_all(alloc, hall, &["NICK al", "USER a 0 * :Al", "JOIN #a"])
         && bo.says_all(alloc, hall, &["NICK bo", "USER b 0 * :Bo", "JOIN #a"])
         && al.hears(rt, 3)
@@ -162,24 +208,33 @@ fn meet<L: Naming, R: Wait + Drop + Copy>(
     if has_met { Some((al, bo)) } else { None }
 }
 
-/// A session goes: what it took and what is left for it is what the records of the other owe it, and its last item.
-fn leaves<L: Naming, R: Wait + Drop + Abort>(
+/// What was taken are the first items of the other's records, in their order.
+fn look_at<L: Naming, R: Wait + Drop + Abort>(
     rt: &R,
-    hall: &mut Hall<L, Sender<R>>,
-    served: Served<L, Sender<R>, Writer>,
+    one: &Served<L, Sender<R>, Writer>,
+    other: &Served<L, Sender<R>, Writer>,
+    run: Run,
+) {
+    assert_eq!(rt; one.said.numbers.len() as u64, LINES);
+    assert!(rt; one.said.is_counted, "each base has the counts");
+    assert_eq!(rt; one.numbers.len(), run.taken);
+    assert!(rt;
+        other.said.numbers.starts_with(one.numbers.as_slice()),
+        "items in the order of their records"
+    );
+}
+
+/// Of a journal that wasn't rolled: the items are those of the other's lines, and as many are left as lines follow.
+fn compare<L: Naming, R: Wait + Drop + Abort>(
+    rt: &R,
+    hall: &Hall<L, Sender<R>>,
+    served: &Served<L, Sender<R>, Writer>,
     by: SessionId,
     line: &Piece,
 ) {
-    let Served {
-        guest,
-        said,
-        numbers,
-    } = served;
-    assert_eq!(rt; said, LINES);
-    assert_eq!(rt; numbers.len(), TAKEN);
-    let since = said_since(hall, by, line, &numbers).expect(rt, "what is owed");
-    assert_eq!(rt; since, LINES - TAKEN as u64);
-    assert_eq!(rt; guest.leaves(hall), Some(LINES - TAKEN as u64 + 1));
+    let numbers = served.numbers.as_slice();
+    let since = said_since(hall, by, line, numbers).expect(rt, "what is owed");
+    assert_eq!(rt; since, LINES - numbers.len() as u64);
 }
 
 /// What is said.
@@ -200,15 +255,26 @@ impl Lines {
     }
 }
 
-/// Both quit and are swept, and nobody else is to be swept.
+/// Both quit and are swept, and nobody else is to be swept. The journal may be full once more.
 fn end_both<L: Naming, R: Wait + Drop>(
     hall: &mut Hall<L, Sender<R>>,
     al: &mut Served<L, Sender<R>, Writer>,
     bo: &mut Served<L, Sender<R>, Writer>,
     quit: &Piece,
 ) -> bool {
-    let has_ended = al.guest.says(hall, quit) && bo.guest.says(hall, quit);
+    let has_ended = (al.guest.says(hall, quit) || hall.roll().is_ok() && al.guest.says(hall, quit))
+        && (bo.guest.says(hall, quit) || hall.roll().is_ok() && bo.guest.says(hall, quit));
     has_ended && sweeps(hall) && sweeps(hall) && !sweeps(hall)
+}
+
+/// A session goes: what it took and what is left for it is what the records of the other owe it, and its last item.
+fn leaves<L: Naming, R: Wait + Drop + Abort>(
+    rt: &R,
+    hall: &mut Hall<L, Sender<R>>,
+    served: Served<L, Sender<R>, Writer>,
+) {
+    let Served { guest, numbers, .. } = served;
+    assert_eq!(rt; guest.leaves(hall), Some(LINES - numbers.len() as u64 + 1));
 }
 
 /// Each says its lines while what comes of them is taken; then both quit, are swept and reaped.
@@ -217,43 +283,67 @@ fn speak<L: Naming + Send + Sync, R: Threads + Wait + Abort + Copy + Drop + Send
     alloc: Global,
     mut hall: Hall<L, Sender<R>>,
     lines: &Lines,
-) {
-    let (al, bo) = meet(rt, alloc, &mut hall).expect(rt, "two who meet");
-    let (first, second) = (al.baton.session(), bo.baton.session());
+    run: Run,
+)
+    requires { 0 < run.cap }
+{
+    let (al, bo) = meet(rt, alloc, &mut hall, run.cap).expect(rt, "two who meet");
+    let one = Speaker::new(&al, &bo, &lines.one, 2);
+    let two = Speaker::new(&bo, &al, &lines.two, 3);
+    let (als, bos) = (Pace::new(), Pace::new());
     let lock = Mutex::new(hall);
     let (mut al, mut bo) = join(
         rt,
-        || serve(rt, alloc, &lock, al, &lines.one),
-        || serve(rt, alloc, &lock, bo, &lines.two),
+        || serve(rt, alloc, &lock, al, &one, run, (&als, &bos)),
+        || serve(rt, alloc, &lock, bo, &two, run, (&bos, &als)),
     );
     let mut hall = lock.into_inner();
+    look_at(rt, &al, &bo, run);
+    look_at(rt, &bo, &al, run);
+    let (als, bos) = (&al.said, &bo.said);
+    assert!(rt; are_each_once(als.numbers.as_slice(), bos.numbers.as_slice(), MET + 1));
+    let dropped = als.dropped.saturating_add(bos.dropped);
+    assert_eq!(rt; dropped.saturating_add(hall.len() as u64), MET + 2 * LINES);
+    if hall.base().is_none() {
+        compare(rt, &hall, &al, two.session, &lines.two);
+        compare(rt, &hall, &bo, one.session, &lines.one);
+    }
+    assert!(rt; are_counted(&hall, &one, dropped), "al's lines");
+    assert!(rt; are_counted(&hall, &two, dropped), "bo's lines");
     assert!(rt;
         end_both(&mut hall, &mut al, &mut bo, &lines.quit),
         "two ends"
     );
-    leaves(rt, &mut hall, al, second, &lines.two);
-    leaves(rt, &mut hall, bo, first, &lines.one);
+    leaves(rt, &mut hall, al);
+    leaves(rt, &mut hall, bo);
 }
 
-/// They speak in a hall for two.
-fn four_threads<L: Naming + Send + Sync, R: Threads + Wait + Abort + Copy + Drop + Send + Sync>(
-    rt: &R,
-    alloc: Global,
-    register: Register<Name<R>>,
-) -> Result<(), Fail>
+/// They speak in a hall for two, whose journal is full then or isn't.
+pub(crate) fn four_threads<
+    L: Naming + Send + Sync,
+    R: Threads + Wait + Abort + Copy + Drop + Send + Sync,
+>(rt: &R, alloc: Global, register: Register<Name<R>>, run: Run) -> Result<(), Fail>
     requires named { register.table ≡ L.table }
     requires empty { register.rows ≡ [] }
+    requires cap { 0 < run.cap }
 {
     let lines = Lines::new(alloc)?;
-    let Ok(hall) = hall_of::<L, Sender<R>>(alloc, register, 2, RECORDS) else {
+    let Ok(hall) = hall_of::<L, Sender<R>>(alloc, register, 2, run.records) else {
         return Err("a hall".into());
     };
-    speak(rt, alloc, hall, &lines);
+    speak(rt, alloc, hall, &lines, run);
     Ok(())
 }
 
+/// There is room for all items and all records, and for those that are kept free for the ends while both quit.
 #[test]
 fn four_threads_share_a_hall(rt: HostRuntime) -> Result<(), Fail> {
     let register = new_register(rt.alloc())?;
-    four_threads::<Brand, _>(&rt, rt.alloc(), register)
+    let run = Run {
+        taken: 90_000,
+        cap: 100_010,
+        ahead: LINES,
+        records: 200_016,
+    };
+    four_threads::<Brand, _>(&rt, rt.alloc(), register, run)
 }

@@ -1,30 +1,31 @@
-use Rattle.std.proofs.Common.{arith, ◌≡◌, ℕ, ◌+◌, ◌<◌, ◌≤◌, List, [], ◌∷◌, ◌++◌, length, map, Option, ap, ◌∙◌, sym, subst}
+use Rattle.std.proofs.Common.{arith, ◌≡◌, ◌<◌, ◌≤◌, ap, ◌∙◌, sym, subst}
 use Rattle.std.specs.Option.{is_some}
 use Rattle.registration.specs.declared.settings.Settings.{Settings}
-use Rattle.roster.specs.LookBack.{numbers}
 use Rattle.chronicle.specs.History.{sessions}
-use Rattle.book.specs.declared.base.Counts.{Counts}
 use Rattle.book.specs.Book.{is_here}
-use Rattle.book.specs.Noted.{counted_in, counts_at, is_noted, AreCounts}
-use Rattle.book.proofs.KeptSteps.{shown}
-use Rattle.book.proofs.Rolling.{counts_push, are_counts, noted_here}
+use Rattle.book.specs.Noted.{counts_at, is_noted, AreCounts}
+use Rattle.book.proofs.Noting.{has_seat, are_counts, counted_here, counted_there}
 use Rattle.book.proofs.book.Book.note_base.Goals as goal
 
-pub loop-number-preserved : goal.loop-number-preserved
-loop-number-preserved over c =
-    let m = c.args.self.now in let items = c.loop-number.counts.items in
-    let next : c.counts_of.result ≡ counted_in m (c.loop-number.number + 1) = c.counts_of.ensures ∙ ap (counted_in m) c.new.ensures in
-    c.in_ok-push.ensures.items ∙ ap (λ (o : Option Counts). items ++ o ∷ []) next ∙ counts_push (counted_in m) items c.loop-number.number c.loop-number.invariant
+pub counts-requires : goal.counts-requires
+counts-requires over c =
+    let a = c.self.inside in has_seat over.O.Outbox.sent a.journal a.roster.settings a.roster.facts a.seats a.outboxes.boxes a.plan.items a.busy c.self.invariant.kept
 
-pub new-requires-2-clause-counts : goal.new-requires-2-clause-counts
-new-requires-2-clause-counts over c =
-    let a = c.self.inside in let m = shown a.journal a.roster.settings a.outboxes.boxes a.plan.items a.busy in let items = c.loop-number.counts.items in let n = c.loop-number.number in
-    let each : items ≡ map (counted_in m) (numbers 1 n) = c.loop-number.invariant ∙ sym (ap (λ k. map (counted_in k) (numbers 1 n)) c.self.view_is) in
-    subst (λ (g : Settings). AreCounts g a.journal.history items) (sym (ap (λ r. r.settings) c.in_ok-roster.ensures)) (are_counts m items n each)
+pub new-requires-clause-counts : goal.new-requires-clause-counts
+new-requires-clause-counts over c =
+    let a = c.self.inside in let cs = c.in_ok-counts.counts.entries in let idle = ap (λ m. m.busy) c.self.view_is ∙ c.requires in
+    subst (λ (g : Settings). AreCounts g a.journal.history cs) (sym (ap (λ r. r.settings) c.in_ok-roster.ensures))
+    (are_counts over.O.Outbox.sent a.seats a.outboxes.boxes cs c.in_ok-counts.ensures a.journal a.roster.settings a.roster.facts a.plan.items a.busy c.self.invariant.kept idle)
 
 pub returns-clause-noted : goal.returns-clause-noted
 returns-clause-noted over c =
-    let a = c.self.inside in let m = c.args.self.now in let items = c.loop-number.counts.items in let n = c.loop-number.number in
-    let all = c.opened-number-end.ensures in let last = c.loop-number-test.false in let i = c.self.invariant.kept in let many = i.sound.sessions in let places = i.places in
+    let a = c.self.inside in let m = c.args.self.now in let cs = c.in_ok-counts.counts.entries in let many = c.self.invariant.kept.sound.sessions in
     let same : sessions a.journal.history ≡ sessions m.history = ap (λ k. sessions k.history) c.self.view_is in
-    λ t from to. ap (λ b. is_noted b t) c.new-2.ensures ∙ noted_here m items n t c.loop-number.invariant from (omega arith)
+    λ t from to. ap (λ b. is_noted b t) c.new.ensures ∙ counted_here over.O.Outbox.sent a.seats a.outboxes.boxes cs c.in_ok-counts.ensures t from (omega arith) ∙ ap (λ k. is_here k.outboxes t) c.self.view_is
+
+pub returns-clause-opened : goal.returns-clause-opened
+returns-clause-opened over c =
+    let a = c.self.inside in let m = c.args.self.now in let cs = c.in_ok-counts.counts.entries in let many = c.self.invariant.kept.sound.sessions in
+    let same : sessions a.journal.history ≡ sessions m.history = ap (λ k. sessions k.history) c.self.view_is in
+    λ t is. let there = counted_there over.O.Outbox.sent a.seats a.outboxes.boxes cs c.in_ok-counts.ensures t (sym (ap (λ b. is_noted b t) c.new.ensures) ∙ is) in
+      let from = there.from_1 in let to = there.opened in (from, (omega arith))

@@ -1,4 +1,4 @@
-use Rattle.std.proofs.Common.{arith, ◌≡◌, ℕ, ◌+◌, ◌<◌, ◌≤◌, false, length, Some, refl, ap, ◌∙◌, sym, subst}
+use Rattle.std.proofs.Common.{arith, ◌≡◌, ℕ, ◌+◌, ◌<◌, ◌≤◌, true, false, length, Some, refl, ap, ◌∙◌, sym, subst}
 use Rattle.std.proofs.lemmas.Grind.{common_steps}
 use Rattle.chronicle.specs.History.{sessions}
 use Rattle.chronicle.proofs.Most.{most_low}
@@ -19,7 +19,8 @@ invariant_of-self over c =
     record {
       kept = cut_kept over.O.Outbox.sent j c.cut.new.self a.roster.settings a.roster.facts a.seats a.outboxes.boxes a.plan.items a.busy i c.if-self.false few c.cut.ensures;
       based = cut_based j c.cut.new.self a.roster.settings a.outboxes.boxes c.in_ok-base.base c.cut.ensures (base.front.0 ∙ sym (ap (λ m. m.history) c.self.view_is)) (base.front.1 ∙ sym (ap (λ m. m.settings) c.self.view_is)) i.sound.sessions
-          (subst (λ m. (t : ℕ) → 0 < t → t ≤ sessions m.history → is_noted c.in_ok-base.base t ≡ is_here m.outboxes t) (sym c.self.view_is) base.noted);
+          (subst (λ m. (t : ℕ) → 0 < t → t ≤ sessions m.history → is_noted c.in_ok-base.base t ≡ is_here m.outboxes t) (sym c.self.view_is) base.noted)
+          (subst (λ m. (t : ℕ) → is_noted c.in_ok-base.base t ≡ true → (0 < t) × (t ≤ sessions m.history)) (sym c.self.view_is) base.opened);
     }
 
 pub returns-clause-ok : goal.returns-clause-ok
