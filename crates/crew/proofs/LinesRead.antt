@@ -1,5 +1,5 @@
 -- Lines are done as they are read.
-use Rattle.std.proofs.Common.{◌≡◌, ℕ, Bool, true, false, not, cond, List, [], ◌∷◌, ◌++◌, take, drop, Option, Some, None, refl, ap, sym, ◌∙◌, subst, append_assoc, append-nil, ◌⊎◌, inl, inr}
+use Rattle.std.proofs.Common.{◌≡◌, ℕ, Bool, true, false, cond, List, [], ◌∷◌, ◌++◌, take, drop, Option, refl, ap, sym, ◌∙◌, append_assoc, append-nil, ◌⊎◌, inl, inr}
 use Rattle.std.proofs.KnownBytes.{Consumes-nil, Consumes-trans}
 use Rattle.std.proofs.lemmas.List.{take-append-drop}
 use Rattle.std.specs.Prelude.{Result, Ok, Err, OnOk}
@@ -8,37 +8,30 @@ use Rattle.std.specs.List.{flat_map}
 use Rattle.line_grammar.specs.declared.splitter.Piece.{Piece}
 use Rattle.line_grammar.specs.Lines.{is_line_end, longer, ended, piece_of, lines, left_by, Feeds}
 use Rattle.crew.specs.declared.reading.Next.{Next}
-use Rattle.crew.specs.declared.reading.Next.TheVariants.{More, Short, Nothing}
-use Rattle.crew.specs.Doing.{DoesFront, DoesLines, DoesNext, DoesAllNext, DoesRead, is_over}
-use Rattle.crew.specs.Taking.{TakesIn, HasDone}
+use Rattle.crew.specs.declared.reading.Next.TheVariants.{More, Short, Nothing, Left}
+use Rattle.crew.specs.Doing.{DoesFront, DoesLines, Taken, DoesNext, DoesRead, is_left, is_over}
+use Rattle.crew.specs.Taking.{TakesIn, DoesPieces, HasDone}
 
 -- what is done of pieces of which so many were done
 pub front_of : (old new pieces : List Piece) (n : ℕ) → new ≡ old ++ take n pieces → DoesFront old new pieces
 front_of old new pieces n grown = record { done = take n pieces; left = drop n pieces; parts = sym (take-append-drop n pieces); grown = grown }
 
--- no octets come
-pub takes_nothing : (before after kept now : Option (List ℕ)) → Consumes before after [] → now ≡ kept → TakesIn before after kept now []
-takes_nothing before after kept now read same = record {
-  octets = [];
-  read = read;
-  feeds = λ stream is. record { added = []; keeps = same ∙ is ∙ ap left_by (sym (append-nil stream)); grows = refl; adds = ap lines (append-nil stream) ∙ sym (append-nil (lines stream)) };
-}
-
 -- nothing is read yet
 pub begins : (known : Option (List ℕ)) (done : List Piece) → HasDone known known done done (left_by [])
 begins known done = record { octets = []; read = Consumes-nil known; done = sym (append-nil done); kept = refl }
 
--- octets come by a read, and all their lines are done
-pub goes_on : (a b c : Option (List ℕ)) (old mid new : List Piece) (kept now : Option (List ℕ)) → HasDone a b old mid kept → DoesRead b c kept now mid new true → HasDone a c old new now
-goes_on a b c old mid new kept now done read =
-    let all = read.whole refl done.octets done.kept in
+-- octets come by a read of an intake that has no lines left, and all their lines are done
+pub goes_on : (a b c : Option (List ℕ)) (old mid new : List Piece) (was now : Taken) → HasDone a b old mid was.kept → was.pieces ≡ [] → now.pieces ≡ [] → DoesRead b c was now mid new true → HasDone a c old new now.kept
+goes_on a b c old mid new was now done none none_left read =
+    let n = read.next done.octets done.kept in
+    let all : n.pieces ≡ n.front.done = ap (λ l. l ++ n.pieces) (sym none) ∙ n.front.parts ∙ ap (λ l. n.front.done ++ l) (sym (n.leaves refl) ∙ none_left) ∙ append-nil n.front.done in
     record {
       octets = done.octets ++ read.octets;
       read = Consumes-trans a b c done.octets read.octets done.read read.read;
       done =
-          all.grown ∙ ap (λ l. l ++ all.pieces) done.done ∙ append_assoc old (lines done.octets) all.pieces
-          ∙ ap (λ l. old ++ l) (sym all.adds);
-      kept = all.keeps;
+          n.front.grown ∙ ap (λ l. l ++ n.front.done) done.done ∙ append_assoc old (lines done.octets) n.front.done
+          ∙ ap (λ l. old ++ l) (ap (λ l. lines done.octets ++ l) (sym all) ∙ sym n.adds);
+      kept = n.keeps refl;
     }
 
 -- all lines are done
@@ -50,10 +43,10 @@ ends_whole a b old new kept all done = record {
   whole = λ e. done.done;
 }
 
--- octets come by a read, and the first of their lines are done
-pub ends_by : (a b c : Option (List ℕ)) (old mid new : List Piece) (kept now : Option (List ℕ)) (all : Bool) → HasDone a b old mid kept → DoesRead b c kept now mid new all → DoesLines a c old new all
-ends_by a b c old mid new kept now true done read = ends_whole a c old new now true (goes_on a b c old mid new kept now done read)
-ends_by a b c old mid new kept now false done read =
+-- octets come by a read of an intake that has no lines left, and the first of their lines are done
+pub ends_by : (a b c : Option (List ℕ)) (old mid new : List Piece) (was now : Taken) (all : Bool) → HasDone a b old mid was.kept → was.pieces ≡ [] → (all ≡ true → now.pieces ≡ []) → DoesRead b c was now mid new all → DoesLines a c old new all
+ends_by a b c old mid new was now true done none none_left read = ends_whole a c old new now.kept true (goes_on a b c old mid new was now done none (none_left refl) read)
+ends_by a b c old mid new was now false done none none_left read =
     let n = read.next done.octets done.kept in
     record {
       octets = done.octets ++ read.octets;
@@ -61,7 +54,9 @@ ends_by a b c old mid new kept now false done read =
       front = record {
         done = lines done.octets ++ n.front.done;
         left = n.front.left;
-        parts = n.adds ∙ ap (λ l. lines done.octets ++ l) n.front.parts ∙ sym (append_assoc (lines done.octets) n.front.done n.front.left);
+        parts =
+            n.adds ∙ ap (λ l. lines done.octets ++ l) (ap (λ l. l ++ n.pieces) (sym none) ∙ n.front.parts)
+            ∙ sym (append_assoc (lines done.octets) n.front.done n.front.left);
         grown = n.front.grown ∙ ap (λ l. l ++ n.front.done) done.done ∙ append_assoc old (lines done.octets) n.front.done;
       };
       whole = λ e. absurd (let f : false ≡ true = e in cc);
@@ -69,13 +64,44 @@ ends_by a b c old mid new kept now false done read =
 
 -- ---- one read
 
--- the pieces that end in what was read, of which the first were done
-pub reads : (a b : Option (List ℕ)) (kept now : Option (List ℕ)) (old new pieces : List Piece) (all : Bool) → TakesIn a b kept now pieces → DoesFront old new pieces → (all ≡ true → new ≡ old ++ pieces) → DoesRead a b kept now old new all
-reads a b kept now old new pieces all takes front whole = record {
+-- of the lines that an intake has, so many are done
+pub does_pieces : (was now : Taken) (old new : List Piece) (all : Bool) (n : ℕ) → new ≡ old ++ take n was.pieces → now.pieces ≡ drop n was.pieces → now.kept ≡ was.kept → DoesPieces was now old new all
+does_pieces was now old new all n grown leaves keeps = record {
+  front = record { done = take n was.pieces; left = drop n was.pieces; parts = sym (take-append-drop n was.pieces); grown = grown };
+  leaves = λ e. leaves;
+  keeps = keeps;
+}
+
+-- nothing is read, and none is done
+pub does_none : (was : Taken) (old : List Piece) → DoesPieces was was old old true
+does_none was old = does_pieces was was old old true 0 (sym (append-nil old)) refl refl
+
+-- nothing is read, and of the lines that were left the first are done
+pub reads_nothing : (a : Option (List ℕ)) (was now : Taken) (old new : List Piece) (all : Bool) → DoesPieces was now old new all → DoesRead a a was now old new all
+reads_nothing a was now old new all does = record {
+  octets = [];
+  read = Consumes-nil a;
+  next = λ stream is. record {
+    pieces = [];
+    adds = ap lines (append-nil stream) ∙ sym (append-nil (lines stream));
+    front = record { done = does.front.done; left = does.front.left; parts = append-nil was.pieces ∙ does.front.parts; grown = does.front.grown };
+    leaves = does.leaves;
+    keeps = λ e. does.keeps ∙ is ∙ ap left_by (sym (append-nil stream));
+  };
+}
+
+-- no lines were left, and of those that end in what was read the first are done
+pub reads : (a b : Option (List ℕ)) (was mid now : Taken) (old new : List Piece) (all : Bool) → was.pieces ≡ [] → TakesIn a b was.kept mid.kept mid.pieces → DoesPieces mid now old new all → DoesRead a b was now old new all
+reads a b was mid now old new all none takes does = record {
   octets = takes.octets;
   read = takes.read;
-  next = λ stream is. let f = takes.feeds stream is in record { pieces = pieces; adds = f.adds ∙ ap (λ l. lines stream ++ l) (sym f.grows); front = front };
-  whole = λ e stream is. let f = takes.feeds stream is in record { pieces = pieces; adds = f.adds ∙ ap (λ l. lines stream ++ l) (sym f.grows); grown = whole e; keeps = f.keeps };
+  next = λ stream is. let f = takes.feeds stream is in record {
+    pieces = mid.pieces;
+    adds = f.adds ∙ ap (λ l. lines stream ++ l) (sym f.grows);
+    front = record { done = does.front.done; left = does.front.left; parts = ap (λ l. l ++ mid.pieces) none ∙ does.front.parts; grown = does.front.grown };
+    leaves = does.leaves;
+    keeps = λ e. does.keeps ∙ f.keeps;
+  };
 }
 
 -- ---- octets come that aren't split
@@ -100,32 +126,39 @@ pieces_more (x ∷ xs) ys = ap (λ l. piece_of x ++ l) (pieces_more xs ys) ∙ s
 lines_more : (xs ys : List ℕ) → (zs : List Piece) × (lines (xs ++ ys) ≡ lines xs ++ zs)
 lines_more xs ys = let more = ended_more xs ys in (flat_map piece_of more.0, ap (flat_map piece_of) more.1 ∙ pieces_more (ended xs) more.0)
 
--- no octets come, or octets that aren't split: none of their lines is done
-pub reads_none : (a b : Option (List ℕ)) (kept now : Option (List ℕ)) (old : List Piece) (all : Bool) → (all ≡ true → TakesIn a b kept now []) → ((octets : List ℕ) × Consumes a b octets) → DoesRead a b kept now old old all
-reads_none a b kept now old true takes read = reads a b kept now old old [] true (takes refl) (record { done = []; left = []; parts = refl; grown = sym (append-nil old) }) (λ e. sym (append-nil old))
-reads_none a b kept now old false takes read = record {
+-- no lines were left, and none came, or they were lost
+pub reads_none : (a b : Option (List ℕ)) (was now : Taken) (old : List Piece) (all : Bool) → was.pieces ≡ [] → now.pieces ≡ [] → (all ≡ true → TakesIn a b was.kept now.kept []) → ((octets : List ℕ) × Consumes a b octets) → DoesRead a b was now old old all
+reads_none a b was now old true none none_now takes read =
+    reads a b was (record { kept = now.kept; pieces = [] }) now old old true none (takes refl)
+    (record { front = record { done = []; left = []; parts = refl; grown = sym (append-nil old) }; leaves = λ e. none_now; keeps = refl })
+reads_none a b was now old false none none_now takes read = record {
   octets = read.0;
   read = read.1;
-  next = λ stream is. let more = lines_more stream read.0 in record { pieces = more.0; adds = more.1; front = record { done = []; left = more.0; parts = refl; grown = sym (append-nil old) } };
-  whole = λ e. absurd (let f : false ≡ true = e in cc);
+  next = λ stream is. let more = lines_more stream read.0 in record {
+    pieces = more.0;
+    adds = more.1;
+    front = record { done = []; left = more.0; parts = ap (λ l. l ++ more.0) none; grown = sym (append-nil old) };
+    leaves = λ e. absurd (let f : false ≡ true = e in cc);
+    keeps = λ e. absurd (let f : false ≡ true = e in cc);
+  };
 }
 
 -- reading goes on
-pub not_over : (n : Next) → (n ≡ More) ⊎ ((n ≡ Short) ⊎ (n ≡ Nothing)) → is_over n ≡ false
+pub not_over : (n : Next) → (n ≡ More) ⊎ ((n ≡ Short) ⊎ ((n ≡ Nothing) ⊎ (n ≡ Left))) → is_over n ≡ false
 not_over n (inl e) = ap is_over e
 not_over n (inr (inl e)) = ap is_over e
-not_over n (inr (inr e)) = ap is_over e
+not_over n (inr (inr (inl e))) = ap is_over e
+not_over n (inr (inr (inr e))) = ap is_over e
+
+-- no lines are left where much isn't found to wait
+pub not_left : (n : Next) → (is_left n ≡ true → ⊥) → is_left n ≡ false
+not_left n never = at (is_left n) never
+  where
+    at : (b : Bool) → (b ≡ true → ⊥) → b ≡ false
+    at true never = absurd (never refl)
+    at false never = refl
 
 -- what is so of an answer that is no error
 pub unless_err : {A E : Type 0} (r : Result A E) (P : Type 0) → ((e : E) → r ≡ Err e → ⊥) → OnOk r P → P
 unless_err (Ok x) P not p = p
 unless_err (Err e) P not p = absurd (not e refl)
-
--- a test that fails
-pub fails : (b : Bool) → not b ≡ true → b ≡ false
-fails true e = absurd (let f : false ≡ true = e in cc)
-fails false e = refl
-
-pub holds : (b : Bool) → not b ≡ false → b ≡ true
-holds true e = refl
-holds false e = absurd (let f : true ≡ false = e in cc)

@@ -18,8 +18,6 @@ pub trait Backlog {
 pub struct NoBacklog;
 
 impl Backlog for NoBacklog {
-    ghost use Rattle.std.specs.Prelude.{⊥};
-
     ghost finds_much = { λ b. ⊥ };
 
     fn is_much(&self) -> bool {

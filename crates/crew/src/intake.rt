@@ -78,7 +78,7 @@ impl Intake {
     pub fn has_lines(&self) -> bool
         ensures { (result ≡ false) ↔ (self.now.pieces ≡ []) }
     {
-        self.done < self.pieces.len()
+        !self.pieces().is_empty()
     }
 
     /// The lines that were read and aren't done.
@@ -102,14 +102,10 @@ impl Intake {
         self.buffer.len() <= self.last
     }
 
-    /// Makes ready for the next read, by how much the last one brought. Where more room is refused there is as much as before.
-    fn make_ready(&mut self)
-        ensures kept { self.new.kept ≡ self.old.kept }
-        ensures none { self.new.pieces ≡ [] }
+    /// Makes room for the next read, by how much the last one brought. Where more room is refused there is as much as before.
+    fn make_room(&mut self)
+        ensures { self.new.kept ≡ self.old.kept }
     {
-        self.done = 0;
-        self.pieces.clear();
-        self.pieces.shrink_to(LINES);
         if self.is_full() {
             let _ = self.buffer.resize(MUCH, 0);
         } else if self.last <= LITTLE {
@@ -126,7 +122,10 @@ impl Intake {
         ensures none { OnErr result (self.new.pieces ≡ []) }
         ensures some { OnErr result ((octets : List ℕ) × Consumes (I.remaining input.old) (I.remaining input.new) octets) }
     {
-        self.make_ready();
+        self.make_room();
+        self.done = 0;
+        self.pieces.clear();
+        self.pieces.shrink_to(LINES);
         match input.read(&mut self.buffer) {
             Ok(0) => Err(Ending {
                 why: Some(Why::ReadEnded),

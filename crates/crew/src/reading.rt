@@ -40,7 +40,8 @@ pub struct Took<L: Naming, R: Wait + Drop> {
     pub next: Next,
 }
 
-/// Has the lines done that the intake has, until one is refused or much waits for the session. Where all were, reading goes on so.
+/// Has the lines done that the intake has, until one is refused or much waits for the session. `then` says how reading goes on where
+/// all were.
 fn do_lines<'a, L: Naming, R: Wait + Drop, G: Gate, S: Sockets, C: Clock, B: Backlog>(
     rt: &R,
     server: &Server<'a, L, R, G, S, C>,
