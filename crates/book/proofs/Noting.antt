@@ -90,8 +90,8 @@ module _ {O : Type 0} (sent : O → List Item) (seats : List Seat) (boxes : List
       record {
         each = was.each;
         all = λ t there.
-          let r = found kept t (box_stands kept opened boxes view t t refl there) in let l = r.2 in
-          subst (λ (q : ℕ). is_some (counts_at cs q) ≡ true) r.4 (was.first r.0 r.1 (omega arith) r.3);
+            let r = found kept t (box_stands kept opened boxes view t t refl there) in let l = r.2 in
+            subst (λ (q : ℕ). is_some (counts_at cs q) ≡ true) r.4 (was.first r.0 r.1 (omega arith) r.3);
       }
 
 -- ---- by the history

@@ -37,6 +37,16 @@ impl Model for Base {
     ghost invariant = { λ a. (a.roster.facts ≡ facts a.roster.settings a.history.value.history) × AreCounts a.roster.settings a.history.value.history a.counts.entries };
 }
 
+/// The counts of a session.
+fn find_counts(counts: &IndexMap<u64, Counts>, session: SessionId) -> Option<Counts>
+    ensures { result ≡ counts_at counts.now.entries session }
+{
+    match counts.get(&session.number()) {
+        Some(found) => Some(*found),
+        None => None,
+    }
+}
+
 impl Base {
     ghost use Rattle.std.specs.Option.{is_some};
 
@@ -61,22 +71,12 @@ impl Base {
         &self.roster
     }
 
-    /// The counts of a session.
-    fn counts(&self, session: SessionId) -> Option<Counts>
-        ensures { result ≡ counts_at self.now.counts session }
-    {
-        match self.counts.get(&session.number()) {
-            Some(found) => Some(*found),
-            None => None,
-        }
-    }
-
     /// How many pieces of a session were accepted. `None` where the session was opened later, or reaped before.
     pub fn accepted(&self, session: SessionId) -> Option<u64>
         ensures count { IfSome result (λ n. n ≡ (base_by self.now).accepted session) }
         ensures noted { is_some result ≡ is_noted self.now session }
     {
-        match self.counts(session) {
+        match find_counts(&self.counts, session) {
             Some(counts) => Some(counts.accepted),
             None => None,
         }
@@ -87,7 +87,7 @@ impl Base {
         ensures count { IfSome result (λ n. n ≡ (base_by self.now).owed session) }
         ensures noted { is_some result ≡ is_noted self.now session }
     {
-        match self.counts(session) {
+        match find_counts(&self.counts, session) {
             Some(counts) => Some(counts.owed),
             None => None,
         }
