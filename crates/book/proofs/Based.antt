@@ -1,14 +1,14 @@
 -- What a book keeps of the records that it dropped stays so over each step.
-use Rattle.std.proofs.Common.{arith, ◌≡◌, inl, inr, ℕ, suc, ◌+◌, ◌-◌, ◌<◌, ◌≤◌, Bool, true, false, List, [], ◌∷◌, ◌++◌, length, drop, slice_set, Option, Some, None, refl, sym, ap, ◌∙◌, subst, lit≤}
+use Rattle.std.proofs.Common.{arith, ◌≡◌, inl, inr, ℕ, suc, ◌-◌, ◌<◌, ◌≤◌, true, false, List, [], ◌∷◌, ◌++◌, length, drop, slice_set, Option, Some, None, refl, sym, ap, ◌∙◌, subst}
 use Rattle.std.specs.Option.{is_some}
 use Rattle.std.proofs.lemmas.List.{get_or_append_left, length-append, length-set}
 use Rattle.std.proofs.lemmas.Bool.Decides.{eqb_tells}
-use Rattle.chronicle.specs.History.{Rec, opened_by, sessions}
+use Rattle.chronicle.specs.History.{Rec}
 use Rattle.chronicle.specs.Journal.{miss}
 use Rattle.registration.specs.declared.settings.Settings.{Settings}
 use Rattle.deliveries.specs.Base.{dropped_part}
 use Rattle.book.specs.Book.{is_here}
-use Rattle.book.specs.Noted.{Noted, IsOfDropped, IsBased}
+use Rattle.book.specs.Noted.{Noted, IsBased}
 use Rattle.book.proofs.Sound.{box_same, box_other, here_same}
 
 -- a record more leaves those that were dropped

@@ -1,9 +1,8 @@
-use Rattle.std.proofs.Common.{arith, ◌≡◌, ◌<◌, ◌≤◌, ap, ◌∙◌, sym, subst}
-use Rattle.std.specs.Option.{is_some}
+use Rattle.std.proofs.Common.{arith, ◌≡◌, ap, ◌∙◌, sym, subst}
 use Rattle.registration.specs.declared.settings.Settings.{Settings}
 use Rattle.chronicle.specs.History.{sessions}
 use Rattle.book.specs.Book.{is_here}
-use Rattle.book.specs.Noted.{counts_at, is_noted, AreCounts}
+use Rattle.book.specs.Noted.{is_noted, AreCounts}
 use Rattle.book.proofs.Noting.{has_seat, are_counts, counted_here, counted_there}
 use Rattle.book.proofs.book.Book.note_base.Goals as goal
 

@@ -1,10 +1,8 @@
-use Rattle.std.proofs.Common.{arith, ◌≡◌, ℕ, ◌+◌, ◌<◌, ◌≤◌, true, false, length, Some, refl, ap, ◌∙◌, sym, subst}
-use Rattle.std.proofs.lemmas.Grind.{common_steps}
+use Rattle.std.proofs.Common.{arith, ◌≡◌, ℕ, ◌<◌, ◌≤◌, true, length, ap, ◌∙◌, sym, subst}
 use Rattle.chronicle.specs.History.{sessions}
 use Rattle.chronicle.proofs.Most.{most_low}
 use Rattle.book.specs.Book.{is_here, rolled}
 use Rattle.book.specs.Noted.{is_noted}
-use Rattle.book.proofs.KeptSteps.{shown}
 use Rattle.book.proofs.Rolling.{cut_kept, cut_based, shown_cut}
 use Rattle.book.proofs.book.Book.roll.Goals as goal
 

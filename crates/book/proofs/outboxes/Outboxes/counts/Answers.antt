@@ -1,7 +1,7 @@
-use Rattle.std.proofs.Common.{arith, ◌≡◌, ◌≤◌, false, true, length, Some, is_some, refl, ap, ◌∙◌, sym, subst}
+use Rattle.std.proofs.Common.{arith, ◌≡◌, ◌≤◌, false, true, length, is_some, refl, ap, ◌∙◌, sym, subst}
 use Rattle.book.specs.Book.{sent_by, box_at}
 use Rattle.book.specs.Seats.{stands, seat_at, boxes_of, IsThere}
-use Rattle.book.specs.Noted.{counted_by, AreCountsOf}
+use Rattle.book.specs.Noted.{AreCountsOf}
 use Rattle.book.proofs.Mapped.{box_there, box_found}
 use Rattle.book.proofs.Noting.{counted_more, counted_all}
 use Rattle.book.proofs.outboxes.Outboxes.counts.Goals as goal
