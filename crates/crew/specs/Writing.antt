@@ -8,9 +8,9 @@ use Rattle.wire.specs.declared.wire.Flow.TheVariants.{Idle, More, Behind, Ended}
 
 -- the wire of this session was pumped, and stands so: it is idle only where at a moment of the call all that was sent went out, more
 -- may wait only where something was taken, and it is behind only where the stream answered that it takes nothing now
-pub record Pumps (w v : Wired) (session : ℕ) (flow : Result Flow WriteFault) : Type 0 where
+pub record Pumps (w v : Wired) (t : ℕ) (flow : Result Flow WriteFault) : Type 0 where
   pub same : IsSameWire w v
-  pub session : v.session ≡ session
+  pub session : v.session ≡ t
   pub idle : IfOk flow (λ f. f ≡ Idle → (v.rest ≡ []) × (v.waiting ≡ []) × IsAllTaken v.taken)
   pub more : IfOk flow (λ f. f ≡ More → length w.taken < length v.taken)
   pub behind : IfOk flow (λ f. f ≡ Behind → w.pauses < v.pauses)
