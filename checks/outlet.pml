@@ -1,5 +1,6 @@
-/* The three flags of an outlet (crates/crew/src/outlet.rt), over all interleavings: two threads that put something and write, the
-   owner that hears the stream's events, and the peer that reads. Checked by
+/* The three flags of an outlet (crates/crew/src/outlet.rt), and the count of who is left to its worker (View::leave, View::write_left of
+   crates/serving/src/connections.rt), over all interleavings: two threads that put something and write it, or leave it to the owner;
+   the owner that hears the stream's events, and writes what was left to it; and the peer that reads. Checked by
 
      checks/outlet
 
@@ -12,6 +13,7 @@
 #ifndef ROOM
 #define ROOM 1    /* what the stream takes before it would block */
 #endif
+/* LEAVES: what is put may be left to the owner */
 
 byte waiting;               /* what waits in the outbox, or in the wire */
 byte sent;                  /* what the stream holds, and the peer has not read */
@@ -19,6 +21,8 @@ bool refused_write;         /* a write would block since the last event: the sys
 bool writable;              /* the event that there is room */
 bool locked;                /* the wire's lock */
 bool is_wanted, is_busy, is_behind;
+byte left_puts;             /* of how many puts the owner was told since it was left to it to write them */
+byte listed;                /* how often the owner's list has it */
 byte done;                  /* threads that have put all */
 
 /* Outlet::pump: writes what waits, as far as the stream takes it, with the lock held. It may stop before that is all. */
@@ -58,28 +62,51 @@ inline write_wire(behind) {
   od
 }
 
-/* Outlet::write_now, after each put */
+/* Outlet::write_now */
+inline write_now(behind) {
+  if
+  :: is_behind
+  :: else -> write_wire(behind)
+  fi
+}
+
+/* View::leave: whoever finds that the count was 0 lists it */
+inline leave(before) {
+  atomic { before = left_puts; left_puts++ };
+  if
+  :: before == 0 -> listed++
+  :: else
+  fi
+}
+
+/* After each put, View::tell: writes, or leaves that to the owner */
 active [2] proctype Putter() {
-  byte puts = 0;
+  byte puts = 0, before;
   bool behind;
   do
   :: puts == PUTS -> break
   :: else ->
     waiting++;
     if
-    :: is_behind
-    :: else -> write_wire(behind)
+    :: write_now(behind)
+#ifdef LEAVES
+    :: leave(before)
+#endif
     fi;
     puts++
   od;
   done++
 }
 
-/* Outlet::go_on, at each event */
+/* Outlet::go_on, at each event; View::write_left, for what stands in its list */
 active proctype Owner() {
   bool behind;
 end:
   do
+  :: atomic { listed > 0 -> listed-- };
+     /* the count is taken back before what waits is looked at: who found more than 0 there has put before that */
+     left_puts = 0;
+     write_now(behind)
   :: atomic { writable -> writable = false };
      /* busy is looked at before behind: who writes says first that it is behind, and then that it is done */
      if

@@ -22,6 +22,12 @@ use wire::Flow;
 /// Milliseconds of a pause.
 pub(crate) const PAUSE: u64 = 20;
 
+/// So many for each line are written to at once.
+const AT_ONCE: usize = 128;
+
+/// Of more, so many at each end of their list are: there stands who was told by a short line beside a long one.
+const ENDS: usize = 16;
+
 /// While more octets than these wait for a client, nothing more of it is done.
 const MUCH: u64 = 65_536;
 
@@ -75,6 +81,8 @@ pub(crate) struct Connection<L: Naming, R: Wait + Copy + Drop> {
     is_called: AtomicBool,
     // More waits for it than may.
     is_beyond: AtomicBool,
+    // Of how many records it was told since it is left to its worker to write them; none where it isn't.
+    left: AtomicU64,
 }
 
 impl<L: Naming, R: Wait + Copy + Drop> Connection<L, R> {
@@ -96,6 +104,7 @@ impl<L: Naming, R: Wait + Copy + Drop> Connection<L, R> {
             is_shut: AtomicBool::new(false),
             is_called: AtomicBool::new(false),
             is_beyond: AtomicBool::new(false),
+            left: AtomicU64::new(0),
         }
     }
 
@@ -281,6 +290,8 @@ pub(crate) struct View<'a, L: Naming, R: Wait + Copy + Drop> {
     pub(crate) all: &'a Connections<L, R>,
     /// Which worker it is; of no worker where it is beyond their number.
     pub(crate) worker: usize,
+    /// Fewer records than these of which a session is told may be left to its worker to write.
+    pub(crate) burst: usize,
 }
 
 impl<L: Naming, R: Wait + Copy + Drop> View<'_, L, R> {
@@ -338,6 +349,29 @@ impl<L: Naming, R: Wait + Copy + Drop> View<'_, L, R> {
         }
     }
 
+    /// Leaves what waits for a session, of so many records, to its worker to write, and answers whether that may be left to it. What
+    /// was put before the count grew is written by whoever takes the count back, since that writes after it.
+    fn leave(&self, session: SessionId, records: usize) -> bool {
+        let connections = self.all.by_session.read(&self.all.rt);
+        let Some(connection) = connections.get(&session.number()) else {
+            return true;
+        };
+        let before = connection.left.fetch_add(records as u64, Ordering::SeqCst);
+        if before == 0 {
+            if let Some(post) = self.all.post(connection.worker) {
+                let is_own = connection.worker == self.worker;
+                post.leave(&self.all.rt, connection.place, is_own);
+            }
+        }
+        before.saturating_add(records as u64) < self.burst as u64
+    }
+
+    /// Writes what waits for a connection that was left to this worker.
+    pub(crate) fn write_left(&self, connection: &Connection<L, R>) {
+        connection.left.store(0, Ordering::SeqCst);
+        self.write_on(connection);
+    }
+
     /// Writes what waits for all.
     fn write_to_all(&self) {
         for (_, connection) in self.all.by_session.read(&self.all.rt).iter() {
@@ -372,8 +406,13 @@ impl<L: Naming, R: Wait + Clock + Copy + Drop> Sockets for View<'_, L, R> {
     }
 
     fn tell(&self, told: &Told) {
-        for session in told.sessions() {
-            self.write_to(*session);
+        let (all, records) = (told.sessions().len(), told.records());
+        let is_short = all <= records.saturating_mul(AT_ONCE) || self.burst <= records;
+        for (place, session) in told.sessions().iter().enumerate() {
+            let is_near = is_short || place < ENDS || all.saturating_sub(ENDS) <= place;
+            if is_near || !self.leave(*session, records) {
+                self.write_to(*session);
+            }
         }
         if told.is_all() {
             self.write_to_all();

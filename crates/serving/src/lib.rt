@@ -8,6 +8,7 @@ mod connections;
 mod guests;
 mod hosts;
 mod journal;
+mod left;
 mod lingering;
 mod opening;
 mod post;

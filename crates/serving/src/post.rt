@@ -1,4 +1,5 @@
 //! What other threads leave for a worker.
+use crate::left::Left;
 use mio::net::TcpStream;
 use mio::{Events, Poll, Registry, Token, Waker};
 use std::alloc::Global;
@@ -67,6 +68,7 @@ impl Mail {
 pub(crate) struct Post {
     waker: Waker,
     mail: Mutex<Mail>,
+    left: Mutex<Left>,
     clients: AtomicU64,
 }
 
@@ -76,6 +78,7 @@ impl Post {
         Ok(Post {
             waker: Waker::new(registry, WAKE)?,
             mail: Mutex::new(Mail::new(alloc)),
+            left: Mutex::new(Left::new(alloc)),
             clients: AtomicU64::new(0),
         })
     }
@@ -111,6 +114,22 @@ impl Post {
         if was_empty && !is_own {
             self.wake();
         }
+    }
+
+    /// Has the worker write what waits for a client, by another thread or by itself.
+    pub(crate) fn leave<R: Wait>(&self, rt: &R, place: usize, is_own: bool) {
+        let mut left = self.left.lock(rt);
+        let was_empty = left.is_empty();
+        left.add(place);
+        drop(left);
+        if was_empty && !is_own {
+            self.wake();
+        }
+    }
+
+    /// Takes those for whom something is left to be written, and leaves an empty list.
+    pub(crate) fn swap_left<R: Wait>(&self, rt: &R, other: &mut Left) {
+        mem::swap(&mut *self.left.lock(rt), other);
     }
 
     /// Takes what was left, and leaves an empty list.

@@ -337,11 +337,13 @@ fn serve_in<
     if !has_stop(rt, stop, Arc::try_clone(&stopping)?) {
         return Err(ServeFault::Memory);
     }
+    let burst = burst_of(terms.sendq, terms.workers);
     let mut views = Vec::new(alloc);
     for worker in 0..=terms.workers {
         let view = View {
             all: &connections,
             worker,
+            burst,
         };
         if views.push(view).is_err() {
             return Err(ServeFault::Memory);
@@ -353,7 +355,7 @@ fn serve_in<
         gate: terms.gate,
         clock: terms.clock,
         sendq: terms.sendq,
-        burst: burst_of(terms.sendq, terms.workers),
+        burst,
     };
     let is_quiet = terms.is_quiet;
     if !run_on(

@@ -5,6 +5,7 @@ use crate::client::{Client, Place, read_client};
 use crate::connections::{Connection, PAUSE};
 use crate::guests;
 use crate::guests::{Came, Guest, Guests};
+use crate::left::{Batch, write_batch};
 use crate::lingering::{Lingerers, TRIES};
 use crate::opening::{Connected, Opened, Serving, Tokens, open_connected, write_rest};
 use crate::post::{Arrival, Mail, Post, WAKE};
@@ -45,6 +46,7 @@ pub(crate) struct Worker<L: Naming, R: Wait + Copy + Drop> {
     live: u64,
     told: Told,
     mail: Mail,
+    batch: Batch,
     /// Who connected and isn't served yet, the first last.
     arrivals: Vec<Arrival>,
     /// Who may have more to be read, those who wait longest first.
@@ -91,6 +93,7 @@ impl<L: Naming, R: Wait + Clock + Copy + Drop> Worker<L, R> {
             live: 0,
             told: Told::new(alloc),
             mail: Mail::new(alloc),
+            batch: Batch::new(alloc),
             arrivals: Vec::new(alloc),
             more: VecDeque::new(alloc),
             closing: Vec::new(alloc),
@@ -178,6 +181,7 @@ impl<L: Naming, R: Wait + Clock + Copy + Drop> Worker<L, R> {
         has_ended: bool,
     ) {
         let (client, is_more) = read_client(rt, server, client, has_ended, &mut self.told);
+        self.batch.add_read();
         if is_more {
             self.list(rt, server, at, client);
         } else if client.is_held_up {
@@ -670,6 +674,7 @@ impl<L: Naming, R: Wait + Clock + Copy + Drop> Worker<L, R> {
         server: &Serving<'_, L, R, G, C>,
         post: &Post,
     ) {
+        self.batch.add_told(self.told.sessions().len());
         for _ in rt.forever() {
             tell(server, &mut self.told);
             if !self.do_mail(rt, server, post) && self.closing.is_empty() {
@@ -725,8 +730,8 @@ impl<L: Naming, R: Wait + Clock + Copy + Drop> Worker<L, R> {
     }
 
     /// How long to wait for an event.
-    fn wait(&self) -> Option<Duration> {
-        if !self.more.is_empty() || !self.arrivals.is_empty() {
+    fn wait(&self, has_left: bool) -> Option<Duration> {
+        if has_left || !self.more.is_empty() || !self.arrivals.is_empty() {
             Some(Duration::from_millis(0))
         } else if self.is_waiting() {
             Some(Duration::from_millis(PAUSE))
@@ -748,13 +753,15 @@ impl<L: Naming, R: Wait + Clock + Copy + Drop> Worker<L, R> {
         for _ in rt.forever() {
             self.open_some(rt, server, post);
             self.try_again(rt, server, post);
+            write_batch(server, &mut self.batch, &self.places);
             self.settle(rt, server, post);
             let is_closed = server.sockets.all.is_closed();
             self.hurry(rt, post, is_closed);
             if is_closed && self.live == 0 && self.lingerers.is_empty() {
                 return;
             }
-            let wait = self.wait();
+            let has_left = self.batch.fill(rt, post);
+            let wait = self.wait(has_left);
             if self.poll.poll(events, wait).is_err() {
                 thread::sleep(rt, Duration::from_millis(PAUSE));
             }

@@ -1,0 +1,116 @@
+//! Clients for whom something was put that their workers are left to write.
+use crate::client::Place;
+use crate::opening::Serving;
+use crate::post::Post;
+use crew::Gate;
+use hall::Naming;
+use std::alloc::Global;
+use std::mem;
+use std::sync::Wait;
+use std::time::Clock;
+
+/// To how many of these a worker writes before it looks at other events.
+const WRITES: usize = 32;
+
+/// Places of clients for whom something is left to be written.
+#[derive(Drop)]
+pub(crate) struct Left {
+    places: Vec<usize>,
+    /// There may be others, since there was no memory for the list.
+    is_all: bool,
+}
+
+impl Left {
+    /// Nobody.
+    pub(crate) fn new(alloc: Global) -> Left {
+        Left {
+            places: Vec::new(alloc),
+            is_all: false,
+        }
+    }
+
+    /// Whether nobody is left.
+    pub(crate) fn is_empty(&self) -> bool {
+        self.places.is_empty() && !self.is_all
+    }
+
+    /// Adds a client; all where there is no memory for the list.
+    pub(crate) fn add(&mut self, place: usize) {
+        if self.places.push(place).is_err() {
+            self.is_all = true;
+        }
+    }
+}
+
+/// Clients to whom a worker has begun to write. Who is left to it meanwhile waits in its post until it has written to all these.
+#[derive(Drop)]
+pub(crate) struct Batch {
+    left: Left,
+    // To how many more it writes next.
+    due: usize,
+}
+
+impl Batch {
+    /// Nobody.
+    pub(crate) fn new(alloc: Global) -> Batch {
+        Batch {
+            left: Left::new(alloc),
+            due: 0,
+        }
+    }
+
+    /// Takes those who were left to a worker, if it has written to all whom it took before, and answers whether there is anybody.
+    pub(crate) fn fill<R: Wait>(&mut self, rt: &R, post: &Post) -> bool {
+        if self.left.is_empty() {
+            post.swap_left(rt, &mut self.left);
+            self.due = 0;
+        }
+        !self.left.is_empty()
+    }
+
+    /// The worker has read a client.
+    pub(crate) fn add_read(&mut self) {
+        self.due = self.due.saturating_add(WRITES);
+    }
+
+    /// The worker tells so many.
+    pub(crate) fn add_told(&mut self, count: usize) {
+        self.due = self.due.saturating_add(count);
+    }
+
+    /// To how many the worker writes now: to few where little else happens, and to more by what it has read and told, so that nobody
+    /// waits long.
+    fn begin(&mut self) -> usize {
+        mem::replace(&mut self.due, 0).saturating_add(WRITES)
+    }
+}
+
+/// Writes what waits for the client at a place.
+fn write_at<L: Naming, R: Wait + Clock + Copy + Drop, G: Gate, C: crew::Clock>(
+    server: &Serving<'_, L, R, G, C>,
+    place: Option<&Place<L, R>>,
+) {
+    if let Some(Place::Held(client)) = place {
+        server.sockets.write_left(&client.connection);
+    }
+}
+
+/// Writes to some of those who are left to a worker that has these places, those who were left last first.
+pub(crate) fn write_batch<L: Naming, R: Wait + Clock + Copy + Drop, G: Gate, C: crew::Clock>(
+    server: &Serving<'_, L, R, G, C>,
+    batch: &mut Batch,
+    places: &[Place<L, R>],
+) {
+    for _ in 0..batch.begin() {
+        let Some(at) = batch.left.places.pop() else {
+            break;
+        };
+        write_at(server, places.get(at));
+    }
+    if !mem::replace(&mut batch.left.is_all, false) {
+        return;
+    }
+    for place in places.iter() {
+        write_at(server, Some(place));
+    }
+}
