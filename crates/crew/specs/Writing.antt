@@ -1,5 +1,5 @@
 -- When a thread of a session's own writes no more: this project's own.
-use Rattle.std.specs.Prelude.{◌≡◌, ◌<◌, ◌⊎◌, Bool, true, []}
+use Rattle.std.specs.Prelude.{◌≡◌, ◌<◌, ◌⊎◌, true, []}
 use Rattle.outbox.specs.Ends.{IsAllTaken}
 use Rattle.wire.specs.Wired.{Wired, ends}
 
