@@ -6,10 +6,10 @@ use Rattle.std.specs.Prelude.{Result, Ok, Err, OnOk}
 use Rattle.std.specs.Io.KnownBytes.{Consumes}
 use Rattle.std.specs.List.{flat_map}
 use Rattle.line_grammar.specs.declared.splitter.Piece.{Piece}
-use Rattle.line_grammar.specs.Lines.{is_line_end, longer, ended, piece_of, lines, left_by, Feeds}
+use Rattle.line_grammar.specs.Lines.{is_line_end, longer, ended, piece_of, lines, left_by}
 use Rattle.crew.specs.declared.reading.Next.{Next}
 use Rattle.crew.specs.declared.reading.Next.TheVariants.{More, Short, Nothing, Left}
-use Rattle.crew.specs.Doing.{DoesFront, DoesLines, Taken, DoesNext, DoesRead, is_left, is_over}
+use Rattle.crew.specs.Doing.{DoesFront, DoesLines, Taken, DoesRead, is_left, is_over}
 use Rattle.crew.specs.Taking.{TakesIn, DoesPieces, HasDone}
 
 -- what is done of pieces of which so many were done

@@ -1,5 +1,5 @@
 -- What came of writing, and when nothing more is written: this project's own.
-use Rattle.std.specs.Prelude.{◌≡◌, ◌<◌, ◌⊎◌, ℕ, Bool, true, [], length, Result, IfOk, OnErr}
+use Rattle.std.specs.Prelude.{◌≡◌, ◌<◌, ◌⊎◌, ℕ, true, [], length, Result, IfOk, OnErr}
 use Rattle.deliveries.specs.declared.writing.WriteFault.{WriteFault}
 use Rattle.outbox.specs.Ends.{IsAllTaken}
 use Rattle.wire.specs.Wired.{Wired, ends, IsSameWire}
