@@ -57,6 +57,12 @@ impl<O: Made<R, T>, R: Abort, T: Drop> Trial<O, R, T> for Six {
             "ended"
         );
         assert!(rt; al.leaves(hall) == Some(6), "left");
+        assert!(rt; hall.roll().is_ok(), "rolled again");
+        let base = hall.base().expect(rt, "another base");
+        assert!(rt;
+            base.accepted(SessionId::new(1)).is_none(),
+            "who left isn't counted"
+        );
         Ok(())
     }
 }
