@@ -23,6 +23,8 @@ mod rolled;
 #[cfg(test)]
 mod rolled_threads;
 #[cfg(test)]
+mod telling;
+#[cfg(test)]
 mod threads;
 
 pub use apart::line_apart;
