@@ -234,7 +234,7 @@ fn compare<L: Naming, R: Wait + Drop + Abort>(
 ) {
     let numbers = served.numbers.as_slice();
     let since = said_since(hall, by, line, numbers).expect(rt, "what is owed");
-    assert_eq!(rt; since, LINES - numbers.len() as u64);
+    assert_eq!(rt; since, LINES.saturating_sub(numbers.len() as u64));
 }
 
 /// What is said.
@@ -274,7 +274,9 @@ fn leaves<L: Naming, R: Wait + Drop + Abort>(
     served: Served<L, Sender<R>, Writer>,
 ) {
     let Served { guest, numbers, .. } = served;
-    assert_eq!(rt; guest.leaves(hall), Some(LINES - numbers.len() as u64 + 1));
+    // Those that it didn't take, and its last item.
+    let left = (LINES + 1).saturating_sub(numbers.len() as u64);
+    assert_eq!(rt; guest.leaves(hall), Some(left));
 }
 
 /// Each says its lines while what comes of them is taken; then both quit, are swept and reaped.
