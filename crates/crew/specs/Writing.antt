@@ -22,8 +22,8 @@ pub record Pumps (w v : Wired) (t : ℕ) (flow : Result Flow WriteFault) : Type 
 pub record IsWritten (shut : Type 0) (t : ℕ) (v : Wired) : Type 0 where
   pub session : v.session ≡ t
   pub over :
-    ((v.rest ≡ []) × (v.waiting ≡ []) × (ends v.taken ≡ true))
-    ⊎ ((shut × (v.rest ≡ []) × (v.waiting ≡ []) × IsAllTaken v.taken) ⊎ (v.is_broken ≡ true))
+      ((v.rest ≡ []) × (v.waiting ≡ []) × (ends v.taken ≡ true))
+      ⊎ ((shut × (v.rest ≡ []) × (v.waiting ≡ []) × IsAllTaken v.taken) ⊎ (v.is_broken ≡ true))
 
 -- the session's last item went out; or the session was found to be shut, and all that was sent at a moment of the call went out, or the
 -- stream answered that it takes nothing now; or the stream has a fault

@@ -120,7 +120,10 @@ fn rolled<L: Naming, R: Wait + Abort + Copy + Drop>(
     assert!(rt; lock.lock(rt).base().is_some(), "it was rolled");
     let dropped = sockets.dropped.load(Ordering::SeqCst);
     let kept = lock.lock(rt).len() as u64;
-    assert!(rt; u64::saturating_add(dropped, kept) == 201, "each roll was told");
+    assert!(rt;
+        u64::saturating_add(dropped, kept) == 201,
+        "each roll was told"
+    );
     assert!(rt;
         !sockets.is_stopped.load(Ordering::SeqCst),
         "the server goes on"
