@@ -86,7 +86,10 @@ fn leaves<L: Naming, R: Wait + Abort + Copy + Drop>(
             &mut told,
         );
         assert_eq!(rt; (took.all, took.next), (true, *next));
-        assert_eq!(rt; (input.len(), lock.lock(rt).len()), (*unread, 1 + *done));
+        assert_eq!(rt;
+            (input.len(), lock.lock(rt).len()),
+            (*unread, done.saturating_add(1))
+        );
         assert_eq!(rt; intake.has_lines(), *unread == 0 && *done < 5);
         assert!(rt; *next != Next::Left || told.records() == 0, "all are told");
         baton = took.baton;
