@@ -172,7 +172,28 @@ fn writes_for<L: Naming, R: Wait + Abort + Drop + Copy>(
     }
 }
 
-/// Whether the gauge of a wire over a stream of this shape tells, after each call, of all octets that the stream hasn't.
+/// Whether the gauge of a wire, for which so many octets were put, tells of all that its stream hasn't.
+fn is_told<L: Naming>(wire: &Wire<L, Narrow>) -> bool {
+    let waiting = OCTETS.saturating_sub(wire.stream().octets.len());
+    wire.gauge().waiting() == waiting as u64
+}
+
+/// Whether the gauge of a wire tells so before each call and after the last, by which all is out.
+fn is_told_always<L: Naming, R: Wait>(rt: &R, wire: &mut Wire<L, Narrow>) -> bool {
+    for _ in 0..CALLS {
+        if !is_told(&*wire) {
+            return false;
+        }
+        match wire.pump(rt) {
+            Ok(Flow::Idle) => return wire.gauge().waiting() == 0,
+            Ok(_) => {}
+            Err(_) => return false,
+        }
+    }
+    false
+}
+
+/// Whether the gauge of a wire over a stream of this shape tells what waits, with and without the newest item.
 fn is_gauged<L: Naming, R: Wait + Abort + Drop + Copy>(
     rt: &R,
     alloc: Global,
@@ -184,21 +205,7 @@ fn is_gauged<L: Naming, R: Wait + Abort + Drop + Copy>(
 {
     let (_feed, mut wire) = fed::<L, R>(rt, alloc, register, shape, ITEMS);
     let besides = OCTETS - TOLD.len();
-    if wire.gauge().waiting_besides_newest() != besides as u64 {
-        return false;
-    }
-    for _ in 0..CALLS {
-        let waiting = OCTETS.saturating_sub(wire.stream().octets.len());
-        if wire.gauge().waiting() != waiting as u64 {
-            return false;
-        }
-        match wire.pump(rt) {
-            Ok(Flow::Idle) => return wire.gauge().waiting() == 0,
-            Ok(_) => {}
-            Err(_) => return false,
-        }
-    }
-    false
+    wire.gauge().waiting_besides_newest() == besides as u64 && is_told_always(rt, &mut wire)
 }
 
 #[test]
