@@ -35,18 +35,21 @@ fn roll<L: Naming, O: Made<R, T>, R: Abort, T: Drop>(rt: &R, hall: &mut Hall<L, 
     assert!(rt; base.roster().opened() == 1, "known");
 }
 
-/// Six records, then no room; rolled, there is room for one more, and for the end of the session.
-struct Six;
+/// Six records, then no room for this line; rolled, there is room for it, and for the end of the session.
+#[derive(Drop)]
+struct Six {
+    line: &'static str,
+}
 
 impl<O: Made<R, T>, R: Abort, T: Drop> Trial<O, R, T> for Six {
     fn run<L: Naming>(&self, rt: &R, alloc: Global, hall: &mut Hall<L, O>) -> Result<(), Fail> {
         let mut al: Guest<L, O, T> = enter(rt, alloc, hall, 256).ok_or("al")?;
         let lines = ["NICK al", "USER a 0 * :Al", "PING x", "PING x", "PING x"];
         assert!(rt; al.says_all(alloc, hall, &lines), "six records");
-        let said = says(alloc, hall, &mut al, "PING x");
+        let said = says(alloc, hall, &mut al, self.line);
         assert!(rt; said == Some(Err(LineRefusal::JournalFull)), "full");
         roll::<L, O, R, T>(rt, hall);
-        let said = says(alloc, hall, &mut al, "PING x");
+        let said = says(alloc, hall, &mut al, self.line);
         assert!(rt; said == Some(Ok(7)), "after");
         let (dropped, kept) = (RecordNumber::new(6), RecordNumber::new(7));
         assert!(rt; hall.record(dropped).is_none(), "dropped");
@@ -69,6 +72,9 @@ impl<O: Made<R, T>, R: Abort, T: Drop> Trial<O, R, T> for Six {
 
 #[test]
 fn a_rolled_hall_goes_on(rt: HostRuntime) -> Result<(), Fail> {
-    over_rings(&rt, rt.alloc(), &Six, (4, 8))?;
-    over_channels(&rt, rt.alloc(), &Six, (4, 8))
+    for line in ["PING x", "WHOIS al"] {
+        over_rings(&rt, rt.alloc(), &Six { line }, (4, 8))?;
+        over_channels(&rt, rt.alloc(), &Six { line }, (4, 8))?;
+    }
+    Ok(())
 }
