@@ -391,10 +391,29 @@ class Effects:
                 h.add("on", s, c)
                 if not members:
                     h.add("o", s, c)
-                self.show(h.members(c), b":%s JOIN %s" % (h.source(s), name))
+                self.show_join(c, name)
                 if h.of_channel("topic", c):
                     self.tell(332, name, text=h.of_channel("topic", c))
                 self.tell_names(c)
+
+    def with_cap(self, cap, sessions):
+        """Those of some sessions that had a capability before this record."""
+        return [t for t in sessions if cap in self.caps[t]]
+
+    def show_join(self, c, name):
+        """Each member takes the JOIN in the form that it asked for; of who is away, the others are told that as well."""
+        s, h = self.s, self.h
+        plain = b":%s JOIN %s" % (h.source(s), name)
+        for t in h.members(c):
+            is_extended = t in self.with_cap(b"extended-join", [t])
+            self.show([t], plain + b" %s :%s" % (h.last("account", s) or b"*", h.last("real", s)) if is_extended else plain)
+        if h.last("away", s):
+            self.show_away([t for t in h.members(c) if t != s], h.last("away", s))
+
+    def show_away(self, sessions, text):
+        """Tells who asked for it that the session is away with a text, or here again."""
+        line = b":%s AWAY" % self.h.source(self.s) + (b" :" + text if text else b"")
+        self.show(self.with_cap(b"away-notify", sessions), line)
 
     def tell_names(self, c):
         s, h = self.s, self.h
@@ -648,6 +667,8 @@ class Effects:
 
     def do_away(self, params):
         text = b"".join(params[:1])[:AWAY]
+        if text != (self.h.last("away", self.s) or b""):
+            self.show_away(self.h.sharers(self.s), text)
         self.h.add("away", self.s, value=text)
         self.tell(306 if text else 305)
 

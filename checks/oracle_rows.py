@@ -100,6 +100,61 @@ al: @label=n NOTICE nobody :x
 al < @label=n :~ ACK
 al: @label=p PRIVMSG nobody :x
 al < @label=p :~ 401 al nobody :No such nick/channel
+== who joins and who is away
+al starts
+bo starts with away-notify extended-join
+cy starts
+bo: JOIN #a
+bo < :bo!b@h2 JOIN #a * :Bo
+bo < :~ 353 bo = #a :@bo
+bo < :~ 366 bo #a :End of NAMES list
+al: JOIN #a
+bo < :al!a@h1 JOIN #a * :Al
+al < :al!a@h1 JOIN #a
+al < :~ 353 al = #a :@bo al
+al < :~ 366 al #a :End of NAMES list
+cy: JOIN #a
+bo < :cy!c@h3 JOIN #a * :Cy
+al: AWAY :out
+al < :cy!c@h3 JOIN #a
+al < :~ 306 al :You have been marked as being away
+bo < :al!a@h1 AWAY :out
+al: AWAY :out
+al < :~ 306 al :You have been marked as being away
+bo .
+bo: JOIN #b
+bo < :bo!b@h2 JOIN #b * :Bo
+bo < :~ 353 bo = #b :@bo
+bo < :~ 366 bo #b :End of NAMES list
+al: JOIN #b
+take 2
+    2> :al!a@h1 JOIN #b * :Al
+    2> :al!a@h1 AWAY :out
+al < :al!a@h1 JOIN #b
+al < :~ 353 al = #b :@bo al
+al < :~ 366 al #b :End of NAMES list
+al: AWAY
+bo < :al!a@h1 AWAY
+bo .
+al < :~ 305 al :You are no longer marked as being away
+al .
+cy < :cy!c@h3 JOIN #a
+cy < :~ 353 cy = #a :@bo al cy
+cy < :~ 366 cy #a :End of NAMES list
+cy .
+== a join with an account
+account Al a ba7816bf8f01cfea414140de5dae2223b00361a396177a9cb410ff61f20015ad
+dee starts with extended-join sasl
+dee: AUTHENTICATE PLAIN
+dee < AUTHENTICATE +
+dee: AUTHENTICATE AGFsAGJj
+dee < :~ 900 dee dee!d@h1 Al :You are now logged in as Al
+dee < :~ 903 dee :SASL authentication successful
+dee: JOIN #a
+dee < :dee!d@h1 JOIN #a Al :Dee
+dee < :~ 353 dee = #a :@dee
+dee < :~ 366 dee #a :End of NAMES list
+dee .
 == labels that don't count
 al starts with batch labeled-response
 al: @label={65 l} PING x
@@ -476,6 +531,41 @@ bo < :~ 366 bo * :End of NAMES list
 bo: LIST
 bo < :~ 323 bo :End of LIST
 bo .
+== who is quiet is pinged, and then ended
+al starts
+beat 119999
+    tick none
+beat 120000
+    tick 4
+al < :~ PING ~
+al .
+beat 200000
+    tick none
+beat 240000
+    tick none
+    hung 5
+drain 1
+    1> ERROR :Closing Link: h1 (Ping timeout)
+    empty
+== who is pinged and heard of is pinged again
+al starts
+beat 120000
+    tick 4
+al < :~ PING ~
+feed 1 "PONG x\n"
+    read 1
+do 1 130000
+    record 5
+beat 249999
+    tick none
+beat 250000
+    tick 6
+al < :~ PING ~
+beat 369999
+    tick none
+beat 370000
+    tick none
+    hung 7
 """
 
 

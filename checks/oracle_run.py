@@ -6,7 +6,8 @@ end.
 import re
 
 from oracle_model import Effects, History
-from oracle_words import HOST, LAST_MOMENT, NICK, RANGES, REASONS, SERVER, escape, fold, lines_of, time_text
+from oracle_words import (HOST, LAST_MOMENT, LATE_AFTER, NICK, PING_AFTER, RANGES, REASONS, SERVER, escape, fold, lines_of,
+                          time_text)
 
 
 class BadLine(Exception):
@@ -71,7 +72,8 @@ def printed(line):
 
 # What stands behind a step's name: a host, a number, a moment, a reason's word.
 WORDS = {b"connect": b"hm", b"pick": b"nn", b"begin": b"nm", b"put": b"n", b"end": b"n", b"back": b"n", b"take": b"n",
-         b"hang": b"nnwm", b"sweep": b"nm", b"reap": b"n", b"do": b"nm", b"tidy": b"m", b"drain": b"n"}
+         b"hang": b"nnwm", b"sweep": b"nm", b"reap": b"n", b"do": b"nm", b"tidy": b"m", b"drain": b"n", b"tick": b"nm",
+         b"beat": b"m"}
 
 
 def read_step(line):
@@ -177,6 +179,7 @@ class Run:
         h.add("record", value=moment)
         h.add("opened", value=s)
         h.add("host", s, value=host)
+        h.add("heard", s, value=moment)
         return [b"session %d" % s]
 
     def step_feed(self, s, octets):
@@ -208,6 +211,7 @@ class Run:
         piece = self.unread(s)[0]
         h.add("record", value=moment)
         h.add("said", s, value=piece)
+        h.add("heard", s, value=moment)
         effects = Effects(h, self.settings, s)
         label = effects.said(piece)
         lines = {t: self.spelled(effects, t, [(None, it) for u, it in effects.due if u == t], moment) for t in open_before}
@@ -320,6 +324,29 @@ class Run:
         self.plan(w, open_before, lines)
         return [b"sweep %d" % self.length()]
 
+    def is_quiet(self, s, span, moment):
+        """Whether a session that isn't shut said nothing for so long, nor was opened since."""
+        return not self.h.shut(s) and self.h.last("heard", s) + span <= moment
+
+    def step_tick(self, w, moment):
+        h = self.h
+        self.demand_worker(w)
+        self.demand_free()
+        self.demand(not h.last("job", w), b"HasJob")
+        self.demand_moment(moment)
+        pinged = [s for s in h.sessions()
+                  if self.is_quiet(s, PING_AFTER, moment) and h.place("pinged", s) < h.place("heard", s)]
+        if not pinged:
+            return [b"tick none"]
+        self.demand(self.length() + self.held() + 1 <= self.settings.limit, b"JournalFull")
+        h.add("record", value=moment)
+        effects = Effects(h, self.settings, None)
+        ping = (None, (b":%s PING %s" % (SERVER, SERVER), ()))
+        for s in pinged:
+            h.add("pinged", s)
+        self.plan(w, pinged, {s: self.spelled(effects, s, [ping], moment) for s in pinged})
+        return [b"tick %d" % self.length()]
+
     def step_reap(self, s):
         h = self.h
         self.demand_known(s)
@@ -349,6 +376,14 @@ class Run:
     def step_tidy(self, moment):
         notes = self.step_sweep(1, moment)
         return notes if notes == [b"sweep none"] else self.finished(notes)
+
+    def step_beat(self, moment):
+        notes = self.step_tick(1, moment)
+        notes = notes if notes == [b"tick none"] else self.finished(notes)
+        for s in self.h.sessions():
+            if self.is_quiet(s, LATE_AFTER, moment):
+                notes += self.step_hang(1, s, b"timeout", moment)
+        return notes
 
     def step_drain(self, s):
         notes = []

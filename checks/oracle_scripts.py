@@ -47,10 +47,14 @@ ASKED_MODES = [b"b", b"+b", b"-b", b"+", b"", b"-", b"be"]
 BROKEN = [b"\0", b"\xff", b" ", b":", b",", b"@", b"\x01", b"  ", b"\\", b"\t"]
 COMMONER = (["JOIN", "PRIVMSG"] * 3 + ["MODE"] * 4 + ["KICK"] * 2 +
             ["NOTICE", "TAGMSG", "PART", "INVITE", "TOPIC", "AWAY", "WHOIS", "NAMES", "CAP", "AUTHENTICATE", "NICK", "other"])
-FLAVOURS = ["plain", "plain", "plain", "tight", "tight", "hands", "hands", "crowd", "tags", "odd"]
+# Milliseconds between two moments, and about those after which something is due.
+SPANS = [1, 999, 10000, 20000, 40000, 60000]
+ABOUT = [119999, 120000, 120001]
+
+FLAVOURS = ["plain", "plain", "plain", "tight", "tight", "hands", "hands", "crowd", "tags", "odd", "ticks", "ticks"]
 ODD = [b"do 1", b"do  1 0", b"do 1 0 ", b"foo", b"connect :h 0", b"connect h_1 0", b"limit 5", b"motd x", b'feed 1 "a',
-       b'feed 1 "\\q"', b'feed 1 ""x"', b"do 18446744073709551616 0", b"do 1 9223372036854775808", b"hang 1 1 timeout 0",
-       b"hang 1 1 killed 0", b"tick 1 0", b"beat 0", b"take -1", b"take", b"DO 1 0", b"take 1\r", b"# x", b'feed 1 "\\xg0"',
+       b'feed 1 "\\q"', b'feed 1 ""x"', b"do 18446744073709551616 0", b"do 1 9223372036854775808", b"hang 1 1 Timeout 0",
+       b"hang 1 1 killed 0", b"tick 1", b"beat 1 0", b"tick 0 1 0", b"beat", b"take -1", b"take", b"DO 1 0", b"take 1\r", b"# x", b'feed 1 "\\xg0"',
        b"feed 1 x", b' feed 1 "x"', b"end 1 1", b"connect " + b"h" * 64 + b" 0", b"tidy +0", b'feed 1 "\\"']
 ODD_HEADERS = [b"limit 0", b"limit 10000001", b"sendq 0", b"sendq 4097", b"workers 0", b"workers 65", b"sessions 0",
                b"sessions 1025", b"motd", b"motd " + b"m" * 401, b"motd a\rb", b"motd a\0b", b"account al a",
@@ -83,7 +87,7 @@ class Script:
         self.is_long = length is not None
         self.run, self.steps, self.moment, self.fault, self.speaker = Run(), [], 0, None, 0
         self.has_bans = False
-        self.flavour = self.random.choice(["plain", "hands", "tags"] if self.is_long else FLAVOURS)
+        self.flavour = self.random.choice(["plain", "hands", "tags", "ticks"] if self.is_long else FLAVOURS)
         self.make()
 
     # Choices.
@@ -114,7 +118,8 @@ class Script:
         if self.chance(0.02):
             return self.pick(0, LAST_MOMENT + 1, 2**63 - 1, max(0, self.moment - 1))
         if self.chance(0.2):
-            self.moment += self.pick(1, 999, 1000, 86399999, 3600000 * 24 * 31)
+            is_short = self.flavour == "ticks" and self.chance(0.98)
+            self.moment += self.pick(*SPANS) if is_short else self.pick(1, 999, 1000, 86399999, 3600000 * 24 * 31)
         return min(self.moment, LAST_MOMENT)
 
     def spelled_otherwise(self, name):
@@ -154,7 +159,7 @@ class Script:
     def caps(self):
         if self.chance(0.1):
             return self.random.choice(CAP_LISTS)
-        words = self.random.sample(CAPABILITIES, self.random.randint(1, 6))
+        words = self.random.sample(CAPABILITIES, self.random.randint(1, len(CAPABILITIES)))
         return self.pick(b" ", b" ", b"  ").join((b"-" if self.chance(0.15) else b"") + it for it in words)
 
     # Lines.
@@ -452,10 +457,30 @@ class Script:
             return
         kinds = [b"pick %d %d" % (w, s), b"begin %d %d" % (w, now), b"put %d" % w, b"end %d" % w, b"back %d" % w, b"take %d" % s,
                  b"take %d" % s, b"drain %d" % s, b"drain %d" % s, b"sweep %d %d" % (w, now), b"tidy %d" % now, b"tidy %d" % now,
-                 b"reap %d" % s, b"do %d %d" % (s, now), b"do %d %d" % (s, now)]
+                 b"reap %d" % s, b"do %d %d" % (s, now), b"do %d %d" % (s, now), b"tick %d %d" % (w, now),
+                 b"beat %d" % now]
         if self.chance(0.12):
             kinds = [b"hang %d %d %s %d" % (w, s, self.random.choice(list(REASONS)), now)]
         self.step(self.random.choice(kinds))
+
+    def beat(self):
+        """Some speak, time passes, and who is quiet is pinged or ended; or who is pinged is so step by step."""
+        for s in self.sessions():
+            if self.chance(0.3) and not self.run.h.shut(s) and not self.fault:
+                self.feed(s, self.pick(b"PONG x\r\n", b"PING x\r\n", b"PRIVMSG #a :x\r\n"))
+                self.do_all(s)
+        self.moment = min(self.moment + self.pick(0, 1, *SPANS, *ABOUT), LAST_MOMENT)
+        if self.chance(0.6):
+            self.step(b"beat %d" % self.moment)
+            return
+        w = self.worker()
+        self.step(b"tick %d %d" % (w, self.moment))
+        for _ in range(30):
+            if self.run.h.last("lock") != w or self.fault:
+                break
+            self.between(0.25)
+            if self.run.h.last("lock") == w:
+                self.step(b"%s %d" % (b"put" if self.run.rest() else b"end", w))
 
     def release(self):
         """Ends what workers still have in hand, in most cases."""
@@ -567,6 +592,8 @@ class Script:
                 self.start()
             elif self.chance(0.003) and self.flavour in ("plain", "tags") and not self.has_bans:
                 self.bans()
+            elif self.chance(0.12 if self.flavour == "ticks" else 0.004):
+                self.beat()
             elif self.chance(0.72):
                 self.talk()
             elif self.chance(0.7 if self.flavour != "tight" else 0.5):

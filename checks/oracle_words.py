@@ -5,7 +5,8 @@ import datetime
 import re
 
 SERVER, INFO, VERSION, CREATED = b"irc.example", b"halld", b"halld-1", 0
-CAPABILITIES = (b"batch", b"echo-message", b"labeled-response", b"message-tags", b"sasl", b"server-time")
+CAPABILITIES = (b"away-notify", b"batch", b"echo-message", b"extended-join", b"labeled-response", b"message-tags", b"sasl",
+                b"server-time")
 TOKENS = (b"AWAYLEN=200 CASEMAPPING=rfc1459 CHANLIMIT=#&:20 CHANMODES=b,k,l,imnst CHANNELLEN=50 CHANTYPES=#& KICKLEN=200 "
           b"MAXLIST=b:60 MODES=4 NICKLEN=30 PREFIX=(ov)@+ TOPICLEN=300")
 LAST_MOMENT = 253370764799999
@@ -14,8 +15,11 @@ CHANNELS, BANS, TARGETS, MODES = 20, 60, 4, 4
 TOPIC, KICK, AWAY, REAL, USER, KEY = 300, 200, 200, 100, 16, 23
 SASL_PIECE, SASL_WHOLE = 400, 1200
 RANGES = {b"limit": (1, 10_000_000, 1_000_000), b"sendq": (1, 4096, 256), b"workers": (1, 64, 2), b"sessions": (1, 1024, 1024)}
+# After how many milliseconds a session that says nothing is sent a PING, and after how many it is ended.
+PING_AFTER, LATE_AFTER = 120000, 240000
 REASONS = {b"quit": b"Client Quit", b"sendq": b"Max SendQ exceeded", b"ended": b"Connection closed", b"readfail": b"Read error",
-           b"writefail": b"Write error", b"memory": b"Out of memory", b"shutdown": b"Server shutting down"}
+           b"writefail": b"Write error", b"memory": b"Out of memory", b"shutdown": b"Server shutting down",
+           b"timeout": b"Ping timeout"}
 TEXTS = {
     305: b"You are no longer marked as being away", 306: b"You have been marked as being away",
     315: b"End of WHO list", 318: b"End of WHOIS list", 323: b"End of LIST", 331: b"No topic is set", 366: b"End of NAMES list",

@@ -1,6 +1,6 @@
 -- Who was never opened is owed nothing, isn't shut and isn't gone.
 use Rattle.std.proofs.lemmas.Bool.Decides.{eqb_tells, nat_tests}
-use Rattle.std.proofs.Common.{◌≡◌, ◌≢◌, inl, inr, ℕ, ℤ, ◌+◌, ◌<◌, Bool, true, false, ◌||◌, ◌==◌, nat_le, cond, List, [], ◌∷◌, length, arith, refl, sym, ap, ◌∙◌, ne_eqb}
+use Rattle.std.proofs.Common.{◌≡◌, ◌≢◌, inl, inr, ℕ, ℤ, ◌+◌, ◌<◌, Bool, true, false, ◌||◌, ◌==◌, nat_le, cond, List, [], ◌∷◌, ◌++◌, length, arith, refl, sym, ap, ◌∙◌, ne_eqb}
 use Rattle.std.specs.List.{list_any}
 use Rattle.chronicle.specs.declared.record.Kind.{Kind}
 use Rattle.chronicle.specs.declared.record.Kind.TheVariants as kind
@@ -10,6 +10,7 @@ use Rattle.deeds.specs.Deeds.{facts, text}
 use Rattle.registration.specs.declared.settings.Settings.{Settings}
 use Rattle.deliveries.specs.Owed.{item, delivery, owed}
 use Rattle.book.specs.Legal.{IsKind, AreMissed, IsLegal}
+use Rattle.book.proofs.Unheard.{unheard, unheard_not_pinged}
 
 -- a record doesn't end or take leave of who was never opened
 ends-none : (h : List Rec) (k : Kind) (t : ℕ) → IsKind h k → sessions h < t → ends k t ≡ false
@@ -17,25 +18,29 @@ ends-none h (kind.Opened s host) t i l = refl
 ends-none h (kind.Said s n piece) t i l = let ne : s ≢ t = let j = i.1 in omega arith in rw (ne_eqb s t ne) refl
 ends-none h (kind.Hung s w) t i l = let ne : s ≢ t = let j = i.1 in omega arith in ne_eqb s t ne
 ends-none h (kind.Gone s) t i l = refl
+ends-none h kind.Ticked t i l = refl
 
 leaves-none : (h : List Rec) (k : Kind) (t : ℕ) → IsKind h k → sessions h < t → leaves k t ≡ false
 leaves-none h (kind.Opened s host) t i l = refl
 leaves-none h (kind.Said s n piece) t i l = refl
 leaves-none h (kind.Hung s w) t i l = refl
 leaves-none h (kind.Gone s) t i l = let ne : s ≢ t = let j = i.1 in omega arith in ne_eqb s t ne
+leaves-none h kind.Ticked t i l = refl
 
 -- a record gives nothing to who was never opened
-delivery-none : (g : Settings) (h : List Rec) (k : Kind) (moment : ℤ) (t : ℕ) → IsKind h k → sessions h < t → delivery g h k moment t ≡ []
-delivery-none g h k moment t ik before =
-    let late : nat_le t (sessions h) ≡ false = grind (arith, nat_tests) in
-    rw (ends-none h k t ik before) (ap (λ b. item (length h + 1) (cond b (text g (facts g h) k moment (length h + 1) t) [])) late)
+delivery-none : (g : Settings) (h : List Rec) (k : Kind) (moment : ℤ) (t : ℕ) → IsLegal g h → IsKind h k → sessions h < t → delivery g h k moment t ≡ []
+delivery-none g h k moment t legal ik before =
+    let late : nat_le t (sessions h) ≡ false = grind (arith, nat_tests) in let told_ = text g (facts g h) k moment (length h + 1) t in
+    rw (ends-none h k t ik before)
+    (ap (λ xs. item (length h + 1) (xs ++ cond (nat_le t (sessions h)) told_ [])) (unheard_not_pinged g h k moment t (unheard g h t legal before))
+    ∙ ap (λ b. item (length h + 1) (cond b told_ [])) late)
 
 -- nothing is owed to who was never opened
 pub not_owed : (g : Settings) (h : List Rec) (t : ℕ) → IsLegal g h → sessions h < t → owed g h t ≡ []
 not_owed g [] t i l = refl
 not_owed g (r ∷ h) t i l =
     let before : sessions h < t = omega arith in let E : List Delivery = [] in
-    let d = delivery-none g h r.kind r.moment t i.2 before in
+    let d = delivery-none g h r.kind r.moment t i.4 i.2 before in
     rw (not_owed g h t i.4 before) (rw d (elim (misses r t || shut h t) as (λ b. cond b E E ≡ E) [ true ↦ refl | false ↦ refl ]))
 
 -- nor is it shut, and nothing of it was accepted
@@ -49,7 +54,7 @@ missed_not g h k moment (u ∷ ts) t d a =
 
 pub not_shut : (g : Settings) (h : List Rec) (t : ℕ) → IsLegal g h → sessions h < t → shut h t ≡ false
 not_shut g [] t i l = refl
-not_shut g (r ∷ h) t i l = let before : sessions h < t = omega arith in rw (missed_not g h r.kind r.moment r.missed t (delivery-none g h r.kind r.moment t i.2 before) i.3) (rw (ends-none h r.kind t i.2 before) (not_shut g h t i.4 before))
+not_shut g (r ∷ h) t i l = let before : sessions h < t = omega arith in rw (missed_not g h r.kind r.moment r.missed t (delivery-none g h r.kind r.moment t i.4 i.2 before) i.3) (rw (ends-none h r.kind t i.2 before) (not_shut g h t i.4 before))
 
 pub not_gone : (g : Settings) (h : List Rec) (t : ℕ) → IsLegal g h → sessions h < t → gone h t ≡ false
 not_gone g [] t i l = refl
@@ -59,6 +64,7 @@ said_not : (h : List Rec) (k : Kind) (t : ℕ) → IsKind h k → sessions h < t
 said_not h (kind.Opened s host) t i l = refl
 said_not h (kind.Hung s w) t i l = refl
 said_not h (kind.Gone s) t i l = refl
+said_not h kind.Ticked t i l = refl
 said_not h (kind.Said s n piece) t i l = let ne : s ≢ t = let j = i.1 in omega arith in rw (ne_eqb s t ne) refl
 
 pub not_accepted : (g : Settings) (h : List Rec) (t : ℕ) → IsLegal g h → sessions h < t → accepted h t ≡ []
@@ -76,6 +82,7 @@ left_by : (h : List Rec) (k : Kind) (t : ℕ) → IsKind h k → leaves k t ≡ 
 left_by h (kind.Opened s host) t i e = absurd (let f : false ≡ true = e in cc)
 left_by h (kind.Said s n piece) t i e = absurd (let f : false ≡ true = e in cc)
 left_by h (kind.Hung s w) t i e = absurd (let f : false ≡ true = e in cc)
+left_by h kind.Ticked t i e = absurd (let f : false ≡ true = e in cc)
 left_by h (kind.Gone s) t i e =
     elim (eqb_tells s t) [
       | inl same ↦ ap (shut h) (sym same.1) ∙ i.2

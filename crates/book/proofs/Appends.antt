@@ -79,7 +79,7 @@ module _ {O : Type 0} (sent : O → List Item) (j : journal.Shown) (g : Settings
       let from : 0 < s = may.turn.from_1 in let to : s ≤ length seats = seated s may.turn.opened in
       let own : ends k s ≡ quits = ap (λ c. c && is_quit piece) (eq-eqb s s refl) ∙ sym eq in
       eplan ∙ ap (λ (fs : List Deed). planned_from seats s number (spelled g fs s (label_of (caps fs s) piece) (of_asked g fs s (asked_of piece)) moment number) quits) i.facts
-      ∙ plan_right g h seats boxes k moment quits number (length boxes) i.each_seat en i.places (i.places ∙ sym i.sound.sessions) from to own refl (λ t ne. (quiet k t refl ne).0)
+      ∙ plan_right g h seats boxes k moment quits number (length boxes) i.each_seat en i.places (i.places ∙ sym i.sound.sessions) refl from to own refl (λ t ne. (quiet k t refl ne).0)
 
   pub said_kept : (k : journal.Shown) (more_known : List Deed) (plan : List Planned) (b : Turn) (piece : Piece) (moment : ℤ) (quits : Bool)
       → MayBegin (shown j g boxes none busy) b moment → quits ≡ is_quit piece → (seat_at seats b.session).accepted + 1 < 18446744073709551616
@@ -126,7 +126,7 @@ module _ {O : Type 0} (sent : O → List Item) (j : journal.Shown) (g : Settings
   gone_plan s number moment plan next en eplan =
       let h = j.history in let k = Gone s in let is = swept_is h s next in
       eplan ∙ ap (λ (fs : List Deed). planned_from seats s number (spelled g fs s None (departs fs s) moment number) false) i.facts
-      ∙ plan_right g h seats boxes k moment false number (length boxes) i.each_seat en i.places (i.places ∙ sym i.sound.sessions) is.0 (seated s is.1) refl refl (λ t ne. refl)
+      ∙ plan_right g h seats boxes k moment false number (length boxes) i.each_seat en i.places (i.places ∙ sym i.sound.sessions) refl is.0 (seated s is.1) refl refl (λ t ne. refl)
 
   pub gone_kept : (k : journal.Shown) (more_known : List Deed) (plan : List Planned) (moment : ℤ) (s : ℕ)
       → MaySweep (shown j g boxes none busy) moment → to_sweep j.history ≡ Some s

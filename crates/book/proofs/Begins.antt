@@ -1,11 +1,12 @@
 -- What the code has in hand when a record is appended is the next state.
-use Rattle.std.proofs.Common.{◌≡◌, ◌≢◌, inl, inr, ℕ, ℤ, zero, suc, ◌+◌, ◌-◌, ◌<◌, ◌≤◌, Bool, true, false, not, nat_lt, nat_le, cond, List, [], ◌∷◌, ◌++◌, length, slice_set, Option, Some, arith, refl, sym, ap, ◌∙◌, subst, lit<}
+use Rattle.std.proofs.Common.{◌≡◌, ◌≢◌, inl, inr, ℕ, ℤ, zero, suc, ◌+◌, ◌-◌, ◌<◌, ◌≤◌, Bool, true, false, not, ◌&&◌, nat_lt, nat_le, cond, List, [], ◌∷◌, ◌++◌, length, slice_set, Option, Some, arith, refl, sym, ap, ◌∙◌, subst, lit<}
 use Rattle.std.proofs.lemmas.Bool.Decides.{eqb_tells, nat_tests}
 use Rattle.chronicle.specs.declared.record.Kind.{Kind}
 use Rattle.chronicle.specs.declared.record.Kind.TheVariants.{Hung}
 use Rattle.chronicle.specs.declared.why.Why.{Why}
 use Rattle.chronicle.specs.declared.why.Why.TheVariants.{Quit}
 use Rattle.chronicle.specs.History.{Rec, actor, sessions, ends, shut}
+use Rattle.chronicle.specs.Quiet.{is_tick, is_pinged}
 use Rattle.chronicle.specs.Journal.{fresh_record, miss}
 use Rattle.chronicle.specs.Journal as journal
 use Rattle.deliveries.specs.declared.delivery.Delivery.{Delivery}
@@ -18,7 +19,10 @@ use Rattle.deeds.specs.Deeds.{facts, text}
 use Rattle.registration.specs.declared.settings.Settings.{Settings}
 use Rattle.book.specs.declared.plan.Planned.{Planned}
 use Rattle.book.specs.declared.seat.Seat.{Seat}
-use Rattle.deliveries.specs.Owed.{item, told, reason}
+use Rattle.roster.specs.LookBack.{caps}
+use Rattle.labels_batches.specs.Spellings.{spelled_for}
+use Rattle.deeds.specs.Ping.{ping_line}
+use Rattle.deliveries.specs.Owed.{item, ticked, told, reason}
 use Rattle.book.specs.Seats.{IsSeat, seat_at, hears, told as tells, told_to, told_own, planned_from, IsTaken, IsNotTaken}
 use Rattle.book.specs.Book.{Shown, item_of, due, puts, others, plan_by, plan_of, begun, is_here, delivered_to, dropped, finished, IsPutNext, IsPutAll, IsDone}
 use Rattle.book.proofs.Begun.{plan_hung}
@@ -26,18 +30,23 @@ use Rattle.book.proofs.KeptSteps.{shown, shown_with}
 
 -- ---- the plan is that of the record
 
--- what a session is due that was opened before the record, which doesn't end it
-due_told : (g : Settings) (h : List Rec) (k : Kind) (moment : ℤ) (t : ℕ) → t ≤ sessions h → ends k t ≡ false → due g h k moment t ≡ tells (shut h t) (length h + 1) (text g (facts g h) k moment (length h + 1) t)
-due_told g h k moment t known e =
+-- what is no tick pings nobody
+no_tick : (g : Settings) (h : List Rec) (k : Kind) (moment : ℤ) (t : ℕ) → is_tick k ≡ false → ticked g h k moment t ≡ []
+no_tick g h k moment t e = ap (λ b. cond (b && is_pinged h t moment) (spelled_for (caps (facts g h) t) moment (ping_line g.server)) []) e
+
+-- what a session is due that was opened before the record, which is no tick and doesn't end it
+due_told : (g : Settings) (h : List Rec) (k : Kind) (moment : ℤ) (t : ℕ) → is_tick k ≡ false → t ≤ sessions h → ends k t ≡ false → due g h k moment t ≡ tells (shut h t) (length h + 1) (text g (facts g h) k moment (length h + 1) t)
+due_told g h k moment t none known e =
     let before : nat_le t (sessions h) ≡ true = grind (arith, nat_tests) in
     ap (λ b. cond (shut h t) [] (cond b (Last (length h + 1) (reason k) ∷ []) (item (length h + 1) (told g h k moment t)))) e
+    ∙ ap (λ xs. cond (shut h t) [] (item (length h + 1) (xs ++ cond (nat_le t (sessions h)) (text g (facts g h) k moment (length h + 1) t) []))) (no_tick g h k moment t none)
     ∙ ap (λ b. cond (shut h t) [] (item (length h + 1) (cond b (text g (facts g h) k moment (length h + 1) t) []))) before
 
 -- what the record's own session is due
-due_own : (g : Settings) (h : List Rec) (k : Kind) (moment : ℤ) (quits : Bool) (t : ℕ) → t ≤ sessions h → ends k t ≡ quits → reason k ≡ Quit → due g h k moment t ≡ told_own (shut h t) (length h + 1) (text g (facts g h) k moment (length h + 1) t) quits
-due_own g h k moment true t known e why =
+due_own : (g : Settings) (h : List Rec) (k : Kind) (moment : ℤ) (quits : Bool) (t : ℕ) → is_tick k ≡ false → t ≤ sessions h → ends k t ≡ quits → reason k ≡ Quit → due g h k moment t ≡ told_own (shut h t) (length h + 1) (text g (facts g h) k moment (length h + 1) t) quits
+due_own g h k moment true t none known e why =
     ap (λ b. cond (shut h t) [] (cond b (Last (length h + 1) (reason k) ∷ []) (item (length h + 1) (told g h k moment t)))) e ∙ ap (λ w. cond (shut h t) [] (Last (length h + 1) w ∷ [])) why
-due_own g h k moment false t known e why = due_told g h k moment t known e
+due_own g h k moment false t none known e why = due_told g h k moment t none known e
 
 pub others_same : (f g : ℕ → List Delivery) (s t n m : ℕ) → 0 < t → t + n ≤ m + 1 → ((u : ℕ) → 0 < u → u ≤ m → s ≢ u → f u ≡ g u) → others f s t n ≡ others g s t n
 others_same f g s t zero m from to h = refl
@@ -48,20 +57,20 @@ others_same f g s t (suc n) m from to h =
     ])
 
 -- a session that was opened hears unless it is shut
-hears_not : (seats : List Seat) (t : ℕ) → 0 < t → t ≤ length seats → not (hears seats t) ≡ (seat_at seats t).shut
+pub hears_not : (seats : List Seat) (t : ℕ) → 0 < t → t ≤ length seats → not (hears seats t) ≡ (seat_at seats t).shut
 hears_not seats t from to =
     let above : nat_lt 0 t ≡ true = grind (arith, nat_tests) in let below : nat_le t (length seats) ≡ true = grind (arith, nat_tests) in
     rw (above, below) (elim (seat_at seats t).shut as (λ b. not (not b) ≡ b) [ true ↦ refl | false ↦ refl ])
 
 pub plan_right : {O : Type 0} (g : Settings) (h : List Rec) (seats : List Seat) (boxes : List (Option O)) (k : Kind) (moment : ℤ) (quits : Bool) (number n : ℕ) → ((t : ℕ) → 0 < t → t ≤ length seats → IsSeat (seat_at seats t) (is_here boxes t) h t) → number ≡ length h + 1 → length seats ≡ n → length seats ≡ sessions h
-    → 0 < actor k → actor k ≤ length seats → ends k (actor k) ≡ quits → reason k ≡ Quit → ((t : ℕ) → actor k ≢ t → ends k t ≡ false)
+    → is_tick k ≡ false → 0 < actor k → actor k ≤ length seats → ends k (actor k) ≡ quits → reason k ≡ Quit → ((t : ℕ) → actor k ≢ t → ends k t ≡ false)
     → planned_from seats (actor k) number (text g (facts g h) k moment number) quits ≡ plan_of g h k moment n
-plan_right g h seats boxes k moment quits number n seat en el all from to own why others_ =
+plan_right g h seats boxes k moment quits number n seat en el all none from to own why others_ =
     let s = actor k in let f : ℕ → ℕ → List ℕ = text g (facts g h) k moment in
     let mine : told_own (not (hears seats s)) number (f number s) quits ≡ due g h k moment s =
-    ap (λ b. told_own b number (f number s) quits) (hears_not seats s from to ∙ (seat s from to).shut) ∙ ap (λ (m : ℕ). told_own (shut h s) m (f m s) quits) en ∙ sym (due_own g h k moment quits s (omega arith) own why) in
+    ap (λ b. told_own b number (f number s) quits) (hears_not seats s from to ∙ (seat s from to).shut) ∙ ap (λ (m : ℕ). told_own (shut h s) m (f m s) quits) en ∙ sym (due_own g h k moment quits s none (omega arith) own why) in
     let each : (u : ℕ) → 0 < u → u ≤ length seats → s ≢ u → told_to seats number (f number) u ≡ due g h k moment u = λ u above below ne.
-    ap (λ b. tells b number (f number u)) (hears_not seats u above below ∙ (seat u above below).shut) ∙ ap (λ (m : ℕ). tells (shut h u) m (f m u)) en ∙ sym (due_told g h k moment u (omega arith) (others_ u ne)) in
+    ap (λ b. tells b number (f number u)) (hears_not seats u above below ∙ (seat u above below).shut) ∙ ap (λ (m : ℕ). tells (shut h u) m (f m u)) en ∙ sym (due_told g h k moment u none (omega arith) (others_ u ne)) in
     ap (λ xs. puts s xs ++ others (told_to seats number (f number)) s 1 (length seats)) mine
     ∙ ap (λ ps. puts s (due g h k moment s) ++ ps) (others_same (told_to seats number (f number)) (due g h k moment) s 1 (length seats) (length seats) (lit< tt) (omega arith) each)
     ∙ ap (λ (m : ℕ). plan_by (due g h k moment) s m) el

@@ -106,11 +106,15 @@ others_ok g r h n s k (suc j) nobody from to =
 pub plan_ok : (g : Settings) (r : Rec) (h : List Rec) (n s : ℕ) → r.missed ≡ [] → 0 < s → s ≤ n → IsPlan g (r ∷ h) n (plan_by (due g h r.kind r.moment) s n)
 plan_ok g r h n s nobody from to = puts_ok g r h n s (others (due g h r.kind r.moment) s 1 n) nobody from to (others_actor (due g h r.kind r.moment) s 1 n) (others_ok g r h n s 1 n nobody (lit< tt) (omega arith))
 
+-- nor is there another where the record is of no session, and nobody has the number 0
+pub plan_of_none : (g : Settings) (r : Rec) (h : List Rec) (n : ℕ) → r.missed ≡ [] → due g h r.kind r.moment 0 ≡ [] → IsPlan g (r ∷ h) n (plan_by (due g h r.kind r.moment) 0 n)
+plan_of_none g r h n nobody none = subst (λ xs. IsPlan g (r ∷ h) n (puts 0 xs ++ others (due g h r.kind r.moment) 0 1 n)) (sym none) (others_ok g r h n 0 1 n nobody (lit< tt) (omega arith))
+
 -- ---- the step
 
-pub begun_sound : {O : Type 0} (sent : O → List Item) (m : Shown O) (k : Kind) (moment : _) → IsSound sent m → m.busy ≡ false → opened_by k ≡ 0 → 0 < actor k → actor k ≤ length m.outboxes → IsKind m.history k → IsMomentAfter (last_moment m.history) moment
-    → length m.history + 1 + held (fresh_record m.history moment k ∷ m.history) ≤ most m.limit → IsSound sent (begun m k moment)
-begun_sound sent m k moment i free none from to is in_time room_ =
+pub begun_by : {O : Type 0} (sent : O → List Item) (m : Shown O) (k : Kind) (moment : _) → IsSound sent m → m.busy ≡ false → opened_by k ≡ 0 → IsPlan m.settings (fresh_record m.history moment k ∷ m.history) (length m.outboxes) (plan_of m.settings m.history k moment (length m.outboxes))
+    → IsKind m.history k → IsMomentAfter (last_moment m.history) moment → length m.history + 1 + held (fresh_record m.history moment k ∷ m.history) ≤ most m.limit → IsSound sent (begun m k moment)
+begun_by sent m k moment i free none is_plan is in_time room_ =
     let h = m.history in let g = m.settings in let n = length m.outboxes in let r = fresh_record h moment k in
     let nothing : (t : ℕ) → deliveries (sent_by sent (box_at m.outboxes t)) ++ planned m.plan t ≡ deliveries (sent_by sent (box_at m.outboxes t)) =
     λ t. ap (λ ps. deliveries (sent_by sent (box_at m.outboxes t)) ++ planned ps t) (i.idle free) ∙ append-nil _ in
@@ -121,12 +125,17 @@ begun_sound sent m k moment i free none from to is in_time room_ =
           ∙ ap (λ xs. xs ++ due g h k moment t) (sym (nothing t) ∙ i.owed t above below here);
       items = λ t above below. sent_grown g h (r ∷ h) t (sent_by sent (box_at m.outboxes t)) (grows_by_one h r) (i.items t above below);
       reaped = λ t above below away. rw (i.reaped t above below away) (elim (leaves k t) as (λ b. (b || true) ≡ true) [ true ↦ refl | false ↦ refl ]);
-      plan = plan_ok g r h n (actor k) refl from to;
+      plan = is_plan;
       idle = λ e. absurd (let f : true ≡ false = e in cc);
       legal = (refl, in_time, is, tt, i.legal);
       sessions = same ∙ i.sessions;
       room = let goal : length (r ∷ h) + held (r ∷ h) ≤ most m.limit = omega arith in goal;
     }
+
+pub begun_sound : {O : Type 0} (sent : O → List Item) (m : Shown O) (k : Kind) (moment : _) → IsSound sent m → m.busy ≡ false → opened_by k ≡ 0 → 0 < actor k → actor k ≤ length m.outboxes → IsKind m.history k → IsMomentAfter (last_moment m.history) moment
+    → length m.history + 1 + held (fresh_record m.history moment k ∷ m.history) ≤ most m.limit → IsSound sent (begun m k moment)
+begun_sound sent m k moment i free none from to is in_time room_ =
+    begun_by sent m k moment i free none (plan_ok m.settings (fresh_record m.history moment k) m.history (length m.outboxes) (actor k) refl from to) is in_time room_
 
 -- ---- what is kept free
 

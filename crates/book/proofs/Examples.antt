@@ -33,7 +33,8 @@ use Rattle.commands.specs.Commands.{command_of}
 use Rattle.casemapping.specs.Fold.{is_same}
 use Rattle.roster.specs.LookBack.{members}
 use Rattle.channel_commands.specs.Found.{channel_of}
-use Rattle.channel_commands.specs.Joining.{bar_of}
+use Rattle.drafts.specs.Hearers.{shown}
+use Rattle.channel_commands.specs.Joining.{bar_of, entered, introduced}
 use Rattle.query_commands.specs.Names.{member_name}
 use Rattle.query_commands.specs.Visible.{members_for}
 use Rattle.std.specs.Str.{is_utf8, chars}
@@ -151,18 +152,18 @@ abbrev story : List Kind
 story = Gone 1 ∷ says 1 3 (codes "NICK BO" ∷ codes "NICK alf" ∷ codes "QUIT :bye" ∷ []) (says 2 3 (codes "PRIVMSG #a :hi" ∷ []) meets)
 
 members_then : members (facts (server []) (records meets)) (codes "#a") ≡ 1 ∷ 2 ∷ []
-unfolding reading parameters with_command asked_of command_of session_named session_of channel_command_of mode_of talk_of query_of nick_answer fold_of nick_shape channel_shape is_same same_target is_quit cut channel_of bar_of member_name members_for room numeric row_line untagged prefix octets spelled_line counting_tags key_shape client_only_data
+unfolding reading parameters with_command asked_of command_of session_named session_of channel_command_of mode_of talk_of query_of nick_answer fold_of nick_shape channel_shape is_same same_target is_quit cut channel_of bar_of entered introduced shown member_name members_for room numeric row_line untagged prefix octets spelled_line counting_tags key_shape client_only_data
 members_then = refl
 
 owed_to_who_leaves : owed (server []) (records story) 1
     ≡ Lines 3 welcome ∷ Lines 4 (codes ":al!a@h1 JOIN #a" ++ crlf ++ names (codes "al") (codes "@al")) ∷ Lines 8 (codes ":bo!b@h2 JOIN #a" ++ crlf) ∷ Lines 9 (codes ":bo!b@h2 PRIVMSG #a :hi" ++ crlf)
     ∷ Lines 10 (codes ":irc.example 433 al BO :Nickname is already in use" ++ crlf) ∷ Lines 11 (codes ":al!a@h1 NICK alf" ++ crlf) ∷ Last 12 Quit ∷ []
-unfolding reading parameters with_command asked_of command_of session_named session_of channel_command_of mode_of talk_of query_of nick_answer fold_of nick_shape channel_shape is_same same_target is_quit prefix octets untagged numeric row_line cut time_text civil_date falls_in channel_of bar_of member_name members_for room spelled_line counting_tags key_shape client_only_data
+unfolding reading parameters with_command asked_of command_of session_named session_of channel_command_of mode_of talk_of query_of nick_answer fold_of nick_shape channel_shape is_same same_target is_quit prefix octets untagged numeric row_line cut time_text civil_date falls_in channel_of bar_of entered introduced shown member_name members_for room spelled_line counting_tags key_shape client_only_data
 owed_to_who_leaves = refl
 
 shown_to_who_stays : owed (server []) (records story) 2
     ≡ Lines 7 (greets (codes "bo") (codes "!b@h2")) ∷ Lines 8 (codes ":bo!b@h2 JOIN #a" ++ crlf ++ names (codes "bo") (codes "@al bo")) ∷ Lines 11 (codes ":al!a@h1 NICK alf" ++ crlf) ∷ Lines 13 (codes ":alf!a@h1 QUIT :bye" ++ crlf) ∷ []
-unfolding reading parameters with_command asked_of command_of session_named session_of channel_command_of mode_of talk_of query_of nick_answer fold_of nick_shape channel_shape is_same same_target is_quit prefix octets untagged numeric row_line cut time_text civil_date falls_in channel_of bar_of member_name members_for room spelled_line counting_tags key_shape client_only_data
+unfolding reading parameters with_command asked_of command_of session_named session_of channel_command_of mode_of talk_of query_of nick_answer fold_of nick_shape channel_shape is_same same_target is_quit prefix octets untagged numeric row_line cut time_text civil_date falls_in channel_of bar_of entered introduced shown member_name members_for room spelled_line counting_tags key_shape client_only_data
 shown_to_who_stays = refl
 
 -- a line with a label is answered with it

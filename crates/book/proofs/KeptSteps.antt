@@ -3,7 +3,7 @@ use Rattle.std.proofs.lemmas.List.{get_or_push, get_or_append_left, get_or-set_s
 use Rattle.std.proofs.lemmas.Bool.Decides.{eqb_tells}
 use Rattle.std.proofs.Common.{◌≡◌, ◌≢◌, inl, inr, ℕ, ℤ, ◌+◌, ◌-◌, ◌<◌, ◌≤◌, Bool, true, false, ◌||◌, Option, Some, None, List, [], ◌∷◌, ◌++◌, length, slice_set, arith, refl, sym, ap, ◌∙◌, subst, append-nil, length-append, ne_eqb}
 use Rattle.chronicle.specs.declared.record.Kind.{Kind}
-use Rattle.chronicle.specs.declared.record.Kind.TheVariants.{Opened, Said, Hung, Gone}
+use Rattle.chronicle.specs.declared.record.Kind.TheVariants.{Opened, Said, Hung, Gone, Ticked}
 use Rattle.chronicle.specs.History.{Rec, actor, opened_by, sessions, said_by, accepted, ends, leaves, shut, gone, last_moment, IsMomentAfter}
 use Rattle.chronicle.specs.Journal.{Limit, most, IsRoomier, fresh_record, Appends, Misses, miss}
 use Rattle.chronicle.specs.Journal as journal
@@ -70,6 +70,7 @@ quiet (Opened s host) t e ne = absurd (let f : 1 ≡ 0 = e in omega arith)
 quiet (Said s n piece) t e ne = (rw (ne_eqb s t ne) refl, refl, rw (ne_eqb s t ne) refl)
 quiet (Hung s w) t e ne = (ne_eqb s t ne, refl, refl)
 quiet (Gone s) t e ne = (refl, ne_eqb s t ne, refl)
+quiet Ticked t e ne = (refl, refl, refl)
 
 module _ {O : Type 0} (sent : O → List Item) where
   -- ---- a session is opened

@@ -17,6 +17,12 @@ pub mod Sweeps
 pub mod Appends
 pub mod Based
 pub mod Owes
+pub mod Unheard
+pub mod Picking
+pub mod Hearing
+pub mod Due
+pub mod Pinging
+pub mod Listening
 pub mod Noting
 pub mod Rolling
 pub mod Examples

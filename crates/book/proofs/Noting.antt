@@ -14,7 +14,9 @@ use Rattle.book.specs.declared.seat.Seat.{Seat}
 use Rattle.book.specs.Book.{is_here}
 use Rattle.book.specs.Seats.{seat_at, stands, boxes_of, IsSeated, IsThere}
 use Rattle.book.specs.Kept.{IsKept}
-use Rattle.book.specs.Noted.{counts_at, counted, counted_by, AreCounts, AreCountsOf}
+use Rattle.book.specs.Noted.{counts_at, IsCountOf, IsCountBy, AreCounts, AreCountsOf}
+use Rattle.book.specs.declared.last_heard.Since.{Since}
+use Rattle.book.specs.LastHeard.{since_at, IsSince, AreSince}
 use Rattle.book.proofs.KeptSteps.{shown}
 use Rattle.book.proofs.Mapped.{IsChanged, box_stands}
 use Rattle.book.proofs.Owes.{sent_owed}
@@ -48,18 +50,18 @@ if_some_by P Q (Some x) f p = f x p
 -- ---- the loop
 
 -- those at the first n places are counted, and nobody who isn't there
-pub record AreCountedTo {O : Type 0} (sent : O → List Item) (seats : List Seat) (boxes : List (Option O)) (kept : List (ℕ × O)) (n : ℕ) (cs : List (ℕ × Counts)) : Type 0 where
-  pub each : (t : ℕ) → IfSome (counts_at cs t) (λ c. IsThere boxes t × (c ≡ counted_by sent seats boxes t))
+pub record AreCountedTo {O : Type 0} (sent : O → List Item) (seats : List Seat) (boxes : List (Option O)) (heard : List (ℕ × Since)) (kept : List (ℕ × O)) (n : ℕ) (cs : List (ℕ × Counts)) : Type 0 where
+  pub each : (t : ℕ) → IfSome (counts_at cs t) (λ c. IsThere boxes t × IsCountBy c sent seats boxes heard t)
   pub first : (i : ℕ) (e : ℕ × O) → i < n → slice_get kept i ≡ Some e → is_some (counts_at cs e.0) ≡ true
 
-module _ {O : Type 0} (sent : O → List Item) (seats : List Seat) (boxes : List (Option O)) (kept : List (ℕ × O)) where
-  pub counted_none : (cs : List (ℕ × Counts)) → cs ≡ [] → AreCountedTo sent seats boxes kept 0 cs
+module _ {O : Type 0} (sent : O → List Item) (seats : List Seat) (boxes : List (Option O)) (heard : List (ℕ × Since)) (kept : List (ℕ × O)) where
+  pub counted_none : (cs : List (ℕ × Counts)) → cs ≡ [] → AreCountedTo sent seats boxes heard kept 0 cs
   counted_none cs e =
-      subst (AreCountedTo sent seats boxes kept 0) (sym e) (record { each = λ t. tt; first = λ i e l at. absurd (omega arith) })
+      subst (AreCountedTo sent seats boxes heard kept 0) (sym e) (record { each = λ t. tt; first = λ i e l at. absurd (omega arith) })
 
   -- the session at the next place is
-  pub counted_more : (n : ℕ) (cs now : List (ℕ × Counts)) (k : ℕ) (o : O) (c : Counts) → AreCountedTo sent seats boxes kept n cs → slice_get kept n ≡ Some (k, o) → IsThere boxes k → c ≡ counted_by sent seats boxes k
-      → IsChanged cs now k (Some c) → AreCountedTo sent seats boxes kept (n + 1) now
+  pub counted_more : (n : ℕ) (cs now : List (ℕ × Counts)) (k : ℕ) (o : O) (c : Counts) → AreCountedTo sent seats boxes heard kept n cs → slice_get kept n ≡ Some (k, o) → IsThere boxes k → IsCountBy c sent seats boxes heard k
+      → IsChanged cs now k (Some c) → AreCountedTo sent seats boxes heard kept (n + 1) now
   counted_more n cs now k o c was place there is changed =
       record {
         each = λ t. elim (eqb_tells k t) [
@@ -75,7 +77,7 @@ module _ {O : Type 0} (sent : O → List Item) (seats : List Seat) (boxes : List
       }
     where
       P : ℕ → Option Counts → Type 0
-      P q x = IfSome x (λ y. IsThere boxes q × (y ≡ counted_by sent seats boxes q))
+      P q x = IfSome x (λ y. IsThere boxes q × IsCountBy y sent seats boxes heard q)
 
       at_k : counts_at now k ≡ Some c
       at_k = elim (eqb_tells k k) [
@@ -84,7 +86,7 @@ module _ {O : Type 0} (sent : O → List Item) (seats : List Seat) (boxes : List
       ]
 
   -- each is
-  pub counted_all : (opened n : ℕ) (cs : List (ℕ × Counts)) → boxes_of kept opened ≡ boxes → length kept ≤ n → AreCountedTo sent seats boxes kept n cs → AreCountsOf sent seats boxes cs
+  pub counted_all : (opened n : ℕ) (cs : List (ℕ × Counts)) → boxes_of kept opened ≡ boxes → length kept ≤ n → AreCountedTo sent seats boxes heard kept n cs → AreCountsOf sent seats boxes heard cs
   counted_all opened n cs view all was =
       record {
         each = was.each;
@@ -95,11 +97,11 @@ module _ {O : Type 0} (sent : O → List Item) (seats : List Seat) (boxes : List
 
 -- ---- by the history
 
-module _ {O : Type 0} (sent : O → List Item) (seats : List Seat) (boxes : List (Option O)) (cs : List (ℕ × Counts)) (counts : AreCountsOf sent seats boxes cs) where
+module _ {O : Type 0} (sent : O → List Item) (seats : List Seat) (boxes : List (Option O)) (heard : List (ℕ × Since)) (cs : List (ℕ × Counts)) (counts : AreCountsOf sent seats boxes heard cs) where
   pub counted_there : (t : ℕ) → is_some (counts_at cs t) ≡ true → IsThere boxes t
   counted_there t here = by (counts_at cs t) here (counts.each t)
     where
-      by : (o : Option Counts) → is_some o ≡ true → IfSome o (λ c. IsThere boxes t × (c ≡ counted_by sent seats boxes t)) → IsThere boxes t
+      by : (o : Option Counts) → is_some o ≡ true → IfSome o (λ c. IsThere boxes t × IsCountBy c sent seats boxes heard t) → IsThere boxes t
       by None e p = absurd (let f : false ≡ true = e in cc)
       by (Some c) e p = p.0
 
@@ -112,16 +114,21 @@ module _ {O : Type 0} (sent : O → List Item) (seats : List Seat) (boxes : List
       by false true is here = sym is ∙ counts.all t (record { from_1 = from; opened = to; here = here })
       by false false is here = refl
 
-  pub are_counts : (j : journal.Shown) (g : Settings) (known : List Deed) (plan : List Planned) (busy : Bool) → IsKept sent j g known seats boxes plan busy → busy ≡ false → AreCounts g j.history cs
-  are_counts j g known plan busy i idle t =
-      if_some_by (λ c. IsThere boxes t × (c ≡ counted_by sent seats boxes t)) (λ c. c ≡ counted g j.history t) (counts_at cs t) (λ c p. p.1 ∙ of_history p.0) (counts.each t)
+  pub are_counts : (j : journal.Shown) (g : Settings) (known : List Deed) (plan : List Planned) (busy : Bool) → IsKept sent j g known seats boxes plan busy → busy ≡ false → AreSince heard j.history boxes → AreCounts g j.history cs
+  are_counts j g known plan busy i idle since_ t =
+      if_some_by (λ c. IsThere boxes t × IsCountBy c sent seats boxes heard t) (λ c. IsCountOf c g j.history t) (counts_at cs t) (λ c p. of_history c p.0 p.1) (counts.each t)
     where
-      of_history : IsThere boxes t → counted_by sent seats boxes t ≡ counted g j.history t
-      of_history there =
+      says : (o : Option Since) (x : Since) → IfSome o (λ y. IsThere boxes t × IsSince y j.history t) → o ≡ Some x → IsSince x j.history t
+      says o x r e = (subst (λ p. IfSome p (λ y. IsThere boxes t × IsSince y j.history t)) e r).1
+
+      of_history : (c : Counts) → IsThere boxes t → IsCountBy c sent seats boxes heard t → IsCountOf c g j.history t
+      of_history c there is =
           let from = there.from_1 in let to = there.opened in let places = i.places in
-          let accepted = (i.each_seat t from (omega arith)).accepted there.here in
-          let owed = sent_owed sent (shown j g boxes plan busy) t i.sound (i.sound.idle idle) from to there.here in
-          λ k. record { accepted = accepted k; owed = owed k }
+          record {
+            accepted = is.accepted ∙ (i.each_seat t from (omega arith)).accepted there.here;
+            owed = is.owed ∙ sent_owed sent (shown j g boxes plan busy) t i.sound (i.sound.idle idle) from to there.here;
+            since = says (since_at heard t) c.since (since_.each t) is.since;
+          }
 
 -- each that is there has a seat
 pub has_seat : {O : Type 0} (sent : O → List Item) (j : journal.Shown) (g : Settings) (known : List Deed) (seats : List Seat) (boxes : List (Option O)) (plan : List Planned) (busy : Bool) → IsKept sent j g known seats boxes plan busy

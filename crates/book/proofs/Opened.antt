@@ -4,7 +4,7 @@ use Rattle.std.proofs.lemmas.List.Sums.{sum_by-cons, sum_by_push}
 use Rattle.std.proofs.lemmas.Bool.Decides.{eqb_tells}
 use Rattle.std.proofs.Common.{◌≡◌, inl, inr, ℕ, ℤ, zero, suc, ◌+◌, ◌-◌, ◌<◌, ◌≤◌, Bool, true, false, ◌||◌, ◌==◌, nat_le, cond, List, [], ◌∷◌, ◌++◌, length, sum_by, slice_index_or, Option, Some, None, arith, refl, sym, ap, ◌∙◌, subst, append-nil, length-append, lit≤}
 use Rattle.std.specs.Option.{is_some}
-use Rattle.chronicle.specs.declared.record.Kind.TheVariants.{Opened, Said, Hung, Gone}
+use Rattle.chronicle.specs.declared.record.Kind.TheVariants.{Opened, Said, Hung, Gone, Ticked}
 use Rattle.chronicle.specs.declared.record.Kind.{Kind}
 use Rattle.chronicle.specs.History.{Rec, opened_by, sessions, accepted, said_by, misses, shut, gone}
 use Rattle.chronicle.specs.Journal.{most, fresh_record}
@@ -116,6 +116,7 @@ opened_small (Opened s h) = lit≤ tt
 opened_small (Said s i p) = lit≤ tt
 opened_small (Hung s w) = lit≤ tt
 opened_small (Gone s) = lit≤ tt
+opened_small Ticked = lit≤ tt
 
 pub sessions_le : (h : List Rec) → sessions h ≤ length h
 sessions_le [] = lit≤ tt
@@ -126,6 +127,7 @@ said_small : (k : Kind) (t : ℕ) → length (said_by k t) ≤ 1
 said_small (Opened s h) t = lit≤ tt
 said_small (Hung s w) t = lit≤ tt
 said_small (Gone s) t = lit≤ tt
+said_small Ticked t = lit≤ tt
 said_small (Said s i p) t = elim (eqb_tells s t) [ inl same ↦ rw same.0 (lit≤ tt) | inr other ↦ rw other.0 (lit≤ tt) ]
 
 pub accepted_le : (h : List Rec) (t : ℕ) → length (accepted h t) ≤ length h

@@ -15,7 +15,7 @@ IsNoted p None q = q ≡ p
 IsNoted p (Some (Put t)) q = q ≡ p
 IsNoted p (Some (Missed t)) q = (q.number ≡ p.number) × (q.session ≡ p.session) × (q.next ≡ p.next) × (q.missed ≡ p.missed ++ t ∷ []) × (q.room + 1 ≡ p.room)
 
-missed_more : (h : List Rec) (t : ℕ) → 0 < newest_actor h → newest_missed (miss h t) ≡ newest_missed h ++ t ∷ []
+missed_more : (h : List Rec) (t : ℕ) → 0 < length h → newest_missed (miss h t) ≡ newest_missed h ++ t ∷ []
 missed_more [] t l = absurd (omega arith)
 missed_more (r ∷ h) t l = refl
 
@@ -38,15 +38,14 @@ length_same (r ∷ h) t = refl
 out_missed : {O : Type 0} (m : Shown O) (p q : Out) (x : Planned) (xs : List Planned) → IsOut m p → m.plan ≡ x ∷ xs → IsNoted p (Some (Missed x.session)) q → IsOut (dropped m x xs) q
 out_missed m p q x xs i e n =
     let h = m.history in let t = x.session in let longer : length m.plan ≡ length xs + 1 = ap length e ∙ (let f : length (x ∷ xs) ≡ length xs + 1 = omega arith in f) in
-    let fits = i.room in let less = n.4 in let actor : 0 < newest_actor h = subst (λ (s : ℕ). 0 < s) i.session i.from_1 in
+    let fits = i.room in let less = n.4 in let few = i.kept in let some : 0 < length h = omega arith in
     record {
       busy = i.busy;
       number = n.0 ∙ i.number ∙ sym (length_same h t);
       session = n.1 ∙ i.session ∙ sym (actor_same h t);
       next = n.2 ∙ i.next ∙ sym (next_same h t);
-      from_1 = subst (λ (s : ℕ). 0 < s) (sym n.1) i.from_1;
       opened = let a = i.opened in let b = n.1 in let c = sessions_same h t in let goal : q.session ≤ sessions (miss h t) = omega arith in goal;
-      missed = n.3 ∙ ap (λ xs. xs ++ t ∷ []) i.missed ∙ sym (missed_more h t actor);
+      missed = n.3 ∙ ap (λ xs. xs ++ t ∷ []) i.missed ∙ sym (missed_more h t some);
       room = omega arith;
       kept = let few = i.kept in let same = length_same h t in let goal : m.limit.dropped < length (miss h t) = omega arith in goal;
     }
@@ -54,7 +53,7 @@ out_missed m p q x xs i e n =
 out_put : {O : Type 0} (m : Shown O) (p : Out) (x : Planned) (xs : List Planned) (box : O) → IsOut m p → m.plan ≡ x ∷ xs → IsOut (delivered_to m x xs box) p
 out_put m p x xs box i e =
     let longer : length m.plan ≡ length xs + 1 = ap length e ∙ (let f : length (x ∷ xs) ≡ length xs + 1 = omega arith in f) in let fits = i.room in
-    record { busy = i.busy; number = i.number; session = i.session; next = i.next; from_1 = i.from_1; opened = i.opened; missed = i.missed; room = omega arith; kept = i.kept }
+    record { busy = i.busy; number = i.number; session = i.session; next = i.next; opened = i.opened; missed = i.missed; room = omega arith; kept = i.kept }
 
 by_plan : {O : Type 0} (accepts : O → Item → O → Type 0) (refuses : O → PutFault → Type 0) (m k : Shown O) (p q : Out) (ps : List Planned) (step : Option Step) → m.plan ≡ ps → IsOut m p → IsPutNext accepts refuses m ps step k → IsNoted p step q → IsOut k q
 by_plan accepts refuses m k p q [] None e i is n = subst (λ x. IsOut x q) (sym is) (subst (IsOut m) (sym n) i)

@@ -56,7 +56,7 @@ owed_missed : (g : Settings) (r : Rec) (h : List Rec) (had : List Delivery) (p :
 owed_missed g r h had p ps none own k =
     let s = p.session in let d = delivery g h r.kind r.moment s in
     let head : planned (p ∷ ps) s ≡ p.delivery ∷ [] = rw (eq-eqb s s refl) (ap (λ xs. p.delivery ∷ xs) none) in
-    let last : cond (misses r s || shut h s) [] d ≡ p.delivery ∷ [] = rw (own.2, own.1) own.0 in
+    let last : cond (misses r s || shut h s) [] d ≡ p.delivery ∷ [] = ap (λ (c : Bool). cond (c || shut h s) [] d) own.2 ∙ ap (λ (c : Bool). cond c [] d) own.1 ∙ own.0 in
     let got : had ++ p.delivery ∷ [] ≡ owed g h s ++ p.delivery ∷ [] = ap (λ xs. had ++ xs) (sym head) ∙ k ∙ ap (λ xs. owed g h s ++ xs) last in
     ap (λ xs. had ++ xs) none ∙ append-nil had ∙ append_cancel_right had (owed g h s) (p.delivery ∷ []) got ∙ sym (append-nil (owed g h s))
     ∙ ap (λ (c : Bool). owed g h s ++ cond (c || shut h s) [] d) (sym (misses_same r s))

@@ -1,9 +1,10 @@
 -- What clauses see of a book, and its steps: this project's own promise of how deliveries reach outboxes.
-use Rattle.std.specs.Prelude.{◌≡◌, ℕ, ℤ, zero, suc, ◌+◌, ◌-◌, ◌<◌, ◌≤◌, Bool, true, false, not, ◌&&◌, ◌==◌, cond, List, [], ◌∷◌, ◌++◌, length, map, sum_by, if◌then◌else◌, slice_index_or, slice_set, Option, Some, None, IsSome, All}
+use Rattle.std.specs.Prelude.{◌≡◌, ℕ, ℤ, zero, suc, ◌+◌, ◌-◌, ◌<◌, ◌≤◌, Bool, true, false, not, ◌&&◌, ◌==◌, cond, List, [], ◌∷◌, ◌++◌, length, map, filter, sum_by, if◌then◌else◌, slice_index_or, slice_set, Option, Some, None, IsSome, All}
 use Rattle.std.specs.Option.{is_some}
 use Rattle.chronicle.specs.declared.record.Kind.{Kind}
-use Rattle.chronicle.specs.declared.record.Kind.TheVariants.{Opened, Said, Hung, Gone}
+use Rattle.chronicle.specs.declared.record.Kind.TheVariants.{Opened, Said, Hung, Gone, Ticked}
 use Rattle.chronicle.specs.History.{Rec, IsMomentAfter, last_moment, sessions, actor, accepted, misses, shut, gone}
+use Rattle.chronicle.specs.Quiet.{is_pinged, is_late}
 use Rattle.chronicle.specs.Journal.{Limit, most, fresh_record, miss}
 use Rattle.registration.specs.declared.settings.Settings.{Settings}
 use Rattle.deliveries.specs.declared.delivery.Delivery.{Delivery}
@@ -17,6 +18,8 @@ use Rattle.book.specs.declared.refusals.HangRefusal.{HangRefusal}
 use Rattle.book.specs.declared.refusals.HangRefusal.TheVariants as hanging
 use Rattle.book.specs.declared.refusals.SweepRefusal.{SweepRefusal}
 use Rattle.book.specs.declared.refusals.SweepRefusal.TheVariants as sweeping
+use Rattle.book.specs.declared.refusals.TickRefusal.{TickRefusal}
+use Rattle.book.specs.declared.refusals.TickRefusal.TheVariants as ticking
 use Rattle.book.specs.declared.refusals.RollRefusal.{RollRefusal}
 use Rattle.book.specs.declared.refusals.RollRefusal.TheVariants as rolling
 use Rattle.book.specs.declared.refusals.ReapRefusal.{ReapRefusal}
@@ -32,7 +35,6 @@ use Rattle.deliveries.specs.Base.{Base, base, dropped_part, kept_part}
 use Rattle.book.specs.Legal.{IsLegal}
 use Rattle.roster.specs.LookBack.{numbers}
 
--- the history, how many records there may be, the settings of the server, each session's outbox until it is reaped, the deliveries
 -- the history, how many records may be kept of it and how many were dropped, the settings of the server, each session's outbox until it is reaped, the deliveries
 -- of the newest record that aren't put yet, and whether a plan is out
 pub record Shown (O : Type 0) : Type 0 where
@@ -238,6 +240,16 @@ is_to_sweep h t = shut h t && not (gone h t)
 abbrev pub to_sweep : List Rec → Option ℕ
 to_sweep h = first (is_to_sweep h) (numbers 1 (sessions h))
 
+-- ---- who is pinged by a tick, and who is late
+
+-- the sessions that a tick pings, by their numbers
+abbrev pub to_ping : List Rec → ℤ → List ℕ
+to_ping h moment = filter (λ t. is_pinged h t moment) (numbers 1 (sessions h))
+
+-- the late session of the lowest number
+abbrev pub late : List Rec → ℤ → Option ℕ
+late h moment = first (λ t. is_late h t moment) (numbers 1 (sessions h))
+
 -- ---- what holds of every book
 
 -- p is what the newest record owes its session, which isn't shut and didn't miss it
@@ -338,6 +350,26 @@ IsSweepRefusal m moment sweeping.Busy = m.busy ≡ true
 IsSweepRefusal m moment sweeping.BadMoment = (m.busy ≡ false) × (IsMomentAfter (last_moment m.history) moment → ⊥)
 IsSweepRefusal m moment sweeping.Memory = MaySweep m moment × IsSome (to_sweep m.history)
 
+-- no plan is out, and the moment may come next
+pub record MayTick {O : Type 0} (m : Shown O) (moment : ℤ) : Type 0 where
+  pub idle : m.busy ≡ false
+  pub in_time : IsMomentAfter (last_moment m.history) moment
+
+-- somebody is to be pinged at this moment
+abbrev pub IsSomebodyQuiet : {O : Type 0} → Shown O → ℤ → Type 0
+IsSomebodyQuiet m moment = to_ping m.history moment ≡ [] → ⊥
+
+-- there is room for a record beside those that are kept free
+abbrev pub HasRoom : {O : Type 0} → Shown O → Type 0
+HasRoom m = length m.history + held m.history + 1 ≤ most m.limit
+
+-- a full journal and want of memory come only where somebody is to be pinged
+abbrev pub IsTickRefusal : {O : Type 0} → Shown O → ℤ → TickRefusal → Type 0
+IsTickRefusal m moment ticking.Busy = m.busy ≡ true
+IsTickRefusal m moment ticking.BadMoment = (m.busy ≡ false) × (IsMomentAfter (last_moment m.history) moment → ⊥)
+IsTickRefusal m moment ticking.JournalFull = MayTick m moment × IsSomebodyQuiet m moment × (HasRoom m → ⊥)
+IsTickRefusal m moment ticking.Memory = MayTick m moment × IsSomebodyQuiet m moment × HasRoom m
+
 -- want of memory comes only where no plan is out
 abbrev pub IsRollRefusal : {O : Type 0} → Shown O → RollRefusal → Type 0
 IsRollRefusal m rolling.Busy = m.busy ≡ true
@@ -369,6 +401,7 @@ next_of (Opened s host) = None
 next_of (Said s i piece) = Some (i + 1)
 next_of (Hung s why) = None
 next_of (Gone s) = None
+next_of Ticked = None
 
 abbrev pub newest_next : List Rec → Option ℕ
 newest_next [] = None
@@ -376,8 +409,8 @@ newest_next (r ∷ h) = next_of r.kind
 
 -- ---- a plan that is handed out
 
--- the number and the session of its record, which of the session's lines is next, where the record is a line, who missed the
--- record so far, and how many more it has room to note
+-- the number and the session of its record, which is 0 for a tick, which of the session's lines is next, where the record is a line,
+-- who missed the record so far, and how many more it has room to note
 pub record Out : Type 0 where
   pub number : ℕ
   pub session : ℕ
@@ -391,7 +424,6 @@ pub record IsOut {O : Type 0} (m : Shown O) (p : Out) : Type 0 where
   pub number : p.number ≡ length m.history
   pub session : p.session ≡ newest_actor m.history
   pub next : p.next ≡ newest_next m.history
-  pub from_1 : 0 < p.session
   pub opened : p.session ≤ sessions m.history
   pub missed : p.missed ≡ newest_missed m.history
   pub room : length m.plan ≤ p.room

@@ -10,6 +10,8 @@ use Rattle.deliveries.specs.declared.item.Item.{Item}
 use Rattle.deeds.specs.Deeds.{facts}
 use Rattle.book.specs.Seats.{IsSeat, seat_at}
 use Rattle.book.specs.Book.{is_here, held, IsSound}
+use Rattle.book.specs.declared.last_heard.Since.{Since}
+use Rattle.book.specs.LastHeard.{AreSince}
 use Rattle.book.specs.Noted.{Noted, IsBased}
 
 -- all that a book keeps stands for its history, the facts that its roster knows are those of the history, and there is room
@@ -23,7 +25,8 @@ pub record IsKept {O : Type 0} (sent : O → List Item) (j : journal.Shown) (g :
   pub left : length plan ≤ j.left
   pub room : held j.history ≤ j.room
 
--- and what it keeps of the records that were dropped is of these
-pub record Keeps {O : Type 0} (sent : O → List Item) (j : journal.Shown) (g : Settings) (known : List Deed) (seats : List Seat) (boxes : List (Option O)) (plan : List Planned) (busy : Bool) (b : Option Noted) : Type 0 where
+-- and so does what it keeps of the records that were dropped, and of when sessions were last heard of
+pub record Keeps {O : Type 0} (sent : O → List Item) (j : journal.Shown) (g : Settings) (known : List Deed) (seats : List Seat) (boxes : List (Option O)) (plan : List Planned) (busy : Bool) (b : Option Noted) (heard : List (ℕ × Since)) : Type 0 where
   pub kept : IsKept sent j g known seats boxes plan busy
   pub based : IsBased b j.history j.limit.dropped g boxes
+  pub since : AreSince heard j.history boxes

@@ -3,6 +3,7 @@ pub mod Book
 pub mod Seats
 pub mod Heard
 pub mod Settings
+pub mod LastHeard
 pub mod Noted
 pub mod Kept
 pub mod Told

@@ -3,6 +3,8 @@ use Rattle.std.specs.Prelude.{◌≡◌, ℕ, ◌<◌, ◌≤◌, Bool, true, na
 use Rattle.std.specs.Option.{is_some}
 use Rattle.std.specs.Map.{lookup}
 use Rattle.chronicle.specs.History.{Rec, sessions, accepted}
+use Rattle.book.specs.declared.last_heard.Since.{Since}
+use Rattle.book.specs.LastHeard.{since_at, IsSince}
 use Rattle.registration.specs.declared.settings.Settings.{Settings}
 use Rattle.deliveries.specs.Owed.{owed}
 use Rattle.deliveries.specs.Base.{Base, base, dropped_part}
@@ -31,21 +33,25 @@ counts_at cs t = lookup (nat_eq t) cs
 abbrev pub is_noted : Noted → ℕ → Bool
 is_noted b t = is_some (counts_at b.counts t)
 
--- what is counted of a session by a history
-abbrev pub counted : Settings → List Rec → ℕ → Counts
-counted g h t = record { accepted = length (accepted h t); owed = length (owed g h t) }
+-- what is noted of a session is what a history says
+pub record IsCountOf (c : Counts) (g : Settings) (h : List Rec) (t : ℕ) : Type 0 where
+  pub accepted : c.accepted ≡ length (accepted h t)
+  pub owed : c.owed ≡ length (owed g h t)
+  pub since : IsSince c.since h t
 
 -- counts are those of a history
 abbrev pub AreCounts : Settings → List Rec → List (ℕ × Counts) → Type 0
-AreCounts g h cs = (t : ℕ) → IfSome (counts_at cs t) (λ c. c ≡ counted g h t)
+AreCounts g h cs = (t : ℕ) → IfSome (counts_at cs t) (λ c. IsCountOf c g h t)
 
--- what is counted of a session by its seat and its outbox
-abbrev pub counted_by : {O : Type 0} → (O → List Item) → List Seat → List (Option O) → ℕ → Counts
-counted_by sent seats boxes t = record { accepted = (seat_at seats t).accepted; owed = length (sent_by sent (box_at boxes t)) }
+-- what is noted of a session is what its seat and its outbox say, and since when it is quiet
+pub record IsCountBy {O : Type 0} (c : Counts) (sent : O → List Item) (seats : List Seat) (boxes : List (Option O)) (heard : List (ℕ × Since)) (t : ℕ) : Type 0 where
+  pub accepted : c.accepted ≡ (seat_at seats t).accepted
+  pub owed : c.owed ≡ length (sent_by sent (box_at boxes t))
+  pub since : since_at heard t ≡ Some c.since
 
 -- counts are those of each session that is there, and of no other
-pub record AreCountsOf {O : Type 0} (sent : O → List Item) (seats : List Seat) (boxes : List (Option O)) (cs : List (ℕ × Counts)) : Type 0 where
-  pub each : (t : ℕ) → IfSome (counts_at cs t) (λ c. IsThere boxes t × (c ≡ counted_by sent seats boxes t))
+pub record AreCountsOf {O : Type 0} (sent : O → List Item) (seats : List Seat) (boxes : List (Option O)) (heard : List (ℕ × Since)) (cs : List (ℕ × Counts)) : Type 0 where
+  pub each : (t : ℕ) → IfSome (counts_at cs t) (λ c. IsThere boxes t × IsCountBy c sent seats boxes heard t)
   pub all : (t : ℕ) → IsThere boxes t → is_some (counts_at cs t) ≡ true
 
 -- it goes up to the first n records, and has the counts of each session that was opened by these and isn't reaped, and of none that

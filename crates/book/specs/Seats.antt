@@ -15,6 +15,8 @@ use Rattle.roster.specs.declared.deed.Deed.{Deed}
 use Rattle.roster.specs.LookBack.{caps, numbers}
 use Rattle.labels_batches.specs.Answers.{tagged_as}
 use Rattle.labels_batches.specs.Rendered.{rendered}
+use Rattle.registration.specs.declared.settings.Settings.{Settings}
+use Rattle.deeds.specs.Ping.{ping_line}
 use Rattle.deeds.specs.declared.verdict.Shown.{Shown}
 use Rattle.drafts.specs.Effects.{heard}
 use Rattle.deliveries.specs.Owed.{item}
@@ -108,6 +110,10 @@ heard_of fs moment x t = rendered (caps fs t) moment (map (tagged_as None) (hear
 abbrev pub heard_text : List Deed → ℤ → List Shown → ℕ → List ℕ
 heard_text fs moment [] t = []
 heard_text fs moment (x ∷ xs) t = heard_of fs moment x t ++ heard_text fs moment xs t
+
+-- what t hears of a tick that pings these sessions
+abbrev pub pinged_text : Settings → List Deed → ℤ → List ℕ → ℕ → List ℕ
+pinged_text g fs moment ts t = heard_text fs moment (record { hearers = ts; line = ping_line g.server } ∷ []) t
 
 -- the deliveries of a record of s, which perhaps quits by it: its own text, and that of each other session
 abbrev pub planned_with : List Seat → ℕ → ℕ → List ℕ → (ℕ → List ℕ) → Bool → List Planned

@@ -1,19 +1,21 @@
 //! What a book keeps of the records that it dropped.
-ghost use Rattle.std.specs.Prelude.{◌≡◌, IfSome};
+ghost use Rattle.std.specs.Prelude.{◌≡◌, Some, IfSome};
 ghost use Rattle.deeds.specs.Deeds.{facts};
 ghost use Rattle.book.specs.Noted.{base_by, counts_at, is_noted, AreCounts};
 
-use chronicle::{Journal, SessionId};
+use crate::last_heard::Since;
+use chronicle::{Journal, Moment, SessionId};
 use ghosts::Snapshot;
 use indexmap::IndexMap;
 use roster::Roster;
 use std::marker::Model;
 
-/// How many pieces of a session were accepted, and how many deliveries it was owed.
+/// How many pieces of a session were accepted, how many deliveries it was owed, and since when it is quiet.
 #[derive(Clone, Copy)]
 pub(crate) struct Counts {
     pub(crate) accepted: u64,
     pub(crate) owed: u64,
+    pub(crate) since: Since,
 }
 
 /// What is known at the end of the records that were dropped: all that is looked up in them later.
@@ -89,6 +91,28 @@ impl Base {
     {
         match find_counts(&self.counts, session) {
             Some(counts) => Some(counts.owed),
+            None => None,
+        }
+    }
+
+    /// Since when a session was quiet. `None` where the session was opened later, or reaped before.
+    pub fn quiet_since(&self, session: SessionId) -> Option<Moment>
+        ensures moment { IfSome result (λ m. (base_by self.now).quiet_since session ≡ Some m) }
+        ensures noted { is_some result ≡ is_noted self.now session }
+    {
+        match find_counts(&self.counts, session) {
+            Some(counts) => Some(counts.since.moment),
+            None => None,
+        }
+    }
+
+    /// Whether a session was pinged since it was heard of. `None` where the session was opened later, or reaped before.
+    pub fn was_pinged(&self, session: SessionId) -> Option<bool>
+        ensures pinged { IfSome result (λ b. (base_by self.now).was_pinged session ≡ b) }
+        ensures noted { is_some result ≡ is_noted self.now session }
+    {
+        match find_counts(&self.counts, session) {
+            Some(counts) => Some(counts.since.pinged),
             None => None,
         }
     }

@@ -13,6 +13,7 @@ ghost use Rattle.book.specs.Seats.{IsSeat};
 
 use crate::base::Base;
 use crate::baton::Baton;
+use crate::last_heard::LastHeard;
 use crate::out::{Done, Hung, Left, Plan, Rolled, Step};
 use crate::outboxes::Outboxes;
 use crate::plan::{Planned, Planning, Prepared, commit, prepare_gone, prepare_line};
@@ -37,15 +38,16 @@ use std::slice;
 /// The journal, what is known at its end, and the sessions' outboxes.
 #[derive(Drop)]
 pub struct Book<O: Outbox> {
-    alloc: Global,
-    journal: Journal,
-    roster: Roster,
-    seats: Seats,
-    outboxes: Outboxes<O>,
-    plan: VecDeque<Planned>,
-    busy: bool,
+    pub(crate) alloc: Global,
+    pub(crate) journal: Journal,
+    pub(crate) roster: Roster,
+    pub(crate) seats: Seats,
+    pub(crate) outboxes: Outboxes<O>,
+    pub(crate) plan: VecDeque<Planned>,
+    pub(crate) busy: bool,
     /// What is known of the records that were dropped.
-    base: Option<Base>,
+    pub(crate) base: Option<Base>,
+    pub(crate) last_heard: LastHeard,
 }
 
 impl<O: Outbox> Model for Book<O> {
@@ -56,11 +58,15 @@ impl<O: Outbox> Model for Book<O> {
 
     ghost view = { λ a. record { history = a.journal.history; limit = a.journal.limit; settings = a.roster.settings; outboxes = a.outboxes.boxes; plan = a.plan.items; busy = a.busy } };
 
-    ghost invariant = { λ a. Keeps O.sent a.journal a.roster.settings a.roster.facts a.seats a.outboxes.boxes a.plan.items a.busy a.base };
+    ghost invariant = { λ a. Keeps O.sent a.journal a.roster.settings a.roster.facts a.seats a.outboxes.boxes a.plan.items a.busy a.base a.last_heard };
 }
 
 /// Makes room for so many more records, which are within the journal's limit, and for so many sessions that miss the next.
-fn reserve(journal: &mut Journal, records: usize, missed: usize) -> Result<(), AllocError>
+pub(crate) fn reserve(
+    journal: &mut Journal,
+    records: usize,
+    missed: usize,
+) -> Result<(), AllocError>
     requires { length journal.old.history + records ≤ most journal.old.limit }
     ensures same { IsRoomier journal.old journal.new }
     ensures ok { OnOk result ((records ≤ journal.new.room) × (missed ≤ journal.new.prepared)) }
@@ -84,6 +90,9 @@ impl<O: Outbox> Book<O> {
         let Ok(journal) = Journal::with_limit(alloc, limit) else {
             return Err(BookFault::Memory);
         };
+        let Ok(last_heard) = LastHeard::new(alloc) else {
+            return Err(BookFault::Memory);
+        };
         Ok(Book {
             alloc,
             journal,
@@ -93,11 +102,12 @@ impl<O: Outbox> Book<O> {
             plan: VecDeque::new(alloc),
             busy: false,
             base: None,
+            last_heard,
         })
     }
 
     /// How many more records there may be beside those that are kept free.
-    fn free(&self) -> usize
+    pub(crate) fn free(&self) -> usize
         ensures room { result + length self.now.history + held self.now.history ≡ most self.now.limit }
         ensures fits { most self.now.limit < 2 ^ 64 }
     {
@@ -105,7 +115,7 @@ impl<O: Outbox> Book<O> {
     }
 
     /// How many records are kept free.
-    fn held(&self) -> usize
+    pub(crate) fn held(&self) -> usize
         ensures kept { result ≡ held self.now.history }
         ensures fits { most self.now.limit < 2 ^ 64 }
     {
@@ -181,8 +191,12 @@ impl<O: Outbox> Book<O> {
         if self.roster.prepare(slice::from_ref(&deed)).is_err()
             || reserve(&mut self.journal, room, 0).is_err()
             || self.outboxes.make_room().is_err()
-            || self.seats.open(session).is_err()
+            || self.last_heard.open(session, moment).is_err()
         {
+            return Err((OpenRefusal::Memory, outbox));
+        }
+        if self.seats.open(session).is_err() {
+            self.last_heard.forget(session);
             return Err((OpenRefusal::Memory, outbox));
         }
         self.outboxes.open(session, outbox);
@@ -269,6 +283,7 @@ impl<O: Outbox> Book<O> {
         );
         commit(&mut self.roster, deeds);
         self.seats.say(baton.session, quits);
+        self.last_heard.hear(baton.session, moment);
         self.plan = plan;
         self.busy = true;
         Ok(Plan {
@@ -304,7 +319,7 @@ impl<O: Outbox> Book<O> {
     }
 
     /// Puts or misses all that is left of a plan.
-    fn put_rest(&mut self, plan: &mut Plan)
+    pub(crate) fn put_rest(&mut self, plan: &mut Plan)
         requires out { IsOut self.old plan.old }
         ensures put { IsPutAll O.accepts O.refuses self.old self.old.plan self.new }
         ensures out { IsOut self.new plan.new }
@@ -327,6 +342,7 @@ impl<O: Outbox> Book<O> {
         ensures missed { result.missed ≡ newest_missed self.old.history }
         ensures shut { result.shut ≡ shut self.old.history baton.old.session }
     {
+        self.sound();
         if let Some(next) = plan.next {
             baton.next = next;
         }
@@ -337,7 +353,7 @@ impl<O: Outbox> Book<O> {
     pub fn finish_sweep(&mut self, plan: Plan) -> Done
         requires out { IsOut self.old plan }
         requires none { self.old.plan ≡ [] }
-        requires sweep { plan.next ≡ None }
+        requires sweep { (plan.next ≡ None) × (0 < plan.session) }
         ensures book { self.new ≡ finished self.old }
         ensures number { result.number ≡ length self.old.history }
         ensures missed { result.missed ≡ newest_missed self.old.history }
@@ -349,6 +365,7 @@ impl<O: Outbox> Book<O> {
     fn give_back(&mut self, plan: Plan) -> Done
         requires out { IsOut self.old plan }
         requires none { self.old.plan ≡ [] }
+        requires session { 0 < plan.session }
         ensures book { self.new ≡ finished self.old }
         ensures number { result.number ≡ length self.old.history }
         ensures missed { result.missed ≡ newest_missed self.old.history }
@@ -515,6 +532,7 @@ impl<O: Outbox> Book<O> {
     }
 
     /// Sweeps up to one session: begins, puts or misses all that it owes, and finishes. A refusal changes nothing.
+    #[tactic(auto, using(crate::proofs::Sweeps::swept_is))]
     pub fn sweep(&mut self, moment: Moment) -> Result<Option<Done>, SweepRefusal>
         ensures some { IfOk result (λ o. IfSome o (λ d. (s : ℕ) × (to_sweep self.old.history ≡ Some s) × IsDone O.accepts O.refuses self.old (kind.Gone s) moment self.new × (d.number ≡ length self.old.history + 1) × (d.missed ≡ newest_missed self.new.history) × (d.shut ≡ shut self.new.history s))) }
         ensures none { IfOk result (λ o. o ≡ None → (to_sweep self.old.history ≡ None) × (self.new ≡ self.old)) }
@@ -564,6 +582,7 @@ impl<O: Outbox> Book<O> {
         match self.may_reap(baton.session) {
             Ok(()) => {
                 self.seats.give_up(baton.session);
+                self.last_heard.forget(baton.session);
                 let count = self.outboxes.give_up(baton.session, taker);
                 Ok(Left {
                     session: baton.session,
@@ -582,7 +601,9 @@ impl<O: Outbox> Book<O> {
         ensures opened { IfOk result (λ b. (t : ℕ) → is_noted b t ≡ true → (0 < t) × (t ≤ sessions self.now.history)) }
     {
         let roster = self.roster.copy()?;
-        let counts = self.outboxes.counts(self.alloc, &self.seats)?;
+        let counts = self
+            .outboxes
+            .counts(self.alloc, &self.seats, &self.last_heard)?;
         Ok(Base::new(roster, counts, &self.journal))
     }
 

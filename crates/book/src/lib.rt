@@ -6,6 +6,7 @@ mod baton;
 mod book;
 mod counting;
 mod heard;
+mod last_heard;
 mod laws;
 mod out;
 mod outboxes;
@@ -15,6 +16,7 @@ mod rings;
 mod seat;
 mod seats;
 mod settings;
+mod ticks;
 
 pub use base::Base;
 pub use baton::Baton;
@@ -25,7 +27,7 @@ pub use out::{Done, Hung, Left, Plan, Rolled, Step};
 pub use outbox::{Outbox, PutFault, Ring};
 pub use refusals::{
     BookFault, HangRefusal, LineRefusal, OpenRefusal, ReapRefusal, RollRefusal, SweepRefusal,
-    TakeRefusal,
+    TakeRefusal, TickRefusal,
 };
 pub use registration::{MAX_SESSIONS, Settings};
 pub use roster::Sessions;

@@ -21,7 +21,7 @@ pub struct Done {
     pub number: RecordNumber,
     /// Who had no room for what it owed.
     pub missed: Sessions,
-    /// Whether its own session is shut then.
+    /// Whether its own session is shut then. A tick has none.
     pub shut: bool,
 }
 
@@ -79,7 +79,7 @@ impl Plan {
         self.number
     }
 
-    /// The session of its record.
+    /// The session of its record. A tick's is 0, which is no session's.
     pub fn session(&self) -> SessionId
         ensures { result ≡ self.now.session }
     {

@@ -1,12 +1,14 @@
 //! The outboxes of all sessions, and how many there are.
-ghost use Rattle.std.specs.Prelude.{◌≡◌, ℕ, ◌<◌, ◌+◌, ◌-◌, ◌^◌, ◌++◌, ◌∷◌, [], true, false, length, slice_get, slice_set, Some, None, IfSome, IfOk, OnOk};
+ghost use Rattle.std.specs.Prelude.{◌≡◌, ℕ, ◌<◌, ◌+◌, ◌-◌, ◌^◌, ◌++◌, ◌∷◌, [], true, false, length, slice_get, slice_set, Some, None, is_some, IfSome, IfOk, OnOk};
 ghost use Rattle.outbox.specs.Ring.{with_taken};
 ghost use Rattle.book.specs.Book.{box_at, outbox_at, count_here, IsLeft};
 ghost use Rattle.book.specs.Seats.{stands, seat_at, IsSeated, IsThere, MayFollow, IsTaken, IsNotTaken};
+ghost use Rattle.book.specs.LastHeard.{since_at};
 ghost use Rattle.book.specs.Noted.{AreCountsOf};
 
 use crate::base::Counts;
 use crate::counting::Counting;
+use crate::last_heard::LastHeard;
 use crate::seats::Seats;
 use chronicle::SessionId;
 use deliveries::Item;
@@ -95,14 +97,16 @@ impl<O: Outbox> Outboxes<O> {
         outbox.put(item)
     }
 
-    /// What is counted of each session that isn't reaped, by its seat and its outbox.
+    /// What is counted of each session that isn't reaped, by its seat and its outbox, and since when it is quiet.
     pub(crate) fn counts(
         &self,
         alloc: Global,
         seats: &Seats,
+        last_heard: &LastHeard,
     ) -> Result<IndexMap<u64, Counts>, AllocError>
         requires seated { (t : ℕ) → IsThere self.now.boxes t → IsSeated seats.now t × (stands (seat_at seats.now t) ≡ true) }
-        ensures { IfOk result (λ m. AreCountsOf O.sent seats.now self.now.boxes m.entries) }
+        requires heard { (t : ℕ) → IsThere self.now.boxes t → is_some (since_at last_heard.now t) ≡ true }
+        ensures { IfOk result (λ m. AreCountsOf O.sent seats.now self.now.boxes last_heard.now m.entries) }
     {
         let mut counts = IndexMap::new(alloc);
         counts.reserve(self.outboxes.len())?;
@@ -110,12 +114,17 @@ impl<O: Outbox> Outboxes<O> {
             let Some((number, outbox)) = self.outboxes.get_index(place) else {
                 unreachable!();
             };
-            let Some(seat) = seats.seat(SessionId::new(*number)) else {
+            let session = SessionId::new(*number);
+            let Some(seat) = seats.seat(session) else {
+                unreachable!();
+            };
+            let Some(since) = last_heard.since(session) else {
                 unreachable!();
             };
             let counted = Counts {
                 accepted: seat.accepted,
                 owed: outbox.count(),
+                since,
             };
             counts.insert(*number, counted)?;
         }

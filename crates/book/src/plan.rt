@@ -13,19 +13,19 @@ ghost use Rattle.deeds.specs.Rows.{of_asked};
 ghost use Rattle.deeds.specs.Deeds.{spelled};
 ghost use Rattle.deeds.specs.Verdicts.{IsVerdict};
 ghost use Rattle.book.specs.Book.{puts};
-ghost use Rattle.book.specs.Seats.{hears, told_own, heard_text, planned_from, planned_with};
+ghost use Rattle.book.specs.Seats.{hears, told_own, heard_text, pinged_text, planned_from, planned_with};
 ghost use Rattle.book.specs.Heard.{delivery_of, deliveries_of, joined};
 
 use crate::heard::{Heard, heard_in_order};
 use crate::seats::Seats;
 use chronicle::{Moment, RecordNumber, SessionId, Why};
 use commands::read_piece;
-use deeds::{Shown, Verdict, decide, decide_gone};
+use deeds::{Shown, Verdict, decide, decide_gone, ping};
 use deliveries::Delivery;
 use labels_batches::{Receiver, Text, answer_text, label_of};
 use line_grammar::{Octets, Piece};
 use numerics::Line;
-use roster::{Deed, Roster};
+use roster::{Deed, Roster, Sessions};
 use std::alloc::{AllocError, Global};
 use std::collections::VecDeque;
 use std::mem::replace;
@@ -255,6 +255,28 @@ pub(crate) fn prepare_gone(by: &Planning<'_>) -> Result<Prepared, AllocError>
 {
     let verdict = decide_gone(by.alloc, by.roster, by.actor)?;
     with_room(by, None, verdict, false)
+}
+
+/// Plans that a tick pings these sessions, of whom each stands once, and makes room for those who miss it.
+pub(crate) fn prepare_tick(
+    by: &Planning<'_>,
+    sessions: &[SessionId],
+) -> Result<(VecDeque<Planned>, Vec<SessionId>), AllocError>
+    requires from_1970 { pos 0 ≤ℤ by.now.moment }
+    requires to_9998 { by.now.moment ≤ℤ pos 253370764799999 }
+    ensures plan { IfOk result (λ p. p.0.items ≡ planned_with by.now.seats.now by.now.actor by.now.number [] (pinged_text by.now.roster.now.settings by.now.roster.now.facts by.now.moment sessions.now) false) }
+    ensures missed { IfOk result (λ p. (p.1.items ≡ []) × (length p.0.items ≤ vec_capacity p.1)) }
+{
+    let line = ping(by.alloc, by.roster.settings().server.as_slice())?;
+    let mut shown = Vec::new(by.alloc);
+    shown.push(Shown {
+        hearers: Sessions::from_vec(Vec::from_slice(by.alloc, sessions)?),
+        line,
+    })?;
+    let nothing = Octets::from_vec(Vec::new(by.alloc));
+    let plan = plan_for(by, nothing, shown, false)?;
+    let missed = Vec::with_capacity(by.alloc, plan.len())?;
+    Ok((plan, missed))
 }
 
 /// Establishes the facts of a record, for which room was made. It takes no memory.

@@ -3,6 +3,7 @@ ghost use Rattle.std.specs.Prelude.{◌≡◌};
 ghost use Rattle.book.specs.declared.refusals.OpenRefusal.TheVariants as opening;
 ghost use Rattle.book.specs.declared.refusals.LineRefusal.TheVariants as accepting;
 ghost use Rattle.book.specs.declared.refusals.SweepRefusal.TheVariants as sweeping;
+ghost use Rattle.book.specs.declared.refusals.TickRefusal.TheVariants as ticking;
 ghost use Rattle.book.specs.declared.refusals.RollRefusal.TheVariants as rolling;
 
 use std::alloc::AllocError;
@@ -72,6 +73,19 @@ pub enum SweepRefusal {
     Memory,
 }
 
+/// Why nobody was pinged.
+#[derive(Clone, Copy, Debug, PartialEq)]
+pub enum TickRefusal {
+    /// A plan is out.
+    Busy,
+    /// The moment is out of range, or before that of the newest record.
+    BadMoment,
+    /// The journal has no room for a record.
+    JournalFull,
+    /// A growth was refused.
+    Memory,
+}
+
 /// Why no records were dropped.
 #[derive(Clone, Copy, Debug, PartialEq)]
 pub enum RollRefusal {
@@ -122,6 +136,14 @@ impl From<AllocError> for RollRefusal {
 
     fn from(_: AllocError) -> RollRefusal {
         RollRefusal::Memory
+    }
+}
+
+impl From<AllocError> for TickRefusal {
+    ghost from_gives = { λ _ e. e ≡ ticking.Memory };
+
+    fn from(_: AllocError) -> TickRefusal {
+        TickRefusal::Memory
     }
 }
 

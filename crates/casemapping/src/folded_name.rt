@@ -4,16 +4,20 @@ ghost use Rattle.std.proofs.Common.{rules};
 ghost use Rattle.casemapping.specs.Fold.{folded};
 
 use crate::fold;
+use smallvec::SmallVec;
 use std::alloc::{AllocError, Global};
 use std::cmp::Ordering;
 use std::hash::{Hash, Hasher};
 use std::marker::Model;
 
+/// How many octets of a name lie in the value itself: a name that a server takes has no more.
+const IN_PLACE: usize = 64;
+
 /// A name in lower case, so that names which differ in case at most are equal (RFC 2812, section 2.2).
-/// It is compared, ordered and hashed as its octets are.
+/// It is compared, ordered and hashed as its octets are. Up to 64 octets take no memory of their own.
 #[derive(Debug, Drop)]
 pub struct Folded {
-    octets: Vec<u8>,
+    octets: SmallVec<u8, IN_PLACE>,
 }
 
 impl Model for Folded {
@@ -41,18 +45,22 @@ impl Folded {
     pub fn new(alloc: Global, name: &[u8]) -> Result<Folded, AllocError>
         ensures { IfOk result (λ f. f ≡ folded name.now) }
     {
-        Ok(Folded {
-            octets: name.iter().map(|octet| fold(*octet)).collect(alloc)?,
-        })
+        let mut octets = SmallVec::with_capacity(alloc, name.len())?;
+        for octet in name {
+            octets.push_reserved(fold(*octet));
+        }
+        Ok(Folded { octets })
     }
 
-    /// The lower case of a name, in the place of its octets. It takes no memory.
+    /// The lower case of a name. It takes no memory: more than 64 octets stay where they are.
     pub fn from_vec(octets: Vec<u8>) -> Folded
         ensures { result ≡ folded octets.items }
     {
         let mut lower = octets;
         fold_all(&mut lower);
-        Folded { octets: lower }
+        Folded {
+            octets: SmallVec::from_vec(lower),
+        }
     }
 
     /// The octets of the lower case.
@@ -60,7 +68,7 @@ impl Folded {
         ensures octets { result.now ≡ self.now }
         ensures lower_case { folded result.now ≡ result.now }
     {
-        &self.octets
+        self.octets.as_slice()
     }
 }
 
@@ -69,7 +77,7 @@ impl Clone for Folded {
 
     fn clone(&self) -> Result<Folded, AllocError> {
         Ok(Folded {
-            octets: self.octets.clone()?,
+            octets: SmallVec::from_slice(*self.octets.allocator(), self.octets.as_slice())?,
         })
     }
 }
@@ -82,7 +90,7 @@ impl PartialEq for Folded {
     ghost laws = { Prim.search rules };
 
     fn eq(&self, other: &Folded) -> bool {
-        self.octets == other.octets
+        self.octets.as_slice() == other.octets.as_slice()
     }
 }
 
@@ -120,7 +128,7 @@ impl Ord for Folded {
     ghost matches_eq = { texts_ties };
 
     fn cmp(&self, other: &Folded) -> Ordering {
-        self.octets.cmp(&other.octets)
+        self.octets.as_slice().cmp(&other.octets.as_slice())
     }
 }
 
@@ -134,6 +142,6 @@ impl Hash for Folded {
     ghost respects_eq = { Prim.search (hashing, rules) };
 
     fn hash<H: Hasher>(&self, state: &mut H) {
-        self.octets.hash(state);
+        self.octets.as_slice().hash(state);
     }
 }

@@ -1,22 +1,39 @@
 -- Facts of joins, and who is on a channel after one.
-use Rattle.std.proofs.Common.{◌≡◌, ℕ, ◌+◌, Bool, true, false, cond, List, [], ◌∷◌, ◌++◌, length, Some, None, refl, sym, ap}
+use Rattle.std.proofs.Common.{◌≡◌, ℕ, Bool, true, false, cond, List, [], ◌∷◌, ◌++◌, filter, Option, Some, None, refl}
 use Rattle.numerics.specs.declared.numeric.Numeric.{Numeric}
 use Rattle.registration.specs.declared.settings.Settings.{Settings}
 use Rattle.channel_state.specs.State.{is_some_one, without}
 use Rattle.roster.specs.declared.deed.Deed.{Deed}
-use Rattle.roster.specs.LookBack.{has_member}
-use Rattle.drafts.specs.Seen.{seen}
+use Rattle.roster.specs.LookBack.{account, away, has_member, real}
+use Rattle.drafts.specs.Seen.{Seen, seen}
 use Rattle.drafts.specs.Effects.{deeds_of}
+use Rattle.drafts.specs.Hearers.{shown}
+use Rattle.drafts.specs.Lines.{extended_join_line, join_line}
 use Rattle.drafts.specs.Replies.{tells_all}
+use Rattle.drafts.proofs.Quiet.{both-quiet, shown-quiet}
+use Rattle.channel_commands.specs.Joining.{absence_shown, entered, introduced, join_shown, takes_extended, takes_plain, welcomed}
 
 -- answers establish nothing
 pub no_deeds : (g : Settings) (fs : List Deed) (s : ℕ) (ns : List Numeric) → deeds_of (tells_all g fs s ns) ≡ []
 no_deeds g fs s [] = refl
 no_deeds g fs s (n ∷ ns) = no_deeds g fs s ns
 
--- a count with the fact of a join, and the answers after it
-pub counted : (g : Settings) (fs : List Deed) (s n : ℕ) (ns : List Numeric) (d : Deed) → n + 1 ≡ n + length (d ∷ deeds_of (tells_all g fs s ns))
-counted g fs s n ns d = ap (λ (ds : List Deed). n + length (d ∷ ds)) (sym (no_deeds g fs s ns))
+-- and neither does what members are shown of a join
+absence_quiet : (fs : List Deed) (s : ℕ) (from : List ℕ) (k : Seen) (text : Option (List ℕ)) → deeds_of (absence_shown fs s from k text) ≡ []
+absence_quiet fs s from k None = refl
+absence_quiet fs s from k (Some text) = shown-quiet _ _
+
+pub introduced_quiet : (fs : List Deed) (s : ℕ) (from : List ℕ) (k : Seen) → deeds_of (introduced fs s from k) ≡ []
+unfolding introduced
+introduced_quiet fs s from k =
+    let plain = shown (filter (takes_plain fs) k.state.members) (join_line from k.name) in
+    let extended = shown (filter (takes_extended fs) k.state.members) (extended_join_line from k.name (account fs s) (real fs s)) in
+    both-quiet (join_shown fs s from k) (absence_shown fs s from k (away fs s)) (both-quiet plain extended (shown-quiet _ _) (shown-quiet _ _)) (absence_quiet fs s from k (away fs s))
+
+pub entered_quiet : (g : Settings) (fs0 fs : List Deed) (s : ℕ) (from : List ℕ) (k : Seen) → deeds_of (entered g fs0 fs s from k) ≡ []
+unfolding entered
+entered_quiet g fs0 fs s from k =
+    let ns = welcomed g fs0 s k in both-quiet (introduced fs0 s from k) (tells_all g fs s ns) (introduced_quiet fs0 s from k) (no_deeds g fs s ns)
 
 some_last : (t : ℕ) (ts : List ℕ) → is_some_one (ts ++ t ∷ []) ≡ true
 some_last t [] = refl

@@ -1,20 +1,22 @@
--- What JOIN does: RFC 2812, section 3.2.1, and RFC 2811, section 4 (keys, limits, bans and invitations).
-use Rattle.std.specs.Prelude.{ℕ, Bool, false, not, ◌&&◌, nat_le, List, [], ◌∷◌, ◌++◌, length, Option, Some, None, if◌then◌else◌}
+-- What JOIN does: RFC 2812, section 3.2.1, and RFC 2811, section 4 (keys, limits, bans and invitations); IRCv3 extended-join and away-notify.
+use Rattle.std.specs.Prelude.{ℕ, Bool, false, not, filter, ◌&&◌, nat_le, List, [], ◌∷◌, ◌++◌, length, Option, Some, None, if◌then◌else◌}
 use Rattle.std.specs.Str.{bytes_eq}
 use Rattle.casemapping.specs.Names.{channel_shape}
 use Rattle.channel_state.specs.declared.change.Change.TheVariants.{Joined}
-use Rattle.channel_state.specs.State.{State, among, is_banned, made_by, changed}
+use Rattle.channel_state.specs.State.{State, among, is_banned, made_by, changed, without}
 use Rattle.command_params.specs.declared.join_targets.JoinTarget.{JoinTarget}
 use Rattle.numerics.specs.declared.numeric.Numeric.{Numeric}
 use Rattle.numerics.specs.declared.numeric.Numeric.TheVariants.{NoSuchChannel, TooManyChannels, Topic}
+use Rattle.registration.specs.declared.caps.Cap.TheVariants.{AwayNotify, ExtendedJoin}
 use Rattle.registration.specs.declared.settings.Settings.{Settings}
 use Rattle.roster.specs.declared.deed.Deed.{Deed}
 use Rattle.roster.specs.declared.deed.Deed.TheVariants.{ChannelMade, Changed}
-use Rattle.roster.specs.LookBack.{channel_count}
+use Rattle.roster.specs.LookBack.{account, away, channel_count, real}
 use Rattle.drafts.specs.declared.effect.Effect.{Effect}
-use Rattle.drafts.specs.declared.effect.Effect.TheVariants.{Establish, Show}
+use Rattle.drafts.specs.declared.effect.Effect.TheVariants.{Establish}
 use Rattle.drafts.specs.Seen.{Seen}
-use Rattle.drafts.specs.Lines.{prefix, join_line}
+use Rattle.drafts.specs.Hearers.{shown, takes}
+use Rattle.drafts.specs.Lines.{prefix, join_line, extended_join_line, away_line}
 use Rattle.drafts.specs.declared.denials.Denial.{Denial}
 use Rattle.drafts.specs.declared.denials.Denial.TheVariants.{BadChannelKey, BannedFromChan, InviteOnlyChan, ChannelIsFull}
 use Rattle.drafts.specs.Denials.{denied}
@@ -59,9 +61,31 @@ topic_told k (Some topic) = Topic k.name topic ∷ []
 abbrev pub welcomed : Settings → List Deed → ℕ → Seen → List Numeric
 welcomed g fs0 s k = topic_told k k.state.topic ++ names_told g fs0 s k
 
--- all members are shown that it joined. Nicknames are those of the facts before the line, which JOIN doesn't change
-abbrev pub entered : Settings → List Deed → List Deed → ℕ → List ℕ → Seen → List Effect
-entered g fs0 fs s from k = Show k.state.members (join_line from k.name) ∷ tells_all g fs s (welcomed g fs0 s k)
+-- the two forms in which a join is shown
+abbrev pub takes_extended : List Deed → ℕ → Bool
+takes_extended fs t = takes fs ExtendedJoin t
+
+abbrev pub takes_plain : List Deed → ℕ → Bool
+takes_plain fs t = not (takes fs ExtendedJoin t)
+
+-- who takes extended-join is shown its account and real name, and all others that it joined
+abbrev pub join_shown : List Deed → ℕ → List ℕ → Seen → List Effect
+join_shown fs s from k =
+    shown (filter (takes_plain fs) k.state.members) (join_line from k.name)
+    ++ shown (filter (takes_extended fs) k.state.members) (extended_join_line from k.name (account fs s) (real fs s))
+
+-- where it is away, the others that take away-notify are shown so
+abbrev pub absence_shown : List Deed → ℕ → List ℕ → Seen → Option (List ℕ) → List Effect
+absence_shown fs s from k None = []
+absence_shown fs s from k (Some text) = shown (without s (filter (takes fs AwayNotify) k.state.members)) (away_line from (Some text))
+
+-- what members are shown, by the facts before the line
+unfoldable pub introduced : List Deed → ℕ → List ℕ → Seen → List Effect
+introduced fs0 s from k = join_shown fs0 s from k ++ absence_shown fs0 s from k (away fs0 s)
+
+-- the members, and then it itself. Nicknames are those of the facts before the line, which JOIN doesn't change
+unfoldable pub entered : Settings → List Deed → List Deed → ℕ → List ℕ → Seen → List Effect
+entered g fs0 fs s from k = introduced fs0 s from k ++ tells_all g fs s (welcomed g fs0 s k)
 
 -- ---- JOIN of one channel, by a session that is on n channels
 

@@ -8,14 +8,14 @@ ghost use Rattle.drafts.specs.Seen.{IsSeen};
 ghost use Rattle.channel_commands.specs.Each.{each_counted};
 ghost use Rattle.channel_commands.specs.Joining.{welcomed, entered, makes, enters, enters_unless, joins_seen, joins_one, joins};
 
+use crate::arriving::introduce;
 use crate::bars::bar_of;
 use crate::finding::channel_of;
-use crate::members::show_members;
 use casemapping::is_channel;
 use channel_state::Change;
 use chronicle::SessionId;
 use command_params::JoinTarget;
-use drafts::{Denial, Draft, Seen, deny, join_line, prefix_of, tell_all};
+use drafts::{Denial, Draft, Seen, deny, prefix_of, tell_all};
 use line_grammar::Octets;
 use numerics::Numeric;
 use query_commands::push_members;
@@ -41,13 +41,12 @@ fn welcome(draft: &Draft<'_>, session: SessionId, seen: &Seen) -> Result<Vec<Num
 }
 
 /// All members are shown that a session joined, which is told of the channel.
-#[tactic(auto, using(drafts::proofs::Replay::grown_grown))]
+#[tactic(auto, unfolding(crate::specs::Joining::entered), using(drafts::proofs::Replay::grown_grown, crate::proofs::Rows::introduced_quiet))]
 fn enter(draft: &mut Draft, session: SessionId, from: &[u8], seen: &Seen) -> Result<(), AllocError>
     ensures { OnOk result (draft.new ≡ grown draft.old (entered draft.old.settings draft.old.base draft.old.facts session from.now seen.now)) }
 {
-    let line = join_line(draft.alloc(), from, seen.name().as_slice())?;
     let numerics = welcome(draft, session, seen)?;
-    show_members(draft, seen, line)?;
+    introduce(draft, session, from, seen)?;
     tell_all(draft, session, &numerics)
 }
 
@@ -85,7 +84,7 @@ fn come(
 }
 
 /// Joins a channel that is there, unless something bars the session. On how many channels it is then.
-#[tactic(auto, using(crate::proofs::Rows::no_deeds))]
+#[tactic(auto, using(crate::proofs::Rows::entered_quiet))]
 fn come_unless(
     draft: &mut Draft,
     session: SessionId,
@@ -137,7 +136,7 @@ fn join_there(
 }
 
 /// Joins a channel that isn't there.
-#[tactic(auto, using(crate::proofs::Rows::no_deeds))]
+#[tactic(auto, using(crate::proofs::Rows::entered_quiet))]
 fn join_new(
     draft: &mut Draft,
     session: SessionId,

@@ -2,6 +2,7 @@
 //! section 3.2).
 #![tactic(auto)]
 
+mod arriving;
 mod bars;
 mod channel;
 mod finding;

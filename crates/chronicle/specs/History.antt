@@ -7,7 +7,7 @@ use Rattle.line_grammar.specs.declared.splitter.Piece.{Piece}
 use Rattle.line_grammar.specs.declared.splitter.Piece.TheVariants.{Line, TooLong}
 use Rattle.line_grammar.specs.Reading.{reading}
 use Rattle.chronicle.specs.declared.record.Kind.{Kind}
-use Rattle.chronicle.specs.declared.record.Kind.TheVariants.{Opened, Said, Hung, Gone}
+use Rattle.chronicle.specs.declared.record.Kind.TheVariants.{Opened, Said, Hung, Gone, Ticked}
 use Rattle.chronicle.specs.declared.record.Record.{Record}
 
 -- a record, as a history has it
@@ -32,12 +32,13 @@ abbrev pub last_moment : List Rec → ℤ
 last_moment [] = pos 0
 last_moment (r ∷ h) = r.moment
 
--- the session that a record is about
+-- the session that a record is about, 0 for a tick, which is about none: sessions are numbered from 1
 abbrev pub actor : Kind → ℕ
 actor (Opened s host) = s
 actor (Said s i piece) = s
 actor (Hung s why) = s
 actor (Gone s) = s
+actor Ticked = 0
 
 -- how many sessions were opened
 abbrev pub opened_by : Kind → ℕ
@@ -45,6 +46,7 @@ opened_by (Opened s host) = 1
 opened_by (Said s i piece) = 0
 opened_by (Hung s why) = 0
 opened_by (Gone s) = 0
+opened_by Ticked = 0
 
 abbrev pub sessions : List Rec → ℕ
 sessions [] = 0
@@ -56,6 +58,7 @@ said_by (Opened s host) t = []
 said_by (Said s i piece) t = cond (s == t) (piece ∷ []) []
 said_by (Hung s why) t = []
 said_by (Gone s) t = []
+said_by Ticked t = []
 
 -- the accepted pieces of a session, in order
 abbrev pub accepted : List Rec → ℕ → List Piece
@@ -82,6 +85,7 @@ ends (Opened s host) t = false
 ends (Said s i piece) t = s == t && is_quit piece
 ends (Hung s why) t = s == t
 ends (Gone s) t = false
+ends Ticked t = false
 
 -- whether a session is shut: by the first record that misses it, or ends it
 abbrev pub shut : List Rec → ℕ → Bool
@@ -94,6 +98,7 @@ leaves (Opened s host) t = false
 leaves (Said s i piece) t = false
 leaves (Hung s why) t = false
 leaves (Gone s) t = s == t
+leaves Ticked t = false
 
 -- whether a session is gone
 abbrev pub gone : List Rec → ℕ → Bool

@@ -1,4 +1,5 @@
 pub mod Reasons
 pub mod History
+pub mod Quiet
 pub mod Kept
 pub mod Journal

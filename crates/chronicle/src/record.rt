@@ -26,6 +26,8 @@ pub enum Kind {
     Gone {
         session: SessionId,
     },
+    /// The clock was looked at: sessions that are quiet are pinged.
+    Ticked,
 }
 
 /// A record of the journal.

@@ -19,6 +19,8 @@ pub enum Why {
     Memory,
     /// The server stops.
     Shutdown,
+    /// It was quiet for too long.
+    PingTimeout,
 }
 
 impl Why {
@@ -34,6 +36,7 @@ impl Why {
             Why::WriteFailed => "writefail",
             Why::Memory => "memory",
             Why::Shutdown => "shutdown",
+            Why::PingTimeout => "timeout",
         }
     }
 
@@ -49,6 +52,7 @@ impl Why {
             Why::WriteFailed => "Write error",
             Why::Memory => "Out of memory",
             Why::Shutdown => "Server shutting down",
+            Why::PingTimeout => "Ping timeout",
         }
     }
 }

@@ -1,3 +1,4 @@
+pub mod Beating
 pub mod Doing
 pub mod Hanging
 pub mod Taking

@@ -4,6 +4,7 @@
 #![tactic(auto)]
 
 mod backlog;
+mod beating;
 mod closing;
 mod desk;
 mod intake;
@@ -16,6 +17,7 @@ mod working;
 mod writing;
 
 pub use backlog::{Backlog, NoBacklog};
+pub use beating::{Beaten, Late, Ticked, beat, hang_late, tick};
 pub use closing::{close_now, close_up};
 pub use desk::Desk;
 pub use intake::Intake;

@@ -49,7 +49,7 @@ pub trait Sockets {
     /// Waits a little.
     fn pause(&self);
 
-    /// The journal was rolled for a line, and so many records were dropped. The hall is held meanwhile.
+    /// The journal was rolled for a record, and so many records were dropped. The hall is held meanwhile.
     fn rolled(&self, dropped: usize);
 
     /// Asks the server to stop.

@@ -22,8 +22,8 @@ pub struct Ending<L: Naming, R: Wait + Drop> {
     pub after: Snapshot<Hall<L, Sender<R>>>,
 }
 
-/// Ends a session in the hall, at this moment or at that of the newest record where that is later, and adds who got something.
-fn hang_in<L: Naming, R: Wait + Drop>(
+/// Ends a session in the hall, at this moment, and adds who got something.
+pub(crate) fn hang_at<L: Naming, R: Wait + Drop>(
     hall: &mut Hall<L, Sender<R>>,
     session: SessionId,
     why: Why,
@@ -31,9 +31,9 @@ fn hang_in<L: Naming, R: Wait + Drop>(
     told: &mut Told,
 ) -> Ending<L, R>
     ensures hangs { Hangs result.before.value result.after.value session why result.moment result.hung }
-    ensures moment { IsLater moment (last_moment result.before.value.history) result.moment }
+    ensures moment { result.moment ≡ moment }
+    ensures before { result.before.value ≡ hall.old }
 {
-    let moment = later(moment, hall.last_moment());
     told.begin();
     hall.swap_told(told);
     let before = Snapshot::of(&*hall);
@@ -46,6 +46,21 @@ fn hang_in<L: Naming, R: Wait + Drop>(
         before,
         after,
     }
+}
+
+/// Ends a session in the hall, at this moment or at that of the newest record where that is later, and adds who got something.
+fn hang_in<L: Naming, R: Wait + Drop>(
+    hall: &mut Hall<L, Sender<R>>,
+    session: SessionId,
+    why: Why,
+    moment: Moment,
+    told: &mut Told,
+) -> Ending<L, R>
+    ensures hangs { Hangs result.before.value result.after.value session why result.moment result.hung }
+    ensures moment { IsLater moment (last_moment result.before.value.history) result.moment }
+{
+    let moment = later(moment, hall.last_moment());
+    hang_at(hall, session, why, moment, told)
 }
 
 /// Ends a session for a reason, where it is open, and shuts its connection. Who got something is added to `told`.

@@ -4,7 +4,7 @@ use crew::{Backlog, Clock, Gate, Sockets};
 use hall::Told;
 use std::io::{ErrorKind, Read, Write};
 use std::sync::Arc;
-use std::sync::atomic::{AtomicBool, AtomicU64, AtomicUsize, Ordering};
+use std::sync::atomic::{AtomicBool, AtomicI64, AtomicU64, AtomicUsize, Ordering};
 use std::time::Duration;
 use std::{io, thread, time};
 
@@ -76,11 +76,12 @@ impl<R: time::Clock + Drop> Gate for Turnstile<R> {
     }
 }
 
-/// Connections of which is noted who was shut, how often a thread paused, how many records were dropped, and whether the server is to
-/// stop.
+/// Connections of which is noted who was shut, who was told, how often a thread paused, how many records were dropped, and whether the
+/// server is to stop.
 #[derive(Drop)]
 pub struct Noted {
     shut: AtomicU64,
+    told: AtomicU64,
     pub paused: AtomicU64,
     pub dropped: AtomicU64,
     pub is_stopped: AtomicBool,
@@ -91,10 +92,17 @@ impl Noted {
     pub fn new() -> Noted {
         Noted {
             shut: AtomicU64::new(0),
+            told: AtomicU64::new(0),
             paused: AtomicU64::new(0),
             dropped: AtomicU64::new(0),
             is_stopped: AtomicBool::new(false),
         }
+    }
+
+    /// Whether a session was told since this was last asked of it.
+    pub fn was_told(&self, session: SessionId) -> bool {
+        let told = self.told.fetch_and(!bit_of(session), Ordering::SeqCst);
+        told & bit_of(session) != 0
     }
 }
 
@@ -112,7 +120,11 @@ impl Sockets for Noted {
         self.shut.load(Ordering::SeqCst) & bit_of(session) != 0
     }
 
-    fn tell(&self, _told: &Told) {}
+    fn tell(&self, told: &Told) {
+        for session in told.sessions().iter() {
+            self.told.fetch_or(bit_of(*session), Ordering::SeqCst);
+        }
+    }
 
     fn pause(&self) {
         self.paused.fetch_add(1, Ordering::SeqCst);
@@ -135,6 +147,32 @@ pub struct Still;
 impl Clock for Still {
     fn now(&self) -> Moment {
         Moment::new(0)
+    }
+}
+
+/// A clock that is set by hand.
+#[derive(Drop)]
+pub struct Dial {
+    moment: AtomicI64,
+}
+
+impl Dial {
+    /// A clock that shows 0.
+    pub fn new() -> Dial {
+        Dial {
+            moment: AtomicI64::new(0),
+        }
+    }
+
+    /// From now on it shows this moment.
+    pub fn set(&self, moment: i64) {
+        self.moment.store(moment, Ordering::SeqCst);
+    }
+}
+
+impl Clock for Dial {
+    fn now(&self) -> Moment {
+        Moment::new(self.moment.load(Ordering::SeqCst))
     }
 }
 

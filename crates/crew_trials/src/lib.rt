@@ -2,6 +2,8 @@
 #![tactic(auto)]
 
 #[cfg(test)]
+mod beating;
+#[cfg(test)]
 mod behind;
 mod fakes;
 #[cfg(test)]
@@ -22,5 +24,5 @@ mod wanting;
 #[cfg(test)]
 mod writing;
 
-pub use fakes::{Heap, Noted, Open, Still, TURNS, Tally, Torn, Turnstile, rest};
+pub use fakes::{Dial, Heap, Noted, Open, Still, TURNS, Tally, Torn, Turnstile, rest};
 pub use making::{Tokens, ends, hall, hung_for, line, open, work_two, work_under_slot};

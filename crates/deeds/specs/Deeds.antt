@@ -18,12 +18,13 @@ use Rattle.drafts.specs.Effects.{deeds_of, reply, copies, due}
 use Rattle.deeds.specs.Departure.{departs}
 use Rattle.deeds.specs.Rows.{of_asked}
 
--- what a record does, on a server of these settings
+-- what a record does, on a server of these settings. What a tick tells goes by moments, which facts don't have: `told` of what a history owes says it
 abbrev pub effects : Settings → List Deed → Kind → List Effect
 effects g fs (kind.Opened s h) = Establish (Opened s h) ∷ []
 effects g fs (kind.Said s i piece) = of_asked g fs s (asked_of piece)
 effects g fs (kind.Hung s w) = Establish (Ended s w []) ∷ []
 effects g fs (kind.Gone s) = departs fs s
+effects g fs kind.Ticked = []
 
 -- the facts that it establishes, in order
 abbrev pub deeds : Settings → List Deed → Kind → List Deed

@@ -1,4 +1,5 @@
 pub mod Departure
+pub mod Ping
 pub mod Rows
 pub mod Deeds
 pub mod Verdicts

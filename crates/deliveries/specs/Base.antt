@@ -1,19 +1,22 @@
 -- What has to be known of a history to go on from it, whatever records come: this project's own. Who drops records keeps this of them.
-use Rattle.std.specs.Prelude.{ℕ, ℤ, ◌+◌, ◌-◌, Bool, ◌||◌, nat_le, cond, List, [], ◌∷◌, ◌++◌, length, take, drop}
+use Rattle.std.specs.Prelude.{ℕ, ℤ, ◌+◌, ◌-◌, Bool, false, not, ◌&&◌, ◌||◌, nat_le, cond, List, [], ◌∷◌, ◌++◌, length, take, drop, Option, Some}
 use Rattle.line_grammar.specs.declared.splitter.Piece.{Piece}
 use Rattle.chronicle.specs.declared.record.Kind.{Kind}
 use Rattle.chronicle.specs.History.{Rec, last_moment, opened_by, sessions, accepted, misses, ends, shut, gone}
+use Rattle.chronicle.specs.Quiet.{PING_AFTER, hears_of, is_tick, quiet_since, was_before, was_pinged}
 use Rattle.registration.specs.declared.settings.Settings.{Settings}
 use Rattle.roster.specs.declared.deed.Deed.{Deed}
-use Rattle.roster.specs.LookBack.{after}
+use Rattle.roster.specs.LookBack.{after, caps}
+use Rattle.labels_batches.specs.Spellings.{spelled_for}
 use Rattle.deeds.specs.Deeds.{deeds, facts, text}
+use Rattle.deeds.specs.Ping.{ping_line}
 use Rattle.deliveries.specs.declared.delivery.Delivery.{Delivery}
 use Rattle.deliveries.specs.declared.delivery.Delivery.TheVariants.{Last}
 use Rattle.deliveries.specs.Owed.{item, reason, owed}
 
 -- what is known of sessions and channels, in which each look-up is a look-back; how many records and how many sessions there are,
--- which is the number of the newest of each; the newest moment; who is shut and who is gone; and of each session how many of its
--- pieces were accepted and how many deliveries it is owed
+-- which is the number of the newest of each; the newest moment; who is shut and who is gone; and of each session since when it is
+-- quiet, whether it was pinged since, how many of its pieces were accepted and how many deliveries it is owed
 pub record Base : Type 0 where
   pub facts : List Deed
   pub records : ℕ
@@ -21,6 +24,8 @@ pub record Base : Type 0 where
   pub moment : ℤ
   pub shut : ℕ → Bool
   pub gone : ℕ → Bool
+  pub quiet_since : ℕ → Option ℤ
+  pub was_pinged : ℕ → Bool
   pub accepted : ℕ → ℕ
   pub owed : ℕ → ℕ
 
@@ -34,6 +39,8 @@ base g h =
       moment = last_moment h;
       shut = shut h;
       gone = gone h;
+      quiet_since = quiet_since h;
+      was_pinged = was_pinged h;
       accepted = λ t. length (accepted h t);
       owed = λ t. length (owed g h t);
     }
@@ -62,9 +69,26 @@ abbrev pub shut_from : Base → List Rec → ℕ → Bool
 shut_from b [] t = b.shut t
 shut_from b (r ∷ h) t = misses r t || ends r.kind t || shut_from b h t
 
--- what a record of this kind and moment after these tells t, as `told` says it of a whole history
+abbrev pub quiet_since_from : Base → List Rec → ℕ → Option ℤ
+quiet_since_from b [] t = b.quiet_since t
+quiet_since_from b (r ∷ h) t = cond (hears_of r.kind t) (Some r.moment) (quiet_since_from b h t)
+
+abbrev pub is_silent_from : Base → List Rec → ℕ → ℤ → Bool
+is_silent_from b h t moment = not (shut_from b h t) && was_before (quiet_since_from b h t) PING_AFTER moment
+
+abbrev pub was_pinged_from : Base → List Rec → ℕ → Bool
+was_pinged_from b [] t = b.was_pinged t
+was_pinged_from b (r ∷ h) t = cond (hears_of r.kind t) false (was_pinged_from b h t || (is_tick r.kind && is_silent_from b h t r.moment))
+
+abbrev pub is_pinged_from : Base → List Rec → ℕ → ℤ → Bool
+is_pinged_from b h t moment = is_silent_from b h t moment && not (was_pinged_from b h t)
+
+-- what a record of this kind and moment after these tells t, as `ticked` and `told` say it of a whole history
+abbrev pub ticked_from : Settings → Base → List Rec → Kind → ℤ → ℕ → List ℕ
+ticked_from g b h k moment t = cond (is_tick k && is_pinged_from b h t moment) (spelled_for (caps (facts_from g b h) t) moment (ping_line g.server)) []
+
 abbrev pub told_from : Settings → Base → List Rec → Kind → ℤ → ℕ → List ℕ
-told_from g b h k moment t = cond (nat_le t (sessions_from b h)) (text g (facts_from g b h) k moment (records_from b h + 1) t) []
+told_from g b h k moment t = ticked_from g b h k moment t ++ cond (nat_le t (sessions_from b h)) (text g (facts_from g b h) k moment (records_from b h + 1) t) []
 
 abbrev pub delivery_from : Settings → Base → List Rec → Kind → ℤ → ℕ → List Delivery
 delivery_from g b h k moment t = cond (ends k t) (Last (records_from b h + 1) (reason k) ∷ []) (item (records_from b h + 1) (told_from g b h k moment t))

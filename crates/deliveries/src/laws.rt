@@ -1,5 +1,5 @@
 //! That a history goes on from its base alone, as functions that do nothing.
-ghost use Rattle.deliveries.specs.Going.{OwedGoesOn, AcceptedGoesOn, FactsGoOn, NumbersGoOn, ShutGoesOn};
+ghost use Rattle.deliveries.specs.Going.{OwedGoesOn, AcceptedGoesOn, FactsGoOn, NumbersGoOn, ShutGoesOn, QuietGoesOn, PingedGoesOn};
 
 /// What later records owe follows from them and from the base of the history before them, and comes after what that owed.
 pub fn owed_goes_on()
@@ -24,4 +24,14 @@ pub fn numbers_go_on()
 /// Who is shut after later records follows from them and from the base.
 pub fn shut_goes_on()
     ensures { ShutGoesOn }
+{}
+
+/// Since when a session is quiet after later records follows from them and from the base.
+pub fn quiet_goes_on()
+    ensures { QuietGoesOn }
+{}
+
+/// Whether a session was pinged since it was heard of follows from later records and from the base.
+pub fn pinged_goes_on()
+    ensures { PingedGoesOn }
 {}

@@ -1,3 +1,4 @@
 pub mod Replay
 pub mod Named
 pub mod Turns
+pub mod Quiet

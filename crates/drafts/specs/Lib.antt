@@ -1,5 +1,6 @@
 pub mod Effects
 pub mod Lines
+pub mod Hearers
 pub mod Replies
 pub mod Drafted
 pub mod Denials

@@ -1,5 +1,5 @@
--- The lines that are shown, and those that answer without a number: RFC 2812, sections 2.3.1 (prefix), 3.1.2 (NICK), 3.1.7 (QUIT), 3.2.1 (JOIN) and 3.7.3 (PONG); IRCv3 Capability Negotiation and SASL 3.1.
-use Rattle.std.specs.Prelude.{ℕ, List, [], ◌∷◌, ◌++◌, codes, unwrap_or, true, false, Option, None}
+-- The lines that are shown, and those that answer without a number: RFC 2812, sections 2.3.1 (prefix), 3.1.2 (NICK), 3.1.7 (QUIT), 3.2.1 (JOIN) and 3.7.3 (PONG); IRCv3 Capability Negotiation, SASL 3.1, extended-join and away-notify.
+use Rattle.std.specs.Prelude.{ℕ, List, [], ◌∷◌, ◌++◌, codes, unwrap_or, true, false, Option, Some, None}
 use Rattle.line_grammar.specs.Spelling.{needs_colon}
 use Rattle.numerics.specs.declared.outgoing.Out.{Out}
 use Rattle.numerics.specs.Outgoing.{line}
@@ -16,6 +16,15 @@ prefix fs s = title (nick fs s) ++ codes "!" ++ title (user fs s) ++ codes "@" +
 
 abbrev pub join_line : List ℕ → List ℕ → Out
 join_line from channel = line from (codes "JOIN") (channel ∷ []) false
+
+-- a join with the account of who joined, or a star, and its real name
+abbrev pub extended_join_line : List ℕ → List ℕ → Option (List ℕ) → Option (List ℕ) → Out
+extended_join_line from channel account real = line from (codes "JOIN") (channel ∷ title account ∷ unwrap_or real [] ∷ []) true
+
+-- away with a text, or here again
+abbrev pub away_line : List ℕ → Option (List ℕ) → Out
+away_line from None = line from (codes "AWAY") [] false
+away_line from (Some text) = line from (codes "AWAY") (text ∷ []) true
 
 abbrev pub quit_line : List ℕ → List ℕ → Out
 quit_line from text = line from (codes "QUIT") (text ∷ []) true

@@ -4,6 +4,7 @@
 mod denials;
 mod draft;
 mod effect;
+mod hearers;
 mod lines;
 mod replies;
 mod seen;
@@ -11,6 +12,10 @@ mod seen;
 pub use denials::{Denial, deny, deny_absent};
 pub use draft::Draft;
 pub use effect::Effect;
-pub use lines::{cap_line, go_on_line, join_line, nick_line, pong_line, prefix_of, quit_line};
+pub use hearers::{show_away, takers};
+pub use lines::{
+    away_line, cap_line, extended_join_line, go_on_line, join_line, nick_line, pong_line,
+    prefix_of, quit_line,
+};
 pub use replies::{tell, tell_all, title_of};
 pub use seen::Seen;

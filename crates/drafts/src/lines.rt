@@ -1,7 +1,8 @@
 //! The lines that are shown, and those that answer without a number (RFC 2812, sections 2.3.1, 3.1.2, 3.1.7, 3.2.1 and
-//! 3.7.3; IRCv3 Capability Negotiation and SASL 3.1).
-ghost use Rattle.std.specs.Prelude.{◌≡◌, ◌++◌, [], option_copied, OnOk, IfOk};
-ghost use Rattle.drafts.specs.Lines.{title, prefix, join_line, quit_line, nick_line, pong_line, cap_line, go_on_line};
+//! 3.7.3; IRCv3 Capability Negotiation, SASL 3.1, extended-join and away-notify).
+ghost use Rattle.std.specs.Prelude.{◌≡◌, ◌++◌, ◌∷◌, [], codes, true, unwrap_or, option_copied, OnOk, IfOk};
+ghost use Rattle.numerics.specs.Outgoing.{line};
+ghost use Rattle.drafts.specs.Lines.{title, prefix, join_line, extended_join_line, away_line, quit_line, nick_line, pong_line, cap_line, go_on_line};
 
 use crate::draft::Draft;
 use chronicle::SessionId;
@@ -9,14 +10,21 @@ use line_grammar::{Octets, needs_colon};
 use numerics::Line;
 use std::alloc::{AllocError, Global};
 
+/// A name, or a star before it is known.
+fn title_text(name: Option<&Octets>) -> &[u8]
+    ensures { result.now ≡ title (option_copied name.entry) }
+{
+    match name {
+        Some(name) => name.as_slice(),
+        None => b"*",
+    }
+}
+
 /// Adds a name, or a star before it is known.
 fn push_title(text: &mut Vec<u8>, name: Option<&Octets>) -> Result<(), AllocError>
     ensures { OnOk result (text.new.items ≡ text.old.items ++ title (option_copied name.entry)) }
 {
-    match name {
-        Some(name) => text.extend_from_slice(name.as_slice()),
-        None => text.extend_from_slice(b"*"),
-    }
+    text.extend_from_slice(title_text(name))
 }
 
 /// Octets that are reserved for `nick!user@host`. A longer one has them grow.
@@ -42,6 +50,58 @@ pub fn join_line(alloc: Global, from: &[u8], channel: &[u8]) -> Result<Line, All
     ensures { IfOk result (λ l. l ≡ join_line from.now channel.now) }
 {
     Line::new(alloc, from, b"JOIN", &[channel])
+}
+
+/// A text, or none before it is known.
+fn text_or_none(text: Option<&Octets>) -> &[u8]
+    ensures { result.now ≡ unwrap_or (option_copied text.entry) [] }
+{
+    match text {
+        Some(text) => text.as_slice(),
+        None => b"",
+    }
+}
+
+/// A join with these words.
+fn extended_join_of(
+    alloc: Global,
+    from: &[u8],
+    channel: &[u8],
+    account: &[u8],
+    real: &[u8],
+) -> Result<Line, AllocError>
+    ensures { IfOk result (λ l. l ≡ line from.now (codes "JOIN") (channel.now ∷ account.now ∷ real.now ∷ []) true) }
+{
+    Line::telling(alloc, from, b"JOIN", &[channel, account], real)
+}
+
+/// The line that shows a join to who takes extended-join: with the account of who joined, or a star, and its real name.
+pub fn extended_join_line(
+    alloc: Global,
+    from: &[u8],
+    channel: &[u8],
+    account: Option<&Octets>,
+    real: Option<&Octets>,
+) -> Result<Line, AllocError>
+    ensures { IfOk result (λ l. l ≡ extended_join_line from.now channel.now (option_copied account.entry) (option_copied real.entry)) }
+{
+    extended_join_of(
+        alloc,
+        from,
+        channel,
+        title_text(account),
+        text_or_none(real),
+    )
+}
+
+/// The line that shows that a session is away with a text, or here again where there is none.
+pub fn away_line(alloc: Global, from: &[u8], text: Option<&Octets>) -> Result<Line, AllocError>
+    ensures { IfOk result (λ l. l ≡ away_line from.now (option_copied text.entry)) }
+{
+    match text {
+        Some(text) => Line::telling(alloc, from, b"AWAY", &[], text.as_slice()),
+        None => Line::new(alloc, from, b"AWAY", &[]),
+    }
 }
 
 /// The line that shows that a session is gone.

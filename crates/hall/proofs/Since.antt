@@ -1,5 +1,5 @@
 -- What a session was owed and had accepted, in all and since the records that were dropped.
-use Rattle.std.proofs.Common.{arith, ◌≡◌, ◌≤◌, ℕ, false, List, [], ◌++◌, length, drop, Option, Some, Result, Ok, Err, refl, sym, ap, ◌∙◌, subst, append-nil}
+use Rattle.std.proofs.Common.{arith, ◌≡◌, ◌≤◌, ℕ, false, List, ◌++◌, length, drop, Result, Ok, Err, sym, ap, ◌∙◌, subst, append-nil}
 use Rattle.std.specs.Prelude.{OnOk, OnErr}
 use Rattle.line_grammar.specs.declared.splitter.Piece.{Piece}
 use Rattle.chronicle.specs.History.{accepted}

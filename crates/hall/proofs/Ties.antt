@@ -7,7 +7,7 @@ use Rattle.std.proofs.lemmas.Option.{none-some, same_Some, IfSome_then}
 use Rattle.line_grammar.specs.declared.splitter.Piece.{Piece}
 use Rattle.chronicle.specs.declared.why.Why.{Why}
 use Rattle.chronicle.specs.declared.record.Kind.{Kind}
-use Rattle.chronicle.specs.declared.record.Kind.TheVariants.{Opened, Said, Hung, Gone}
+use Rattle.chronicle.specs.declared.record.Kind.TheVariants.{Opened, Said, Hung, Gone, Ticked}
 use Rattle.chronicle.specs.History.{Rec, actor, said_by, sessions, accepted}
 use Rattle.chronicle.specs.Journal.{fresh_record, miss}
 use Rattle.registration.specs.declared.settings.Settings.{Settings}
@@ -22,6 +22,7 @@ use Rattle.book.specs.declared.plan.Planned.{Planned}
 use Rattle.book.specs.declared.out.Step.{Step}
 use Rattle.book.specs.declared.out.Step.TheVariants.{Put, Missed}
 use Rattle.book.specs.Book.{Shown, box_at, plan_of, empty_book, opened, begun, finished, rolled, reaped, dropped, IsPutNext, IsPutAll, IsDone, newest_actor, next_of, newest_next, Out, IsOut}
+use Rattle.book.specs.Legal.{IsKind, IsLegal}
 use Rattle.hall.specs.Reaping.{newest_said}
 use Rattle.hall.specs.Tied.{line_of, newest_line, begun_of, IsTied}
 use Rattle.hall.proofs.Boxes.{push_else, replaced, taken_out}
@@ -47,6 +48,7 @@ line_here (Opened s host) n e = absurd (none-some n e)
 line_here (Said s i p) n e = (p, refl, cond_is (s == s) true (p ∷ []) [] (eq-eqb s s refl))
 line_here (Hung s why) n e = absurd (none-some n e)
 line_here (Gone s) n e = absurd (none-some n e)
+line_here Ticked n e = absurd (none-some n e)
 
 pub newest_is : (h : List Rec) (n : ℕ) → newest_next h ≡ Some n → (p : Piece) × (newest_line h ≡ Some (newest_actor h, p)) × (newest_said h (newest_actor h) ≡ p ∷ [])
 newest_is [] n e = absurd (none-some n e)
@@ -57,6 +59,31 @@ no_line (Opened s host) e = refl
 no_line (Said s i p) e = absurd (none-some (i + 1) (sym e))
 no_line (Hung s why) e = refl
 no_line (Gone s) e = refl
+no_line Ticked e = refl
+
+-- whose session was opened
+says_from_1 : (h : List Rec) (k : Kind) (n : ℕ) → IsKind h k → next_of k ≡ Some n → 0 < actor k
+says_from_1 h (Opened s host) n i e = absurd (none-some n e)
+says_from_1 h (Said s j p) n i e = i.0
+says_from_1 h (Hung s why) n i e = absurd (none-some n e)
+says_from_1 h (Gone s) n i e = absurd (none-some n e)
+says_from_1 h Ticked n i e = absurd (none-some n e)
+
+pub newest_from_1 : (g : Settings) (h : List Rec) (n : ℕ) → IsLegal g h → newest_next h ≡ Some n → 0 < newest_actor h
+newest_from_1 g [] n i e = absurd (none-some n e)
+newest_from_1 g (r ∷ h) n i e = says_from_1 h r.kind n i.2 e
+
+-- and of no session there is no line
+no_actor : (h : List Rec) (k : Kind) → IsKind h k → actor k ≡ 0 → line_of k ≡ None
+no_actor h (Opened s host) i e = refl
+no_actor h (Said s j p) i e = let from = i.0 in absurd (omega (arith, from, e))
+no_actor h (Hung s why) i e = refl
+no_actor h (Gone s) i e = refl
+no_actor h Ticked i e = refl
+
+newest_of_none : (g : Settings) (h : List Rec) → IsLegal g h → newest_actor h ≡ 0 → newest_line h ≡ None
+newest_of_none g [] i e = refl
+newest_of_none g (r ∷ h) i e = no_actor h r.kind i.2 e
 
 pub newest_is_none : (h : List Rec) → newest_next h ≡ None → newest_line h ≡ None
 newest_is_none [] e = refl
@@ -73,6 +100,9 @@ out_line m p s n out whose next =
 -- and none, where it is that of no line
 pub out_no_line : {O : Type 0} (m : Shown O) (p : Out) → IsOut m p → p.next ≡ None → begun_of m ≡ None
 out_no_line m p out next = ap (λ (b : Bool). cond b (newest_line m.history) None) out.busy ∙ newest_is_none m.history (sym out.next ∙ next)
+
+pub out_tick : {O : Type 0} (m : Shown O) (p : Out) → IsLegal m.settings m.history → IsOut m p → p.session ≡ 0 → begun_of m ≡ None
+out_tick m p legal out nobody = ap (λ (b : Bool). cond b (newest_line m.history) None) out.busy ∙ newest_of_none m.settings m.history legal (sym out.session ∙ nobody)
 
 module _ {O : Type 0} (accepts : O → Item → O → Type 0) (refuses : O → PutFault → Type 0) where
   -- ---- a delivery is put or missed, which changes neither the line that is begun nor the sessions
@@ -169,6 +199,9 @@ module _ {O N : Type 0} (name : O → N) where
 
   pub gone_ties : (m : Shown O) (s : ℕ) (moment : ℤ) (rows : List (Row N)) → m.busy ≡ false → IsTied name m rows → IsTied name (begun m (Gone s) moment) rows
   gone_ties m s moment rows idle tied = record { stands = passes rows None m.history (fresh_record m.history moment (Gone s)) (idle_stands m rows idle tied) refl (λ t. refl); names = tied.names }
+
+  pub tick_ties : (m : Shown O) (moment : ℤ) (rows : List (Row N)) → m.busy ≡ false → IsTied name m rows → IsTied name (begun m Ticked moment) rows
+  tick_ties m moment rows idle tied = record { stands = passes rows None m.history (fresh_record m.history moment Ticked) (idle_stands m rows idle tied) refl (λ t. refl); names = tied.names }
 
   pub hung_ties : (m : Shown O) (s : ℕ) (why : Why) (moment : ℤ) (rows : List (Row N)) → m.busy ≡ false → IsTied name m rows → IsTied name (begun m (Hung s why) moment) rows
   hung_ties m s why moment rows idle tied = record { stands = passes rows None m.history (fresh_record m.history moment (Hung s why)) (idle_stands m rows idle tied) refl (λ t. refl); names = tied.names }

@@ -1,5 +1,5 @@
 -- When the tokens of a session may be given up, and what that tells: this project's own.
-use Rattle.std.specs.Prelude.{◌≡◌, ℕ, Bool, true, false, List, [], ◌∷◌, ◌++◌, length, drop, Option, Some}
+use Rattle.std.specs.Prelude.{◌≡◌, ℕ, true, false, List, [], ◌∷◌, ◌++◌, length, drop, Some}
 use Rattle.line_grammar.specs.declared.splitter.Piece.{Piece}
 use Rattle.chronicle.specs.History.{Rec, said_by, accepted, gone}
 use Rattle.deliveries.specs.declared.item.Item.{Item}

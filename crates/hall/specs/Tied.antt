@@ -1,8 +1,7 @@
 -- How a register stands for a book: words of private contracts.
 use Rattle.std.specs.Prelude.{◌≡◌, ℕ, ◌<◌, cond, List, [], ◌∷◌, Some, None, IfSome}
-use Rattle.line_grammar.specs.declared.splitter.Piece.{Piece}
 use Rattle.chronicle.specs.declared.record.Kind.{Kind}
-use Rattle.chronicle.specs.declared.record.Kind.TheVariants.{Opened, Said, Hung, Gone}
+use Rattle.chronicle.specs.declared.record.Kind.TheVariants.{Opened, Said, Hung, Gone, Ticked}
 use Rattle.chronicle.specs.History.{Rec}
 use Rattle.register.specs.declared.claims.Row.{Row}
 use Rattle.register.specs.Rows.{outbox_at}
@@ -15,6 +14,7 @@ line_of (Opened s host) = None
 line_of (Said s i piece) = Some (s, piece)
 line_of (Hung s why) = None
 line_of (Gone s) = None
+line_of Ticked = None
 
 -- the line of the newest record
 abbrev pub newest_line : List Rec → Begun

@@ -21,7 +21,7 @@ use crate::namesake::Namesake;
 use crate::told::Told;
 use book::{
     BookFault, Done, HangRefusal, Hung, LineRefusal, OpenRefusal, Plan, ReapRefusal, RollRefusal,
-    Rolled, Step, SweepRefusal, TakeRefusal,
+    Rolled, Step, SweepRefusal, TakeRefusal, TickRefusal,
 };
 use chronicle::{Kind, Moment, RecordNumber, SessionId, Why};
 use deliveries::Item;
@@ -78,7 +78,7 @@ fn advance<L: Naming, O: Outbox>(
 }
 
 impl<L: Naming, O: Lasting> Book<L, O> {
-    ghost use Rattle.book.specs.Book.{empty_book, opened, begun, finished, reaped, IsPutNext, IsPutAll, IsDone, to_sweep, MayOpen, MayBegin, MayHang, MaySweep, IsOpenRefusal, IsLineRefusal, IsHangRefusal, IsSweepRefusal, IsRollRefusal, IsOut, newest_missed, rolled};
+    ghost use Rattle.book.specs.Book.{empty_book, opened, begun, finished, reaped, IsPutNext, IsPutAll, IsDone, to_sweep, to_ping, late, MayOpen, MayBegin, MayHang, MaySweep, MayTick, IsSomebodyQuiet, HasRoom, IsOpenRefusal, IsLineRefusal, IsHangRefusal, IsSweepRefusal, IsTickRefusal, IsRollRefusal, IsOut, newest_missed, rolled};
 
     /// An empty book for at most `limit` records, whose tokens a register has that is named by `L` and has no session yet.
     pub fn new(
@@ -220,6 +220,7 @@ impl<L: Naming, O: Lasting> Book<L, O> {
         ensures missed { result.missed ≡ newest_missed self.old.history }
         ensures shut { result.shut ≡ shut self.old.history baton.old.session }
     {
+        self.book.sound();
         let number = plan.number();
         let done = self.book.finish(plan, &mut baton.turn);
         advance(&self.book, &mut self.register, &mut baton.mark, number);
@@ -287,7 +288,7 @@ impl<L: Naming, O: Lasting> Book<L, O> {
     pub fn finish_sweep(&mut self, plan: Plan) -> Done
         requires out { IsOut self.old plan }
         requires none { self.old.plan ≡ [] }
-        requires sweep { plan.next ≡ None }
+        requires sweep { (plan.next ≡ None) × (0 < plan.session) }
         ensures book { self.new ≡ finished self.old }
         ensures number { result.number ≡ length self.old.history }
         ensures missed { result.missed ≡ newest_missed self.old.history }
@@ -298,6 +299,7 @@ impl<L: Naming, O: Lasting> Book<L, O> {
 
     /// Sweeps up to one session: begins, puts or misses all that it owes, and finishes. Whoever got something is told of it. A
     /// refusal changes nothing.
+    #[tactic(auto, using(book::proofs::Sweeps::swept_is))]
     pub fn sweep(&mut self, moment: Moment, told: &mut Told) -> Result<Option<Done>, SweepRefusal>
         ensures some { IfOk result (λ o. IfSome o (λ d. (s : ℕ) × (to_sweep self.old.history ≡ Some s) × IsDone O.accepts O.refuses self.old (kind.Gone s) moment self.new × (d.number ≡ length self.old.history + 1) × (d.missed ≡ newest_missed self.new.history) × (d.shut ≡ shut self.new.history s))) }
         ensures none { IfOk result (λ o. o ≡ None → (to_sweep self.old.history ≡ None) × (self.new ≡ self.old)) }
@@ -311,6 +313,59 @@ impl<L: Naming, O: Lasting> Book<L, O> {
         };
         self.put_rest(&mut plan, told);
         Ok(Some(self.finish_sweep(plan)))
+    }
+
+    /// Begins a tick: its record is appended, and a plan is handed out of the PING that it owes each session that is quiet for long
+    /// enough and wasn't pinged since it was heard of. It answers `None` where there is no such session. All memory is taken here; a
+    /// refusal changes nothing.
+    pub fn begin_tick(&mut self, moment: Moment) -> Result<Option<Plan>, TickRefusal>
+        ensures some { IfOk result (λ o. IfSome o (λ p. (self.new ≡ begun self.old kind.Ticked moment) × IsOut self.new p × (p.session ≡ 0) × (p.next ≡ None))) }
+        ensures quiet { IfOk result (λ o. IfSome o (λ p. IsSomebodyQuiet self.old moment × HasRoom self.old)) }
+        ensures none { IfOk result (λ o. o ≡ None → (to_ping self.old.history moment ≡ []) × (self.new ≡ self.old)) }
+        ensures may { OnOk result (MayTick self.old moment) }
+        ensures refusal { IfErr result (λ e. IsTickRefusal self.old moment e) }
+        ensures err { OnErr result (self.new ≡ self.old) }
+    {
+        self.book.begin_tick(moment)
+    }
+
+    /// Gives back the plan of a tick, with nothing left in it. It takes no memory.
+    pub fn finish_tick(&mut self, plan: Plan) -> Done
+        requires out { IsOut self.old plan }
+        requires none { self.old.plan ≡ [] }
+        requires tick { plan.session ≡ 0 }
+        ensures book { self.new ≡ finished self.old }
+        ensures number { result.number ≡ length self.old.history }
+        ensures missed { result.missed ≡ newest_missed self.old.history }
+        ensures shut { result.shut ≡ false }
+    {
+        self.book.sound();
+        self.book.finish_tick(plan)
+    }
+
+    /// Pings whoever is quiet for long enough: begins, puts or misses all that the tick owes, and finishes. Whoever got something is
+    /// told of it. It answers `None` where nobody is to be pinged. A refusal changes nothing.
+    pub fn tick(&mut self, moment: Moment, told: &mut Told) -> Result<Option<Done>, TickRefusal>
+        ensures some { IfOk result (λ o. IfSome o (λ d. IsDone O.accepts O.refuses self.old kind.Ticked moment self.new × (d.number ≡ length self.old.history + 1) × (d.missed ≡ newest_missed self.new.history) × (d.shut ≡ false))) }
+        ensures quiet { IfOk result (λ o. IfSome o (λ d. IsSomebodyQuiet self.old moment × HasRoom self.old)) }
+        ensures none { IfOk result (λ o. o ≡ None → (to_ping self.old.history moment ≡ []) × (self.new ≡ self.old)) }
+        ensures may { OnOk result (MayTick self.old moment) }
+        ensures refusal { IfErr result (λ e. IsTickRefusal self.old moment e) }
+        ensures told { OnOk result (TellsOf told.old told.new self.old.outboxes self.new.outboxes) }
+        ensures err { OnErr result ((self.new ≡ self.old) × (told.new ≡ told.old)) }
+    {
+        let Some(mut plan) = self.begin_tick(moment)? else {
+            return Ok(None);
+        };
+        self.put_rest(&mut plan, told);
+        Ok(Some(self.finish_tick(plan)))
+    }
+
+    /// The session of the lowest number that isn't shut and is quiet for too long at a moment. It takes no memory.
+    pub fn late(&self, moment: Moment) -> Option<SessionId>
+        ensures { result ≡ late self.now.history moment }
+    {
+        self.book.late(moment)
     }
 
     /// Drops all records, and keeps what has to be known of them. Numbers go on, and there is room for as many records as at the

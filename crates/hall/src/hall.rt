@@ -17,7 +17,7 @@ use crate::left::Left;
 use crate::told::Told;
 use book::{
     Base, BookFault, Done, HangRefusal, Hung, LineRefusal, OpenRefusal, ReapRefusal, RollRefusal,
-    Rolled, SweepRefusal,
+    Rolled, SweepRefusal, TickRefusal,
 };
 use chronicle::{Moment, Record, RecordNumber, SessionId, Why};
 use line_grammar::{Octets, Piece};
@@ -49,7 +49,7 @@ impl<L: Naming, O: Outbox> Model for Hall<L, O> {
 }
 
 impl<L: Naming, O: Lasting> Hall<L, O> {
-    ghost use Rattle.book.specs.Book.{empty_book, opened, reaped, IsDone, IsSound, to_sweep, MayOpen, MayBegin, MayHang, MaySweep, IsOpenRefusal, IsLineRefusal, IsHangRefusal, IsSweepRefusal, IsRollRefusal, newest_missed, is_here, rolled, base_of};
+    ghost use Rattle.book.specs.Book.{empty_book, opened, reaped, IsDone, IsSound, to_sweep, to_ping, late, MayOpen, MayBegin, MayHang, MaySweep, MayTick, IsSomebodyQuiet, HasRoom, IsOpenRefusal, IsLineRefusal, IsHangRefusal, IsSweepRefusal, IsTickRefusal, IsRollRefusal, newest_missed, is_here, rolled, base_of};
     ghost use Rattle.book.specs.Noted.{base_by, is_noted};
 
     /// An empty hall for at most `limit` records, whose tokens a register has that is named by `L` and has no session yet.
@@ -150,6 +150,27 @@ impl<L: Naming, O: Lasting> Hall<L, O> {
         ensures err { OnErr result (self.new ≡ self.old) }
     {
         self.book.sweep(moment, &mut self.told)
+    }
+
+    /// Pings each session that is quiet for long enough and wasn't pinged since it was heard of, by one record. It answers `None`
+    /// where there is no such session. A refusal changes nothing.
+    pub fn tick(&mut self, moment: Moment) -> Result<Option<Done>, TickRefusal>
+        ensures some { IfOk result (λ o. IfSome o (λ d. IsDone O.accepts O.refuses self.old kind.Ticked moment self.new × (d.number ≡ length self.old.history + 1) × (d.missed ≡ newest_missed self.new.history) × (d.shut ≡ false))) }
+        ensures quiet { IfOk result (λ o. IfSome o (λ d. IsSomebodyQuiet self.old moment × HasRoom self.old)) }
+        ensures none { IfOk result (λ o. o ≡ None → (to_ping self.old.history moment ≡ []) × (self.new ≡ self.old)) }
+        ensures may { OnOk result (MayTick self.old moment) }
+        ensures refusal { IfErr result (λ e. IsTickRefusal self.old moment e) }
+        ensures not_busy { IfErr result (λ e. e ≢ TickRefusal.Busy) }
+        ensures err { OnErr result (self.new ≡ self.old) }
+    {
+        self.book.tick(moment, &mut self.told)
+    }
+
+    /// The session of the lowest number that isn't shut and is quiet for too long at a moment, which is to be hung. It takes no memory.
+    pub fn late(&self, moment: Moment) -> Option<SessionId>
+        ensures { result ≡ late self.now.history moment }
+    {
+        self.book.late(moment)
     }
 
     /// Gives up a session that is gone, with its tokens and with what is left in its outbox, whose taker is given up with it. The

@@ -13,7 +13,7 @@ mod told;
 pub use baton::Baton;
 pub use book::{
     Base, BookFault, Done, HangRefusal, Hung, LineRefusal, OpenRefusal, Outbox, Plan, PutFault,
-    ReapRefusal, Ring, RollRefusal, Rolled, Settings, Step, SweepRefusal, TakeRefusal,
+    ReapRefusal, Ring, RollRefusal, Rolled, Settings, Step, SweepRefusal, TakeRefusal, TickRefusal,
 };
 pub use dispatch::Book;
 pub use hall::Hall;

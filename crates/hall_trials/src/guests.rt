@@ -93,6 +93,7 @@ fn opened<L: Naming, O: Lasting>(
     alloc: Global,
     hall: &mut Hall<L, O>,
     outbox: O,
+    moment: Moment,
 ) -> Result<Opened<L, O>, (OpenRefusal, O)>
     requires fresh { O.sent outbox ≡ [] }
     ensures stub { IfOk result (λ t. t.2.outbox ≡ Some (O.name outbox)) }
@@ -102,11 +103,28 @@ fn opened<L: Naming, O: Lasting>(
         return Err((OpenRefusal::Busy, outbox));
     };
     let before = look(hall);
-    match hall.open(first, Moment::new(0), outbox) {
+    match hall.open(first, moment, outbox) {
         Err((OpenRefusal::Memory, outbox)) if look(hall) == before => {
-            hall.open(again, Moment::new(0), outbox)
+            hall.open(again, moment, outbox)
         }
         answer => answer,
+    }
+}
+
+/// Opens a session at a moment, with an outbox for so many items.
+pub(crate) fn enter_at<L: Naming, O: Made<R, T>, R, T: Drop>(
+    rt: &R,
+    alloc: Global,
+    hall: &mut Hall<L, O>,
+    cap: usize,
+    moment: Moment,
+) -> Option<Guest<L, O, T>>
+    requires { 0 < cap }
+{
+    let (outbox, taker) = outbox_of(rt, alloc, cap)?;
+    match opened(alloc, hall, outbox, moment) {
+        Ok((_, baton, stub)) => Some(Guest { baton, stub, taker }),
+        Err(_) => None,
     }
 }
 
@@ -119,11 +137,7 @@ pub(crate) fn enter<L: Naming, O: Made<R, T>, R, T: Drop>(
 ) -> Option<Guest<L, O, T>>
     requires { 0 < cap }
 {
-    let (outbox, taker) = outbox_of(rt, alloc, cap)?;
-    match opened(alloc, hall, outbox) {
-        Ok((_, baton, stub)) => Some(Guest { baton, stub, taker }),
-        Err(_) => None,
-    }
+    enter_at(rt, alloc, hall, cap, Moment::new(0))
 }
 
 /// Why no session is opened, and how many items were put into the outbox that came back; nothing where one is.
@@ -133,7 +147,7 @@ pub(crate) fn turned_away<L: Naming, O: Made<R, T>, R, T: Drop>(
     hall: &mut Hall<L, O>,
 ) -> Option<(OpenRefusal, u64)> {
     let (outbox, taker) = outbox_of::<O, R, T>(rt, alloc, 4)?;
-    match opened(alloc, hall, outbox) {
+    match opened(alloc, hall, outbox, Moment::new(0)) {
         Ok(_) => None,
         Err((refusal, outbox)) => Some((refusal, outbox.close(taker))),
     }

@@ -26,5 +26,9 @@ mod rolled_threads;
 mod telling;
 #[cfg(test)]
 mod threads;
+#[cfg(test)]
+mod ticking;
+#[cfg(test)]
+mod ticking_threads;
 
 pub use apart::line_apart;

@@ -5,5 +5,6 @@ mod Ahead
 mod Faults
 mod Known
 mod Taken
+mod Late
 mod Printing
 mod Puts

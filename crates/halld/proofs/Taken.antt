@@ -32,6 +32,7 @@ item_of (Ok note.Back) is = absurd (cc)
 item_of (Ok note.Empty) is = absurd (cc)
 item_of (Ok (note.Hung h)) is = absurd (cc)
 item_of (Ok (note.Swept n)) is = absurd (cc)
+item_of (Ok (note.Ticked n)) is = absurd (cc)
 item_of (Ok (note.Left n)) is = absurd (cc)
 item_of (Err e) is = absurd (cc)
 

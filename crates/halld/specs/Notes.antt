@@ -35,9 +35,10 @@ missed_word true = codes " missed"
 abbrev pub hung_text : Hung → List ℕ
 hung_text hung = codes "hung " ++ (decimal hung.number ++ (missed_word hung.missed ++ 10 ∷ []))
 
-abbrev pub swept_text : Option RecordNumber → List ℕ
-swept_text None = worded (codes "sweep none")
-swept_text (Some number) = numbered (codes "sweep") number
+-- a label, and the number of a record or that there is none
+abbrev pub chosen_text : List ℕ → Option RecordNumber → List ℕ
+chosen_text label None = label ++ worded (codes " none")
+chosen_text label (Some number) = numbered label number
 
 -- a line that was due to a session
 abbrev pub line_text : ℕ → List ℕ → List ℕ
@@ -64,7 +65,8 @@ note_text session host note.Back = worded (codes "back")
 note_text session host (note.Item item) = lines_after session [] (delivery_text item host)
 note_text session host note.Empty = worded (codes "empty")
 note_text session host (note.Hung hung) = hung_text hung
-note_text session host (note.Swept number) = swept_text number
+note_text session host (note.Swept number) = chosen_text (codes "sweep") number
+note_text session host (note.Ticked number) = chosen_text (codes "tick") number
 note_text session host (note.Left count) = numbered (codes "left") count
 
 -- why a step was refused
@@ -93,6 +95,7 @@ named_by (event.Back worker) = 0
 named_by (event.Take session) = session
 named_by (event.Hang worker session why moment) = session
 named_by (event.Sweep worker moment) = 0
+named_by (event.Tick worker moment) = 0
 named_by (event.Reap session) = session
 
 -- the host of a session, by the hosts of all that were opened

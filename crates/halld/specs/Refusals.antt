@@ -8,6 +8,8 @@ use Rattle.book.specs.declared.refusals.HangRefusal.{HangRefusal}
 use Rattle.book.specs.declared.refusals.HangRefusal.TheVariants as hanging
 use Rattle.book.specs.declared.refusals.SweepRefusal.{SweepRefusal}
 use Rattle.book.specs.declared.refusals.SweepRefusal.TheVariants as sweeping
+use Rattle.book.specs.declared.refusals.TickRefusal.{TickRefusal}
+use Rattle.book.specs.declared.refusals.TickRefusal.TheVariants as ticking
 use Rattle.book.specs.declared.refusals.ReapRefusal.{ReapRefusal}
 use Rattle.book.specs.declared.refusals.ReapRefusal.TheVariants as reaping
 use Rattle.interleave.specs.declared.event.BookRefusal.{BookRefusal}
@@ -41,6 +43,12 @@ sweep_name sweeping.Busy = codes "Busy"
 sweep_name sweeping.BadMoment = codes "BadMoment"
 sweep_name sweeping.Memory = codes "Memory"
 
+abbrev pub tick_name : TickRefusal → List ℕ
+tick_name ticking.Busy = codes "Busy"
+tick_name ticking.BadMoment = codes "BadMoment"
+tick_name ticking.JournalFull = codes "JournalFull"
+tick_name ticking.Memory = codes "Memory"
+
 abbrev pub reap_name : ReapRefusal → List ℕ
 reap_name reaping.Busy = codes "Busy"
 reap_name reaping.Stranger = codes "Stranger"
@@ -51,6 +59,7 @@ book_name (book.Open refusal) = open_name refusal
 book_name (book.Line refusal) = line_name refusal
 book_name (book.Hang refusal) = hang_name refusal
 book_name (book.Sweep refusal) = sweep_name refusal
+book_name (book.Tick refusal) = tick_name refusal
 book_name (book.Reap refusal) = reap_name refusal
 
 -- a refusal of the book has its own name

@@ -42,6 +42,8 @@ plain_of word =
     else if bytes_eq word (codes "do") then Some plain.Do
     else if bytes_eq word (codes "tidy") then Some plain.Tidy
     else if bytes_eq word (codes "drain") then Some plain.Drain
+    else if bytes_eq word (codes "tick") then Some plain.Tick
+    else if bytes_eq word (codes "beat") then Some plain.Beat
     else None
 
 -- the step that a line's first word asks for
@@ -70,6 +72,7 @@ why_of word =
     else if bytes_eq word (reason.word why.WriteFailed) then Some why.WriteFailed
     else if bytes_eq word (reason.word why.Memory) then Some why.Memory
     else if bytes_eq word (reason.word why.Shutdown) then Some why.Shutdown
+    else if bytes_eq word (reason.word why.PingTimeout) then Some why.PingTimeout
     else None
 
 -- what stands between a quote at the front and a quote at the end
@@ -103,6 +106,8 @@ plain_step plain.Reap words = option_map (λ session. step.One (event.Reap sessi
 plain_step plain.Do words = both (λ session moment. step.Do session moment) (session_of (before_space words)) (moment_of (after_space words))
 plain_step plain.Tidy words = option_map (λ moment. step.Tidy moment) (moment_of words)
 plain_step plain.Drain words = option_map (λ session. step.Drain session) (session_of words)
+plain_step plain.Tick words = both (λ worker moment. step.One (event.Tick worker moment)) (worker_of (before_space words)) (moment_of (after_space words))
+plain_step plain.Beat words = option_map (λ moment. step.Beat moment) (moment_of words)
 
 -- HOST MS, S "TEXT", or another
 abbrev pub step_with : Verb → List ℕ → Option Step
@@ -124,3 +129,4 @@ NamesHost (step.One event) = IsWellShaped event
 NamesHost (step.Do session moment) = Unit {0}
 NamesHost (step.Tidy moment) = Unit {0}
 NamesHost (step.Drain session) = Unit {0}
+NamesHost (step.Beat moment) = Unit {0}

@@ -1,6 +1,8 @@
 -- What a step of a script asks of the play, and what it prints: this project's own promise.
-use Rattle.std.specs.Prelude.{◌≡◌, ◌⊎◌, ℕ, ℤ, zero, suc, ◌-◌, ◌^◌, Bool, false, true, List, [], ◌++◌, Some, Result, Ok, Err, codes}
+use Rattle.std.specs.Prelude.{◌≡◌, ◌⊎◌, ℕ, ℤ, zero, suc, ◌-◌, ◌^◌, Bool, false, true, List, [], ◌++◌, Option, Some, None, Result, Ok, Err, codes}
+use Rattle.chronicle.specs.declared.why.Why.TheVariants as why
 use Rattle.deliveries.specs.declared.delivery.Delivery.{Delivery}
+use Rattle.book.specs.Book.{late}
 use Rattle.interleave.specs.declared.event.Event.TheVariants as event
 use Rattle.interleave.specs.declared.event.Note.{Note}
 use Rattle.interleave.specs.declared.event.Note.TheVariants as note
@@ -52,6 +54,50 @@ IsAfterSweep sweep m a k = (a ≡ sweep) × (k ≡ m)
 abbrev pub IsTidying : ℤ → State → Answer → State → Type 0
 IsTidying moment m a k = (sweep : Answer) × (l : State) × IsStep m (event.Sweep 1 moment) sweep l × IsAfterSweep sweep l a k
 
+abbrev pub IsAfterTick : Answer → State → Answer → State → Type 0
+IsAfterTick (Ok (note.Ticked (Some number))) m a k = IsEnded m a k
+IsAfterTick tick m a k = (a ≡ tick) × (k ≡ m)
+
+-- it ticks, and where there was somebody to ping it puts and ends
+abbrev pub IsTicking : ℤ → State → Answer → State → Type 0
+IsTicking moment m a k = (tick : Answer) × (l : State) × IsStep m (event.Tick 1 moment) tick l × IsAfterTick tick l a k
+
+-- ---- who is late is hung
+
+-- worker 1 hangs the late session of the lowest number, if there is one
+abbrev pub IsLateHung : ℤ → State → Option Answer → State → Type 0
+IsLateHung moment m None k = (late m.book.history moment ≡ None) × (k ≡ m)
+IsLateHung moment m (Some a) k = (s : ℕ) × (late m.book.history moment ≡ Some s) × IsStep m (event.Hang 1 s why.PingTimeout moment) a k
+
+abbrev pub is_hung : Option Answer → Bool
+is_hung None = false
+is_hung (Some (Ok note)) = true
+is_hung (Some (Err refusal)) = false
+
+abbrev pub late_text : Option Answer → List ℕ
+late_text None = []
+late_text (Some a) = answer_text 0 [] a
+
+-- so many late sessions are hung, and printed
+abbrev pub AreLateHung : ℕ → ℤ → State → List ℕ → State → Type 0
+AreLateHung zero moment m text k = (text ≡ []) × (k ≡ m)
+AreLateHung (suc n) moment m text k =
+    (l : State) × (a : Option Answer) × (before : List ℕ) × AreLateHung n moment m before l × IsLateHung moment l a k × (is_hung a ≡ true) × (text ≡ before ++ late_text a)
+
+-- late sessions are hung until there is none, or one isn't, but no more than 2 ^ 64 - 1
+abbrev pub IsHungOut : ℤ → State → List ℕ → State → Type 0
+IsHungOut moment m text k =
+    (n : ℕ) × (((l : State) × (a : Option Answer) × (before : List ℕ) × AreLateHung n moment m before l × IsLateHung moment l a k × (is_hung a ≡ false) × (text ≡ before ++ late_text a)) ⊎ ((n ≡ 2 ^ 64 - 1) × AreLateHung n moment m text k))
+
+-- after a tick that isn't refused
+abbrev pub IsAfterBeat : ℤ → Answer → State → List ℕ → State → Type 0
+IsAfterBeat moment (Ok note) m text k = IsHungOut moment m text k
+IsAfterBeat moment (Err refusal) m text k = (text ≡ []) × (k ≡ m)
+
+-- worker 1 ticks, and then hangs each late session
+abbrev pub IsBeat : ℤ → State → List ℕ → State → Type 0
+IsBeat moment m text k = (a : Answer) × (l : State) × (rest : List ℕ) × IsTicking moment m a l × IsAfterBeat moment a l rest k × (text ≡ whole_text (codes "tick") a ++ rest)
+
 -- ---- takes
 
 -- so many items are taken of a session that has this host, and printed
@@ -77,4 +123,5 @@ IsPerformed (step.One e) hosts m text hosts' k =
     (a : Answer) × IsStep m e a k × (hosts' ≡ hosts ++ opened_by e a) × (text ≡ answer_text (named_by e) (host_of hosts (named_by e)) a)
 IsPerformed (step.Do session moment) hosts m text hosts' k = (a : Answer) × IsDoing session moment m a k × (hosts' ≡ hosts) × (text ≡ whole_text (codes "record") a)
 IsPerformed (step.Tidy moment) hosts m text hosts' k = (a : Answer) × IsTidying moment m a k × (hosts' ≡ hosts) × (text ≡ whole_text (codes "sweep") a)
+IsPerformed (step.Beat moment) hosts m text hosts' k = IsBeat moment m text k × (hosts' ≡ hosts)
 IsPerformed (step.Drain session) hosts m text hosts' k = IsDrained session (host_of hosts session) m text k × (hosts' ≡ hosts)

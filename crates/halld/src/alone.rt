@@ -1,7 +1,7 @@
 //! What worker 1 does alone for one step of a script.
-ghost use Rattle.halld.specs.Steps.{IsPutOut, IsEnded, IsBegun, IsDoing, IsTidying};
+ghost use Rattle.halld.specs.Steps.{IsPutOut, IsEnded, IsBegun, IsDoing, IsTidying, IsTicking, IsLateHung};
 
-use interleave::{Event, Moment, Naming, Note, Play, SessionId, StepRefusal, WorkerId};
+use interleave::{Event, Moment, Naming, Note, Play, SessionId, StepRefusal, Why, WorkerId};
 
 /// The number of the worker.
 const ALONE: u64 = 1;
@@ -63,4 +63,33 @@ pub(crate) fn tidy<L: Naming>(play: &mut Play<L>, moment: Moment) -> Result<Note
         Ok(Note::Swept(Some(_))) => end(play),
         answer => answer,
     }
+}
+
+/// Ticks. Where there was somebody to be pinged, the answer is the `Done` of the record.
+pub(crate) fn tick<L: Naming>(play: &mut Play<L>, moment: Moment) -> Result<Note, StepRefusal>
+    ensures { IsTicking moment play.old result play.new }
+{
+    let worker = WorkerId::new(ALONE);
+    match play.step(&Event::Tick { worker, moment }) {
+        Ok(Note::Ticked(Some(_))) => end(play),
+        answer => answer,
+    }
+}
+
+/// Hangs the late session of the lowest number, and answers what that gave. `None` where nobody is late.
+pub(crate) fn hang_late<L: Naming>(
+    play: &mut Play<L>,
+    moment: Moment,
+) -> Option<Result<Note, StepRefusal>>
+    ensures { IsLateHung moment play.old result play.new }
+{
+    let worker = WorkerId::new(ALONE);
+    let session = play.late(moment)?;
+    let why = Why::PingTimeout;
+    Some(play.step(&Event::Hang {
+        worker,
+        session,
+        why,
+        moment,
+    }))
 }

@@ -28,14 +28,16 @@
 //! - `end W` gives the lock and the session back: `done N`;
 //! - `back W` gives back a line that wasn't begun: `back`;
 //! - `take S` takes what is next due to a session: `S> LINE` for each line of it, or `empty`;
-//! - `hang W S WORD MS` ends a session, for the reason `quit`, `sendq`, `ended`, `readfail`, `writefail`, `memory` or `shutdown`: `hung N`, or `hung N missed` where its outbox was full;
+//! - `hang W S WORD MS` ends a session, for the reason `quit`, `sendq`, `ended`, `readfail`, `writefail`, `memory`, `shutdown` or `timeout`: `hung N`, or `hung N missed` where its outbox was full;
 //! - `sweep W MS` accepts that a session that was shut is gone, and the worker holds the lock: `sweep N`, or `sweep none`;
+//! - `tick W MS` accepts that whoever is quiet for 120 seconds is pinged, and the worker holds the lock: `tick N`, or `tick none`;
 //! - `reap S` gives up a session that is gone: `left N`, with the number of items that nobody took.
 //!
 //! And these are several:
 //!
 //! - `do S MS` has worker 1 pick, begin, put all and end: `record N`, and `missed S` for each session that missed it. A line that isn't begun is given back;
 //! - `tidy MS` has worker 1 sweep, put all and end: `sweep N` and the same, or `sweep none`;
+//! - `beat MS` has worker 1 tick, put all and end: `tick N` and the same, or `tick none`; then hang each session that is quiet for 240 seconds, the lowest number first: the notes of `hang`. Where the tick is refused nobody is hung;
 //! - `drain S` takes until there is nothing more.
 //!
 //! A step that is refused has the note `refused NAME`. In a LINE each octet but a backslash and those from 32 to 126 stands as `\xhh`.

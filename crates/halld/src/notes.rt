@@ -2,7 +2,7 @@
 ghost use Rattle.std.specs.Prelude.{◌≡◌, ◌++◌, ◌∷◌, [], List, ℕ, OnOk, IfOk};
 ghost use Rattle.deliveries.specs.Text.{delivery_text};
 ghost use Rattle.halld.specs.Escapes.{printed};
-ghost use Rattle.halld.specs.Notes.{worded, numbered, done_text, hung_text, swept_text, line_text, lines_after, note_text, refused_text, answer_text, whole_text};
+ghost use Rattle.halld.specs.Notes.{worded, numbered, done_text, hung_text, chosen_text, line_text, lines_after, note_text, refused_text, answer_text, whole_text};
 
 use crate::escape::print_octet;
 use crate::refusals::refusal_name;
@@ -59,18 +59,20 @@ fn write_hung(alloc: Global, out: &mut Vec<u8>, hung: Hung) -> Result<(), AllocE
     Ok(())
 }
 
-/// Adds `sweep N`, or `sweep none`.
-fn write_swept(
+/// Adds `LABEL NUMBER`, or `LABEL none`.
+fn write_chosen(
     alloc: Global,
     out: &mut Vec<u8>,
+    label: &str,
     number: Option<RecordNumber>,
 ) -> Result<(), AllocError>
-    ensures { OnOk result (out.new.items ≡ out.old.items ++ swept_text number) }
+    ensures { OnOk result (out.new.items ≡ out.old.items ++ chosen_text label.now number) }
 {
-    match number {
-        Some(number) => write_number(alloc, out, "sweep", number.number()),
-        None => write_word(out, "sweep none"),
-    }
+    let Some(number) = number else {
+        out.extend_from_slice(label.as_bytes())?;
+        return write_word(out, " none");
+    };
+    write_number(alloc, out, label, number.number())
 }
 
 /// Adds octets as a note prints them.
@@ -177,7 +179,8 @@ fn write_note(
         Note::Item(item) => write_item(alloc, out, session, host, item),
         Note::Empty => write_word(out, "empty"),
         Note::Hung(hung) => write_hung(alloc, out, *hung),
-        Note::Swept(number) => write_swept(alloc, out, *number),
+        Note::Swept(number) => write_chosen(alloc, out, "sweep", *number),
+        Note::Ticked(number) => write_chosen(alloc, out, "tick", *number),
         Note::Left(count) => write_number(alloc, out, "left", *count),
     }
 }

@@ -1,17 +1,17 @@
 //! The steps of a script on a play.
-ghost use Rattle.std.specs.Prelude.{◌≡◌, ◌++◌, [], List, ℕ, OnOk, IfOk, IfErr};
+ghost use Rattle.std.specs.Prelude.{◌≡◌, ◌++◌, [], List, Option, ℕ, OnOk, IfOk, IfErr};
 ghost use Rattle.std.specs.Io.KnownBytes.{Appends};
 ghost use Rattle.interleave.specs.Steps.{IsWellShaped, IsStep};
 ghost use Rattle.halld.specs.Script.{NamesHost};
 ghost use Rattle.halld.specs.Notes.{named_by, host_of, opened_by, answer_text, whole_text};
-ghost use Rattle.halld.specs.Steps.{is_item, IsDrained, IsPerformed};
+ghost use Rattle.halld.specs.Steps.{Answer, is_item, is_hung, late_text, IsLateHung, IsHungOut, IsBeat, IsDrained, IsPerformed};
 ghost use Rattle.halld.specs.Faults.{IsOutside};
 
-use crate::alone::{do_line, tidy};
+use crate::alone::{do_line, hang_late, tick, tidy};
 use crate::entry::PlayFault;
 use crate::notes::{notes_of, whole_notes};
 use crate::script::Step;
-use interleave::{Event, Naming, Note, Play, SessionId, StepRefusal};
+use interleave::{Event, Moment, Naming, Note, Play, SessionId, StepRefusal};
 use line_grammar::Octets;
 use std::alloc::{AllocError, Global};
 use std::io::Write;
@@ -42,7 +42,8 @@ fn named_by(event: &Event) -> SessionId
         | Event::Put { .. }
         | Event::End { .. }
         | Event::Back { .. }
-        | Event::Sweep { .. } => SessionId::new(NOBODY),
+        | Event::Sweep { .. }
+        | Event::Tick { .. } => SessionId::new(NOBODY),
     }
 }
 
@@ -154,6 +155,48 @@ impl<L: Naming> Player<L> {
         Ok(())
     }
 
+    /// Hangs the late session of the lowest number and writes its notes, and answers whether one was hung.
+    fn hang_next<W: Write>(&mut self, moment: Moment, output: &mut W) -> Result<bool, PlayFault>
+        ensures step { IfOk result (λ more. (a : Option Answer) × IsLateHung moment self.old.play a self.new.play × (more ≡ is_hung a) × Appends (W.contents output.old) (W.contents output.new) (late_text a)) }
+        ensures hosts { self.new.hosts.items ≡ self.old.hosts.items }
+        ensures fault { IfErr result IsOutside }
+    {
+        let Some(answer) = hang_late(&mut self.play, moment) else {
+            return Ok(false);
+        };
+        let notes = notes_of(self.alloc, SessionId::new(NOBODY), &[], &answer)?;
+        write(&notes, output)?;
+        Ok(answer.is_ok())
+    }
+
+    /// Hangs late sessions until there is none.
+    fn hang_all<W: Write>(&mut self, moment: Moment, output: &mut W) -> Result<(), PlayFault>
+        ensures step { OnOk result ((text : List ℕ) × IsHungOut moment self.old.play text self.new.play × Appends (W.contents output.old) (W.contents output.new) text) }
+        ensures hosts { self.new.hosts.items ≡ self.old.hosts.items }
+        ensures fault { IfErr result IsOutside }
+    {
+        for _ in 0..u64::MAX {
+            if !self.hang_next(moment, output)? {
+                break;
+            }
+        }
+        Ok(())
+    }
+
+    /// Ticks, and hangs who is late.
+    fn beat<W: Write>(&mut self, moment: Moment, output: &mut W) -> Result<(), PlayFault>
+        ensures step { OnOk result ((text : List ℕ) × IsBeat moment self.old.play text self.new.play × Appends (W.contents output.old) (W.contents output.new) text) }
+        ensures hosts { self.new.hosts.items ≡ self.old.hosts.items }
+        ensures fault { IfErr result IsOutside }
+    {
+        let answer = tick(&mut self.play, moment);
+        self.tell("tick", &answer, output)?;
+        match answer {
+            Ok(_) => self.hang_all(moment, output),
+            Err(_) => Ok(()),
+        }
+    }
+
     /// Does what a step of the script asks for.
     pub(crate) fn perform<W: Write>(&mut self, step: Step, output: &mut W) -> Result<(), PlayFault>
         requires { NamesHost step }
@@ -174,6 +217,7 @@ impl<L: Naming> Player<L> {
                 self.tell("sweep", &answer, output)
             }
             Step::Drain { session } => self.drain(session, output),
+            Step::Beat { moment } => self.beat(moment, output),
         }
     }
 }

@@ -1,9 +1,10 @@
 //! The names of refusals.
 ghost use Rattle.std.specs.Prelude.{◌≡◌};
-ghost use Rattle.halld.specs.Refusals.{open_name, line_name, hang_name, sweep_name, reap_name, book_name, refusal_name};
+ghost use Rattle.halld.specs.Refusals.{open_name, line_name, hang_name, sweep_name, tick_name, reap_name, book_name, refusal_name};
 
 use interleave::{
     BookRefusal, HangRefusal, LineRefusal, OpenRefusal, ReapRefusal, StepRefusal, SweepRefusal,
+    TickRefusal,
 };
 
 /// The name of a refusal to open a session.
@@ -56,6 +57,18 @@ fn sweep_name(refusal: SweepRefusal) -> &'static str
     }
 }
 
+/// The name of a refusal to ping.
+fn tick_name(refusal: TickRefusal) -> &'static str
+    ensures { result.now ≡ tick_name refusal }
+{
+    match refusal {
+        TickRefusal::Busy => "Busy",
+        TickRefusal::BadMoment => "BadMoment",
+        TickRefusal::JournalFull => "JournalFull",
+        TickRefusal::Memory => "Memory",
+    }
+}
+
 /// The name of a refusal to give a session up.
 fn reap_name(refusal: ReapRefusal) -> &'static str
     ensures { result.now ≡ reap_name refusal }
@@ -76,6 +89,7 @@ fn book_name(refusal: BookRefusal) -> &'static str
         BookRefusal::Line(refusal) => line_name(refusal),
         BookRefusal::Hang(refusal) => hang_name(refusal),
         BookRefusal::Sweep(refusal) => sweep_name(refusal),
+        BookRefusal::Tick(refusal) => tick_name(refusal),
         BookRefusal::Reap(refusal) => reap_name(refusal),
     }
 }

@@ -26,6 +26,8 @@ pub(crate) enum Step {
     Tidy { moment: Moment },
     /// What is due to a session is taken until there is nothing more.
     Drain { session: SessionId },
+    /// Worker 1 ticks, and hangs who is late.
+    Beat { moment: Moment },
 }
 
 /// Why a line gives no step.
@@ -68,6 +70,8 @@ enum Plain {
     Do,
     Tidy,
     Drain,
+    Tick,
+    Beat,
 }
 
 /// The word at a step's front.
@@ -106,6 +110,10 @@ fn plain_of(word: &[u8]) -> Option<Plain>
         Some(Plain::Tidy)
     } else if word == b"drain".as_slice() {
         Some(Plain::Drain)
+    } else if word == b"tick".as_slice() {
+        Some(Plain::Tick)
+    } else if word == b"beat".as_slice() {
+        Some(Plain::Beat)
     } else {
         None
     }
@@ -205,6 +213,15 @@ fn parse_do(words: &[u8]) -> Option<Step>
     Some(Step::Do { session, moment })
 }
 
+/// `W MS` of a tick.
+fn parse_tick(words: &[u8]) -> Option<Step>
+    ensures value { result ≡ plain_step Plain.Tick words.now }
+    ensures host { IfSome result NamesHost }
+{
+    let (worker, moment) = worker_and_moment(words)?;
+    Some(Step::One(Event::Tick { worker, moment }))
+}
+
 /// The step of a line, after a first word that takes no memory.
 fn parse_plain(plain: Plain, words: &[u8]) -> Option<Step>
     ensures value { result ≡ plain_step plain words.now }
@@ -242,6 +259,10 @@ fn parse_plain(plain: Plain, words: &[u8]) -> Option<Step>
         }),
         Plain::Drain => return Some(Step::Drain {
             session: session(words)?,
+        }),
+        Plain::Tick => return parse_tick(words),
+        Plain::Beat => return Some(Step::Beat {
+            moment: moment(words)?,
         }),
     };
     Some(Step::One(event))

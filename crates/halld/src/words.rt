@@ -38,6 +38,8 @@ pub(crate) fn why(word: &[u8]) -> Option<Why>
         Some(Why::Memory)
     } else if word == Why::Shutdown.word().as_bytes() {
         Some(Why::Shutdown)
+    } else if word == Why::PingTimeout.word().as_bytes() {
+        Some(Why::PingTimeout)
     } else {
         None
     }

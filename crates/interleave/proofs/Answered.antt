@@ -1,16 +1,12 @@
 -- A labelled line is answered once, and whole; a line is shown to each of its hearers once.
 use Rattle.std.proofs.Common.{◌≡◌, ℕ, ℤ, ◌+◌, ◌≤◌, Bool, true, false, ◌||◌, ◌&&◌, ◌==◌, nat_le, cond, List, [], ◌∷◌, ◌++◌, map, length, take, Some, None, arith, refl, sym, subst, ap, ◌∙◌, append-nil, append_assoc, eq-eqb}
 use Rattle.std.proofs.lemmas.Bool.Decides.{nat_tests}
-use Rattle.line_grammar.specs.declared.splitter.Piece.{Piece}
-use Rattle.line_grammar.specs.Spelling.{untagged}
 use Rattle.chronicle.specs.declared.record.Kind.TheVariants.{Said}
 use Rattle.chronicle.specs.History.{Rec, is_quit, misses, sessions, shut}
-use Rattle.numerics.specs.declared.outgoing.Out.{Out}
 use Rattle.numerics.specs.Outgoing.{octets, spelled as untagged_of}
 use Rattle.registration.specs.declared.caps.Caps.{Caps}
 use Rattle.registration.specs.declared.settings.Settings.{Settings}
 use Rattle.labels_batches.specs.declared.answers.Tagged.{Tagged}
-use Rattle.labels_batches.specs.Labels.{label_of}
 use Rattle.labels_batches.specs.declared.answers.AnswerTag.TheVariants.{Label}
 use Rattle.labels_batches.specs.Answers.{tagged_as}
 use Rattle.labels_batches.specs.Rendered.{ended, rendered, spelled_line, tag_block}

@@ -110,6 +110,7 @@ left_by h (kind.Gone s) t i e =
       | inl same ↦ ap (shut h) (sym same.1) ∙ i.2
       | inr other ↦ absurd (let f : false ≡ true = sym other.0 ∙ e in cc)
     ]
+left_by h kind.Ticked t i e = absurd (let f : false ≡ true = e in cc)
 
 gone_by : (r : Rec) (h : List Rec) (t : ℕ) (b : Bool) → leaves r.kind t ≡ b → IsKind h r.kind → (gone h t ≡ true → shut h t ≡ true) → (b || gone h t) ≡ true → shut h t ≡ true
 gone_by r h t true eb i f e = left_by h r.kind t i eb

@@ -1,5 +1,5 @@
 -- What each step does to what a play keeps, where it isn't refused.
-use Rattle.std.proofs.Common.{◌≡◌, ℕ, ℤ, ◌-◌, ◌<◌, ◌≤◌, true, List, [], length, slice_index_or, slice_set, Option, Some, None, arith, sym, subst}
+use Rattle.std.proofs.Common.{◌≡◌, ℕ, ℤ, ◌+◌, ◌-◌, ◌<◌, ◌≤◌, true, List, [], ◌∷◌, length, slice_index_or, slice_set, Option, Some, None, arith, refl, sym, subst}
 use Rattle.chronicle.specs.declared.why.Why.{Why}
 use Rattle.outbox.specs.Ring.{Waiting, put_into}
 use Rattle.book.specs.Book.{Shown, Out, IsOut, is_here}
@@ -10,7 +10,10 @@ use Rattle.interleave.specs.declared.event.Event.TheVariants as event
 use Rattle.interleave.specs.declared.event.StepRefusal.{StepRefusal}
 use Rattle.interleave.specs.State.{job_of, queue_of}
 use Rattle.interleave.specs.Refusals.{own_refusal, no_worker, not_holding}
-use Rattle.interleave.specs.Steps.{picked, ended, back, reaped}
+use Rattle.interleave.specs.declared.event.Note.{Note}
+use Rattle.interleave.specs.declared.event.Note.TheVariants as note
+use Rattle.interleave.specs.State.{State}
+use Rattle.interleave.specs.Steps.{picked, ended, back, ticked, reaped, IsTick}
 use Rattle.interleave.specs.Inbox.{Held, held_at, with_held, moved_to, ended_at, reaped_at}
 use Rattle.interleave.specs.Kept.{worker_of, state_of, IsKept}
 use Rattle.interleave.proofs.Free.{IsIn, session_in, worker_in, unlocked, holding, idle, busy, at_home, something_read, all_put, without_lock}
@@ -85,6 +88,15 @@ pub sweeps : (m : Shown Waiting) (sendq : ℕ) (boxes : List Held) (jobs : List 
     → IsUnlocked jobs holder w × (job_of (state_of m sendq boxes jobs holder) w ≡ None)
 sweeps m sendq boxes jobs holder w moment free =
     let st = state_of m sendq boxes jobs holder in let a = worker_in st w _ free in let b = unlocked st _ a.2 in let c = idle st w _ b.1 in (record { worker = a.0; there = a.1; lock = b.0 }, c.0)
+
+pub ticks : (m : Shown Waiting) (sendq : ℕ) (boxes : List Held) (jobs : List (Option ℕ)) (holder : Option Holder) (w : ℕ) (moment : ℤ) → own_refusal (state_of m sendq boxes jobs holder) (event.Tick w moment) ≡ None
+    → IsUnlocked jobs holder w × (job_of (state_of m sendq boxes jobs holder) w ≡ None)
+ticks m sendq boxes jobs holder w moment free = sweeps m sendq boxes jobs holder w moment free
+
+-- where somebody is to be pinged
+pub pings : (m k : State) (w : ℕ) (ts : List ℕ) (moment : ℤ) (n : Note) → (ts ≡ [] → ⊥) → book.HasRoom m.book → n ≡ note.Ticked (Some (length m.book.history + 1)) → k ≡ ticked m w moment → IsTick m w ts moment n k
+pings m k w [] moment n some room is new = absurd (some refl)
+pings m k w (t ∷ ts) moment n some room is new = (room, is, new)
 
 pub connects : (m : Shown Waiting) (sendq : ℕ) (boxes : List Held) (jobs : List (Option ℕ)) (holder : Option Holder) (host : List ℕ) (moment : ℤ) → own_refusal (state_of m sendq boxes jobs holder) (event.Connect host moment) ≡ None → worker_of holder ≡ None
 connects m sendq boxes jobs holder host moment free = (unlocked (state_of m sendq boxes jobs holder) _ free).0

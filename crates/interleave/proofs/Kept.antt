@@ -6,9 +6,10 @@ use Rattle.std.proofs.Common.{◌≡◌, ◌≢◌, inl, inr, ℕ, ℤ, ◌+◌,
 use Rattle.std.specs.Option.{is_some}
 use Rattle.line_grammar.specs.declared.splitter.Piece.{Piece}
 use Rattle.line_grammar.specs.Lines.{lines}
+use Rattle.chronicle.specs.declared.record.Kind.{Kind}
 use Rattle.chronicle.specs.declared.record.Kind.TheVariants as kind
 use Rattle.chronicle.specs.declared.why.Why.{Why}
-use Rattle.chronicle.specs.History.{Rec, sessions, accepted}
+use Rattle.chronicle.specs.History.{Rec, sessions, said_by, accepted}
 use Rattle.deliveries.specs.declared.delivery.Delivery.{Delivery}
 use Rattle.deliveries.specs.Items.{deliveries}
 use Rattle.outbox.specs.Ring.{Waiting, empty_ring, with_taken as ring_taken, put_into}
@@ -24,7 +25,7 @@ use Rattle.interleave.specs.Inbox.{Held, IsRead, IsBegun, no_inbox, held_at, wit
 use Rattle.interleave.specs.Kept.{seen_of, worker_of, state_of, next_at, baton_at, baton_of, IsPlanOf, IsHolding, IsKept}
 use Rattle.interleave.proofs.Carried.{Carries, kept_here, put_accepted, carries_same, begun_carries, next_carries, done_carries, away_before}
 use Rattle.interleave.proofs.Accepted.{none_accepted}
-use Rattle.interleave.proofs.Sound.{away, in_hand_of, begun_by, is_at_home, fed_sound, picked_sound, begun_sound, put_sound, sweep_ended_sound, line_ended_sound, back_sound, took_sound, hung_sound, swept_sound, reaped_sound, connected_sound}
+use Rattle.interleave.proofs.Sound.{away, in_hand_of, begun_by, is_at_home, fed_sound, picked_sound, begun_sound, put_sound, sweep_ended_sound, line_ended_sound, back_sound, took_sound, hung_sound, silent_sound, reaped_sound, connected_sound}
 
 -- ---- what clauses see
 
@@ -104,7 +105,7 @@ took_holding : (m : Shown Waiting) (jobs : List (Option ℕ)) (holder : Option H
 took_holding m jobs None s h = h
 took_holding m jobs (Some x) s h =
     let o = h.0 in
-    (record { busy = o.busy; number = o.number; session = o.session; next = o.next; from_1 = o.from_1; opened = o.opened; missed = o.missed; room = o.room; kept = o.kept }, h.1)
+    (record { busy = o.busy; number = o.number; session = o.session; next = o.next; opened = o.opened; missed = o.missed; room = o.room; kept = o.kept }, h.1)
 
 -- the lock is free
 free_holding : (m : Shown Waiting) (jobs : List (Option ℕ)) (holder : Option Holder) → worker_of holder ≡ None → IsHolding m jobs holder
@@ -278,16 +279,17 @@ hung_kept m k sendq boxes jobs holder s why moment i free e sound =
       holding = free_holding g jobs holder free;
     })
 
-pub swept_kept : (m k : Shown Waiting) (sendq : ℕ) (boxes : List Held) (jobs : List (Option ℕ)) (holder : Option Holder) (w s : ℕ) (moment : ℤ) (p : Out) → IsKept m sendq boxes jobs holder → 0 < w → w ≤ length jobs → worker_of holder ≡ None
-    → job_of (state_of m sendq boxes jobs holder) w ≡ None → k ≡ book.begun m (kind.Gone s) moment → IsOut k p → p.next ≡ None → book.IsSound put_into k → IsKept k sendq boxes jobs (Some (record { worker = w; plan = p }))
-swept_kept m k sendq boxes jobs holder w s moment p i a l free none e out next sound =
-    let st = state_of m sendq boxes jobs holder in let g : Shown Waiting = book.begun m (kind.Gone s) moment in
+-- a worker without a line begins a record that says nothing
+pub silent_kept : (m n : Shown Waiting) (sendq : ℕ) (boxes : List Held) (jobs : List (Option ℕ)) (holder : Option Holder) (w : ℕ) (k : Kind) (moment : ℤ) (p : Out) → ((t : ℕ) → said_by k t ≡ []) → IsKept m sendq boxes jobs holder → 0 < w → w ≤ length jobs → worker_of holder ≡ None
+    → job_of (state_of m sendq boxes jobs holder) w ≡ None → n ≡ book.begun m k moment → IsOut n p → p.next ≡ None → book.IsSound put_into n → IsKept n sendq boxes jobs (Some (record { worker = w; plan = p }))
+silent_kept m n sendq boxes jobs holder w k moment p silent i a l free none e out next sound =
+    let st = state_of m sendq boxes jobs holder in let g : Shown Waiting = book.begun m k moment in
     let z = size boxes in let y = i.sound.inboxes in
-    subst (λ (n : Shown Waiting). IsKept n sendq boxes jobs (Some (record { worker = w; plan = p }))) (sym e)
+    subst (λ (b : Shown Waiting). IsKept b sendq boxes jobs (Some (record { worker = w; plan = p }))) (sym e)
     (record {
-      sound = swept_sound st w s moment i.sound free a l none (subst (book.IsSound put_into) e sound);
-      turns = book_turns m g boxes i.turns (λ t from to. same_turn m g t (begun_carries m (kind.Gone s) moment t (λ gone. away_before m t i.sound.book from (omega arith) gone) refl));
-      holding = (subst (λ (n : Shown Waiting). IsOut n p) e out, subst (λ (o : Option ℕ). IsPlanOf g.history o p) (sym none) next);
+      sound = silent_sound st w k moment silent i.sound free a l none (subst (book.IsSound put_into) e sound);
+      turns = book_turns m g boxes i.turns (λ t from to. same_turn m g t (begun_carries m k moment t (λ gone. away_before m t i.sound.book from (omega arith) gone) (silent t)));
+      holding = (subst (λ (b : Shown Waiting). IsOut b p) e out, subst (λ (o : Option ℕ). IsPlanOf g.history o p) (sym none) next);
     })
 
 -- ---- the lock is given back

@@ -1,7 +1,7 @@
 -- The sessions of a legal history are opened once each.
 use Rattle.std.proofs.Common.{◌≡◌, ℕ, zero, suc, ◌+◌, ◌<◌, ◌≤◌, ◌==◌, Bool, true, false, cond, List, [], ◌∷◌, ◌++◌, arith, refl, sym, subst, ap, ◌∙◌, lit≤, eqb-true}
 use Rattle.chronicle.specs.declared.record.Kind.{Kind}
-use Rattle.chronicle.specs.declared.record.Kind.TheVariants.{Opened, Said, Hung, Gone}
+use Rattle.chronicle.specs.declared.record.Kind.TheVariants.{Opened, Said, Hung, Gone, Ticked}
 use Rattle.chronicle.specs.History.{Rec, opened_by, sessions}
 use Rattle.registration.specs.declared.settings.Settings.{Settings}
 use Rattle.roster.specs.LookBack.{after, numbers, opened}
@@ -45,6 +45,7 @@ by-kind no-others g h (Opened s host) is before = with-one (opened (facts g h)) 
 by-kind no-others g h (Said s i piece) is before = others no-others g h (Said s i piece) refl before
 by-kind no-others g h (Hung s why) is before = others no-others g h (Hung s why) refl before
 by-kind no-others g h (Gone s) is before = others no-others g h (Gone s) refl before
+by-kind no-others g h Ticked is before = others no-others g h Ticked refl before
 
 opened-are : RecordsOpenNoOthers → (g : Settings) (h : List Rec) → IsLegal g h → opened (facts g h) ≡ numbers 1 (sessions h)
 opened-are no-others g [] legal = refl

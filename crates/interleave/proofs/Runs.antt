@@ -9,15 +9,15 @@ use Rattle.line_grammar.specs.Lines.{lines}
 use Rattle.chronicle.specs.History.{accepted}
 use Rattle.deliveries.specs.declared.delivery.Delivery.{Delivery}
 use Rattle.deliveries.specs.Owed.{owed}
-use Rattle.book.specs.Book.{to_sweep}
+use Rattle.book.specs.Book.{to_sweep, to_ping}
 use Rattle.interleave.specs.declared.worker.Place.TheVariants.{Home, Hand}
 use Rattle.interleave.specs.declared.event.Event.{Event}
-use Rattle.interleave.specs.declared.event.Event.TheVariants.{Connect, Feed, Pick, Begin, Put, End, Back, Take, Hang, Sweep, Reap}
+use Rattle.interleave.specs.declared.event.Event.TheVariants.{Connect, Feed, Pick, Begin, Put, End, Back, Take, Hang, Sweep, Tick, Reap}
 use Rattle.interleave.specs.declared.event.Note.{Note}
 use Rattle.interleave.specs.declared.event.StepRefusal.{StepRefusal}
 use Rattle.interleave.specs.State.{Seen, State, nothing_fed, inbox_at, in_hand, unread, job_of, taken_of, queue_of, planned_for, IsSound, ForEach}
 use Rattle.interleave.specs.Refusals.{own_refusal}
-use Rattle.interleave.specs.Steps.{moved, with_taken, with_left, with_begun, with_fed, fed, took as took_one, IsBegin, IsBack, IsTake, IsSweep, IsDone, IsStep, ended}
+use Rattle.interleave.specs.Steps.{moved, with_taken, with_left, with_begun, with_fed, fed, took as took_one, IsBegin, IsBack, IsTake, IsSweep, IsTick, IsDone, IsStep, ended}
 use Rattle.interleave.specs.Runs.{IsRun, item_of, fed_by, handed_by, sent_by, sent, took_by, took}
 use Rattle.interleave.proofs.Order.{sound_owed, sound_accepted}
 use Rattle.interleave.proofs.Free.{session_in}
@@ -118,6 +118,10 @@ sweep_gains : (m k : State) (w t : ℕ) (o : Option ℕ) (moment : ℤ) (n : Not
 sweep_gains m k w t None moment n h = untouched m k t (inboxes_of _ _ h.1)
 sweep_gains m k w t (Some s) moment n h = untouched m k t (inboxes_of _ _ h.1)
 
+tick_gains : (m k : State) (w t : ℕ) (ts : List ℕ) (moment : ℤ) (n : Note) → IsTick m w ts moment n k → Gains m k t [] []
+tick_gains m k w t [] moment n h = untouched m k t (inboxes_of _ _ h.1)
+tick_gains m k w t (u ∷ us) moment n h = untouched m k t (inboxes_of _ _ h.2)
+
 took_gains : (m k : State) (s t : ℕ) (o : Option Delivery) (n : Note) → 0 < s → 0 < t → s ≤ length m.inboxes → IsTake m s o n k → Gains m k t [] (cond (s == t) (item_of n) [])
 took_gains m k s t None n above from l h =
     subst (λ (v : Note). Gains m k t [] (cond (s == t) (item_of v) [])) (sym h.0) (subst (λ (xs : List Delivery). Gains m k t [] xs) (sym (either_way (s == t) [])) (same m k t h.1))
@@ -135,6 +139,7 @@ done_gains m k (Back w) n t from free h = back_gains m k w t (job_of m w) n h
 done_gains m k (Take s) n t from free h = let i = session_in m s None free in took_gains m k s t (slice_get (queue_of m s) 0) n i.0.above from i.0.below h
 done_gains m k (Hang w s why moment) n t from free h = untouched m k t (inboxes_of _ _ h.5)
 done_gains m k (Sweep w moment) n t from free h = sweep_gains m k w t (to_sweep m.book.history) moment n h.1
+done_gains m k (Tick w moment) n t from free h = tick_gains m k w t (to_ping m.book.history moment) moment n h.1
 done_gains m k (Reap s) n t from free h = alike m k s t (with_left (inbox_at m s) (queue_of m s)) refl refl (inboxes_of _ _ h.2)
 
 step_gains : (m k : State) (e : Event) (r : Result Note StepRefusal) (t : ℕ) → 0 < t → IsStep m e r k → Gains m k t (sent_by t e r) (took_by t e r)

@@ -5,9 +5,10 @@ use Rattle.std.proofs.Common.{◌≡◌, ◌≢◌, inl, inr, ℕ, ℤ, ◌+◌,
 use Rattle.std.specs.Option.{is_some}
 use Rattle.line_grammar.specs.declared.splitter.Piece.{Piece}
 use Rattle.line_grammar.specs.Lines.{lines}
+use Rattle.chronicle.specs.declared.record.Kind.{Kind}
 use Rattle.chronicle.specs.declared.record.Kind.TheVariants as kind
 use Rattle.chronicle.specs.declared.why.Why.{Why}
-use Rattle.chronicle.specs.History.{Rec, sessions, accepted}
+use Rattle.chronicle.specs.History.{Rec, sessions, said_by, accepted}
 use Rattle.registration.specs.declared.settings.Settings.{Settings}
 use Rattle.std.proofs.lemmas.List.{map-append}
 use Rattle.deliveries.specs.declared.delivery.Delivery.{Delivery}
@@ -20,7 +21,7 @@ use Rattle.book.specs.Book as book
 use Rattle.interleave.specs.declared.worker.Place.{Place}
 use Rattle.interleave.specs.declared.worker.Place.TheVariants.{Home, Hand, Begun}
 use Rattle.interleave.specs.State.{Seen, State, IsBoxOf, IsSoundAt, IsSound, nothing_fed, inbox_at, box_at, queue_of, waits, is_home, holds, place_with, job_of}
-use Rattle.interleave.specs.Steps.{with_job, moved, with_taken, with_left, with_begun, with_fed, connected, fed, picked, begun, put, ended, back, took, hung, swept, reaped}
+use Rattle.interleave.specs.Steps.{with_job, moved, with_taken, with_left, with_begun, with_fed, connected, fed, picked, begun, put, ended, back, took, hung, reaped}
 use Rattle.interleave.proofs.Carried.{Carries, IsKeptBox, put_busy, next_carries, ShutBefore, carried, carries_same, begun_carries, done_carries, away_before, next_length, done_length}
 use Rattle.interleave.proofs.Accepted.{none_accepted}
 
@@ -339,17 +340,22 @@ took_sound m s x i above below here e sound =
     })
     (same_batons m.jobs m.inboxes m.holder s (with_taken b x) above below refl i.jobs) i.holder
 
+-- the state in which its plan is out
+abbrev pub with_plan : State → ℕ → Kind → ℤ → State
+with_plan m w k moment = record { book = book.begun m.book k moment; sendq = m.sendq; inboxes = m.inboxes; jobs = m.jobs; holder = Some w }
+
 pub hung_sound : (m : State) (s : ℕ) (why : Why) (moment : ℤ) → IsSound m → m.holder ≡ None → book.IsSound put_into (hung m s why moment).book → IsSound (hung m s why moment)
 hung_sound m s why moment i free sound =
     let same = i.inboxes in
     book_sound m (hung m s why moment).book m.holder i sound (ap is_some (sym free)) (done_length m.book (kind.Hung s why) moment)
     (λ t from to. done_carries m.book (kind.Hung s why) moment t (λ gone. away_before m.book t i.book from (omega arith) gone) refl) i.jobs i.holder
 
-pub swept_sound : (m : State) (w s : ℕ) (moment : ℤ) → IsSound m → m.holder ≡ None → 0 < w → w ≤ length m.jobs → job_of m w ≡ None → book.IsSound put_into (swept m w s moment).book → IsSound (swept m w s moment)
-swept_sound m w s moment i free a l none sound =
+-- a worker without a line begins a record that says nothing
+pub silent_sound : (m : State) (w : ℕ) (k : Kind) (moment : ℤ) → ((t : ℕ) → said_by k t ≡ []) → IsSound m → m.holder ≡ None → 0 < w → w ≤ length m.jobs → job_of m w ≡ None → book.IsSound put_into (book.begun m.book k moment) → IsSound (with_plan m w k moment)
+silent_sound m w k moment silent i free a l none sound =
     let same = i.inboxes in
-    book_sound m (swept m w s moment).book (Some w) i sound refl refl
-    (λ t from to. begun_carries m.book (kind.Gone s) moment t (λ gone. away_before m.book t i.book from (omega arith) gone) refl)
+    book_sound m (book.begun m.book k moment) (Some w) i sound refl refl
+    (λ t from to. begun_carries m.book k moment t (λ gone. away_before m.book t i.book from (omega arith) gone) (silent t))
     (lock_batons m.jobs m.inboxes None (Some w) w none (λ v ne. sym (like_without w v ne)) (subst (HasBatons m.jobs m.inboxes) free i.jobs))
     (λ v e. let vw : w ≡ v = (let f : Some w ≡ Some v = e in cc) in (subst (λ (j : ℕ). 0 < j) vw a, subst (λ (j : ℕ). j ≤ length m.jobs) vw l))
 

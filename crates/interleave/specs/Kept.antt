@@ -29,7 +29,7 @@ next_at (Begun w) n = n - 1
 abbrev pub baton_at : List Rec → ℕ → Place → Turn
 baton_at h t place = record { session = t; next = next_at place (length (accepted h t)) }
 
--- the plan of a line of this session, or of a sweep
+-- the plan of a line of this session, or of a sweep or a tick
 abbrev pub IsPlanOf : List Rec → Option ℕ → Out → Type 0
 IsPlanOf h None p = p.next ≡ None
 IsPlanOf h (Some s) p = (p.session ≡ s) × (p.next ≡ Some (length (accepted h s))) × (0 < length (accepted h s))

@@ -9,9 +9,11 @@ use Rattle.book.specs.declared.refusals.LineRefusal.{LineRefusal}
 use Rattle.book.specs.declared.refusals.LineRefusal.TheVariants as accepting
 use Rattle.book.specs.declared.refusals.SweepRefusal.{SweepRefusal}
 use Rattle.book.specs.declared.refusals.SweepRefusal.TheVariants as sweeping
-use Rattle.book.specs.Book.{Shown, Turn, MayOpen, MayBegin, MaySweep, to_sweep, IsOpenRefusal, IsLineRefusal, IsHangRefusal, IsSweepRefusal, IsReapRefusal}
+use Rattle.book.specs.declared.refusals.TickRefusal.{TickRefusal}
+use Rattle.book.specs.declared.refusals.TickRefusal.TheVariants as ticking
+use Rattle.book.specs.Book.{Shown, Turn, MayOpen, MayBegin, MaySweep, MayTick, IsSomebodyQuiet, HasRoom, to_sweep, IsOpenRefusal, IsLineRefusal, IsHangRefusal, IsSweepRefusal, IsTickRefusal, IsReapRefusal}
 use Rattle.interleave.specs.declared.event.Event.{Event}
-use Rattle.interleave.specs.declared.event.Event.TheVariants.{Connect, Feed, Pick, Begin, Put, End, Back, Take, Hang, Sweep, Reap}
+use Rattle.interleave.specs.declared.event.Event.TheVariants.{Connect, Feed, Pick, Begin, Put, End, Back, Take, Hang, Sweep, Tick, Reap}
 use Rattle.interleave.specs.declared.event.BookRefusal.TheVariants as by_book
 use Rattle.interleave.specs.declared.event.StepRefusal.{StepRefusal}
 use Rattle.interleave.specs.declared.event.StepRefusal.TheVariants.{NoSession, NoWorker, Locked, NotHolding, HasJob, NoJob, InFlight, NothingRead, NothingLeft, PutsLeft, Book, Memory}
@@ -68,6 +70,7 @@ own_refusal m (Back w) = no_worker m w (no_job m w (holds_lock m w))
 own_refusal m (Take s) = no_session m s None
 own_refusal m (Hang w s why moment) = no_worker m w (locked m None)
 own_refusal m (Sweep w moment) = no_worker m w (locked m (has_job m w None))
+own_refusal m (Tick w moment) = no_worker m w (locked m (has_job m w None))
 own_refusal m (Reap s) = no_session m s (locked m (in_flight m s None))
 
 -- ---- where none of these holds, the book's causes come, and want of memory. Pick, Put, End, Back, Take, Hang and Reap take no
@@ -89,6 +92,10 @@ of_line e = Book (by_book.Line e)
 abbrev pub of_sweep : SweepRefusal → StepRefusal
 of_sweep sweeping.Memory = Memory
 of_sweep e = Book (by_book.Sweep e)
+
+abbrev pub of_tick : TickRefusal → StepRefusal
+of_tick ticking.Memory = Memory
+of_tick e = Book (by_book.Tick e)
 
 abbrev pub IsOpenRefused : Shown Waiting → ℤ → StepRefusal → Type 0
 IsOpenRefused m moment (Book (by_book.Open e)) = IsOpenRefusal m moment e × (e ≢ opening.Memory)
@@ -113,6 +120,11 @@ IsSweepRefused m moment (Book (by_book.Sweep e)) = IsSweepRefusal m moment e × 
 IsSweepRefused m moment Memory = MaySweep m moment × IsSome (to_sweep m.history)
 IsSweepRefused m moment r = ⊥
 
+abbrev pub IsTickRefused : Shown Waiting → ℤ → StepRefusal → Type 0
+IsTickRefused m moment (Book (by_book.Tick e)) = IsTickRefusal m moment e × (e ≢ ticking.Memory)
+IsTickRefused m moment Memory = MayTick m moment × IsSomebodyQuiet m moment × HasRoom m
+IsTickRefused m moment r = ⊥
+
 abbrev pub IsReapRefused : Shown Waiting → ℕ → StepRefusal → Type 0
 IsReapRefused m s (Book (by_book.Reap e)) = IsReapRefusal m s e
 IsReapRefused m s r = ⊥
@@ -128,6 +140,7 @@ IsLaterRefusal m (Back w) r = ⊥
 IsLaterRefusal m (Take s) r = ⊥
 IsLaterRefusal m (Hang w s why moment) r = IsHangRefused m.book s moment r
 IsLaterRefusal m (Sweep w moment) r = IsSweepRefused m.book moment r
+IsLaterRefusal m (Tick w moment) r = IsTickRefused m.book moment r
 IsLaterRefusal m (Reap s) r = IsReapRefused m.book s r
 
 -- an event with this own refusal, if there is one, is refused so

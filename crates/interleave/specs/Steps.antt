@@ -1,25 +1,26 @@
 -- The steps of a play: a relation of the state, an event, its answer and the state after it. This project's own promise.
-use Rattle.std.specs.Prelude.{◌≡◌, ℕ, ℤ, ◌+◌, ◌-◌, ◌==◌, true, List, [], ◌∷◌, ◌++◌, length, slice_get, slice_set, Option, Some, None, Result, Ok, Err}
+use Rattle.std.specs.Prelude.{◌≡◌, ℕ, ℤ, ◌+◌, ◌-◌, ◌==◌, Bool, true, false, not, ◌&&◌, List, [], ◌∷◌, ◌++◌, length, slice_get, slice_set, Option, Some, None, Result, Ok, Err}
 use Rattle.std.specs.List.{list_any}
 use Rattle.line_grammar.specs.declared.splitter.Piece.{Piece}
 use Rattle.line_grammar.specs.Lines.{lines}
 use Rattle.casemapping.specs.Names.{host_shape}
 use Rattle.chronicle.specs.declared.record.Kind.TheVariants as kind
 use Rattle.chronicle.specs.declared.why.Why.{Why}
-use Rattle.chronicle.specs.History.{sessions, accepted, shut}
+use Rattle.chronicle.specs.History.{Rec, sessions, accepted, shut, actor}
+use Rattle.chronicle.specs.Quiet.{is_tick}
 use Rattle.deliveries.specs.declared.delivery.Delivery.{Delivery}
 use Rattle.outbox.specs.Ring.{empty_ring}
 use Rattle.book.specs.declared.out.Done.{Done}
 use Rattle.book.specs.declared.out.Hung.{Hung}
 use Rattle.book.specs.declared.out.Step.{Step}
 use Rattle.book.specs.declared.out.Step.TheVariants as step
-use Rattle.book.specs.Book.{MayOpen, MayBegin, MayHang, MaySweep, MayReap, newest_missed, newest_actor, to_sweep}
+use Rattle.book.specs.Book.{MayOpen, MayBegin, MayHang, MaySweep, MayTick, MayReap, HasRoom, newest_missed, to_sweep, to_ping}
 use Rattle.book.specs.Book as book
 use Rattle.book.specs.Told.{told_of}
 use Rattle.interleave.specs.declared.worker.Place.{Place}
 use Rattle.interleave.specs.declared.worker.Place.TheVariants.{Home, Hand, Begun}
 use Rattle.interleave.specs.declared.event.Event.{Event}
-use Rattle.interleave.specs.declared.event.Event.TheVariants.{Connect, Feed, Pick, Begin, Put, End, Back, Take, Hang, Sweep, Reap}
+use Rattle.interleave.specs.declared.event.Event.TheVariants.{Connect, Feed, Pick, Begin, Put, End, Back, Take, Hang, Sweep, Tick, Reap}
 use Rattle.interleave.specs.declared.event.Note.{Note}
 use Rattle.interleave.specs.declared.event.Note.TheVariants as note
 use Rattle.interleave.specs.declared.event.StepRefusal.{StepRefusal}
@@ -38,6 +39,7 @@ IsWellShaped (Back w) = Unit {0}
 IsWellShaped (Take s) = Unit {0}
 IsWellShaped (Hang w s why moment) = Unit {0}
 IsWellShaped (Sweep w moment) = Unit {0}
+IsWellShaped (Tick w moment) = Unit {0}
 IsWellShaped (Reap s) = Unit {0}
 
 -- ---- the states after steps
@@ -116,6 +118,10 @@ hung m s why moment = record { book = book.done m.book (kind.Hung s why) moment;
 abbrev pub swept : State → ℕ → ℕ → ℤ → State
 swept m w s moment = record { book = book.begun m.book (kind.Gone s) moment; sendq = m.sendq; inboxes = m.inboxes; jobs = m.jobs; holder = Some w }
 
+-- the quiet are pinged, their deliveries are planned, and a worker holds the lock
+abbrev pub ticked : State → ℕ → ℤ → State
+ticked m w moment = record { book = book.begun m.book kind.Ticked moment; sendq = m.sendq; inboxes = m.inboxes; jobs = m.jobs; holder = Some w }
+
 -- a session was given up, and what waited for it was set aside
 abbrev pub reaped : State → ℕ → State
 reaped m s = record { book = book.reaped m.book s; sendq = m.sendq; inboxes = with_inbox m s (with_left (inbox_at m s) (queue_of m s)); jobs = m.jobs; holder = m.holder }
@@ -138,10 +144,15 @@ noted (step.Missed s) = note.Missed s
 abbrev pub IsPut : State → Note → State → Type 0
 IsPut m n k = (s : Step) × (told_of m.book m.book.plan ≡ Some s) × (n ≡ noted s) × (k ≡ put m)
 
+-- whether the session of the newest record is shut; a tick has none
+abbrev pub is_actor_shut : List Rec → Bool
+is_actor_shut [] = false
+is_actor_shut (r ∷ h) = not (is_tick r.kind) && shut (r ∷ h) (actor r.kind)
+
 -- the number and the missed of the record, and whether its session is shut
 abbrev pub IsEnd : State → ℕ → Note → State → Type 0
 IsEnd m w n k =
-    (d : Done) × (n ≡ note.Done d) × (d.number ≡ length m.book.history) × (d.missed ≡ newest_missed m.book.history) × (d.shut ≡ shut m.book.history (newest_actor m.book.history)) × (k ≡ ended m w (job_of m w))
+    (d : Done) × (n ≡ note.Done d) × (d.number ≡ length m.book.history) × (d.missed ≡ newest_missed m.book.history) × (d.shut ≡ is_actor_shut m.book.history) × (k ≡ ended m w (job_of m w))
 
 abbrev pub IsBack : State → ℕ → Option ℕ → Note → State → Type 0
 IsBack m w None n k = ⊥
@@ -161,6 +172,11 @@ abbrev pub IsSweep : State → ℕ → Option ℕ → ℤ → Note → State →
 IsSweep m w None moment n k = (n ≡ note.Swept None) × (k ≡ m)
 IsSweep m w (Some s) moment n k = (n ≡ note.Swept (Some (length m.book.history + 1))) × (k ≡ swept m w s moment)
 
+-- of those who are to be pinged
+abbrev pub IsTick : State → ℕ → List ℕ → ℤ → Note → State → Type 0
+IsTick m w [] moment n k = (n ≡ note.Ticked None) × (k ≡ m)
+IsTick m w (t ∷ ts) moment n k = HasRoom m.book × (n ≡ note.Ticked (Some (length m.book.history + 1))) × (k ≡ ticked m w moment)
+
 abbrev pub IsDone : State → Event → Note → State → Type 0
 IsDone m (Connect host moment) n k = MayOpen m.book moment × (n ≡ note.Session (sessions m.book.history + 1)) × (k ≡ connected m host moment)
 IsDone m (Feed s octets) n k = IsFeed m s octets n k
@@ -172,6 +188,7 @@ IsDone m (Back w) n k = IsBack m w (job_of m w) n k
 IsDone m (Take s) n k = IsTake m s (slice_get (queue_of m s) 0) n k
 IsDone m (Hang w s why moment) n k = IsHang m s why moment n k
 IsDone m (Sweep w moment) n k = MaySweep m.book moment × IsSweep m w (to_sweep m.book.history) moment n k
+IsDone m (Tick w moment) n k = MayTick m.book moment × IsTick m w (to_ping m.book.history moment) moment n k
 IsDone m (Reap s) n k = MayReap m.book s × (n ≡ note.Left (length (queue_of m s))) × (k ≡ reaped m s)
 
 -- one event, its answer, and the state after it. A refusal changes nothing

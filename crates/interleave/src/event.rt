@@ -1,12 +1,13 @@
 //! Events, what a step notes, and why one is refused.
 ghost use Rattle.std.specs.Prelude.{◌≡◌};
 ghost use Rattle.interleave.specs.declared.event.StepRefusal.TheVariants as refused;
-ghost use Rattle.interleave.specs.Refusals.{of_open, of_line, of_sweep};
+ghost use Rattle.interleave.specs.Refusals.{of_open, of_line, of_sweep, of_tick};
 ghost use Rattle.interleave.specs.Steps.{noted};
 
 use crate::worker::WorkerId;
 use book::{
     Delivery, Done, HangRefusal, Hung, LineRefusal, OpenRefusal, ReapRefusal, Step, SweepRefusal,
+    TickRefusal,
 };
 use chronicle::{Moment, RecordNumber, SessionId, Why};
 use line_grammar::Octets;
@@ -63,6 +64,11 @@ pub enum Event {
         worker: WorkerId,
         moment: Moment,
     },
+    /// A worker takes the lock to ping whoever is quiet, if there is somebody.
+    Tick {
+        worker: WorkerId,
+        moment: Moment,
+    },
     /// A session that is gone is given up.
     Reap {
         session: SessionId,
@@ -96,6 +102,8 @@ pub enum Note {
     Hung(Hung),
     /// The number of the record that says that a session is gone, or that there was none to sweep.
     Swept(Option<RecordNumber>),
+    /// The number of the record that pings whoever is quiet, or that there was nobody to ping.
+    Ticked(Option<RecordNumber>),
     /// How many items were left for the session.
     Left(u64),
 }
@@ -111,6 +119,8 @@ pub enum BookRefusal {
     Hang(HangRefusal),
     /// It swept no session.
     Sweep(SweepRefusal),
+    /// It pinged nobody.
+    Tick(TickRefusal),
     /// It gave no session up.
     Reap(ReapRefusal),
 }
@@ -196,6 +206,18 @@ pub(crate) fn of_sweep(refusal: SweepRefusal) -> StepRefusal
         SweepRefusal::Memory => StepRefusal::Memory,
         SweepRefusal::Busy | SweepRefusal::BadMoment => {
             StepRefusal::Book(BookRefusal::Sweep(refusal))
+        }
+    }
+}
+
+/// The book pinged nobody.
+pub(crate) fn of_tick(refusal: TickRefusal) -> StepRefusal
+    ensures { result ≡ of_tick refusal }
+{
+    match refusal {
+        TickRefusal::Memory => StepRefusal::Memory,
+        TickRefusal::Busy | TickRefusal::BadMoment | TickRefusal::JournalFull => {
+            StepRefusal::Book(BookRefusal::Tick(refusal))
         }
     }
 }

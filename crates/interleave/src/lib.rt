@@ -10,7 +10,7 @@ mod worker;
 
 pub use book::{
     Book, Delivery, Done, HangRefusal, Hung, LineRefusal, OpenRefusal, ReapRefusal, Sessions,
-    Settings, SweepRefusal,
+    Settings, SweepRefusal, TickRefusal,
 };
 pub use chronicle::{Moment, RecordNumber, SessionId, Why};
 pub use event::{BookRefusal, Event, Note, PlayRefusal, StepRefusal};

@@ -6,16 +6,20 @@ ghost use Rattle.line_grammar.specs.Lines.{lines};
 ghost use Rattle.book.specs.Legal.{IsLegal};
 ghost use Rattle.deliveries.specs.Owed.{owed};
 ghost use Rattle.casemapping.specs.Names.{host_shape};
+ghost use Rattle.book.specs.Book.{IsOut, finished, late, newest_missed};
 ghost use Rattle.interleave.specs.Limits.{IsWellSet};
+ghost use Rattle.interleave.specs.Steps.{is_actor_shut};
 
-use crate::event::{BookRefusal, Event, Note, PlayRefusal, StepRefusal, of_open, of_put, of_sweep};
+use crate::event::{
+    BookRefusal, Event, Note, PlayRefusal, StepRefusal, of_open, of_put, of_sweep, of_tick,
+};
 use crate::inbox;
 use crate::inbox::{Inbox, move_to, tell_taken};
 use crate::laws::{batch_closed, labelled_first, labelled_once, lone_line_unbatched};
 use crate::tokens::Tokens;
 use crate::worker::{Place, WorkerId};
 use chronicle::{Moment, SessionId, Why};
-use hall::{Book, BookFault, Naming, Plan, Register, Ring, Settings, TakeRefusal};
+use hall::{Book, BookFault, Done, Naming, Plan, Register, Ring, Settings, TakeRefusal};
 use line_grammar::Octets;
 use std::alloc::{AllocError, Global};
 use std::marker::Model;
@@ -78,6 +82,24 @@ fn set_job(jobs: &mut Vec<Option<SessionId>>, worker: WorkerId, job: Option<Sess
     jobs[worker.number() as usize - 1] = job;
 }
 
+/// Gives back the plan of a sweep or of a tick, which has no session, with nothing left in it.
+#[tactic(auto, using(crate::proofs::Ended::tick_shuts_nobody, crate::proofs::Ended::session_is_shut))]
+fn finish<L: Naming>(book: &mut Book<L, Ring>, plan: Plan) -> Done
+    requires out { IsOut book.old plan }
+    requires none { book.old.plan ≡ [] }
+    requires no_line { plan.next ≡ None }
+    ensures book { book.new ≡ finished book.old }
+    ensures number { result.number ≡ length book.old.history }
+    ensures missed { result.missed ≡ newest_missed book.old.history }
+    ensures shut { result.shut ≡ is_actor_shut book.old.history }
+{
+    book.sound();
+    if plan.session().number() == 0 {
+        return book.finish_tick(plan);
+    }
+    book.finish_sweep(plan)
+}
+
 impl<L: Naming> Play<L> {
     ghost use Rattle.interleave.specs.declared.event.Event.TheVariants as event;
     ghost use Rattle.interleave.specs.State.{IsSound, ForEach, empty_state, inbox_at, in_hand, unread, taken_of, queue_of, planned_for, is_known, is_worker, job_of, holds, is_home};
@@ -131,6 +153,13 @@ impl<L: Naming> Play<L> {
         ensures { IsSound self.now }
     {
         let _ = &self.book;
+    }
+
+    /// The session of the lowest number that isn't shut and is quiet for too long at a moment, if there is one.
+    pub fn late(&self, moment: Moment) -> Option<SessionId>
+        ensures { result ≡ late self.now.book.history moment }
+    {
+        self.book.late(moment)
     }
 
     /// The book, as it stands.
@@ -282,7 +311,8 @@ impl<L: Naming> Play<L> {
         None
     }
 
-    fn refuses_sweep(&self, worker: WorkerId) -> Option<StepRefusal>
+    /// Why a worker without a line can't take the lock.
+    fn refuses_lock(&self, worker: WorkerId) -> Option<StepRefusal>
         ensures { result ≡ no_worker self.now worker (locked self.now (has_job self.now worker None)) }
     {
         if !self.is_worker(worker) {
@@ -328,7 +358,7 @@ impl<L: Naming> Play<L> {
             Event::End { worker } => self.refuses_end(*worker),
             Event::Back { worker } => self.refuses_back(*worker),
             Event::Hang { worker, .. } => self.refuses_hang(*worker),
-            Event::Sweep { worker, .. } => self.refuses_sweep(*worker),
+            Event::Sweep { worker, .. } | Event::Tick { worker, .. } => self.refuses_lock(*worker),
             Event::Reap { session } => self.refuses_reap(*session),
         }
     }
@@ -420,7 +450,7 @@ impl<L: Naming> Play<L> {
             unreachable!();
         };
         let Some(session) = job else {
-            let done = self.book.finish_sweep(plan);
+            let done = finish(&mut self.book, plan);
             self.book.sound();
             return Ok(Note::Done(done));
         };
@@ -493,6 +523,24 @@ impl<L: Naming> Play<L> {
         }
     }
 
+    #[tactic(auto, using(crate::proofs::Does::pings))]
+    fn tick(&mut self, worker: WorkerId, moment: Moment) -> Result<Note, StepRefusal>
+        requires free { own_refusal self.old (event.Tick worker moment) ≡ None }
+        ensures { IsStep self.old (event.Tick worker moment) result self.new }
+    {
+        let begun = self.book.begin_tick(moment);
+        self.book.sound();
+        match begun {
+            Ok(Some(plan)) => {
+                let number = plan.number();
+                self.holder = Some(Holder { worker, plan });
+                Ok(Note::Ticked(Some(number)))
+            }
+            Ok(None) => Ok(Note::Ticked(None)),
+            Err(refusal) => Err(of_tick(refusal)),
+        }
+    }
+
     fn reap(&mut self, session: SessionId) -> Result<Note, StepRefusal>
         requires free { own_refusal self.old (event.Reap session) ≡ None }
         ensures { IsStep self.old (event.Reap session) result self.new }
@@ -526,6 +574,7 @@ impl<L: Naming> Play<L> {
                 moment,
             } => self.hang(*worker, *session, *why, *moment),
             Event::Sweep { worker, moment } => self.sweep(*worker, *moment),
+            Event::Tick { worker, moment } => self.tick(*worker, *moment),
             Event::Reap { session } => self.reap(*session),
         }
     }

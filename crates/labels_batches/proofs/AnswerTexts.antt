@@ -4,7 +4,9 @@ use Rattle.std.specs.List.{flat_map}
 use Rattle.std.proofs.lemmas.Grind.{flat_map-append}
 use Rattle.numerics.specs.declared.outgoing.Out.{Out}
 use Rattle.numerics.specs.Outgoing.{octets}
+use Rattle.registration.specs.declared.caps.Cap.TheVariants.{MessageTags, ServerTime}
 use Rattle.registration.specs.declared.caps.Caps.{Caps}
+use Rattle.registration.specs.Caps.{is_on}
 use Rattle.labels_batches.specs.declared.answers.AnswerTag.{AnswerTag}
 use Rattle.labels_batches.specs.declared.answers.Tagged.{Tagged}
 use Rattle.labels_batches.specs.Answers.{answered, tagged_as}
@@ -42,7 +44,7 @@ bare_with false true m l e = absurd (let f : false ≡ true = e in cc)
 bare_with true tags m l e = absurd (let f : false ≡ true = e in cc)
 
 pub bare_spelled : (caps : Caps) (m : ℤ) (l : Out) → is_bare caps l ≡ true → octets l ≡ spelled_line caps m (tagged_as None l)
-bare_spelled caps m l e = bare_with caps.server_time (caps.message_tags && not (length l.tags == 0)) m l e ∙ sym (as_taken caps m l)
+bare_spelled caps m l e = bare_with (is_on caps ServerTime) (is_on caps MessageTags && not (length l.tags == 0)) m l e ∙ sym (as_taken caps m l)
 
 -- an answer of one line
 pub sole_rendered : (caps : Caps) (m : ℤ) (server : List ℕ) (label : Option (List ℕ)) (n : ℕ) (l : Out) → spelled_line caps m (tagged_as (label_mark label) l) ≡ rendered caps m (answered server label n (l ∷ []) [])

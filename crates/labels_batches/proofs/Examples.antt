@@ -10,8 +10,9 @@ use Rattle.message_tags.specs.Tags.{counting_tags, key_shape, last_value}
 use Rattle.numerics.specs.declared.outgoing.Out.{Out}
 use Rattle.numerics.specs.CivilTime.{time_text, civil_date, falls_in}
 use Rattle.numerics.specs.Outgoing.{line, octets}
+use Rattle.registration.specs.declared.caps.Cap.TheVariants.{Batch, LabeledResponse, MessageTags, ServerTime}
 use Rattle.registration.specs.declared.caps.Caps.{Caps}
-use Rattle.registration.specs.Caps.{none_on}
+use Rattle.registration.specs.Caps.{none_on, turned}
 use Rattle.labels_batches.specs.Labels.{label_of}
 use Rattle.labels_batches.specs.Answers.{answered}
 use Rattle.labels_batches.specs.Rendered.{rendered, spelled_line}
@@ -23,7 +24,7 @@ abbrev crlf : List ℕ
 crlf = 13 ∷ 10 ∷ []
 
 abbrev on : Caps
-on = record none_on { batch = true; labeled_response = true }
+on = turned (turned none_on Batch true) LabeledResponse true
 
 abbrev pong : Out
 pong = line server (codes "PONG") (server ∷ codes "x" ∷ []) false
@@ -53,8 +54,8 @@ to_oneself = refl
 
 -- the label, the moment, and the tags of another client, each for who takes it
 all_tags :
-    (rendered (record on { server_time = true; message_tags = true }) (pos 0) (answered server (Some (codes "7")) 4 (hi (codes "+k=v") ∷ []) []) ≡ codes "@label=7;time=1970-01-01T00:00:00.000Z;+k=v :al!a@h1 PRIVMSG al :hi" ++ crlf)
-    × (rendered (record none_on { message_tags = true }) (pos 0) (answered server None 4 (hi (codes "+k=v") ∷ []) []) ≡ codes "@+k=v :al!a@h1 PRIVMSG al :hi" ++ crlf)
+    (rendered (turned (turned on ServerTime true) MessageTags true) (pos 0) (answered server (Some (codes "7")) 4 (hi (codes "+k=v") ∷ []) []) ≡ codes "@label=7;time=1970-01-01T00:00:00.000Z;+k=v :al!a@h1 PRIVMSG al :hi" ++ crlf)
+    × (rendered (turned none_on MessageTags true) (pos 0) (answered server None 4 (hi (codes "+k=v") ∷ []) []) ≡ codes "@+k=v :al!a@h1 PRIVMSG al :hi" ++ crlf)
     × (rendered none_on (pos 0) (answered server None 4 (hi (codes "+k=v") ∷ []) []) ≡ codes ":al!a@h1 PRIVMSG al :hi" ++ crlf)
 unfolding spelled_line octets untagged time_text civil_date falls_in
 all_tags = (refl, refl, refl)
@@ -66,7 +67,7 @@ labels :
     × (label_of on (Line (codes "@label= PING x")) ≡ None)
     × (label_of on (Line (codes "@label=" ++ replicate 64 108 ++ codes " PING x")) ≡ Some (replicate 64 108))
     × (label_of on (Line (codes "@label=" ++ replicate 65 108 ++ codes " PING x")) ≡ None)
-    × (label_of (record on { batch = false }) (Line (codes "@label=7 PING x")) ≡ None)
+    × (label_of (turned on Batch false) (Line (codes "@label=7 PING x")) ≡ None)
     × (label_of on (Line (codes "@label=7 P-")) ≡ None)
     × (label_of on TooLong ≡ None)
 unfolding reading parameters with_command counting_tags key_shape last_value is_utf8 chars encode

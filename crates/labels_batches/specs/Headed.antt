@@ -2,7 +2,9 @@
 use Rattle.std.specs.Prelude.{ℕ, Bool, List, [], ◌∷◌, ◌++◌, map, not, ◌&&◌, ◌==◌, length, Option, Some, None}
 use Rattle.numerics.specs.declared.outgoing.Out.{Out}
 use Rattle.numerics.specs.Outgoing.{octets}
+use Rattle.registration.specs.declared.caps.Cap.TheVariants.{MessageTags, ServerTime}
 use Rattle.registration.specs.declared.caps.Caps.{Caps}
+use Rattle.registration.specs.Caps.{is_on}
 use Rattle.labels_batches.specs.declared.answers.AnswerTag.{AnswerTag}
 use Rattle.labels_batches.specs.declared.answers.AnswerTag.TheVariants.{Label, Batch}
 use Rattle.labels_batches.specs.declared.answers.Tagged.{Tagged}
@@ -20,7 +22,7 @@ batched_as server tag n ls =
 
 -- whether a line without a label goes out without tags
 abbrev pub is_bare : Caps → Out → Bool
-is_bare caps l = not caps.server_time && not (caps.message_tags && not (length l.tags == 0))
+is_bare caps l = not (is_on caps ServerTime) && not (is_on caps MessageTags && not (length l.tags == 0))
 
 -- the tag of an answer of one line
 abbrev pub label_mark : Option (List ℕ) → Option AnswerTag

@@ -5,7 +5,9 @@ use Rattle.line_grammar.specs.declared.splitter.Piece.{Piece}
 use Rattle.line_grammar.specs.declared.splitter.Piece.TheVariants.{Line, TooLong}
 use Rattle.line_grammar.specs.Reading.{reading}
 use Rattle.message_tags.specs.Tags.{tag}
+use Rattle.registration.specs.declared.caps.Cap.TheVariants.{Batch, LabeledResponse}
 use Rattle.registration.specs.declared.caps.Caps.{Caps}
+use Rattle.registration.specs.Caps.{is_on}
 
 -- of 1 to 64 octets
 abbrev pub is_label : List ℕ → Bool
@@ -27,7 +29,7 @@ piece_label (Line line) = message_label (reading line)
 
 -- labels count where both capabilities are on
 abbrev pub takes_labels : Caps → Bool
-takes_labels caps = caps.labeled_response && caps.batch
+takes_labels caps = is_on caps LabeledResponse && is_on caps Batch
 
 abbrev pub label_of : Caps → Piece → Option (List ℕ)
 label_of caps piece = if takes_labels caps then piece_label piece else None

@@ -4,7 +4,9 @@ use Rattle.std.specs.List.{flat_map}
 use Rattle.message_tags.specs.Value.{escaped}
 use Rattle.numerics.specs.CivilTime.{time_text}
 use Rattle.numerics.specs.Outgoing.{octets}
+use Rattle.registration.specs.declared.caps.Cap.TheVariants.{MessageTags, ServerTime}
 use Rattle.registration.specs.declared.caps.Caps.{Caps}
+use Rattle.registration.specs.Caps.{is_on}
 use Rattle.labels_batches.specs.declared.answers.AnswerTag.{AnswerTag}
 use Rattle.labels_batches.specs.declared.answers.AnswerTag.TheVariants.{Label, Batch}
 use Rattle.labels_batches.specs.declared.answers.Tagged.{Tagged}
@@ -24,11 +26,11 @@ answered_tag (Some tag) = with_tag [] (tag_text tag)
 
 -- then the moment of the record, for who takes it
 abbrev pub timed : Caps → ℤ → List ℕ → List ℕ
-timed caps m block = if caps.server_time then with_tag block (codes "time=" ++ time_text m) else block
+timed caps m block = if is_on caps ServerTime then with_tag block (codes "time=" ++ time_text m) else block
 
 -- then the tags of another client, for who takes them
 abbrev pub relayed_tags : Caps → List ℕ → List ℕ → List ℕ
-relayed_tags caps tags block = if caps.message_tags && not (length tags == 0) then with_tag block tags else block
+relayed_tags caps tags block = if is_on caps MessageTags && not (length tags == 0) then with_tag block tags else block
 
 abbrev pub tag_block : Caps → ℤ → Tagged → List ℕ
 tag_block caps m t = relayed_tags caps t.line.tags (timed caps m (answered_tag t.tag))

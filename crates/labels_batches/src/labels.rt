@@ -7,7 +7,7 @@ ghost use Rattle.labels_batches.specs.Labels.{as_label, is_label, label_of, mess
 
 use line_grammar::{Octets, Piece, tag_data};
 use message_tags::{last_raw_value, unescape, unescaped_len};
-use registration::Caps;
+use registration::{Cap, Caps};
 use std::alloc::{AllocError, Global};
 
 /// The most octets of a label.
@@ -17,7 +17,7 @@ const LABELLEN: usize = 64;
 fn takes_labels(caps: Caps) -> bool
     ensures { result ≡ takes_labels caps }
 {
-    caps.labeled_response && caps.batch
+    caps.contains(Cap::LabeledResponse) && caps.contains(Cap::Batch)
 }
 
 /// Whether what a value means, as it stands in a line, is a label.

@@ -9,7 +9,7 @@ use chronicle::{Moment, RecordNumber};
 use line_grammar::Octets;
 use message_tags::push_escaped;
 use numerics::{TimeFault, time_text};
-use registration::Caps;
+use registration::{Cap, Caps};
 use std::alloc::{AllocError, Global};
 
 /// Adds a tag.
@@ -98,7 +98,7 @@ fn push_time(
     requires to_9998 { moment ≤ℤ pos 253370764799999 }
     ensures { OnOk result (block.new ≡ timed caps moment block.old) }
 {
-    if !caps.server_time {
+    if !caps.contains(Cap::ServerTime) {
         return Ok(());
     }
     push_moment(alloc, block, moment)
@@ -108,7 +108,7 @@ fn push_time(
 pub(crate) fn push_relayed(block: &mut Octets, caps: Caps, tags: &[u8]) -> Result<(), AllocError>
     ensures { OnOk result (block.new ≡ relayed_tags caps tags.now block.old) }
 {
-    if !caps.message_tags || tags.is_empty() {
+    if !caps.contains(Cap::MessageTags) || tags.is_empty() {
         return Ok(());
     }
     push_tag(block, tags)

@@ -1,6 +1,8 @@
 //! A line that is no part of an answer, for receivers of any capabilities.
 ghost use Rattle.std.specs.Prelude.{◌≡◌, ◌≤ℤ◌, ◌++◌, ◌&&◌, ◌==◌, length, not, pos, IfOk, IfSome, OnOk};
 ghost use Rattle.numerics.specs.Outgoing.{octets};
+ghost use Rattle.registration.specs.declared.caps.Cap.TheVariants.{MessageTags};
+ghost use Rattle.registration.specs.Caps.{is_on};
 ghost use Rattle.labels_batches.specs.Spellings.{spelled_for, spelled_with};
 
 use crate::Text;
@@ -9,7 +11,7 @@ use chronicle::Moment;
 use ghosts::Snapshot;
 use line_grammar::Octets;
 use numerics::Line;
-use registration::Caps;
+use registration::{Cap, Caps};
 use std::alloc::{AllocError, Global};
 use std::marker::Model;
 
@@ -27,9 +29,9 @@ impl Untagged {
     /// Whether a receiver of these capabilities takes tags of its client.
     fn has_tags_for(&self, caps: Caps) -> bool
         requires { self.now.tags ≡ self.now.line.value.tags }
-        ensures { result ≡ (caps.message_tags && not (length self.now.line.value.tags == 0)) }
+        ensures { result ≡ (is_on caps MessageTags && not (length self.now.line.value.tags == 0)) }
     {
-        caps.message_tags && !self.tags.is_empty()
+        caps.contains(Cap::MessageTags) && !self.tags.is_empty()
     }
 
     /// The line with its moment or without, and with its tags or without.
@@ -141,6 +143,6 @@ impl Spellings {
         ensures text { IfOk result (λ t. t ≡ spelled_for caps self.old.moment self.old.line) }
     {
         let tags = self.untagged.has_tags_for(caps);
-        self.text_with(caps.server_time, tags)
+        self.text_with(caps.contains(Cap::ServerTime), tags)
     }
 }

@@ -11,7 +11,7 @@ use crate::rendering::{MORE_TAGS, end, head_of, push_relayed};
 use chronicle::{Moment, RecordNumber};
 use line_grammar::Octets;
 use numerics::Line;
-use registration::Caps;
+use registration::{Cap, Caps};
 use std::alloc::{AllocError, Global};
 use std::slice;
 
@@ -26,7 +26,7 @@ pub struct Receiver {
 fn push_tags(text: &mut Vec<u8>, head: &[u8], caps: Caps, tags: &[u8]) -> Result<(), AllocError>
     ensures { OnOk result (text.new.items ≡ text.old.items ++ ended (relayed_tags caps tags.now head.now)) }
 {
-    if caps.message_tags && !tags.is_empty() {
+    if caps.contains(Cap::MessageTags) && !tags.is_empty() {
         text.extend_from_slice(head)?;
         text.extend_from_slice(if head.is_empty() { b"@" } else { b";" })?;
         text.extend_from_slice(tags)?;
@@ -192,7 +192,7 @@ fn push_answer(
 fn is_bare(caps: Caps, line: &Line) -> bool
     ensures { result ≡ is_bare caps line.now }
 {
-    !caps.server_time && !(caps.message_tags && !line.tags().is_empty())
+    !caps.contains(Cap::ServerTime) && !(caps.contains(Cap::MessageTags) && !line.tags().is_empty())
 }
 
 /// A line with its tags.

@@ -23,6 +23,7 @@ pub(crate) enum Act {
     Take(u64),
     Hang(u64, u64, Why),
     Sweep(u64),
+    Tick(u64),
     Reap(u64),
 }
 
@@ -41,6 +42,7 @@ pub(crate) enum Told {
     Empty,
     Hung(u64),
     Swept(Option<u64>),
+    Ticked(Option<u64>),
     Left(u64),
     Refused(StepRefusal),
 }
@@ -111,6 +113,10 @@ pub(crate) fn plain_event(act: Act, moment: Moment) -> Event
             worker: WorkerId::new(worker),
             moment,
         },
+        Act::Tick(worker) => Event::Tick {
+            worker: WorkerId::new(worker),
+            moment,
+        },
         _ => session_event(act),
     }
 }
@@ -150,6 +156,8 @@ pub(crate) fn brief(answer: &Result<Note, StepRefusal>) -> Told {
         Ok(Note::Hung(hung)) => Told::Hung(hung.number.number()),
         Ok(Note::Swept(None)) => Told::Swept(None),
         Ok(Note::Swept(Some(number))) => Told::Swept(Some(number.number())),
+        Ok(Note::Ticked(None)) => Told::Ticked(None),
+        Ok(Note::Ticked(Some(number))) => Told::Ticked(Some(number.number())),
         Ok(Note::Left(count)) => Told::Left(*count),
         Err(refusal) => Told::Refused(*refusal),
     }

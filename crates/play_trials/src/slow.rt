@@ -1,7 +1,7 @@
 //! What the records of a book say of its sessions, by a plain list of them that is searched from its
 //! beginning. It is made anew from the first record each time, and shares no code with the book's tables.
 use book::{Book, Ring};
-use chronicle::{Kind, Record, RecordNumber, SessionId};
+use chronicle::{Kind, Moment, Record, RecordNumber, SessionId};
 use interleave::Piece;
 
 /// What a line asks for. Nicknames and channels are told by their places, so those that differ by case are one.
@@ -62,11 +62,18 @@ enum Rank {
     Operator,
 }
 
-/// A session: whether it is open, its nickname by place and spelling, whether a USER was accepted, and its ranks on
-/// `#a` and `#b`.
+/// Milliseconds of silence after which a session is pinged, and after which it is ended.
+const PING_AFTER: i64 = 120_000;
+
+const LATE_AFTER: i64 = 240_000;
+
+/// A session: whether it is open, when it was last heard of, whether it was pinged since, its nickname by place and spelling, whether a
+/// USER was accepted, and its ranks on `#a` and `#b`.
 #[derive(Clone, Copy)]
 struct Person {
     is_open: bool,
+    heard: i64,
+    is_pinged: bool,
     nick: Option<(usize, &'static str)>,
     has_user: bool,
     ranks: [Rank; 2],
@@ -75,6 +82,8 @@ struct Person {
 /// A session that didn't come yet, or is gone.
 const NOBODY: Person = Person {
     is_open: false,
+    heard: 0,
+    is_pinged: false,
     nick: None,
     has_user: false,
     ranks: [Rank::Outside; 2],
@@ -101,10 +110,11 @@ pub(crate) enum Met {
     Shut,
     Missed,
     Gone,
+    Pinged,
 }
 
 /// How many kinds of these there are.
-pub(crate) const KINDS: usize = 10;
+pub(crate) const KINDS: usize = 11;
 
 /// All sessions, that of the number 1 first, and how often each kind was met.
 #[derive(Clone, Copy)]
@@ -232,6 +242,37 @@ impl People {
         self.set(place, person);
     }
 
+    /// A session is heard of at a moment.
+    fn hear(&mut self, place: usize, moment: Moment) {
+        let person = Person {
+            heard: moment.milliseconds(),
+            is_pinged: false,
+            ..self.at(place)
+        };
+        self.set(place, person);
+    }
+
+    /// Whether a session is open and was silent for so long.
+    fn is_silent(&self, place: usize, span: i64, moment: Moment) -> bool {
+        let person = self.at(place);
+        person.is_open && span <= moment.milliseconds().saturating_sub(person.heard)
+    }
+
+    /// Each silent session is pinged that wasn't since it was heard of.
+    fn ping(&mut self, moment: Moment) {
+        for place in 0..MOST {
+            let person = self.at(place);
+            if self.is_silent(place, PING_AFTER, moment) && !person.is_pinged {
+                let person = Person {
+                    is_pinged: true,
+                    ..person
+                };
+                self.set(place, person);
+                self.meet(Met::Pinged);
+            }
+        }
+    }
+
     fn shut(&mut self, place: usize, kind: Met) {
         self.set_open(place, false);
         self.meet(kind);
@@ -258,8 +299,15 @@ impl People {
     /// What a record says, and who missed it.
     fn read(&mut self, record: &Record) {
         match &record.kind {
-            Kind::Opened { session, .. } => self.set_open(place_of(*session), true),
-            Kind::Said { session, piece, .. } => self.obey(place_of(*session), wish_of(piece)),
+            Kind::Opened { session, .. } => {
+                self.set_open(place_of(*session), true);
+                self.hear(place_of(*session), record.moment);
+            }
+            Kind::Said { session, piece, .. } => {
+                self.obey(place_of(*session), wish_of(piece));
+                self.hear(place_of(*session), record.moment);
+            }
+            Kind::Ticked => self.ping(record.moment),
             Kind::Hung { session, .. } => self.shut(place_of(*session), Met::Shut),
             Kind::Gone { session } => {
                 self.set(place_of(*session), NOBODY);
@@ -303,4 +351,14 @@ pub(crate) fn slow_nick(people: &People, session: SessionId) -> Option<&'static 
 /// Whether a session is on a channel.
 pub(crate) fn slow_on(people: &People, session: SessionId, channel: usize) -> bool {
     people.rank(place_of(session), channel) != Rank::Outside
+}
+
+/// The first open session that is silent for too long at a moment.
+pub(crate) fn slow_late(people: &People, moment: Moment) -> Option<SessionId> {
+    for place in 0..MOST {
+        if people.is_silent(place, LATE_AFTER, moment) {
+            return Some(SessionId::new((place as u64).saturating_add(1)));
+        }
+    }
+    None
 }

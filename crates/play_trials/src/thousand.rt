@@ -1,9 +1,9 @@
-//! A thousand steps from a fixed list of numbers. After each the book says of its sessions and of its last moment
-//! what a walk over its records says.
+//! A thousand steps from a fixed list of numbers. After each the book says of its sessions, of its last moment and of who is late what
+//! a walk over its records says.
 use crate::acts::{Act, Told, take_step};
 use crate::again::copied;
 use crate::plays::{SESSIONS, Story, tell_story};
-use crate::slow::{KINDS, LINES, People, read_back, slow_nick, slow_on, slow_open};
+use crate::slow::{KINDS, LINES, People, read_back, slow_late, slow_nick, slow_on, slow_open};
 use book::{Book, Ring};
 use chronicle::{Moment, RecordNumber};
 use interleave::{Naming, Octets, Play, SessionId, Why};
@@ -26,12 +26,16 @@ struct Slot {
     said: u64,
 }
 
-/// The sessions that aren't reaped, how many came, and how many steps were taken.
+/// Milliseconds from one step to the next.
+const APART: i64 = 3000;
+
+/// The sessions that aren't reaped, how many came, at which moment the next step is, and whether somebody was late.
 #[derive(Clone, Copy)]
 struct Here {
     slots: [Slot; SESSIONS],
     came: u64,
-    steps: i64,
+    moment: i64,
+    has_late: bool,
 }
 
 /// The next number of a linear congruential sequence.
@@ -43,7 +47,7 @@ fn after(number: u64) -> u64 {
 
 /// Keeps who came and who was reaped.
 fn note(here: &mut Here, act: Act, told: Told) {
-    here.steps = here.steps.saturating_add(1);
+    here.moment = here.moment.saturating_add(APART);
     let (from, to) = match (act, told) {
         (_, Told::Session(session)) => (0, session),
         (Act::Reap(session), Told::Left(_)) => (session, 0),
@@ -93,6 +97,22 @@ fn ends(session: u64, other: u64) -> [Act; STEPS] {
     ]
 }
 
+/// Who is silent is pinged, and two sessions take an item.
+fn ticks(session: u64, other: u64) -> [Act; STEPS] {
+    [
+        Act::Tick(1),
+        Act::Put(1),
+        Act::Put(1),
+        Act::Put(1),
+        Act::Put(1),
+        Act::End(1),
+        Act::Take(session),
+        Act::Take(other),
+        Act::Take(session),
+        Act::Take(other),
+    ]
+}
+
 /// The line that a number says. A session registers and joins a channel first.
 fn line_of(draw: u64, said: u64) -> &'static str {
     let place = match said {
@@ -113,6 +133,9 @@ fn turn(number: u64, here: &mut Here) -> [Act; STEPS] {
     let slot = &mut here.slots[(draw % 4) as usize];
     if is_early || draw / 16 % 10 == 0 {
         return ends(slot.session, other);
+    }
+    if draw / 16 % 10 < 3 {
+        return ticks(slot.session, other);
     }
     let text = line_of(draw, slot.said);
     slot.said = slot.said.saturating_add(1);
@@ -140,8 +163,23 @@ fn compare_session(
     }
 }
 
-/// Compares what a book says of each session that came, and of its last moment.
-fn compare(rt: &impl Abort, book: &Book<Ring>, came: u64, channels: &[Octets]) {
+/// Compares who is late a while after the newest record, and answers whether somebody is.
+fn compare_late<L: Naming>(rt: &impl Abort, play: &Play<L>, people: &People, ahead: i64) -> bool {
+    let moment = Moment::new(
+        play.book()
+            .last_moment()
+            .milliseconds()
+            .saturating_add(ahead),
+    );
+    let late = slow_late(people, moment);
+    assert!(rt; play.late(moment) == late, "late {ahead} after");
+    late.is_some()
+}
+
+/// Compares what a book says of each session that came, of its last moment, and of who is late then and two minutes later. It answers
+/// whether somebody is late at that moment.
+fn compare<L: Naming>(rt: &impl Abort, play: &Play<L>, came: u64, channels: &[Octets]) -> bool {
+    let book = play.book();
     let people = read_back(book);
     for session in 0..=came {
         compare_session(rt, book, &people, session, channels);
@@ -151,6 +189,8 @@ fn compare(rt: &impl Abort, book: &Book<Ring>, came: u64, channels: &[Octets]) {
         None => Moment::new(0),
     };
     assert!(rt; book.last_moment() == last);
+    let _ = compare_late(rt, play, &people, 120_000);
+    compare_late(rt, play, &people, 0)
 }
 
 /// Takes the steps of a turn.
@@ -163,9 +203,11 @@ fn take_turn<L: Naming>(
     channels: &[Octets],
 ) -> Result<(), AllocError> {
     for act in &acts {
-        let told = take_step(rt, alloc, play, *act, here.steps)?;
+        let told = take_step(rt, alloc, play, *act, here.moment)?;
         note(here, *act, told);
-        compare(rt, play.book(), here.came, channels);
+        if compare(rt, play, here.came, channels) {
+            here.has_late = true;
+        }
     }
     Ok(())
 }
@@ -183,7 +225,8 @@ fn take_turns<L: Naming>(
             said: 0,
         }; SESSIONS],
         came: 0,
-        steps: 0,
+        moment: 0,
+        has_late: false,
     };
     let mut number = FIRST;
     for _ in 0..TURNS {
@@ -191,6 +234,7 @@ fn take_turns<L: Naming>(
         let acts = turn(number, &mut here);
         take_turn(rt, alloc, play, &mut here, acts, channels)?;
     }
+    assert!(rt; here.has_late);
     Ok(())
 }
 

@@ -1,27 +1,29 @@
 -- What JOIN, PART, KICK, INVITE, TOPIC and MODE show, and to whom.
-use Rattle.std.proofs.Common.{◌≡◌, ℕ, Bool, true, false, not, ◌&&◌, ◌==◌, nat_le, List, [], ◌∷◌, ◌++◌, codes, is_some, length, slice_get, Option, Some, None, refl}
+use Rattle.std.proofs.Common.{◌≡◌, ℕ, Bool, true, false, not, ◌&&◌, ◌==◌, nat_le, List, [], ◌∷◌, ◌++◌, codes, filter, is_some, length, slice_get, Option, Some, None, refl}
 use Rattle.std.specs.Bool.{if◌then◌else◌}
 use Rattle.std.specs.List.{list_any}
 use Rattle.casemapping.specs.Names.{channel_shape}
 use Rattle.channel_state.specs.declared.change.Change.TheVariants.{Joined, Left, Invited, TopicSet}
-use Rattle.channel_state.specs.State.{State, among, changed, made_by}
+use Rattle.channel_state.specs.State.{State, among, changed, made_by, without}
 use Rattle.command_params.specs.declared.join_targets.JoinTarget.{JoinTarget}
 use Rattle.numerics.specs.declared.numeric.Numeric.TheVariants.{Away, ChanOPrivsNeeded, Inviting, NoSuchChannel, NoSuchNick, NotOnChannel, NoTopic, TooManyChannels, TooManyTargets, Topic, UModeIs, UModeUnknownFlag, UserNotInChannel, UserOnChannel, UsersDontMatch}
 use Rattle.numerics.specs.declared.outgoing.Out.{Out}
+use Rattle.registration.specs.declared.caps.Cap.TheVariants.{AwayNotify}
 use Rattle.registration.specs.declared.settings.Settings.{Settings}
 use Rattle.roster.specs.declared.deed.Deed.{Deed}
 use Rattle.roster.specs.declared.deed.Deed.TheVariants.{ChannelMade, Changed, InvisibleSet}
-use Rattle.roster.specs.LookBack.{after, away, channel_count, found, invisible, nick}
+use Rattle.roster.specs.LookBack.{account, after, away, channel_count, found, invisible, nick, real}
 use Rattle.drafts.specs.declared.denials.Denial.{Denial}
 use Rattle.drafts.specs.declared.effect.Effect.TheVariants.{Establish, Answer, Show}
 use Rattle.drafts.specs.Denials.{denied}
 use Rattle.drafts.specs.Effects.{deeds_of}
-use Rattle.drafts.specs.Lines.{join_line, prefix, title}
+use Rattle.drafts.specs.Hearers.{shown, takes}
+use Rattle.drafts.specs.Lines.{away_line, extended_join_line, join_line, prefix, title}
 use Rattle.drafts.specs.Replies.{tells, tells_all}
 use Rattle.drafts.specs.Seen.{Seen, seen}
 use Rattle.channel_commands.specs.Found.{channel_of, user_of}
 use Rattle.channel_commands.specs.Inviting.{away_told, invites, invites_found, invites_seen, invites_user}
-use Rattle.channel_commands.specs.Joining.{bar_of, entered, enters, enters_unless, joins, joins_one, joins_seen, makes, welcomed}
+use Rattle.channel_commands.specs.Joining.{absence_shown, bar_of, entered, enters, enters_unless, introduced, join_shown, joins, joins_one, joins_seen, makes, takes_extended, takes_plain, welcomed}
 use Rattle.channel_commands.specs.Leaving.{kick_text, kicks, kicks_each, kicks_found, kicks_one, kicks_seen, kicks_user, leaves, parts, parts_one, parts_seen}
 use Rattle.channel_commands.specs.Lines.{invite_line, kick_line, part_line, topic_line}
 use Rattle.channel_commands.specs.Topics.{sets_topic, topic_of, topic_served, topic_shown, topic_text, topics, topics_seen}
@@ -36,13 +38,34 @@ use Rattle.mode_commands.specs.Modes.{modes, names_channel, of_channel, of_user}
 use Rattle.mode_commands.specs.Steps.{agree, all_shown, steps}
 use Rattle.mode_commands.specs.UserModes.{hides, invisible_after, is_known, modes_text, own_modes, takes_own, tells_unknown}
 use Rattle.record_laws.specs.Laws.{IsEachOnce}
-use Rattle.record_laws.proofs.Times.{once-changed, once-one}
-use Rattle.record_laws.proofs.Fits.{Fit, SeenOnce, either, found_once, in_turn, in_turn_counted, is_batch, joined, more, none, only, seen_once, told, told_all, told_only}
+use Rattle.record_laws.proofs.Times.{once-changed, once-filter, once-one, once-without}
+use Rattle.record_laws.proofs.Fits.{Fit, SeenOnce, either, found_once, in_turn, in_turn_counted, is_batch, joined, more, none, only, seen_once, some_shown, told, told_all, told_only}
 
 -- ---- JOIN
 
+arrival : (fs : List Deed) (s : ℕ) (from : List ℕ) (k : Seen) → IsEachOnce k.state.members → Fit (introduced fs s from k)
+unfolding introduced
+arrival fs s from k once = joined (join_shown fs s from k) (absence_shown fs s from k (away fs s)) both (absence (away fs s))
+  where
+    members : (p : ℕ → Bool) → IsEachOnce (filter p k.state.members)
+    members p = once-filter p k.state.members once
+
+    some : (p : ℕ → Bool) (l : Out) → is_batch l ≡ false → Fit (shown (filter p k.state.members) l)
+    some p l plain = some_shown (filter p k.state.members) l (members p) plain
+
+    both : Fit (join_shown fs s from k)
+    both =
+        let plain = join_line from k.name in let extended = extended_join_line from k.name (account fs s) (real fs s) in
+        joined (shown (filter (takes_plain fs) k.state.members) plain) (shown (filter (takes_extended fs) k.state.members) extended) (some (takes_plain fs) plain refl) (some (takes_extended fs) extended refl)
+
+    absence : (text : Option (List ℕ)) → Fit (absence_shown fs s from k text)
+    absence None = none
+    absence (Some text) =
+        let takers = filter (takes fs AwayNotify) k.state.members in some_shown (without s takers) (away_line from (Some text)) (once-without s takers (members (takes fs AwayNotify))) refl
+
 entry : (g : Settings) (fs0 fs : List Deed) (s : ℕ) (from : List ℕ) (k : Seen) → IsEachOnce k.state.members → Fit (entered g fs0 fs s from k)
-entry g fs0 fs s from k once = more (Show k.state.members (join_line from k.name)) (tells_all g fs s (welcomed g fs0 s k)) (once, refl) (told_all g fs s (welcomed g fs0 s k))
+unfolding entered
+entry g fs0 fs s from k once = joined (introduced fs0 s from k) (tells_all g fs s (welcomed g fs0 s k)) (arrival fs0 s from k once) (told_all g fs s (welcomed g fs0 s k))
 
 making : (g : Settings) (fs0 fs : List Deed) (s : ℕ) (from c : List ℕ) → Fit (makes g fs0 fs s from c)
 making g fs0 fs s from c =

@@ -1,5 +1,5 @@
 -- What every effect keeps: its line is no BATCH, its hearers stand once each, and it opens no session.
-use Rattle.std.proofs.Common.{◌≡◌, ℕ, ◌+◌, Bool, true, false, cond, List, [], ◌∷◌, ◌++◌, codes, length, map, Option, Some, None, refl}
+use Rattle.std.proofs.Common.{◌≡◌, ℕ, ◌+◌, ◌==◌, Bool, true, false, cond, List, [], ◌∷◌, ◌++◌, codes, length, map, Option, Some, None, refl}
 use Rattle.std.specs.Bool.{if◌then◌else◌}
 use Rattle.std.specs.List.{flat_map}
 use Rattle.std.specs.Str.{bytes_eq}
@@ -14,6 +14,7 @@ use Rattle.roster.specs.LookBack.{after, has_member, name, nick, state}
 use Rattle.drafts.specs.declared.effect.Effect.{Effect}
 use Rattle.drafts.specs.declared.effect.Effect.TheVariants.{Establish, Answer, Show, Copy}
 use Rattle.drafts.specs.Effects.{deeds_of}
+use Rattle.drafts.specs.Hearers.{shown}
 use Rattle.drafts.specs.Lines.{title}
 use Rattle.drafts.specs.Replies.{tells, tells_all}
 use Rattle.drafts.specs.Seen.{Seen, seen}
@@ -58,6 +59,10 @@ joined (x ∷ xs) ys f g = more x (xs ++ ys) f.all.0 (joined xs ys (record { all
 pub either : (b : Bool) (xs ys : List Effect) → Fit xs → Fit ys → Fit (if b then xs else ys)
 either true xs ys f g = f
 either false xs ys f g = g
+
+pub some_shown : (hearers : List ℕ) (l : Out) → IsEachOnce hearers → is_batch l ≡ false → Fit (shown hearers l)
+unfolding shown
+some_shown hearers l once p = either (length hearers == 0) [] (Show hearers l ∷ []) none (only (Show hearers l) (once, p))
 
 pub of_all : {A : Type 0} (f : A → List Effect) → ((x : A) → Fit (f x)) → (xs : List A) → Fit (flat_map f xs)
 of_all f fits [] = none

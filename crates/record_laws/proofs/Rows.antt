@@ -63,18 +63,18 @@ of_channel g fs s (channel.Kick channel nicks text) = kicking g fs s channel nic
 of_channel g fs s (channel.Invite nick channel) = inviting g fs s nick channel
 of_channel g fs s (channel.Topic channel text) = topic g fs s channel text
 
-of_talk : (g : Settings) (fs : List Deed) (s : ℕ) (k : TalkCommand) → Fit (serves_talk g fs s k)
-of_talk g fs s (talk.Privmsg targets text tags) = sent g fs s (record { verb = verb.Privmsg; text = Some text; tags = tags }) targets
-of_talk g fs s (talk.Notice targets text tags) = sent g fs s (record { verb = verb.Notice; text = Some text; tags = tags }) targets
-of_talk g fs s (talk.Tagmsg targets tags) = sent g fs s (record { verb = verb.Tagmsg; text = None; tags = tags }) targets
-of_talk g fs s (talk.Away text) = gone_away g fs s text
+of_talk : (g : Settings) (fs : List Deed) (s : ℕ) (k : TalkCommand) → IsEachOnce (opened fs) → Fit (serves_talk g fs s k)
+of_talk g fs s (talk.Privmsg targets text tags) once = sent g fs s (record { verb = verb.Privmsg; text = Some text; tags = tags }) targets
+of_talk g fs s (talk.Notice targets text tags) once = sent g fs s (record { verb = verb.Notice; text = Some text; tags = tags }) targets
+of_talk g fs s (talk.Tagmsg targets tags) once = sent g fs s (record { verb = verb.Tagmsg; text = None; tags = tags }) targets
+of_talk g fs s (talk.Away text) once = gone_away g fs s text once
 
 -- a query does nothing but tell, whatever it tells
 serving : (g : Settings) (fs : List Deed) (s : ℕ) (k : Command) → IsEachOnce (opened fs) → Fit (served g fs s k)
 serving g fs s (Session k) once = of_session g fs s k once
 serving g fs s (Channel k) once = of_channel g fs s k
 serving g fs s (Mode k) once = moding g fs s k.target k.changes
-serving g fs s (Talk k) once = of_talk g fs s k
+serving g fs s (Talk k) once = of_talk g fs s k once
 serving g fs s (Query k) once = told_all g fs s (query_told g fs s k)
 
 turning_away : (g : Settings) (fs : List Deed) (s : ℕ) (k : Command) → Fit (turned_away g fs s k)
@@ -116,6 +116,7 @@ hearers-once g fs (kind.Opened s host) once = All-cons ShowsOnce (Establish (dee
 hearers-once g fs (kind.Said s i piece) once = all_show_once (of_asked g fs s (asked_of piece)) (of_any g fs s (asked_of piece) once).all
 hearers-once g fs (kind.Hung s why) once = all_show_once (Establish (deed.Ended s why []) ∷ []) (refl, tt)
 hearers-once g fs (kind.Gone s) once = all_show_once (departs fs s) (departing fs s once).all
+hearers-once g fs kind.Ticked once = all_show_once [] tt
 
 -- ---- no line is a BATCH
 
@@ -163,3 +164,4 @@ opens-no-others g fs (kind.Opened s host) once shut = absurd (let e : true ≡ f
 opens-no-others g fs (kind.Said s i piece) once shut = all_kept (of_asked g fs s (asked_of piece)) fs (of_any g fs s (asked_of piece) once).all
 opens-no-others g fs (kind.Hung s why) once shut = refl
 opens-no-others g fs (kind.Gone s) once shut = all_kept (departs fs s) fs (departing fs s once).all
+opens-no-others g fs kind.Ticked once shut = refl

@@ -45,6 +45,9 @@ times-filter_none p (x ∷ xs) s none = spread (p x) x s (filter p xs) ∙ gone 
 
 -- ---- lists with each once
 
+pub once-none : IsEachOnce []
+once-none t = lit≤ tt
+
 pub once-one : (s : ℕ) → IsEachOnce (s ∷ [])
 once-one s t = small (s == t)
   where
@@ -78,7 +81,7 @@ abbrev pub Once : State → Type 0
 Once k = IsEachOnce k.members
 
 once-nothing : Once nothing
-once-nothing t = lit≤ tt
+once-nothing = once-none
 
 pub once-changed : (x : Change) (k : State) → Once k → Once (changed x k)
 once-changed (change.Joined t) k once = once-with_last t k.members once

@@ -20,7 +20,7 @@ use Rattle.registration.specs.declared.enrol.SaslAnswer.TheVariants.{AlreadyLogg
 use Rattle.registration.specs.declared.enrol.UserAnswer.TheVariants.{Accepted, AlreadyTold}
 use Rattle.registration.specs.declared.sasl.Credentials.{Credentials}
 use Rattle.registration.specs.Accounts.{accounts_in, logged_in}
-use Rattle.registration.specs.Caps.{after_request, all_caps, cap_name, cap_named, list_of, none_on}
+use Rattle.registration.specs.Caps.{after_request, all_caps, cap_name, cap_named, list_of, none_on, turned}
 use Rattle.registration.specs.Enrol.{Enrolment, cap_answer, holds, is_ready, nick_answer, sasl_answer, user_answer}
 use Rattle.registration.specs.Parts.{is_same}
 use Rattle.registration.specs.Plain.{credentials_of}
@@ -40,7 +40,7 @@ names_are_read : (cap_named (codes "echo-message") ≡ Some EchoMessage) × (cap
 names_are_read = (refl, refl, refl, refl)
 
 abbrev batch_and_sasl : Caps
-batch_and_sasl = record none_on { batch = true; sasl = true }
+batch_and_sasl = turned (turned none_on Batch true) Sasl true
 
 requests : (after_request none_on (codes "sasl" ∷ codes "batch" ∷ []) ≡ Some batch_and_sasl) × (after_request batch_and_sasl (codes "-sasl" ∷ codes "sasl" ∷ []) ≡ Some batch_and_sasl) × (after_request batch_and_sasl (codes "-sasl" ∷ codes "-batch" ∷ []) ≡ Some none_on) × (after_request none_on (codes "sasl" ∷ codes "cap-notify" ∷ []) ≡ None) × (after_request none_on (codes "-" ∷ []) ≡ None) × (after_request none_on [] ≡ Some none_on)
 unfolding after_request

@@ -3,3 +3,4 @@ pub mod Same
 mod Examples
 pub mod Spelled
 pub mod AccountLines
+mod Known

@@ -1,14 +1,16 @@
--- Capabilities: IRCv3 Capability Negotiation. Those that are known are batch, echo-message, labeled-response, message-tags, sasl and server-time.
-use Rattle.std.specs.Prelude.{ℕ, Bool, true, false, ◌==◌, is_some, cond, List, [], ◌∷◌, fold, codes, Option, Some, None}
-use Rattle.std.specs.List.{find, filter, list_all}
+-- Capabilities: IRCv3 Capability Negotiation. Those that are known are away-notify, batch, echo-message, extended-join, labeled-response, message-tags, sasl and server-time.
+use Rattle.std.specs.Prelude.{◌≡◌, ℕ, Bool, true, false, ◌==◌, slice_index_or, slice_set, replicate, is_some, cond, List, [], ◌∷◌, length, fold, codes, Option, Some, None}
+use Rattle.std.specs.List.{find, filter, list_all, position_or_len}
 use Rattle.std.specs.Str.{bytes_eq}
 use Rattle.registration.specs.declared.caps.Cap.{Cap}
-use Rattle.registration.specs.declared.caps.Cap.TheVariants.{Batch, EchoMessage, LabeledResponse, MessageTags, Sasl, ServerTime}
+use Rattle.registration.specs.declared.caps.Cap.TheVariants.{AwayNotify, Batch, EchoMessage, ExtendedJoin, LabeledResponse, MessageTags, Sasl, ServerTime}
 use Rattle.registration.specs.declared.caps.Caps.{Caps}
 
 abbrev pub cap_name : Cap → List ℕ
+cap_name AwayNotify = codes "away-notify"
 cap_name Batch = codes "batch"
 cap_name EchoMessage = codes "echo-message"
+cap_name ExtendedJoin = codes "extended-join"
 cap_name LabeledResponse = codes "labeled-response"
 cap_name MessageTags = codes "message-tags"
 cap_name Sasl = codes "sasl"
@@ -16,32 +18,30 @@ cap_name ServerTime = codes "server-time"
 
 -- every capability, sorted by name
 abbrev pub all_caps : List Cap
-all_caps = Batch ∷ EchoMessage ∷ LabeledResponse ∷ MessageTags ∷ Sasl ∷ ServerTime ∷ []
+all_caps = AwayNotify ∷ Batch ∷ EchoMessage ∷ ExtendedJoin ∷ LabeledResponse ∷ MessageTags ∷ Sasl ∷ ServerTime ∷ []
 
 -- the capability of a name, if it is known
 abbrev pub cap_named : List ℕ → Option Cap
 cap_named name = find (λ known. bytes_eq name (cap_name known)) all_caps
 
+-- none is left out
+abbrev pub EachCapIsKnown : Type 0
+EachCapIsKnown = (cap : Cap) → cap_named (cap_name cap) ≡ Some cap
+
+-- the place of a capability among all
+abbrev pub place : Cap → ℕ
+place cap = position_or_len (λ other. bytes_eq (cap_name cap) (cap_name other)) all_caps
+
 abbrev pub none_on : Caps
-none_on = record { batch = false; echo_message = false; labeled_response = false; message_tags = false; sasl = false; server_time = false }
+none_on = record { on = replicate (length all_caps) false }
 
 -- whether a capability is on
 abbrev pub is_on : Caps → Cap → Bool
-is_on caps Batch = caps.batch
-is_on caps EchoMessage = caps.echo_message
-is_on caps LabeledResponse = caps.labeled_response
-is_on caps MessageTags = caps.message_tags
-is_on caps Sasl = caps.sasl
-is_on caps ServerTime = caps.server_time
+is_on caps cap = slice_index_or caps.on (place cap) false
 
 -- one capability turned on or off
 abbrev pub turned : Caps → Cap → Bool → Caps
-turned caps Batch on = record caps { batch = on }
-turned caps EchoMessage on = record caps { echo_message = on }
-turned caps LabeledResponse on = record caps { labeled_response = on }
-turned caps MessageTags on = record caps { message_tags = on }
-turned caps Sasl on = record caps { sasl = on }
-turned caps ServerTime on = record caps { server_time = on }
+turned caps cap on = record { on = slice_set caps.on (place cap) on }
 
 -- the capabilities that are on, sorted by name
 abbrev pub list_of : Caps → List Cap

@@ -4,6 +4,7 @@ use Rattle.std.specs.Option.{is_some}
 use Rattle.std.specs.Str.{bytes_eq}
 use Rattle.casemapping.specs.Names.{nick_shape}
 use Rattle.registration.specs.declared.accounts.Account.{Account}
+use Rattle.registration.specs.declared.caps.Cap.TheVariants.{Sasl}
 use Rattle.registration.specs.declared.caps.Caps.{Caps}
 use Rattle.registration.specs.declared.enrol.Enrol.{Enrol}
 use Rattle.registration.specs.declared.enrol.NickAnswer.{NickAnswer}
@@ -16,7 +17,7 @@ use Rattle.registration.specs.declared.enrol.SaslAnswer.{SaslAnswer}
 use Rattle.registration.specs.declared.enrol.SaslAnswer.TheVariants.{AlreadyLoggedIn, Failed, Opened, UnknownMechanism, Aborted, TooLong, Waits, LoggedIn}
 use Rattle.registration.specs.declared.sasl.Credentials.{Credentials}
 use Rattle.registration.specs.Accounts.{logged_in}
-use Rattle.registration.specs.Caps.{after_request}
+use Rattle.registration.specs.Caps.{after_request, is_on}
 use Rattle.registration.specs.Parts.{is_same}
 use Rattle.registration.specs.Plain.{credentials_of}
 
@@ -102,4 +103,4 @@ keeps_text answer = false
 -- SASL 3.1, "Numerics used by this extension"
 unfoldable pub sasl_answer : List Account → Enrolment → List ℕ → SaslAnswer
 sasl_answer accounts e piece =
-    if is_some e.account then AlreadyLoggedIn else (if e.caps.sasl then sasl_step accounts e.exchange piece else Failed)
+    if is_some e.account then AlreadyLoggedIn else (if is_on e.caps Sasl then sasl_step accounts e.exchange piece else Failed)

@@ -1,6 +1,6 @@
 //! Capabilities (IRCv3 Capability Negotiation).
-ghost use Rattle.std.specs.Prelude.{◌≡◌, IfOk, true, false, ◌==◌, cond, MatchOption, Some, None, not};
-ghost use Rattle.registration.specs.Caps.{after_request, all_caps, after_word, cap_name, cap_named, is_known, is_on, list_of, name_of_word, none_on, turned, turns_on};
+ghost use Rattle.std.specs.Prelude.{◌≡◌, IfOk, true, false, cond, Some, None};
+ghost use Rattle.registration.specs.Caps.{EachCapIsKnown, after_request, after_word, all_caps, cap_name, cap_named, is_known, is_on, list_of, none_on, turned};
 
 use line_grammar::Octets;
 use std::alloc::{AllocError, Global};
@@ -8,10 +8,14 @@ use std::alloc::{AllocError, Global};
 /// A capability.
 #[derive(Clone, Copy, Debug, PartialEq)]
 pub enum Cap {
+    /// Others who go away or come back are shown (IRCv3 away-notify).
+    AwayNotify,
     /// Lines that belong together are told so (IRCv3 batch).
     Batch,
     /// Sent texts come back to their sender (IRCv3 echo-message).
     EchoMessage,
+    /// A join shows the account and the real name (IRCv3 extended-join).
+    ExtendedJoin,
     /// Answers bear the label of their line (IRCv3 labeled-response).
     LabeledResponse,
     /// Tags of other clients are relayed (IRCv3 message-tags).
@@ -22,15 +26,25 @@ pub enum Cap {
     ServerTime,
 }
 
+/// How many there are.
+const COUNT: usize = 8;
+
 /// Every capability, sorted by name.
-const ALL: [Cap; 6] = [
+const ALL: [Cap; COUNT] = [
+    Cap::AwayNotify,
     Cap::Batch,
     Cap::EchoMessage,
+    Cap::ExtendedJoin,
     Cap::LabeledResponse,
     Cap::MessageTags,
     Cap::Sasl,
     Cap::ServerTime,
 ];
+
+/// That no capability is left out among those that are known: each is known by its name.
+pub fn each_cap_is_known()
+    ensures { EachCapIsKnown }
+{}
 
 impl Cap {
     /// Every capability, sorted by name.
@@ -45,8 +59,10 @@ impl Cap {
         ensures { result.now ≡ cap_name self.now }
     {
         match self {
+            Cap::AwayNotify => b"away-notify",
             Cap::Batch => b"batch",
             Cap::EchoMessage => b"echo-message",
+            Cap::ExtendedJoin => b"extended-join",
             Cap::LabeledResponse => b"labeled-response",
             Cap::MessageTags => b"message-tags",
             Cap::Sasl => b"sasl",
@@ -62,21 +78,10 @@ impl Cap {
     }
 }
 
-/// Which capabilities are on.
-#[derive(Clone, Copy, Debug, Default, PartialEq)]
+/// Which capabilities are on, each at its place among all.
+#[derive(Clone, Copy, Debug, PartialEq)]
 pub struct Caps {
-    /// Whether batch is on.
-    pub batch: bool,
-    /// Whether echo-message is on.
-    pub echo_message: bool,
-    /// Whether labeled-response is on.
-    pub labeled_response: bool,
-    /// Whether message-tags is on.
-    pub message_tags: bool,
-    /// Whether sasl is on.
-    pub sasl: bool,
-    /// Whether server-time is on.
-    pub server_time: bool,
+    on: [bool; COUNT],
 }
 
 impl Caps {
@@ -84,28 +89,14 @@ impl Caps {
     pub fn none() -> Caps
         ensures { result ≡ none_on }
     {
-        Caps {
-            batch: false,
-            echo_message: false,
-            labeled_response: false,
-            message_tags: false,
-            sasl: false,
-            server_time: false,
-        }
+        Caps { on: [false; COUNT] }
     }
 
     /// Whether a capability is on.
     pub fn contains(self, cap: Cap) -> bool
         ensures { result ≡ is_on self cap }
     {
-        match cap {
-            Cap::Batch => self.batch,
-            Cap::EchoMessage => self.echo_message,
-            Cap::LabeledResponse => self.labeled_response,
-            Cap::MessageTags => self.message_tags,
-            Cap::Sasl => self.sasl,
-            Cap::ServerTime => self.server_time,
-        }
+        self.on[cap as usize]
     }
 
     /// These, with one turned on.
@@ -126,14 +117,7 @@ impl Caps {
         ensures { result ≡ turned self cap on }
     {
         let mut caps = self;
-        match cap {
-            Cap::Batch => caps.batch = on,
-            Cap::EchoMessage => caps.echo_message = on,
-            Cap::LabeledResponse => caps.labeled_response = on,
-            Cap::MessageTags => caps.message_tags = on,
-            Cap::Sasl => caps.sasl = on,
-            Cap::ServerTime => caps.server_time = on,
-        }
+        caps.on[cap as usize] = on;
         caps
     }
 

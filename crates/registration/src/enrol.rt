@@ -5,7 +5,7 @@ ghost use Rattle.registration.specs.Plain.{credentials_of};
 
 use crate::parts::is_same;
 use crate::sasl::{EXCHANGELEN, account_by};
-use crate::{Accounts, Caps, requested};
+use crate::{Accounts, Cap, Caps, requested};
 use casemapping::is_nick;
 use line_grammar::Octets;
 use std::alloc::{AllocError, Global};
@@ -153,7 +153,7 @@ impl Enrol<'_> {
         if self.account.is_some() {
             return Ok(SaslAnswer::AlreadyLoggedIn);
         }
-        if !self.caps.sasl {
+        if !self.caps.contains(Cap::Sasl) {
             return Ok(SaslAnswer::Failed);
         }
         match self.exchange {

@@ -6,14 +6,13 @@ use Rattle.roster.specs.declared.deed.Deed.TheVariants.{Opened, NickSet, UserSet
 use Rattle.roster.specs.declared.tables.Channel.{Channel}
 use Rattle.casemapping.specs.Fold.{is_same}
 use Rattle.channel_state.specs.declared.change.Change.{Change}
-use Rattle.channel_state.specs.State.{State, is_some_one, nothing, made_by, changed, departed, lasting}
+use Rattle.channel_state.specs.State.{State, is_some_one, nothing, made_by, changed, lasting}
 use Rattle.channel_state.specs.Held.{Held}
 use Rattle.roster.specs.LookBack.{state, members, has_member, name, name_of}
-use Rattle.roster.specs.Tables.{channel_of, state_in, name_in, names_of, Reholds, Changes, Makes, LeavesAll, is_tame}
+use Rattle.roster.specs.Tables.{channel_of, state_in, name_in, names_of, Reholds, Changes, Makes, is_tame}
 use Rattle.roster.specs.Stands.{AreApart, AreHeld, HoldChannels}
 use Rattle.roster.proofs.Bools.{either}
-use Rattle.roster.proofs.Leaving.{states_without, names_without, names_of_without, apart_without}
-use Rattle.roster.proofs.OnChannels.{state-same, state-lasts, members-lasting, someone-without}
+use Rattle.roster.proofs.OnChannels.{state-same, state-lasts, members-lasting}
 use Rattle.roster.proofs.ChannelTable.{channel_of-same, reheld, channel_of-with, channel_of-push, channel_of-push_other, apart-with, apart-push, apart-populated, kept, channel_of-populated}
 use Rattle.roster.proofs.ChannelNames.{names_of-push, names_of-with, names_of-populated, held-push, held-populated}
 
@@ -37,13 +36,13 @@ channels_plain (Gone u) ks fs p i = absurd (let f : false ≡ true = p in cc)
 -- ---- a channel
 
 -- the channel that a look-up finds
-abbrev found_state : Option Channel → State
+abbrev pub found_state : Option Channel → State
 found_state o = option_map_or (λ (k : Channel). k.held.state) o nothing
 
-abbrev name_at : Option Channel → Option (List ℕ)
+abbrev pub name_at : Option Channel → Option (List ℕ)
 name_at o = option_map (λ (k : Channel). k.name) o
 
-name_reheld : (o : Option Channel) (m : Held) → name_at (option_map (reheld m) o) ≡ name_at o
+pub name_reheld : (o : Option Channel) (m : Held) → name_at (option_map (reheld m) o) ≡ name_at o
 name_reheld None m = refl
 name_reheld (Some k) m = refl
 
@@ -55,16 +54,16 @@ none_at : (o : Option Channel) → name_at o ≡ None → o ≡ None
 none_at None e = refl
 none_at (Some k) e = absurd (let f : Some k.name ≡ None = e in cc)
 
-kept_name : (o : Option Channel) → name_at (kept o) ≡ cond (is_some_one (found_state o).members) (name_at o) None
+pub kept_name : (o : Option Channel) → name_at (kept o) ≡ cond (is_some_one (found_state o).members) (name_at o) None
 kept_name None = refl
 kept_name (Some k) = elim (is_some_one k.held.state.members) as (λ b. name_at (cond b (Some k) None) ≡ cond b (Some k.name) None) [ true ↦ refl | false ↦ refl ]
 
-kept_state : (o : Option Channel) → found_state (kept o) ≡ lasting (found_state o)
+pub kept_state : (o : Option Channel) → found_state (kept o) ≡ lasting (found_state o)
 kept_state None = refl
 kept_state (Some k) = elim (is_some_one k.held.state.members) as (λ b. found_state (cond b (Some k) None) ≡ cond b k.held.state nothing) [ true ↦ refl | false ↦ refl ]
 
 -- a channel that is there now has the name that it had
-named_now : (now was : Bool) (n : List ℕ) → (now ≡ true → was ≡ true) → cond now (cond was (Some n) None) None ≡ cond now (Some n) None
+pub named_now : (now was : Bool) (n : List ℕ) → (now ≡ true → was ≡ true) → cond now (cond was (Some n) None) None ≡ cond now (Some n) None
 named_now true was n h = ap (λ b. cond b (Some n) None) (h refl)
 named_now false was n h = refl
 
@@ -136,32 +135,6 @@ module _ (ks : List Channel) (fs : List Deed) (i : HoldChannels ks fs) where
             ap (filter there) (i.channels ∙ sym (ap names_of r.changed ∙ names_of-with ks n r.held))
             ∙ sym (names_of-populated mid there apart (λ c. ap is_some_one (members_now mid n x was r c))) ∙ ap names_of (sym v.ended);
         apart = subst AreApart (sym v.ended) (apart-populated mid apart);
-        held = subst AreHeld (sym v.ended) (held-populated mid);
-      }
-
-  -- ---- a session is gone
-
-  pub channels_gone : (ls : List Channel) (t : ℕ) → LeavesAll ks ls t → HoldChannels ls (Gone t ∷ fs)
-  channels_gone ls t v =
-      let mid = v.between in let there = has_member (Gone t ∷ fs) in
-      let apart_mid : AreApart mid = apart_without t ks mid v.left i.apart in
-      let between : (c : List ℕ) → state_in mid c ≡ departed t (state fs c) = λ c. states_without t ks mid c v.left ∙ ap (departed t) (i.states c) in
-      let members_now : (c : List ℕ) → (state_in mid c).members ≡ members (Gone t ∷ fs) c = λ c. ap (λ (st : State). st.members) (between c) ∙ sym (members-lasting (departed t (state fs c))) in
-      let had : (c : List ℕ) → there c ≡ true → has_member fs c ≡ true = λ c e.
-      elim (either (has_member fs c)) [
-        | inl was ↦ was
-        | inr was_not ↦ absurd (let f : true ≡ false = sym e ∙ ap is_some_one (members-lasting (departed t (state fs c))) ∙ someone-without t (members fs c) was_not in cc)
-      ] in
-      record {
-        states = λ c. ap (λ (xs : List Channel). state_in xs c) v.ended ∙ ap found_state (channel_of-populated mid c apart_mid) ∙ kept_state (channel_of mid c) ∙ ap lasting (between c);
-        names = λ c.
-            ap (λ (xs : List Channel). name_in xs c) v.ended ∙ ap name_at (channel_of-populated mid c apart_mid) ∙ kept_name (channel_of mid c)
-            ∙ ap (λ ms. cond (is_some_one ms) (name_in mid c) None) (members_now c)
-            ∙ ap (λ o. cond (there c) o None) (names_without t ks mid c v.left ∙ i.names c)
-            ∙ named_now (there c) (has_member fs c) (name fs c) (had c);
-        channels =
-            ap (filter there) (i.channels ∙ sym (names_of_without t ks mid v.left)) ∙ sym (names_of-populated mid there apart_mid (λ c. ap is_some_one (members_now c))) ∙ ap names_of (sym v.ended);
-        apart = subst AreApart (sym v.ended) (apart-populated mid apart_mid);
         held = subst AreHeld (sym v.ended) (held-populated mid);
       }
 

@@ -6,14 +6,14 @@ use Rattle.casemapping.specs.Fold.{folded}
 use Rattle.roster.specs.declared.deed.Deed.{Deed}
 use Rattle.roster.specs.declared.tables.Card.{Card}
 use Rattle.roster.specs.declared.tables.Channel.{Channel}
-use Rattle.roster.specs.Tables.{blank, card_in, person_at, AreKeyed}
+use Rattle.roster.specs.Tables.{blank, card_in, person_at, holds_name, AreKeyed}
 use Rattle.roster.specs.Lists.{row_of, AreListed}
 use Rattle.roster.specs.Stands.{Alike}
 
 -- ---- cards
 
 abbrev pub IsCopiedCard : ℕ × Card → ℕ × Card → Type 0
-IsCopiedCard p q = (q.0 ≡ p.0) × ((q.1.person ≡ p.1.person) × (q.1.names.list ≡ p.1.names.list))
+IsCopiedCard p q = (q.0 ≡ p.0) × ((q.1.person ≡ p.1.person) × (q.1.names.list ≡ p.1.names.list) × (q.1.names.notes ≡ p.1.names.notes))
 
 pub people_copied : (es qs : List (ℕ × Card)) (s : ℕ) → AllZip IsCopiedCard es qs → person_at qs s ≡ person_at es s
 people_copied [] [] s a = refl
@@ -35,6 +35,17 @@ lists_copied (e ∷ es) (q ∷ qs) s a =
     ∙ elim (nat_eq s e.0) as (λ b. (unwrap_or (cond b (Some q.1) (card_in qs s)) blank).names.list ≡ (unwrap_or (cond b (Some e.1) (card_in es s)) blank).names.list) [
       | true ↦ a.0.1.1
       | false ↦ lists_copied es qs s a.1
+    ]
+
+pub notes_copied : (es qs : List (ℕ × Card)) (s : ℕ) → AllZip IsCopiedCard es qs → (row_of qs s).notes ≡ (row_of es s).notes
+notes_copied [] [] s a = refl
+notes_copied [] (q ∷ qs) s a = absurd a
+notes_copied (e ∷ es) [] s a = absurd a
+notes_copied (e ∷ es) (q ∷ qs) s a =
+    ap (λ n. (unwrap_or (cond (nat_eq s n) (Some q.1) (card_in qs s)) blank).names.notes) a.0.0
+    ∙ elim (nat_eq s e.0) as (λ b. (unwrap_or (cond b (Some q.1) (card_in qs s)) blank).names.notes ≡ (unwrap_or (cond b (Some e.1) (card_in es s)) blank).names.notes) [
+      | true ↦ a.0.1.2
+      | false ↦ notes_copied es qs s a.1
     ]
 
 -- ---- nicknames
@@ -64,5 +75,5 @@ keyed_copied (e ∷ es) (q ∷ qs) a k = (a.0.0 ∙ k.0 ∙ sym (ap folded a.0.1
 
 -- ---- the lists of sessions
 
-pub listed_copied : (es qs : List (ℕ × Card)) (ns left : List (List ℕ)) (fs ds : List Deed) → AreListed es ns fs ds → ((s : ℕ) → (row_of qs s).list ≡ (row_of es s).list) → AreListed qs left fs []
-listed_copied es qs ns left fs ds i same = record { lists = λ s. same s ∙ i.lists s; room = λ s. let z : 0 ≤ (row_of qs s).room = omega arith in z; copies = tt }
+pub listed_copied : (es qs : List (ℕ × Card)) (ns left : List (List ℕ)) (fs ds : List Deed) → AreListed es ns fs ds → ((s : ℕ) → (row_of qs s).list ≡ (row_of es s).list) → ((s : ℕ) → (row_of qs s).notes ≡ (row_of es s).notes) → AreListed qs left fs []
+listed_copied es qs ns left fs ds i same so = record { lists = λ s. same s ∙ i.lists s; noted = λ s c e. ap (holds_name c) (so s) ∙ i.noted s c e; room = λ s. let z : 0 ≤ (row_of qs s).room = omega arith in z; copies = tt }

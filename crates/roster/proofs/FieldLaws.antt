@@ -1,7 +1,7 @@
 -- What a channel has is what the newest fact tells of it.
 use Rattle.std.proofs.lemmas.List.Folds.{list_any-append}
 use Rattle.std.proofs.lemmas.Bool.Decides.{eqb_tells}
-use Rattle.std.proofs.Common.{◌≡◌, inl, inr, ℕ, Bool, true, false, not, ◌||◌, ◌==◌, cond, List, [], ◌∷◌, ◌++◌, filter, unwrap_or, Option, Some, None, refl, sym, ap, ◌∙◌, eq-eqb, subst}
+use Rattle.std.proofs.Common.{◌≡◌, inl, inr, ℕ, Bool, true, false, not, ◌||◌, ◌==◌, cond, List, [], ◌∷◌, ◌++◌, filter, unwrap_or, Option, Some, None, refl, sym, ap, ◌∙◌, subst}
 use Rattle.std.specs.List.{list_any}
 use Rattle.casemapping.specs.Fold.{is_same}
 use Rattle.casemapping.proofs.SameNames.{is_same-left, is_same-sym}
@@ -17,16 +17,16 @@ use Rattle.roster.specs.LookBack.{newest, state, has_member}
 use Rattle.roster.specs.Legal.{IsFit, AreLegal}
 use Rattle.roster.specs.Told.{tells_of, topic_told, flag_made, flag_told, key_told, limit_told, ban_told, gone_told, operator_told, voice_told, invited_told, pardoned_told}
 use Rattle.roster.specs.Laws.{MembersAreOnIt, TopicsAreTheLast, FlagsAreTheLast, KeysAreTheLast, LimitsAreTheLast, BansAreTheLast, OperatorsAreTheLast, VoicesAreTheLast, InvitationsAreTheLast}
-use Rattle.roster.proofs.Bools.{either, or-none, or-true, or-false}
+use Rattle.roster.proofs.Bools.{either, or-true, or-false}
 use Rattle.roster.proofs.OnChannels.{among-push, among-without, among-members, members-lasting, state-same, someone-without}
 
 pub members_on : MembersAreOnIt
 members_on fs s c = among-members fs s c
 
--- ---- who has a rank is on the channel
+-- ---- who has a rank is on the channel, and whom bans don't stop is invited
 
-abbrev HaveRanks : State → Type 0
-HaveRanks k = (u : ℕ) → (among u k.operators ≡ true → among u k.members ≡ true) × (among u k.voices ≡ true → among u k.members ≡ true)
+abbrev pub HaveRanks : State → Type 0
+HaveRanks k = (u : ℕ) → (among u k.operators ≡ true → among u k.members ≡ true) × (among u k.voices ≡ true → among u k.members ≡ true) × (among u k.pardoned ≡ true → among u k.invited ≡ true)
 
 none_true : {A : Type 0} → false ≡ true → A
 none_true e = absurd (let f : false ≡ true = e in cc)
@@ -41,7 +41,7 @@ kept_of t u ts ms h e = elim (eqb_tells t u) [
 ]
 
 -- whoever is kept was there
-was_there : (t u : ℕ) (ts : List ℕ) → among u (without t ts) ≡ true → among u ts ≡ true
+pub was_there : (t u : ℕ) (ts : List ℕ) → among u (without t ts) ≡ true → among u ts ≡ true
 was_there t u ts e = elim (eqb_tells t u) [
   | inl it ↦ none_true (sym (ap (λ b. cond b false (among u ts)) it.0) ∙ sym (among-without u t ts) ∙ e)
   | inr other ↦ sym (ap (λ b. cond b false (among u ts)) other.0) ∙ sym (among-without u t ts) ∙ e
@@ -62,24 +62,32 @@ ranked_of t u true ts ms it h e = elim (eqb_tells t u) [
   | inr other ↦ h (was_there t u ts (sym (or-false (among u (without t ts))) ∙ sym (ap (λ b. among u (without t ts) || b) other.0) ∙ sym (among-push u t (without t ts)) ∙ e))
 ]
 
+-- who is invited stays so, and whoever is pardoned then is among them
+pardoned_of : (t u : ℕ) (on : Bool) (ps is : List ℕ) → (among u ps ≡ true → among u is ≡ true) → among u (ranked t on ps) ≡ true → among u (with_last t is) ≡ true
+pardoned_of t u false ps is h e = still_there t u is (h (was_there t u ps e))
+pardoned_of t u true ps is h e = elim (eqb_tells t u) [
+  | inl same ↦ among-push u t (without t is) ∙ ap (λ b. among u (without t is) || b) same.0 ∙ or-true (among u (without t is))
+  | inr other ↦ still_there t u is (h (was_there t u ps (sym (or-false (among u (without t ps))) ∙ sym (ap (λ b. among u (without t ps) || b) other.0) ∙ sym (among-push u t (without t ps)) ∙ e)))
+]
+
 ranks_changed : (x : Change) (k : State) → HaveRanks k → IsFit k x → HaveRanks (changed x k)
-ranks_changed (Joined t) k r f u = (λ e. still_there t u k.members ((r u).0 e), λ e. still_there t u k.members ((r u).1 e))
-ranks_changed (Left t) k r f u = (kept_of t u k.operators k.members (r u).0, kept_of t u k.voices k.members (r u).1)
-ranks_changed (RankSet t Operator on) k r f u = (ranked_of t u on k.operators k.members f (r u).0, (r u).1)
-ranks_changed (RankSet t Voice on) k r f u = ((r u).0, ranked_of t u on k.voices k.members f (r u).1)
+ranks_changed (Joined t) k r f u = (λ e. still_there t u k.members ((r u).0 e), λ e. still_there t u k.members ((r u).1 e), kept_of t u k.pardoned k.invited (r u).2)
+ranks_changed (Left t) k r f u = (kept_of t u k.operators k.members (r u).0, kept_of t u k.voices k.members (r u).1, (r u).2)
+ranks_changed (RankSet t Operator on) k r f u = (ranked_of t u on k.operators k.members f (r u).0, (r u).1, (r u).2)
+ranks_changed (RankSet t Voice on) k r f u = ((r u).0, ranked_of t u on k.voices k.members f (r u).1, (r u).2)
 ranks_changed (FlagSet g on) k r f u = r u
 ranks_changed (KeySet key) k r f u = r u
 ranks_changed (LimitSet limit) k r f u = r u
 ranks_changed (TopicSet topic) k r f u = r u
 ranks_changed (BanSet b) k r f u = r u
 ranks_changed (BanLifted b) k r f u = r u
-ranks_changed (Invited t op) k r f u = r u
+ranks_changed (Invited t op) k r f u = ((r u).0, (r u).1, pardoned_of t u op k.pardoned k.invited (r u).2)
 
 ranks_departed : (t : ℕ) (k : State) → HaveRanks k → HaveRanks (departed t k)
-ranks_departed t k r u = (kept_of t u k.operators k.members (r u).0, kept_of t u k.voices k.members (r u).1)
+ranks_departed t k r u = (kept_of t u k.operators k.members (r u).0, kept_of t u k.voices k.members (r u).1, kept_of t u k.pardoned k.invited (r u).2)
 
 ranks_nothing : HaveRanks nothing
-ranks_nothing u = (none_true, none_true)
+ranks_nothing u = (none_true, none_true, none_true)
 
 ranks_by : (b : Bool) (k l : State) → HaveRanks k → HaveRanks l → HaveRanks (cond b k l)
 ranks_by true k l r q = r
@@ -95,7 +103,7 @@ ranks_if : (b : Bool) (k l : State) → (b ≡ true → HaveRanks k) → HaveRan
 ranks_if true k l r q = r refl
 ranks_if false k l r q = q
 
-ranks : (fs : List Deed) (c : List ℕ) → AreLegal fs → HaveRanks (state fs c)
+pub ranks : (fs : List Deed) (c : List ℕ) → AreLegal fs → HaveRanks (state fs c)
 ranks [] c l = ranks_nothing
 ranks (Opened t h ∷ fs) c l = ranks fs c l.1
 ranks (NickSet t n ∷ fs) c l = ranks fs c l.1
@@ -108,7 +116,7 @@ ranks (Enrolled t ∷ fs) c l = ranks fs c l.1
 ranks (AwaySet t x ∷ fs) c l = ranks fs c l.1
 ranks (InvisibleSet t v ∷ fs) c l = ranks fs c l.1
 ranks (Ended t w x ∷ fs) c l = ranks fs c l.1
-ranks (ChannelMade t k ∷ fs) c l = ranks_by (is_same k c) (made_by t) (state fs c) (λ u. ((λ e. e), none_true)) (ranks fs c l.1)
+ranks (ChannelMade t k ∷ fs) c l = ranks_by (is_same k c) (made_by t) (state fs c) (λ u. ((λ e. e), none_true, none_true)) (ranks fs c l.1)
 ranks (Changed k x ∷ fs) c l = ranks_if (is_same k c) (lasting (changed x (state fs c))) (state fs c) (λ same. ranks_lasting (changed x (state fs c)) (ranks_changed x (state fs c) (ranks fs c l.1) (fit_there fs k c x same l.0.1))) (ranks fs c l.1)
 ranks (Gone t ∷ fs) c l = ranks_lasting (departed t (state fs c)) (ranks_departed t (state fs c) (ranks fs c l.1))
 

@@ -6,25 +6,26 @@ use Rattle.casemapping.specs.Fold.{folded, is_same}
 use Rattle.casemapping.proofs.SameNames.{is_same-sym}
 use Rattle.channel_state.specs.declared.change.Change.{Change}
 use Rattle.channel_state.specs.Held.{Held}
+use Rattle.channel_state.specs.State.{departed}
 use Rattle.chronicle.specs.declared.why.Why.{Why}
 use Rattle.roster.specs.declared.deed.Deed.{Deed}
 use Rattle.roster.specs.declared.deed.Deed.TheVariants.{Opened, NickSet, UserSet, HoldSet, CapsSet, ExchangeSet, LoggedIn, Enrolled, AwaySet, InvisibleSet, ChannelMade, Changed, Ended, Gone}
 use Rattle.roster.specs.declared.tables.Person.{Person}
 use Rattle.roster.specs.declared.tables.Card.{Card}
 use Rattle.roster.specs.declared.tables.Channel.{Channel}
-use Rattle.roster.specs.LookBack.{opened, nick, why, tells_why}
+use Rattle.roster.specs.LookBack.{opened, nick, why, tells_why, state}
 use Rattle.roster.specs.Legal.{IsOpened, IsNext, AreNext}
 use Rattle.roster.specs.Table.{Table}
-use Rattle.roster.specs.Tables.{nobody, heard, is_about, is_plain, is_tame, is_opening, person_at, why_at, held_by, Frees, IsOf, room_in, with_held, Changes, Makes, LeavesAll}
+use Rattle.roster.specs.Tables.{nobody, heard, is_about, is_plain, is_tame, is_opening, person_at, why_at, held_by, Frees, IsOf, room_in, with_held, Changes, Makes, holds_name}
 use Rattle.roster.specs.Lists.{keyed_name, BeginWith}
-use Rattle.roster.specs.Stands.{person, Alike, changes, is_making, HaveSeats, AreSpare, AreHolders, HoldPeople, HasRoom, IsKept}
+use Rattle.roster.specs.Stands.{person, Alike, changes, is_making, HaveSeats, AreSpare, AreHolders, LeavesThose, HoldPeople, HasRoom, IsKept}
 use Rattle.roster.proofs.Bools.{either}
 use Rattle.roster.proofs.ChannelTable.{seats-populated}
-use Rattle.roster.proofs.Leaving.{seats_without}
+use Rattle.roster.proofs.Going.{channels_left}
 use Rattle.roster.proofs.MadeRoom.{changes-cons, makings-cons, seats_none, seats_less, changes_few, seats-push, spare_less}
 use Rattle.roster.proofs.Persons.{person_after, opened_after, of_next, length-numbers, holders_plain, holders_gone, holders_renamed}
 use Rattle.roster.proofs.SameTables.{channels_alike}
-use Rattle.roster.proofs.ChannelSteps.{channels_plain, channels_changed, channels_gone, channels_made}
+use Rattle.roster.proofs.ChannelSteps.{channels_plain, channels_changed, channels_made}
 
 pub opened_count : (es : List (ℕ × Card)) (ws : List Why) (hs : List (List ℕ × ℕ)) (fs : List Deed) → HoldPeople es ws hs fs → length (opened fs) ≡ length ws
 opened_count es ws hs fs i = ap length i.opened ∙ length-numbers 1 (length ws)
@@ -165,6 +166,7 @@ module _ (es : Table (ℕ × Card)) (ws : Table Why) (hs : Table (List ℕ × �
   kept_plain d qs vs p i hp rp hw n rw = record {
     people = hold_told es.list ws.list hs.list fs i.people d qs.list vs.list hs.list i.next.0 hp hw n (holders_plain hs.list fs i.people.holders d p i.next.0);
     channels = channels_plain d ks.list fs (plain_tame d p) i.channels;
+    legal = (i.next.0, i.legal);
     next = i.next.1;
     room = record {
       people = let a = i.room.people in omega arith;
@@ -188,6 +190,7 @@ module _ (es : Table (ℕ × Card)) (ws : Table Why) (hs : Table (List ℕ × �
     people = hold_told es.list ws.list hs.list fs i.people (NickSet t n) qs.list vs.list ls.list i.next.0 hp hw c
         (holders_renamed hs.list fs i.people.holders mid.list t hf ls.list (length ws.list) n i.people.opened i.next.0.0 i.next.0.1 ht);
     channels = channels_plain (NickSet t n) ks.list fs refl i.channels;
+    legal = (i.next.0, i.legal);
     next = i.next.1;
     room = record {
       people = let a = i.room.people in omega arith;
@@ -202,20 +205,21 @@ module _ (es : Table (ℕ × Card)) (ws : Table Why) (hs : Table (List ℕ × �
   }
 
   -- a session is gone
-  pub kept_gone : (t : ℕ) (qs : Table (ℕ × Card)) (vs : Table Why) (ls : Table (List ℕ × ℕ)) (ms : Table Channel) → IsKept es ws hs ks spare folds fs (Gone t ∷ ds)
+  pub kept_gone : (t : ℕ) (cs : List (List ℕ)) (qs : Table (ℕ × Card)) (vs : Table Why) (ls : Table (List ℕ × ℕ)) (ms : Table Channel) → IsKept es ws hs ks spare folds fs (Gone t ∷ ds)
       → ((s : ℕ) → person_at qs.list s ≡ cond (t == s) nobody (person_at es.list s)) → es.room ≤ qs.room
       → ((s : ℕ) → why_at vs.list s ≡ unwrap_or (tells_why s (Gone t)) (why_at ws.list s)) → length vs.list ≡ length ws.list + 0 → ws.room - 1 ≤ vs.room
-      → Frees hs.list ls.list (nick fs t) → hs.room ≤ ls.room → LeavesAll ks.list ms.list t → ks.room ≤ ms.room → IsKept qs vs ls ms spare folds (Gone t ∷ fs) ds
-  kept_gone t qs vs ls ms i hp rp hw c rw hf rf v rk = record {
+      → Frees hs.list ls.list (nick fs t) → hs.room ≤ ls.room → LeavesThose ks.list ms.list cs t → ((c : List ℕ) → holds_name c cs ≡ false → departed t (state fs c) ≡ state fs c) → ks.room ≤ ms.room → IsKept qs vs ls ms spare folds (Gone t ∷ fs) ds
+  kept_gone t cs qs vs ls ms i hp rp hw c rw hf rf v cover rk = record {
     people = hold_told es.list ws.list hs.list fs i.people (Gone t) qs.list vs.list ls.list i.next.0 hp hw c (holders_gone hs.list fs i.people.holders ls.list t hf);
-    channels = channels_gone ks.list fs i.channels ms.list t v;
+    channels = channels_left ks.list ms.list fs cs t i.channels v cover;
+    legal = (i.next.0, i.legal);
     next = i.next.1;
     room = record {
       people = let a = i.room.people in omega arith;
       whys = let a = i.room.whys in omega arith;
       nicks = let a = i.room.nicks in omega arith;
       channels = let a = i.room.channels in omega arith;
-      seats = subst (HaveSeats ds) (sym v.ended) (seats-populated ds v.between (seats_without t ds ks.list v.between v.left (seats_less (Gone t) ds ks.list i.room.seats)));
+      seats = v.seats ds (seats_less (Gone t) ds ks.list i.room.seats);
       enough = let a = i.room.enough in let e = makings-cons (Gone t) ds in omega arith;
       empty = spare_less (length (Gone t ∷ ds)) (length ds) spare (omega arith) i.room.empty;
       keys = i.room.keys;
@@ -230,6 +234,7 @@ module _ (es : Table (ℕ × Card)) (ws : Table Why) (hs : Table (List ℕ × �
   kept_changed n x qs vs ms left i hp rp hw c rw v rk b = record {
     people = hold_told es.list ws.list hs.list fs i.people (Changed n x) qs.list vs.list hs.list i.next.0 hp hw c (record { found = i.people.holders.found; named = i.people.holders.named; opened = i.people.holders.opened });
     channels = channels_changed ks.list fs i.channels ms.list n x i.next.0.0 v;
+    legal = (i.next.0, i.legal);
     next = i.next.1;
     room = record {
       people = let a = i.room.people in omega arith;
@@ -254,6 +259,7 @@ module _ (es : Table (ℕ × Card)) (ws : Table Why) (hs : Table (List ℕ × �
       record {
         people = hold_told es.list ws.list hs.list fs i.people (ChannelMade t n) qs.list vs.list hs.list i.next.0 hp hw c (record { found = i.people.holders.found; named = i.people.holders.named; opened = i.people.holders.opened });
         channels = channels_made ks.list fs i.channels ms.list t (length ds) n i.next.0 m.0;
+        legal = (i.next.0, i.legal);
         next = i.next.1;
         room = record {
           people = let a = i.room.people in omega arith;
@@ -275,6 +281,7 @@ module _ (es : Table (ℕ × Card)) (ws : Table Why) (hs : Table (List ℕ × �
     people = hold_told es.list ws.list hs.list fs i.people (Ended t w []) qs.list vs.list hs.list o hp
         (λ s. hw s ∙ told (t == s) (why_at ws.list s)) (let e = c in omega arith) (holders_plain hs.list fs i.people.holders (Ended t w []) refl o);
     channels = channels_plain (Ended t w []) ks.list fs refl i.channels;
+    legal = (o, i.legal);
     next = tt;
     room = record { people = omega arith; whys = omega arith; nicks = omega arith; channels = omega arith; seats = seats_none ks.list; enough = omega arith; empty = spare_less (length ds) 0 spare (omega arith) i.room.empty; keys = tt };
   }
@@ -289,6 +296,7 @@ module _ (es : Table (ℕ × Card)) (ws : Table Why) (hs : Table (List ℕ × �
   kept_again qs vs ls ms rest left rs i h ew eh a n r = record {
     people = hold_same es.list ws.list hs.list fs i.people qs.list vs.list ls.list h ew eh;
     channels = channels_alike ks.list ms.list fs a i.channels;
+    legal = i.legal;
     next = n;
     room = r;
   }
@@ -298,6 +306,7 @@ module _ (es : Table (ℕ × Card)) (ws : Table Why) (hs : Table (List ℕ × �
   kept_idle i = record {
     people = i.people;
     channels = i.channels;
+    legal = i.legal;
     next = tt;
     room = record { people = omega arith; whys = omega arith; nicks = omega arith; channels = omega arith; seats = seats_none ks.list; enough = omega arith; empty = spare_less (length ds) 0 spare (omega arith) i.room.empty; keys = tt };
   }

@@ -4,8 +4,8 @@ pub mod ChannelTable
 pub mod ChannelNames
 pub mod MadeRoom
 pub mod Keyed
-pub mod Leaving
 pub mod Nicknames
+pub mod Notes
 pub mod Rising
 pub mod Mates
 pub mod Persons
@@ -18,3 +18,5 @@ pub mod FieldLaws
 pub mod OnceLaws
 pub mod OwnChannels
 pub mod Copies
+pub mod Places
+pub mod Going

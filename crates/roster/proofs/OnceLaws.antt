@@ -3,14 +3,13 @@ use Rattle.std.proofs.lemmas.Bool.Decides.{eqb_tells}
 use Rattle.std.proofs.Common.{◌≡◌, inl, inr, ℕ, suc, ◌+◌, ◌<◌, ◌≤◌, Bool, true, false, not, ◌&&◌, ◌==◌, cond, List, [], ◌∷◌, ◌++◌, filter, length, arith, refl, sym, ap, ◌∙◌, ne_eqb, eq-eqb, length-append, subst}
 use Rattle.std.specs.List.{IsDistinct, AllByRecursion}
 use Rattle.casemapping.specs.Fold.{is_same}
-use Rattle.casemapping.proofs.SameNames.{is_same-sym}
 use Rattle.channel_state.specs.declared.change.Change.{Change}
 use Rattle.channel_state.specs.declared.change.Change.TheVariants.{Joined, Left, RankSet, FlagSet, KeySet, LimitSet, TopicSet, BanSet, BanLifted, Invited}
 use Rattle.channel_state.specs.declared.change.Rank.TheVariants.{Operator, Voice}
-use Rattle.channel_state.specs.State.{State, among, without, with_last, nothing, made_by, changed, departed, lasting}
+use Rattle.channel_state.specs.State.{State, among, made_by, changed, departed, lasting}
 use Rattle.roster.specs.declared.deed.Deed.{Deed}
 use Rattle.roster.specs.declared.deed.Deed.TheVariants.{Opened, NickSet, UserSet, HoldSet, CapsSet, ExchangeSet, LoggedIn, Enrolled, AwaySet, InvisibleSet, ChannelMade, Changed, Ended, Gone}
-use Rattle.roster.specs.LookBack.{opened, on, state, members, is_join, joins, without_name, with_last_name, share, sharers}
+use Rattle.roster.specs.LookBack.{opened, on, state, members, is_join, joins, with_last_name, share}
 use Rattle.roster.specs.Legal.{AreLegal}
 use Rattle.roster.specs.Laws.{MembersAreThereOnce, SharersAreThereOnce, OwnChannelsAreThereOnce}
 use Rattle.roster.proofs.Bools.{either}

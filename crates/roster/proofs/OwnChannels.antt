@@ -1,10 +1,9 @@
 -- A session's channels: it is on just those, and as many.
-use Rattle.std.proofs.lemmas.List.Folds.{list_any-append}
 use Rattle.std.proofs.lemmas.Map.Views.{any-filter_same}
 use Rattle.std.proofs.Common.{◌≡◌, inl, inr, ℕ, suc, Bool, true, false, not, ◌&&◌, ◌||◌, ◌==◌, cond, List, [], ◌∷◌, filter, length, unwrap_or, Option, Some, None, is_some, refl, sym, ap, ◌∙◌, subst}
 use Rattle.std.specs.List.{list_any, IsDistinct, AllByRecursion}
 use Rattle.casemapping.specs.Fold.{is_same}
-use Rattle.casemapping.proofs.SameNames.{is_same-refl, is_same-sym, is_same-left, is_same-right}
+use Rattle.casemapping.proofs.SameNames.{is_same-refl, is_same-sym, is_same-right}
 use Rattle.channel_state.specs.declared.change.Change.{Change}
 use Rattle.channel_state.specs.declared.change.Change.TheVariants.{Joined, Left, RankSet, FlagSet, KeySet, LimitSet, TopicSet, BanSet, BanLifted, Invited}
 use Rattle.channel_state.specs.State.{State, among}
@@ -14,9 +13,10 @@ use Rattle.roster.specs.declared.tables.Channel.{Channel}
 use Rattle.roster.specs.LookBack.{numbers, opened, on, members, has_member, channels, tells_seat, is_join, joins, channels_on, channel_count, without_name, with_last_name, share, sharers}
 use Rattle.roster.specs.Tables.{name_in, names_of, members_in, mates}
 use Rattle.roster.specs.Stands.{AreApart, HoldChannels}
-use Rattle.roster.proofs.Bools.{either, or-none, or-true, or-false}
+use Rattle.roster.proofs.Bools.{either, or-none, or-true}
 use Rattle.roster.proofs.OnChannels.{among-members, on-same, someone}
 use Rattle.roster.proofs.SeatLists.{filter_as}
+use Rattle.roster.proofs.Notes.{has-last, has-without}
 use Rattle.roster.proofs.OnceLaws.{own_once}
 use Rattle.roster.proofs.ChannelSteps.{found}
 
@@ -26,12 +26,6 @@ some_same a b e = cc
 -- whether a name is among these, however it is spelled
 abbrev pub has : List ℕ → List (List ℕ) → Bool
 has c ks = list_any (λ k. is_same k c) ks
-
-has-last : (c k : List ℕ) (ks : List (List ℕ)) → has c (with_last_name k ks) ≡ (has c (without_name k ks) || is_same k c)
-has-last c k ks = list_any-append (λ x. is_same x c) (without_name k ks) (k ∷ []) ∙ ap (λ b. has c (without_name k ks) || b) (or-false (is_same k c))
-
-has-without : (c k : List ℕ) (ks : List (List ℕ)) → has c (without_name k ks) ≡ (not (is_same c k) && has c ks)
-has-without c k ks = any-filter_same (λ x. is_same x c) (λ x. not (is_same x k)) (not (is_same c k)) (λ x e. ap not (is_same-left x c k e)) ks
 
 -- ---- who is on a channel joined it
 

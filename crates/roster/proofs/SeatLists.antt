@@ -12,14 +12,17 @@ use Rattle.channel_state.specs.declared.change.Change.TheVariants.{Joined, Left,
 use Rattle.chronicle.specs.declared.why.Why.{Why}
 use Rattle.roster.specs.declared.deed.Deed.{Deed}
 use Rattle.roster.specs.declared.deed.Deed.TheVariants.{Opened, NickSet, UserSet, HoldSet, CapsSet, ExchangeSet, LoggedIn, Enrolled, AwaySet, InvisibleSet, ChannelMade, Changed, Ended, Gone}
-use Rattle.roster.specs.LookBack.{on, members, has_member, tells_seat, joins, channels_on, without_name, with_last_name}
+use Rattle.roster.specs.LookBack.{on, state, members, has_member, tells_seat, joins, channels_on, without_name, with_last_name}
 use Rattle.roster.specs.Legal.{IsNext, AreNext}
 use Rattle.roster.specs.declared.tables.Card.{Card}
+use Rattle.roster.specs.declared.tables.Channel.{Channel}
+use Rattle.channel_state.specs.State.{State, among}
 use Rattle.roster.specs.declared.lists.Seat.{Seat}
-use Rattle.roster.specs.Tables.{is_plain}
-use Rattle.roster.specs.Lists.{row_of, seat_of, is_taken, reseated, relisted, is_joining, joinings, made_name, keyed_name, Relists, Widens, BeginWith, AreListed}
+use Rattle.roster.specs.Tables.{is_plain, state_in, holds_name}
+use Rattle.roster.specs.Lists.{row_of, seat_of, is_taken, reseated, noted, relisted, renoted, is_joining, joinings, made_name, keyed_name, Relists, Widens, Refits, BeginWith, AreListed}
 use Rattle.roster.proofs.Bools.{either, or-none, or-false}
 use Rattle.roster.proofs.OnChannels.{among-members, on-same, someone}
+use Rattle.roster.proofs.Notes.{noted_after}
 
 -- ---- names that pass a test
 
@@ -186,9 +189,10 @@ channels_after fs s (Gone t) n = after_going fs t s
 pub joinings-cons : (s : ℕ) (d : Deed) (ds : List Deed) → joinings s (d ∷ ds) ≡ cond (is_joining s d) 1 0 + joinings s ds
 joinings-cons s d ds = sum_by-cons (λ (e : Deed). cond (is_joining s e) 1 0) d ds
 
-listed : (fs ds : List Deed) (d : Deed) (rs qs : List (ℕ × Card)) (copies left : List (List ℕ)) → IsNext fs d → AreListed rs copies fs (d ∷ ds) → Relists rs qs (λ s. relisted s d) (λ s. is_joining s d) → BeginWith (flat_map made_name ds) left → AreListed qs left (d ∷ fs) ds
+listed : (fs ds : List Deed) (d : Deed) (rs qs : List (ℕ × Card)) (copies left : List (List ℕ)) → IsNext fs d → AreListed rs copies fs (d ∷ ds) → Relists rs qs (λ s. relisted s d) (λ s. renoted s d) (λ s. is_joining s d) → BeginWith (flat_map made_name ds) left → AreListed qs left (d ∷ fs) ds
 listed fs ds d rs qs copies left n i r b = record {
   lists = λ s. r.lists s ∙ ap (relisted s d) (i.lists s) ∙ sym (channels_after fs s d n);
+  noted = λ s c e. ap (holds_name c) (r.notes s) ∙ noted_after d fs s c (row_of rs s).notes (i.noted s c) e;
   room = λ s. let had = i.room s in let less = r.rooms s in let e = joinings-cons s d ds in omega arith;
   copies = b;
 }
@@ -206,7 +210,7 @@ module _ (d e : Deed) (is : d ≡ e) (fs ds : List Deed) (first : slice_get ds 0
   next_before n = subst (AreNext fs) (ready_first ds first ∙ ap (λ x. x ∷ drop 1 ds) is) n
 
   -- and after it
-  pub listed_after : (qs : List (ℕ × Card)) (left : List (List ℕ)) (gs es : List Deed) → AreNext fs ds → AreListed rs copies fs ds → Relists rs qs (λ s. relisted s e) (λ s. is_joining s e) → BeginWith (flat_map made_name (drop 1 ds)) left → gs ≡ d ∷ fs → es ≡ drop 1 ds → AreListed qs left gs es
+  pub listed_after : (qs : List (ℕ × Card)) (left : List (List ℕ)) (gs es : List Deed) → AreNext fs ds → AreListed rs copies fs ds → Relists rs qs (λ s. relisted s e) (λ s. renoted s e) (λ s. is_joining s e) → BeginWith (flat_map made_name (drop 1 ds)) left → gs ≡ d ∷ fs → es ≡ drop 1 ds → AreListed qs left gs es
   listed_after qs left gs es n i r b eg ee =
       subst (λ (xs : List Deed). AreListed qs left xs es) (sym (eg ∙ ap (λ x. x ∷ fs) is)) (subst (AreListed qs left (e ∷ fs)) (sym ee)
       (listed fs (drop 1 ds) e rs qs copies left (next_before n).0 (listed_before i) r b))
@@ -237,20 +241,24 @@ pub begin_same : (cs : List (List ℕ)) → BeginWith cs cs
 begin_same [] = tt
 begin_same (c ∷ cs) = (refl, begin_same cs)
 
-pub reseats : (rs qs : List (ℕ × Card)) (n m : List ℕ) (x : Change) (z : Seat) → n ≡ m → z ≡ seat_of x → Relists rs qs (λ s. reseated s m z) (λ s. is_taken s z) → Relists rs qs (λ s. relisted s (Changed n x)) (λ s. is_joining s (Changed n x))
+pub reseats : (rs qs : List (ℕ × Card)) (n m : List ℕ) (x : Change) (z : Seat) → n ≡ m → z ≡ seat_of x → Relists rs qs (λ s. reseated s m z) (λ s. noted s m z) (λ s. is_taken s z) → Relists rs qs (λ s. relisted s (Changed n x)) (λ s. renoted s (Changed n x)) (λ s. is_joining s (Changed n x))
 reseats rs qs n m x z en ez r =
-    subst (λ (y : Seat). Relists rs qs (λ s. reseated s n y) (λ s. is_taken s y)) ez (subst (λ (k : List ℕ). Relists rs qs (λ s. reseated s k z) (λ s. is_taken s z)) (sym en) r)
+    subst (λ (y : Seat). Relists rs qs (λ s. reseated s n y) (λ s. noted s n y) (λ s. is_taken s y)) ez (subst (λ (k : List ℕ). Relists rs qs (λ s. reseated s k z) (λ s. noted s k z) (λ s. is_taken s z)) (sym en) r)
 
 -- it is ready for nothing
 pub listed_idle : (rs : List (ℕ × Card)) (copies : List (List ℕ)) (fs ds : List Deed) → AreListed rs copies fs ds → AreListed rs copies fs []
-listed_idle rs copies fs ds i = record { lists = i.lists; room = λ s. let z : 0 ≤ (row_of rs s).room = omega arith in z; copies = tt }
+listed_idle rs copies fs ds i = record { lists = i.lists; noted = i.noted; room = λ s. let z : 0 ≤ (row_of rs s).room = omega arith in z; copies = tt }
 
-pub listed_wide : (rs qs : List (ℕ × Card)) (copies left : List (List ℕ)) (fs ds : List Deed) → AreListed rs copies fs ds → Widens rs qs → AreListed qs left fs []
-listed_wide rs qs copies left fs ds i w = record { lists = λ s. w.lists s ∙ i.lists s; room = λ s. let z : 0 ≤ (row_of qs s).room = omega arith in z; copies = tt }
+-- notes stay where the channels are those of the facts
+still_noted : (ks : List Channel) (fs : List Deed) (rs qs : List (ℕ × Card)) → ((c : List ℕ) → state_in ks c ≡ state fs c) → Refits ks rs qs → ((s : ℕ) (c : List ℕ) → among s (state fs c).invited ≡ true → holds_name c (row_of rs s).notes ≡ true) → (s : ℕ) (c : List ℕ) → among s (state fs c).invited ≡ true → holds_name c (row_of qs s).notes ≡ true
+still_noted ks fs rs qs st w i s c e = w.notes s c (ap (λ (k : State). among s k.invited) (st c) ∙ e) (i s c e)
+
+pub listed_wide : (ks : List Channel) (rs qs : List (ℕ × Card)) (copies left : List (List ℕ)) (fs ds : List Deed) → ((c : List ℕ) → state_in ks c ≡ state fs c) → AreListed rs copies fs ds → Refits ks rs qs → AreListed qs left fs []
+listed_wide ks rs qs copies left fs ds st i w = record { lists = λ s. w.lists s ∙ i.lists s; noted = still_noted ks fs rs qs st w i.noted; room = λ s. let z : 0 ≤ (row_of qs s).room = omega arith in z; copies = tt }
 
 -- the server ends a session
 pub listed_ended : (rs qs : List (ℕ × Card)) (ns : List (List ℕ)) (fs ds : List Deed) (t : ℕ) (w : Why) (x : List ℕ) → AreListed rs ns fs ds → Widens rs qs → AreListed qs ns (Ended t w x ∷ fs) []
-listed_ended rs qs ns fs ds t w x i v = record { lists = λ s. v.lists s ∙ i.lists s; room = λ s. let z : 0 ≤ (row_of qs s).room = omega arith in z; copies = tt }
+listed_ended rs qs ns fs ds t w x i v = record { lists = λ s. v.lists s ∙ i.lists s; noted = λ s c e. ap (holds_name c) (v.notes s) ∙ i.noted s c e; room = λ s. let z : 0 ≤ (row_of qs s).room = omega arith in z; copies = tt }
 
 -- a plain fact says nothing of channels
 plain_relisted : (d : Deed) → is_plain d ≡ true → (s : ℕ) (cs : List (List ℕ)) → relisted s d cs ≡ cs
@@ -269,6 +277,22 @@ plain_relisted (Changed k x) p s cs = absurd (let f : false ≡ true = p in cc)
 plain_relisted (Ended u w x) p s cs = refl
 plain_relisted (Gone u) p s cs = absurd (let f : false ≡ true = p in cc)
 
+plain_renoted : (d : Deed) → is_plain d ≡ true → (s : ℕ) (cs : List (List ℕ)) → renoted s d cs ≡ cs
+plain_renoted (Opened u h) p s cs = refl
+plain_renoted (NickSet u n) p s cs = absurd (let f : false ≡ true = p in cc)
+plain_renoted (UserSet u n r) p s cs = refl
+plain_renoted (HoldSet u x) p s cs = refl
+plain_renoted (CapsSet u x) p s cs = refl
+plain_renoted (ExchangeSet u x) p s cs = refl
+plain_renoted (LoggedIn u x) p s cs = refl
+plain_renoted (Enrolled u) p s cs = refl
+plain_renoted (AwaySet u x) p s cs = refl
+plain_renoted (InvisibleSet u x) p s cs = refl
+plain_renoted (ChannelMade u k) p s cs = absurd (let f : false ≡ true = p in cc)
+plain_renoted (Changed k x) p s cs = absurd (let f : false ≡ true = p in cc)
+plain_renoted (Ended u w x) p s cs = refl
+plain_renoted (Gone u) p s cs = absurd (let f : false ≡ true = p in cc)
+
 plain_unmade : (d : Deed) → is_plain d ≡ true → made_name d ≡ []
 plain_unmade (Opened u h) p = refl
 plain_unmade (NickSet u n) p = absurd (let f : false ≡ true = p in cc)
@@ -286,11 +310,11 @@ plain_unmade (Ended u w x) p = refl
 plain_unmade (Gone u) p = absurd (let f : false ≡ true = p in cc)
 
 -- rows that are as wide stand where a fact says nothing of channels
-pub relists_wide : (rs qs : List (ℕ × Card)) (d : Deed) → ((s : ℕ) (cs : List (List ℕ)) → relisted s d cs ≡ cs) → Widens rs qs → Relists rs qs (λ s. relisted s d) (λ s. is_joining s d)
-relists_wide rs qs d same w = record { lists = λ s. w.lists s ∙ sym (same s (row_of rs s).list); rooms = λ s. let a = w.rooms s in omega arith }
+pub relists_wide : (rs qs : List (ℕ × Card)) (d : Deed) → ((s : ℕ) (cs : List (List ℕ)) → relisted s d cs ≡ cs) → ((s : ℕ) (ns : List (List ℕ)) → renoted s d ns ≡ ns) → Widens rs qs → Relists rs qs (λ s. relisted s d) (λ s. renoted s d) (λ s. is_joining s d)
+relists_wide rs qs d same so w = record { lists = λ s. w.lists s ∙ sym (same s (row_of rs s).list); notes = λ s. w.notes s ∙ sym (so s (row_of rs s).notes); rooms = λ s. let a = w.rooms s in omega arith }
 
-pub relists_plain : (rs qs : List (ℕ × Card)) (d : Deed) → is_plain d ≡ true → Widens rs qs → Relists rs qs (λ s. relisted s d) (λ s. is_joining s d)
-relists_plain rs qs d p w = relists_wide rs qs d (plain_relisted d p) w
+pub relists_plain : (rs qs : List (ℕ × Card)) (d : Deed) → is_plain d ≡ true → Widens rs qs → Relists rs qs (λ s. relisted s d) (λ s. renoted s d) (λ s. is_joining s d)
+relists_plain rs qs d p w = relists_wide rs qs d (plain_relisted d p) (plain_renoted d p) w
 
 pub copies_plain : (d : Deed) (ds : List Deed) (copies : List (List ℕ)) → is_plain d ≡ true → BeginWith (flat_map made_name (d ∷ ds)) copies → BeginWith (flat_map made_name ds) copies
 copies_plain d ds copies p b = subst (λ (cs : List (List ℕ)). BeginWith (cs ++ flat_map made_name ds) copies) (plain_unmade d p) b
@@ -327,10 +351,11 @@ none_there (k ∷ ks) n e z = elim (eqb_tells n 0) [
 
 -- a session is gone
 pub listed_gone : (rs qs : List (ℕ × Card)) (copies folds : List (List ℕ)) (fs ds : List Deed) (t : ℕ) (last : Bool) → IsNext fs (Gone t) → AreListed rs copies fs (Gone t ∷ ds)
-    → ((s : ℕ) → (row_of qs s).list ≡ cond (t == s) [] (row_of rs s).list) → (last ≡ false → (s : ℕ) → (row_of rs s).room ≤ (row_of qs s).room) → (last ≡ true → folds ≡ [])
+    → ((s : ℕ) → (row_of qs s).list ≡ cond (t == s) [] (row_of rs s).list) → ((s : ℕ) → (row_of qs s).notes ≡ cond (t == s) [] (row_of rs s).notes) → (last ≡ false → (s : ℕ) → (row_of rs s).room ≤ (row_of qs s).room) → (last ≡ true → folds ≡ [])
     → BeginWith (flat_map keyed_name ds) folds → AreListed qs copies (Gone t ∷ fs) ds
-listed_gone rs qs copies folds fs ds t last n i el er ef b = record {
+listed_gone rs qs copies folds fs ds t last n i el en er ef b = record {
   lists = λ s. el s ∙ ap (λ (cs : List (List ℕ)). cond (t == s) [] cs) (i.lists s) ∙ sym (channels_after fs s (Gone t) n);
+  noted = λ s c e. ap (holds_name c) (en s) ∙ noted_after (Gone t) fs s c (row_of rs s).notes (i.noted s c) e;
   room = λ s. elim (either last) [
     | inl it ↦ let none = none_keyed s ds (subst (BeginWith (flat_map keyed_name ds)) (ef it) b) in omega arith
     | inr not_last ↦ let had = i.room s in let kept = er not_last s in let e = joinings-cons s (Gone t) ds in omega arith
@@ -339,19 +364,22 @@ listed_gone rs qs copies folds fs ds t last n i el er ef b = record {
 }
 
 -- it is ready for deeds
-pub listed_ready : (rs qs : List (ℕ × Card)) (copies left : List (List ℕ)) (fs es ds : List Deed) → AreListed rs copies fs es → Widens rs qs → ((s : ℕ) → joinings s ds ≤ (row_of qs s).room) → left ≡ flat_map made_name ds → AreListed qs left fs ds
-listed_ready rs qs copies left fs es ds i w room e = record { lists = λ s. w.lists s ∙ i.lists s; room = room; copies = subst (BeginWith (flat_map made_name ds)) (sym e) (begin_same (flat_map made_name ds)) }
+pub listed_ready : (ks : List Channel) (rs qs : List (ℕ × Card)) (copies left : List (List ℕ)) (fs es ds : List Deed) → ((c : List ℕ) → state_in ks c ≡ state fs c) → AreListed rs copies fs es → Refits ks rs qs → ((s : ℕ) → joinings s ds ≤ (row_of qs s).room) → left ≡ flat_map made_name ds → AreListed qs left fs ds
+listed_ready ks rs qs copies left fs es ds st i w room e = record { lists = λ s. w.lists s ∙ i.lists s; noted = still_noted ks fs rs qs st w i.noted; room = room; copies = subst (BeginWith (flat_map made_name ds)) (sym e) (begin_same (flat_map made_name ds)) }
 
 -- ---- lists that stay
 
-pub widens_refl : (rs : List (ℕ × Card)) → Widens rs rs
-widens_refl rs = record { lists = λ s. refl; rooms = λ s. omega arith }
+pub refits_refl : (ks : List Channel) (rs : List (ℕ × Card)) → Refits ks rs rs
+refits_refl ks rs = record { lists = λ s. refl; notes = λ s c e h. h; rooms = λ s. omega arith }
 
-pub widens_same : (rs qs : List (ℕ × Card)) → qs ≡ rs → Widens rs qs
-widens_same rs qs e = subst (Widens rs) (sym e) (widens_refl rs)
+pub refits_same : (ks : List Channel) (rs qs : List (ℕ × Card)) → qs ≡ rs → Refits ks rs qs
+refits_same ks rs qs e = subst (Refits ks rs) (sym e) (refits_refl ks rs)
 
-pub widens_more : (rs qs ls : List (ℕ × Card)) → Widens rs qs → Widens qs ls → Widens rs ls
-widens_more rs qs ls w v = record { lists = λ s. v.lists s ∙ w.lists s; rooms = λ s. let a = w.rooms s in let b = v.rooms s in omega arith }
+pub refits_more : (ks : List Channel) (rs qs ls : List (ℕ × Card)) → Refits ks rs qs → Refits ks qs ls → Refits ks rs ls
+refits_more ks rs qs ls w v = record { lists = λ s. v.lists s ∙ w.lists s; notes = λ s c e h. v.notes s c e (w.notes s c e h); rooms = λ s. let a = w.rooms s in let b = v.rooms s in omega arith }
+
+pub refits_wide : (ks : List Channel) (rs qs : List (ℕ × Card)) → Widens rs qs → Refits ks rs qs
+refits_wide ks rs qs w = record { lists = w.lists; notes = λ s c e h. ap (holds_name c) (w.notes s) ∙ h; rooms = w.rooms }
 
 -- ---- room for those who join by deeds
 
@@ -362,8 +390,8 @@ HaveRoomFor n ds rs = (s : ℕ) → list_any (is_joining s) ds ≡ true → n �
 pub room_for_none : (n : ℕ) (rs : List (ℕ × Card)) → HaveRoomFor n [] rs
 room_for_none n rs s e = absurd (let f : false ≡ true = e in cc)
 
-pub room_for_more : (n i : ℕ) (ds : List Deed) (d : Deed) (rs qs : List (ℕ × Card)) → i < length ds → d ≡ get_or ds i d → Widens rs qs → HaveRoomFor n (take i ds) rs → ((s : ℕ) → is_joining s d ≡ true → n ≤ (row_of qs s).room) → HaveRoomFor n (take (i + 1) ds) qs
-room_for_more n i ds d rs qs l is w h new s e =
+pub room_for_more : (ks : List Channel) (n i : ℕ) (ds : List Deed) (d : Deed) (rs qs : List (ℕ × Card)) → i < length ds → d ≡ get_or ds i d → Refits ks rs qs → HaveRoomFor n (take i ds) rs → ((s : ℕ) → is_joining s d ≡ true → n ≤ (row_of qs s).room) → HaveRoomFor n (take (i + 1) ds) qs
+room_for_more ks n i ds d rs qs l is w h new s e =
     elim (either (list_any (is_joining s) (take i ds))) [
       | inl before ↦ let a = h s before in let b = w.rooms s in omega arith
       | inr none ↦ new s (

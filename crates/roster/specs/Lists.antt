@@ -1,17 +1,19 @@
 -- The lists of the channels of sessions: words of the private contracts.
-use Rattle.std.specs.Prelude.{◌≡◌, ℕ, ◌+◌, ◌≤◌, Bool, false, ◌==◌, cond, List, [], ◌∷◌, count_by}
+use Rattle.std.specs.Prelude.{◌≡◌, ℕ, ◌+◌, ◌≤◌, Bool, true, false, ◌==◌, cond, List, [], ◌∷◌, count_by}
 use Rattle.std.specs.List.{flat_map}
 use Rattle.channel_state.specs.declared.change.Change.{Change}
 use Rattle.channel_state.specs.declared.change.Change.TheVariants as change
 use Rattle.roster.specs.declared.deed.Deed.{Deed}
 use Rattle.roster.specs.declared.deed.Deed.TheVariants.{NickSet, ChannelMade, Changed, Gone}
 use Rattle.roster.specs.declared.lists.Seat.{Seat}
-use Rattle.roster.specs.declared.lists.Seat.TheVariants.{Taken, Left, Same}
+use Rattle.roster.specs.declared.lists.Seat.TheVariants.{Taken, Left, Noted, Same}
 use Rattle.casemapping.specs.Fold.{folded}
 use Rattle.roster.specs.declared.tables.Card.{Card}
+use Rattle.roster.specs.declared.tables.Channel.{Channel}
+use Rattle.channel_state.specs.State.{among}
 use Rattle.roster.specs.Row.{Row}
-use Rattle.roster.specs.Tables.{card_at}
-use Rattle.roster.specs.LookBack.{with_last_name, without_name, channels_on}
+use Rattle.roster.specs.Tables.{card_at, state_in, holds_name}
+use Rattle.roster.specs.LookBack.{with_last_name, without_name, channels_on, state}
 
 -- the names on a session's card
 abbrev pub row_of : List (ℕ × Card) → ℕ → Row
@@ -21,17 +23,26 @@ row_of es s = (card_at es s).names
 abbrev pub seat_of : Change → Seat
 seat_of (change.Joined t) = Taken t
 seat_of (change.Left t) = Left t
+seat_of (change.Invited t by_operator) = Noted t
 seat_of x = Same
 
+-- whether a name is added to a list of s
 abbrev pub is_taken : ℕ → Seat → Bool
 is_taken s (Taken t) = t == s
+is_taken s (Noted t) = t == s
 is_taken s x = false
 
 -- the channels of s after a seat is taken or left
 abbrev pub reseated : ℕ → List ℕ → Seat → List (List ℕ) → List (List ℕ)
 reseated s c (Taken t) cs = cond (t == s) (with_last_name c cs) cs
 reseated s c (Left t) cs = cond (t == s) (without_name c cs) cs
+reseated s c (Noted t) cs = cs
 reseated s c Same cs = cs
+
+-- the channels that may list s among the invited, after a seat is taken or left
+abbrev pub noted : ℕ → List ℕ → Seat → List (List ℕ) → List (List ℕ)
+noted s c (Noted t) ns = cond (t == s) (with_last_name c ns) ns
+noted s c x ns = ns
 
 -- the channels of s after a deed
 abbrev pub relisted : ℕ → Deed → List (List ℕ) → List (List ℕ)
@@ -40,13 +51,19 @@ relisted s (Changed k x) cs = reseated s k (seat_of x) cs
 relisted s (Gone t) cs = cond (t == s) [] cs
 relisted s d cs = cs
 
--- whether s joins a channel by a deed
+-- the channels that may list s among the invited, after a deed
+abbrev pub renoted : ℕ → Deed → List (List ℕ) → List (List ℕ)
+renoted s (Changed k x) ns = noted s k (seat_of x) ns
+renoted s (Gone t) ns = cond (t == s) [] ns
+renoted s d ns = ns
+
+-- whether s joins a channel by a deed, or is invited
 abbrev pub is_joining : ℕ → Deed → Bool
 is_joining s (ChannelMade t k) = t == s
 is_joining s (Changed k x) = is_taken s (seat_of x)
 is_joining s d = false
 
--- by how many deeds s joins a channel
+-- by how many deeds s joins a channel, or is invited
 abbrev pub joinings : ℕ → List Deed → ℕ
 joinings s ds = count_by (is_joining s) ds
 
@@ -63,13 +80,21 @@ keyed_name (Changed k x) = folded k ∷ []
 keyed_name d = []
 
 -- each list becomes another; those of whom that is told have room for one less at most
-pub record Relists (old new : List (ℕ × Card)) (list : ℕ → List (List ℕ) → List (List ℕ)) (joins : ℕ → Bool) : Type 0 where
+pub record Relists (old new : List (ℕ × Card)) (list note : ℕ → List (List ℕ) → List (List ℕ)) (joins : ℕ → Bool) : Type 0 where
   pub lists : (s : ℕ) → (row_of new s).list ≡ list s (row_of old s).list
+  pub notes : (s : ℕ) → (row_of new s).notes ≡ note s (row_of old s).notes
   pub rooms : (s : ℕ) → (row_of old s).room ≤ (row_of new s).room + cond (joins s) 1 0
 
 -- the lists stay, and have room for as many at least
 pub record Widens (old new : List (ℕ × Card)) : Type 0 where
   pub lists : (s : ℕ) → (row_of new s).list ≡ (row_of old s).list
+  pub notes : (s : ℕ) → (row_of new s).notes ≡ (row_of old s).notes
+  pub rooms : (s : ℕ) → (row_of old s).room ≤ (row_of new s).room
+
+-- the same, where notes of channels that don't invite a session may be gone
+pub record Refits (ks : List Channel) (old new : List (ℕ × Card)) : Type 0 where
+  pub lists : (s : ℕ) → (row_of new s).list ≡ (row_of old s).list
+  pub notes : (s : ℕ) (c : List ℕ) → among s (state_in ks c).invited ≡ true → holds_name c (row_of old s).notes ≡ true → holds_name c (row_of new s).notes ≡ true
   pub rooms : (s : ℕ) → (row_of old s).room ≤ (row_of new s).room
 
 -- names begin with these
@@ -81,5 +106,7 @@ BeginWith (c ∷ cs) (k ∷ ks) = (k ≡ c) × BeginWith cs ks
 -- each session's list stands for facts, with room and copies of names for deeds
 pub record AreListed (rs : List (ℕ × Card)) (ns : List (List ℕ)) (fs ds : List Deed) : Type 0 where
   pub lists : (s : ℕ) → (row_of rs s).list ≡ channels_on fs s
+  -- each channel that invites it is noted
+  pub noted : (s : ℕ) (c : List ℕ) → among s (state fs c).invited ≡ true → holds_name c (row_of rs s).notes ≡ true
   pub room : (s : ℕ) → joinings s ds ≤ (row_of rs s).room
   pub copies : BeginWith (flat_map made_name ds) ns

@@ -3,4 +3,6 @@ use Rattle.std.specs.Prelude.{ℕ, List}
 
 pub record Row : Type 0 where
   pub list : List (List ℕ)
+  -- the channels that may list it among the invited
+  pub notes : List (List ℕ)
   pub room : ℕ

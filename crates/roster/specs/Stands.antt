@@ -1,5 +1,5 @@
 -- How tables stand for a list of facts, and are ready for deeds.
-use Rattle.std.specs.Prelude.{◌≡◌, ℕ, ◌≤◌, Bool, true, false, List, [], ◌∷◌, length, count_by, Option, Some, None}
+use Rattle.std.specs.Prelude.{◌≡◌, ℕ, ◌≤◌, Bool, true, false, cond, List, [], ◌∷◌, filter, length, count_by, Option, Some, None}
 use Rattle.std.specs.List.{list_any, flat_map}
 use Rattle.chronicle.specs.declared.why.Why.{Why}
 use Rattle.roster.specs.declared.deed.Deed.{Deed}
@@ -8,12 +8,12 @@ use Rattle.roster.specs.declared.tables.Person.{Person}
 use Rattle.roster.specs.declared.tables.Card.{Card}
 use Rattle.roster.specs.declared.tables.Channel.{Channel}
 use Rattle.casemapping.specs.Fold.{folded, is_same}
-use Rattle.channel_state.specs.State.{nothing}
+use Rattle.channel_state.specs.State.{nothing, is_some_one, departed, lasting}
 use Rattle.channel_state.specs.Held.{Held}
 use Rattle.roster.specs.LookBack.{numbers, opened, host, nick, user, real, held, caps, exchange, account, registered, away, invisible, why, parting, is_named, state, name_of, channels}
-use Rattle.roster.specs.Legal.{IsOpened, AreNext}
+use Rattle.roster.specs.Legal.{IsOpened, AreNext, AreLegal}
 use Rattle.roster.specs.Table.{Table}
-use Rattle.roster.specs.Tables.{person_at, why_at, held_by, state_in, name_in, names_of, with_held, is_populated}
+use Rattle.roster.specs.Tables.{person_at, why_at, held_by, state_in, name_in, names_of, with_held, is_populated, holds_name}
 use Rattle.roster.specs.Lists.{keyed_name, BeginWith}
 
 -- what facts say of a session
@@ -73,6 +73,15 @@ abbrev pub HaveSeats : List Deed → List Channel → Type 0
 HaveSeats ds [] = Unit {0}
 HaveSeats ds (k ∷ ks) = (changes k.name ds ≤ k.held.room) × HaveSeats ds ks
 
+-- a session leaves the channels of names, and those end where no member is left
+pub record LeavesThose (old new : List Channel) (cs : List (List ℕ)) (t : ℕ) : Type 0 where
+  pub states : (c : List ℕ) → state_in new c ≡ cond (holds_name c cs) (lasting (departed t (state_in old c))) (state_in old c)
+  pub names : (c : List ℕ) → name_in new c ≡ cond (is_some_one (state_in new c).members) (name_in old c) None
+  pub channels : names_of new ≡ filter (λ c. is_some_one (state_in new c).members) (names_of old)
+  pub apart : AreApart new
+  pub held : AreHeld new
+  pub seats : (ds : List Deed) → HaveSeats ds old → HaveSeats ds new
+
 -- what channels that will be made are kept in
 abbrev pub AreSpare : ℕ → List Held → Type 0
 AreSpare n [] = Unit {0}
@@ -120,5 +129,6 @@ pub record HasRoom (es : Table (ℕ × Card)) (ws : Table Why) (hs : Table (List
 pub record IsKept (es : Table (ℕ × Card)) (ws : Table Why) (hs : Table (List ℕ × ℕ)) (ks : Table Channel) (spare : List Held) (folds : List (List ℕ)) (fs ds : List Deed) : Type 0 where
   pub people : HoldPeople es.list ws.list hs.list fs
   pub channels : HoldChannels ks.list fs
+  pub legal : AreLegal fs
   pub next : AreNext fs ds
   pub room : HasRoom es ws hs ks spare folds ds

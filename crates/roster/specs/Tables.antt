@@ -1,5 +1,5 @@
 -- What the tables of sessions and channels hold: words of the private contracts.
-use Rattle.std.specs.Prelude.{◌≡◌, ℕ, zero, suc, ◌+◌, ◌≤◌, ◌<◌, Bool, true, false, not, ◌&&◌, cond, nat_eq, nat_le, List, [], ◌∷◌, ◌++◌, slice_index_or, slice_get, slice_set, filter, Option, Some, None, ◌==◌, unwrap_or}
+use Rattle.std.specs.Prelude.{◌≡◌, ℕ, zero, suc, ◌+◌, ◌≤◌, ◌<◌, Bool, true, false, not, ◌&&◌, cond, nat_eq, nat_le, List, [], ◌∷◌, ◌++◌, slice_index_or, slice_get, filter, Option, Some, None, ◌==◌, unwrap_or}
 use Rattle.std.specs.Option.{option_map_or, option_map}
 use Rattle.std.specs.List.{find, list_any}
 use Rattle.std.specs.Map.{lookup}
@@ -82,7 +82,7 @@ heard (Ended t w x) p = record p { parting = x }
 heard (Gone t) p = nobody
 
 abbrev pub blank : Card
-blank = record { person = nobody; names = record { list = []; room = 0 } }
+blank = record { person = nobody; names = record { list = []; notes = []; room = 0 } }
 
 -- the card of session s
 abbrev pub card_in : List (ℕ × Card) → ℕ → Option Card
@@ -196,24 +196,17 @@ pub record Changes (old new : List Channel) (c : List ℕ) (x : Change) : Type 0
   pub reholds : Reholds old between c (changed x (state_in old c)) 1
   pub ended : new ≡ populated between
 
--- a session is taken out of the channel at a place
-pub record DepartsAt (old new : List Channel) (i t : ℕ) : Type 0 where
-  pub was : Channel
-  pub held : Held
-  pub at : slice_get old i ≡ Some was
-  pub changed : new ≡ slice_set old i (record { name = was.name; held = held })
-  pub state : held.state ≡ departed t was.held.state
-  pub room : was.held.room ≤ held.room
+-- whether a name is among these, however it is spelled
+abbrev pub holds_name : List ℕ → List (List ℕ) → Bool
+holds_name c cs = list_any (λ k. is_same k c) cs
 
--- a session is taken out of all channels
-abbrev pub AreWithout : ℕ → List Channel → List Channel → Type 0
-AreWithout t [] [] = Unit {0}
-AreWithout t (k ∷ ks) (l ∷ ls) = (l.name ≡ k.name) × (l.held.state ≡ departed t k.held.state) × (k.held.room ≤ l.held.room) × AreWithout t ks ls
-AreWithout t [] (l ∷ ls) = ⊥
-AreWithout t (k ∷ ks) [] = ⊥
+-- a channel of a name is at a place, or at none
+abbrev pub IsPlace : List Channel → List ℕ → Option ℕ → Type 0
+IsPlace ks c None = channel_of ks c ≡ None
+IsPlace ks c (Some i) = (k : Channel) × (slice_get ks i ≡ Some k) × (channel_of ks c ≡ Some k)
 
--- the same, and then channels end
-pub record LeavesAll (old new : List Channel) (t : ℕ) : Type 0 where
+-- a session leaves the channel of a name, which ends where no member is left
+pub record Departs (old new : List Channel) (c : List ℕ) (t : ℕ) : Type 0 where
   pub between : List Channel
-  pub left : AreWithout t old between
+  pub reholds : Reholds old between c (departed t (state_in old c)) 0
   pub ended : new ≡ populated between

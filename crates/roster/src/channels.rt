@@ -1,18 +1,20 @@
 //! The table of channels.
+ghost use Rattle.std.specs.List.{remove};
 ghost use Rattle.std.specs.Map.{lookup, remove_entry};
 ghost use Rattle.std.specs.Str.{bytes_eq};
 ghost use Rattle.indexmap.specs.IndexMap.{spare};
-ghost use Rattle.std.specs.Prelude.{◌≡◌, ◌+◌, ◌<◌, ◌≤◌, ◌++◌, ◌∷◌, filter, ℕ, suc, true, false, [], None, length, option_copied, slice_get, IfOk, OnOk};
+ghost use Rattle.std.specs.Prelude.{◌≡◌, ◌+◌, ◌<◌, ◌≤◌, ◌++◌, ◌∷◌, ℕ, suc, true, false, [], Some, None, length, option_copied, slice_get, IfOk, OnOk};
 ghost use Rattle.casemapping.specs.Fold.{folded, is_same};
-ghost use Rattle.channel_state.specs.State.{changed};
-ghost use Rattle.roster.specs.Tables.{channel_of, state_in, room_in, is_populated, populated, Reholds, Makes, Changes, DepartsAt, AreWithout, LeavesAll};
-ghost use Rattle.roster.specs.Stands.{Alike, AreHeld, AreHeldBut, AreSpare, Reserves};
+ghost use Rattle.channel_state.specs.State.{among, changed, departed};
+ghost use Rattle.roster.specs.Tables.{channel_of, state_in, room_in, Reholds, Makes, Changes, IsPlace, Departs};
+ghost use Rattle.roster.specs.Stands.{Alike, AreApart, LeavesThose, AreHeld, AreHeldBut, AreSpare, Reserves};
 
-use crate::hashing::Quick;
+use crate::boxed::Boxed;
+use crate::hashing::NameHashing;
 use crate::names::is_same;
 use crate::tables::Channel;
 use casemapping::Folded;
-use channel_state::{Change, ChannelState};
+use channel_state::Change;
 use chronicle::SessionId;
 use indexmap::IndexMap;
 use line_grammar::Octets;
@@ -23,7 +25,7 @@ use std::marker::Model;
 #[derive(Drop)]
 pub(crate) struct Channels {
     alloc: Global,
-    channels: IndexMap<Folded, Channel, Quick>,
+    channels: IndexMap<Folded, Channel, NameHashing>,
 }
 
 impl Model for Channels {
@@ -40,7 +42,7 @@ impl Model for Channels {
 }
 
 /// Adds a channel under a key that isn't there, in room that was made.
-fn push(channels: &mut IndexMap<Folded, Channel, Quick>, key: Folded, channel: Channel)
+fn push(channels: &mut IndexMap<Folded, Channel, NameHashing>, key: Folded, channel: Channel)
     requires absent { lookup (bytes_eq key) channels.old.entries ≡ None }
     requires room { 0 < spare channels.old }
     ensures entries { channels.new.entries ≡ channels.old.entries ++ (key, channel) ∷ [] }
@@ -50,33 +52,41 @@ fn push(channels: &mut IndexMap<Folded, Channel, Quick>, key: Folded, channel: C
 }
 
 /// Takes a channel out.
-fn take_out(channels: &mut IndexMap<Folded, Channel, Quick>, key: &Folded)
+fn take_out(channels: &mut IndexMap<Folded, Channel, NameHashing>, key: &Folded)
     ensures entries { channels.new.entries ≡ remove_entry (bytes_eq key.now) channels.old.entries }
     ensures room { spare channels.old ≤ spare channels.new }
 {
     channels.shift_remove(key);
 }
 
-/// Keeps the channels that have a member.
-fn keep_populated(channels: &mut IndexMap<Folded, Channel, Quick>)
-    ensures entries { channels.new.entries ≡ filter (λ e. is_populated e.1) channels.old.entries }
+/// Takes the channel at a place out.
+fn take_out_at(channels: &mut IndexMap<Folded, Channel, NameHashing>, place: usize)
+    ensures entries { channels.new.entries ≡ remove channels.old.entries place }
     ensures room { spare channels.old ≤ spare channels.new }
 {
-    channels.retain(
-        |_name: &Folded, channel: &mut Channel| -> bool
-            ensures { (result ≡ is_populated channel.old) × (channel.new ≡ channel.old) }
-        { channel.held.is_there() },
-    );
+    channels.shift_remove_index(place);
+}
+
+/// The place of the channel of a name.
+fn place_in(channels: &[Channel], name: &[u8]) -> Option<usize>
+    ensures { IsPlace channels.now name.now result }
+{
+    for (place, channel) in channels.iter().enumerate() {
+        if is_same(channel.name.as_slice(), name) {
+            return Some(place);
+        }
+    }
+    None
 }
 
 impl Channels {
     /// No channel is there.
-    pub(crate) fn new(alloc: Global) -> Channels
+    pub(crate) fn new(alloc: Global, hashing: NameHashing) -> Channels
         ensures { result.list ≡ [] }
     {
         Channels {
             alloc,
-            channels: IndexMap::with_hasher(alloc, Quick::new()),
+            channels: IndexMap::with_hasher(alloc, hashing),
         }
     }
 
@@ -154,7 +164,7 @@ impl Channels {
     /// Adds a channel that isn't there with its first member, under its folded name, in room that was made.
     pub(crate) fn make(
         &mut self,
-        spare: &mut Vec<ChannelState>,
+        spare: &mut Vec<Boxed>,
         key: Folded,
         name: Octets,
         session: SessionId,
@@ -188,7 +198,7 @@ impl Channels {
             return false;
         };
         channel.held.change(change);
-        !channel.held.is_there()
+        !channel.held.get().is_there()
     }
 
     /// The channel of a folded name changes, and ends where no member is left. It takes no memory.
@@ -204,42 +214,70 @@ impl Channels {
         }
     }
 
-    /// Takes a session out of the channel at a place.
-    fn depart_at(&mut self, place: usize, session: SessionId)
-        requires { place < length self.old.list }
-        ensures left { DepartsAt self.old.list self.new.list place session }
+    /// The place of the channel of a name.
+    fn place_of(&self, name: &[u8]) -> Option<usize>
+        ensures { IsPlace self.now.list name.now result }
+    {
+        match Folded::new(self.alloc, name) {
+            Ok(key) => match self.channels.get_full(&key) {
+                Some((place, _, _)) => Some(place),
+                None => None,
+            },
+            Err(_) => place_in(self.as_slice(), name),
+        }
+    }
+
+    /// Whether the channel of a name invites a session.
+    pub(crate) fn invites(&self, name: &[u8], session: SessionId) -> bool
+        ensures { result ≡ among session (state_in self.now.list name.now).invited }
+    {
+        match self.find(name) {
+            Some(channel) => channel.held.get().is_invited(session),
+            None => false,
+        }
+    }
+
+    /// Takes a session out of the channel of a name, which is at a place, and tells whether nobody is on it.
+    fn depart_at(&mut self, place: usize, name: &[u8], session: SessionId) -> bool
+        requires at { IsPlace self.old.list name.now (Some place) }
+        requires apart { AreApart self.old.list }
+        requires held { AreHeld self.old.list }
+        ensures reholds { Reholds self.old.list self.new.list name.now (departed session (state_in self.old.list name.now)) 0 }
+        ensures ended { result ≡ true → AreHeldBut name.now self.new.list }
+        ensures held { result ≡ false → AreHeld self.new.list }
         ensures room { self.new.room ≡ self.old.room }
     {
         let Some(channel) = self.channels.get_index_mut(place) else {
             unreachable!();
         };
         channel.held.depart(session);
+        !channel.held.get().is_there()
     }
 
-    /// Takes a session out of each channel.
-    fn depart_each(&mut self, session: SessionId)
-        ensures left { AreWithout session self.old.list self.new.list }
-        ensures room { self.new.room ≡ self.old.room }
+    /// A session leaves the channel of a name, which ends where no member is left. It waits for no memory.
+    fn leave(&mut self, name: &[u8], session: SessionId)
+        requires apart { AreApart self.old.list }
+        requires held { AreHeld self.old.list }
+        ensures departs { Departs self.old.list self.new.list name.now session }
+        ensures room { self.old.room ≤ self.new.room }
     {
-        for place in 0..self.len() {
-            self.depart_at(place, session);
+        let Some(place) = self.place_of(name) else {
+            return;
+        };
+        if self.depart_at(place, name, session) {
+            take_out_at(&mut self.channels, place);
         }
     }
 
-    /// Ends the channels that have no member left.
-    fn end_empty(&mut self)
-        ensures list { self.new.list ≡ populated self.old.list }
+    /// A session leaves the channels of names, and those end where no member is left. It waits for no memory.
+    pub(crate) fn leave_each(&mut self, names: &[Octets], session: SessionId)
+        requires apart { AreApart self.old.list }
+        requires held { AreHeld self.old.list }
+        ensures leaves { LeavesThose self.old.list self.new.list names.now session }
         ensures room { self.old.room ≤ self.new.room }
     {
-        keep_populated(&mut self.channels);
-    }
-
-    /// A session leaves all channels, and those end where no member is left. It takes no memory.
-    pub(crate) fn leave_all(&mut self, session: SessionId)
-        ensures leaves { LeavesAll self.old.list self.new.list session }
-        ensures room { self.old.room ≤ self.new.room }
-    {
-        self.depart_each(session);
-        self.end_empty();
+        for name in names {
+            self.leave(name.as_slice(), session);
+        }
     }
 }

@@ -7,11 +7,12 @@ ghost use Rattle.roster.specs.Tables.{channel_of, room_in, held_by, Changes, Mak
 ghost use Rattle.roster.specs.Lists.{keyed_name};
 ghost use Rattle.roster.specs.Stands.{AreHeld, AreSpare};
 
+use crate::boxed::Boxed;
 use crate::channels::Channels;
 use crate::deed::Deed;
 use crate::nicks::Nicks;
 use casemapping::Folded;
-use channel_state::{Change, ChannelState};
+use channel_state::Change;
 use chronicle::SessionId;
 use line_grammar::Octets;
 use std::alloc::{AllocError, Global};
@@ -48,7 +49,7 @@ pub(crate) fn copy_keys(
 /// A channel is made, whose folded name is the first of the keys. It takes no memory.
 pub(crate) fn make(
     channels: &mut Channels,
-    spare: &mut Vec<ChannelState>,
+    spare: &mut Vec<Boxed>,
     keys: &mut VecDeque<Folded>,
     name: Octets,
     session: SessionId,

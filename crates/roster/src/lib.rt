@@ -1,6 +1,7 @@
 //! What is known of sessions and channels: a list of facts, kept in tables.
 #![tactic(auto)]
 
+mod boxed;
 mod channels;
 mod deed;
 mod given;
@@ -8,6 +9,7 @@ mod hashing;
 mod keys;
 mod laws;
 mod lists;
+mod marks;
 mod names;
 mod nicks;
 mod people;
@@ -17,7 +19,6 @@ mod sessions;
 mod sharing;
 mod tables;
 mod touched;
-mod whys;
 
 pub use deed::Deed;
 pub use laws::{

@@ -1,13 +1,16 @@
 //! The channels of each session, in lists.
 ghost use Rattle.std.specs.Option.{option_map_or};
-ghost use Rattle.std.specs.Prelude.{◌≡◌, ℕ, List, true, false, ◌==◌, cond, ◌<◌, ◌≤◌, ◌-◌, ◌++◌, [], length, drop, slice_get, Some, OnOk};
+ghost use Rattle.std.specs.Prelude.{◌≡◌, ℕ, List, true, false, ◌==◌, cond, ◌<◌, ◌≤◌, ◌-◌, ◌++◌, [], filter, length, drop, slice_get, Some, OnOk};
 ghost use Rattle.std.specs.List.{flat_map, list_any};
 ghost use Rattle.casemapping.specs.Fold.{is_same};
 ghost use Rattle.roster.specs.LookBack.{with_last_name, without_name};
-ghost use Rattle.roster.specs.Tables.{person_at};
-ghost use Rattle.roster.specs.Lists.{row_of, seat_of, is_taken, reseated, is_joining, joinings, made_name, Relists, Widens};
+ghost use Rattle.channel_state.specs.State.{among};
+ghost use Rattle.roster.specs.Tables.{person_at, state_in, holds_name};
+ghost use Rattle.roster.specs.Lists.{row_of, seat_of, is_taken, reseated, noted, is_joining, joinings, made_name, Relists, Refits};
 
+use crate::channels::Channels;
 use crate::deed::Deed;
+use crate::marks::Marks;
 use crate::names::is_same;
 use crate::people::People;
 use channel_state::Change;
@@ -17,53 +20,98 @@ use std::alloc::{AllocError, Global};
 use std::collections::VecDeque;
 use std::marker::Model;
 
-/// Names of channels, in order, and room for more.
+/// The channels of a session, in order, and those that may list it among the invited, with room for more of both.
 #[derive(Drop)]
 pub(crate) struct Names {
     names: Vec<Octets>,
+    notes: Vec<Octets>,
 }
 
 impl Model for Names {
-    ghost use Rattle.std.specs.Prelude.{◌-◌, vec_len, vec_capacity};
+    ghost use Rattle.std.specs.Prelude.{◌-◌, min, vec_len, vec_capacity};
     ghost use Rattle.roster.specs.Row.{Row};
 
     ghost Value = { Row };
 
-    ghost view = { λ a. record { list = a.names.items; room = vec_capacity a.names - vec_len a.names } };
+    ghost view = { λ a. record { list = a.names.items; notes = a.notes.items; room = min (vec_capacity a.names - vec_len a.names) (vec_capacity a.notes - vec_len a.notes) } };
 }
 
 impl Clone for Names {
-    ghost is_clone = { λ a b. b.list ≡ a.list };
+    ghost is_clone = { λ a b. (b.list ≡ a.list) × (b.notes ≡ a.notes) };
 
     fn clone(&self) -> Result<Names, AllocError> {
         Ok(Names {
             names: self.names.clone()?,
+            notes: self.notes.clone()?,
         })
     }
 }
 
 impl Names {
     pub(crate) fn new(alloc: Global) -> Names
-        ensures { result.list ≡ [] }
+        ensures list { result.list ≡ [] }
+        ensures notes { result.notes ≡ [] }
     {
         Names {
             names: Vec::new(alloc),
+            notes: Vec::new(alloc),
         }
     }
 
     /// Makes room for so many more.
-    pub(crate) fn reserve(&mut self, more: usize) -> Result<(), AllocError>
+    fn reserve(&mut self, more: usize) -> Result<(), AllocError>
         ensures list { self.new.list ≡ self.old.list }
+        ensures notes { self.new.notes ≡ self.old.notes }
         ensures room { self.old.room ≤ self.new.room }
         ensures made { OnOk result (more ≤ self.new.room) }
     {
-        self.names.reserve(more)
+        self.names.reserve(more)?;
+        self.notes.reserve(more)
+    }
+
+    /// Keeps the notes of channels that invite a session. It takes no memory.
+    fn prune(&mut self, channels: &Channels, session: SessionId)
+        ensures list { self.new.list ≡ self.old.list }
+        ensures notes { self.new.notes ≡ filter (λ c. among session (state_in channels.now.list c).invited) self.old.notes }
+        ensures room { self.old.room ≤ self.new.room }
+    {
+        self.notes
+            .retain(|name| channels.invites(name.as_slice(), session));
+    }
+
+    /// Where there is no room for so many more, the notes are taken out whose channels invite a session no more.
+    fn thin(&mut self, channels: &Channels, session: SessionId, more: usize)
+        ensures list { self.new.list ≡ self.old.list }
+        ensures notes { (c : List ℕ) → among session (state_in channels.now.list c).invited ≡ true → holds_name c self.old.notes ≡ true → holds_name c self.new.notes ≡ true }
+        ensures room { self.old.room ≤ self.new.room }
+    {
+        if self.notes.capacity() - self.notes.len() >= more {
+            return;
+        }
+        self.prune(channels, session);
+    }
+
+    /// Makes room for so many more. Before notes grow those are taken out whose channels invite the session no more.
+    pub(crate) fn refit(
+        &mut self,
+        channels: &Channels,
+        session: SessionId,
+        more: usize,
+    ) -> Result<(), AllocError>
+        ensures list { self.new.list ≡ self.old.list }
+        ensures notes { (c : List ℕ) → among session (state_in channels.now.list c).invited ≡ true → holds_name c self.old.notes ≡ true → holds_name c self.new.notes ≡ true }
+        ensures room { self.old.room ≤ self.new.room }
+        ensures made { OnOk result (more ≤ self.new.room) }
+    {
+        self.thin(channels, session, more);
+        self.reserve(more)
     }
 
     /// Adds a name at the end, or moves it there. It takes no memory.
     pub(crate) fn add(&mut self, name: Octets)
         requires { 0 < self.old.room }
         ensures list { self.new.list ≡ with_last_name name self.old.list }
+        ensures notes { self.new.notes ≡ self.old.notes }
         ensures room { self.old.room - 1 ≤ self.new.room }
     {
         self.remove(name.as_slice());
@@ -73,17 +121,40 @@ impl Names {
     /// Takes a name out, however it is spelled. It takes no memory.
     pub(crate) fn remove(&mut self, name: &[u8])
         ensures list { self.new.list ≡ without_name name.now self.old.list }
+        ensures notes { self.new.notes ≡ self.old.notes }
         ensures room { self.old.room ≤ self.new.room }
     {
         self.names.retain(|other| !is_same(other.as_slice(), name));
     }
 
+    /// Takes a note out, however it is spelled. It takes no memory.
+    fn forget(&mut self, name: &[u8])
+        ensures list { self.new.list ≡ self.old.list }
+        ensures notes { self.new.notes ≡ without_name name.now self.old.notes }
+        ensures room { self.old.room ≤ self.new.room }
+    {
+        self.notes.retain(|other| !is_same(other.as_slice(), name));
+    }
+
+    /// Notes a channel that invites the session. It takes no memory.
+    pub(crate) fn note(&mut self, name: Octets)
+        requires { 0 < self.old.room }
+        ensures list { self.new.list ≡ self.old.list }
+        ensures notes { self.new.notes ≡ with_last_name name self.old.notes }
+        ensures room { self.old.room - 1 ≤ self.new.room }
+    {
+        self.forget(name.as_slice());
+        self.notes.push_reserved(name);
+    }
+
     /// Takes all out. It takes no memory.
     pub(crate) fn clear(&mut self)
         ensures list { self.new.list ≡ [] }
+        ensures notes { self.new.notes ≡ [] }
         ensures room { self.old.room ≤ self.new.room }
     {
         self.names.clear();
+        self.notes.clear();
     }
 
     /// The names as a slice.
@@ -91,6 +162,13 @@ impl Names {
         ensures { result.now ≡ self.now.list }
     {
         &self.names
+    }
+
+    /// The notes as a slice.
+    pub(crate) fn notes(&self) -> &[Octets]
+        ensures { result.now ≡ self.now.notes }
+    {
+        &self.notes
     }
 }
 
@@ -101,10 +179,11 @@ pub(crate) fn has_name(names: &[Octets], name: &[u8]) -> bool
     names.iter().any(|other| is_same(other.as_slice(), name))
 }
 
-/// Who takes a seat on a channel, or leaves one.
+/// Who takes a seat on a channel, leaves one, or is invited to.
 pub(crate) enum Seat {
     Taken { session: SessionId },
     Left { session: SessionId },
+    Noted { session: SessionId },
     Same,
 }
 
@@ -115,20 +194,22 @@ pub(crate) fn seat_of(change: &Change) -> Seat
     match change {
         Change::Joined { session } => Seat::Taken { session: *session },
         Change::Left { session } => Seat::Left { session: *session },
+        Change::Invited { session, .. } => Seat::Noted { session: *session },
         _ => Seat::Same,
     }
 }
 
-/// A session takes a seat or leaves one. It takes no memory.
+/// A session takes a seat, leaves one, or is invited to. It takes no memory.
 pub(crate) fn reseat(people: &mut People, seat: Seat, name: Octets)
     requires { (s : ℕ) → is_taken s seat ≡ true → 0 < (row_of people.old.list s).room }
     ensures people { (t : ℕ) → person_at people.new.list t ≡ person_at people.old.list t }
-    ensures lists { Relists people.old.list people.new.list (λ s. reseated s name seat) (λ s. is_taken s seat) }
+    ensures lists { Relists people.old.list people.new.list (λ s. reseated s name seat) (λ s. noted s name seat) (λ s. is_taken s seat) }
     ensures room { people.new.room ≡ people.old.room }
 {
     match seat {
         Seat::Taken { session } => people.join(session, name),
         Seat::Left { session } => people.leave(session, name.as_slice()),
+        Seat::Noted { session } => people.note(session, name),
         Seat::Same => {}
     }
 }
@@ -138,7 +219,7 @@ pub(crate) fn join_made(people: &mut People, copies: &mut VecDeque<Octets>, sess
     requires room { 0 < (row_of people.old.list session).room }
     requires copied { 0 < length copies.old.items }
     ensures people { (t : ℕ) → person_at people.new.list t ≡ person_at people.old.list t }
-    ensures joined { (n : List ℕ) → slice_get copies.old.items 0 ≡ Some n → Relists people.old.list people.new.list (λ s cs. cond (session == s) (with_last_name n cs) cs) (λ s. session == s) }
+    ensures joined { (n : List ℕ) → slice_get copies.old.items 0 ≡ Some n → Relists people.old.list people.new.list (λ s cs. cond (session == s) (with_last_name n cs) cs) (λ s ns. ns) (λ s. session == s) }
     ensures copies { copies.new.items ≡ drop 1 copies.old.items }
     ensures room { people.new.room ≡ people.old.room }
 {
@@ -147,7 +228,7 @@ pub(crate) fn join_made(people: &mut People, copies: &mut VecDeque<Octets>, sess
     }
 }
 
-/// Who joins a channel by a deed.
+/// Who joins a channel by a deed, or is invited.
 fn joiner_of(deed: &Deed) -> Option<SessionId>
     ensures { (s : ℕ) → is_joining s deed.now ≡ option_map_or (λ t. t == s) result false }
 {
@@ -157,30 +238,47 @@ fn joiner_of(deed: &Deed) -> Option<SessionId>
             change: Change::Joined { session },
             ..
         } => Some(*session),
+        Deed::Changed {
+            change: Change::Invited { session, .. },
+            ..
+        } => Some(*session),
         _ => None,
     }
 }
 
-/// Makes room in the list of whoever joins a channel by a deed.
-fn reserve_for(people: &mut People, deed: &Deed, more: usize) -> Result<(), AllocError>
+/// Makes room in the lists of whoever joins a channel by a deed, or is invited.
+fn reserve_for(
+    people: &mut People,
+    marks: &mut Marks,
+    channels: &Channels,
+    deed: &Deed,
+    more: usize,
+) -> Result<(), AllocError>
+    ensures marks { marks.new ≡ marks.old }
     ensures people { (t : ℕ) → person_at people.new.list t ≡ person_at people.old.list t }
-    ensures kept { Widens people.old.list people.new.list }
+    ensures kept { Refits channels.now.list people.old.list people.new.list }
     ensures room { OnOk result ((s : ℕ) → is_joining s deed.now ≡ true → more ≤ (row_of people.new.list s).room) }
 {
     match joiner_of(deed) {
-        Some(session) => people.reserve_names(session, more),
+        Some(session) => people.reserve_names(marks, channels, session, more),
         None => Ok(()),
     }
 }
 
-/// Makes room in the lists of those who join a channel by deeds.
-pub(crate) fn reserve_lists(people: &mut People, deeds: &[Deed]) -> Result<(), AllocError>
+/// Makes room in the lists of those who join a channel by deeds, or are invited.
+pub(crate) fn reserve_lists(
+    people: &mut People,
+    marks: &mut Marks,
+    channels: &Channels,
+    deeds: &[Deed],
+) -> Result<(), AllocError>
+    ensures marks { marks.new ≡ marks.old }
     ensures people { (t : ℕ) → person_at people.new.list t ≡ person_at people.old.list t }
-    ensures kept { Widens people.old.list people.new.list }
+    ensures kept { Refits channels.now.list people.old.list people.new.list }
     ensures room { OnOk result ((s : ℕ) → joinings s deeds.now ≤ (row_of people.new.list s).room) }
 {
     for deed in deeds {
-        reserve_for(people, deed, deeds.len())?;
+        reserve_for(people, marks, channels, deed, deeds.len())?;
     }
     Ok(())
 }

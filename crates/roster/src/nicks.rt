@@ -5,7 +5,7 @@ ghost use Rattle.std.specs.Str.{bytes_eq};
 ghost use Rattle.casemapping.specs.Fold.{folded};
 ghost use Rattle.roster.specs.Tables.{held_by, Frees};
 
-use crate::hashing::Quick;
+use crate::hashing::NameHashing;
 use crate::names::is_same;
 use casemapping::Folded;
 use chronicle::SessionId;
@@ -18,7 +18,7 @@ use std::marker::Model;
 #[derive(Drop)]
 pub(crate) struct Nicks {
     alloc: Global,
-    holders: IndexMap<Folded, SessionId, Quick>,
+    holders: IndexMap<Folded, SessionId, NameHashing>,
 }
 
 impl Model for Nicks {
@@ -33,12 +33,12 @@ impl Model for Nicks {
 
 impl Nicks {
     /// Nobody has a nickname.
-    pub(crate) fn new(alloc: Global) -> Nicks
+    pub(crate) fn new(alloc: Global, hashing: NameHashing) -> Nicks
         ensures { result.list ≡ [] }
     {
         Nicks {
             alloc,
-            holders: IndexMap::with_hasher(alloc, Quick::new()),
+            holders: IndexMap::with_hasher(alloc, hashing),
         }
     }
 

@@ -1,13 +1,15 @@
 //! The table of sessions.
-ghost use Rattle.std.specs.Prelude.{◌≡◌, ◌+◌, ◌<◌, ◌≤◌, ◌==◌, ℕ, [], cond, false, option_copied, unwrap_or, Some, IsSome, IfOk, OnOk};
+ghost use Rattle.std.specs.Prelude.{◌≡◌, ◌+◌, ◌<◌, ◌≤◌, ◌==◌, ℕ, [], cond, false, option_copied, unwrap_or, is_some, Some, IsSome, IfOk, IfSome, OnOk};
 ghost use Rattle.registration.specs.Enrol.{enrolment};
 ghost use Rattle.roster.specs.LookBack.{with_last_name, without_name};
 ghost use Rattle.roster.specs.Tables.{nobody, enrolment_in, heard, subject, is_about, card_in, person_at};
-ghost use Rattle.roster.specs.Lists.{row_of, Relists, Widens};
+ghost use Rattle.roster.specs.Lists.{row_of, Relists, Widens, Refits};
 
+use crate::channels::Channels;
 use crate::deed::Deed;
 use crate::hashing::Quick;
 use crate::lists::Names;
+use crate::marks::Marks;
 use crate::tables::{Card, Person};
 use chronicle::SessionId;
 use indexmap::IndexMap;
@@ -166,6 +168,7 @@ impl People {
     pub(crate) fn copied(&self) -> Result<People, AllocError>
         ensures people { IfOk result (λ r. (t : ℕ) → person_at r.list t ≡ person_at self.now.list t) }
         ensures lists { IfOk result (λ r. (t : ℕ) → (row_of r.list t).list ≡ (row_of self.now.list t).list) }
+        ensures notes { IfOk result (λ r. (t : ℕ) → (row_of r.list t).notes ≡ (row_of self.now.list t).notes) }
     {
         Ok(People {
             alloc: self.alloc,
@@ -181,38 +184,79 @@ impl People {
         self.cards.reserve(more)
     }
 
+    /// The card at a place, where that is a session's.
+    fn card_at(&self, place: usize, session: SessionId) -> Option<&Card>
+        ensures { IfSome result (λ card. card_in self.now.list session ≡ Some card.now) }
+    {
+        let (number, card) = self.cards.get_index(place)?;
+        if *number == session.number() {
+            Some(card)
+        } else {
+            None
+        }
+    }
+
+    /// The card of a session: where it was put last, if it is still there, and else by its number.
+    fn card(&self, marks: &Marks, session: SessionId) -> Option<&Card>
+        ensures { option_copied result ≡ card_in self.now.list session }
+    {
+        match self.card_at(marks.place(session), session) {
+            Some(card) => Some(card),
+            None => self.cards.get(&session.number()),
+        }
+    }
+
+    /// Whether a session has a card.
+    fn has(&self, marks: &Marks, session: SessionId) -> bool
+        ensures { result ≡ is_some (card_in self.now.list session) }
+    {
+        self.card(marks, session).is_some()
+    }
+
     /// What is known of a session.
-    pub(crate) fn find(&self, session: SessionId) -> Option<&Person>
+    pub(crate) fn find(&self, marks: &Marks, session: SessionId) -> Option<&Person>
         ensures { unwrap_or (option_copied result) nobody ≡ person_at self.now.list session }
     {
-        match self.cards.get(&session.number()) {
+        match self.card(marks, session) {
             Some(card) => Some(&card.person),
             None => None,
         }
     }
 
     /// The channels of a session.
-    pub(crate) fn names(&self, session: SessionId) -> &[Octets]
+    pub(crate) fn names(&self, marks: &Marks, session: SessionId) -> &[Octets]
         ensures { result.now ≡ (row_of self.now.list session).list }
     {
-        match self.cards.get(&session.number()) {
+        match self.card(marks, session) {
             Some(card) => card.names.as_slice(),
             None => &[],
         }
     }
 
+    /// The channels that may list a session among the invited: all that do are there.
+    pub(crate) fn notes(&self, marks: &Marks, session: SessionId) -> &[Octets]
+        ensures { result.now ≡ (row_of self.now.list session).notes }
+    {
+        match self.card(marks, session) {
+            Some(card) => card.names.notes(),
+            None => &[],
+        }
+    }
+
     /// A session of which nothing is known has a card, too. There has to be room for it, and it takes no memory.
-    fn open(&mut self, session: SessionId)
+    fn open(&mut self, marks: &mut Marks, session: SessionId)
         requires { 0 < self.old.room }
+        ensures marks { marks.new ≡ marks.old }
         ensures people { (t : ℕ) → person_at self.new.list t ≡ person_at self.old.list t }
         ensures lists { Widens self.old.list self.new.list }
         ensures there { IsSome (card_in self.new.list session) }
         ensures room { self.old.room ≤ self.new.room + 1 }
     {
-        let number = session.number();
-        if self.cards.contains_key(&number) {
+        if self.has(marks, session) {
             return;
         }
+        marks.put(session, self.cards.len());
+        let number = session.number();
         let person = nobody(self.alloc);
         let names = Names::new(self.alloc);
         let _ = self.cards.insert(number, Card { person, names }).unwrap();
@@ -232,8 +276,9 @@ impl People {
     }
 
     /// What is known of sessions changes by a deed. There has to be room for a card, and it takes no memory.
-    pub(crate) fn tell(&mut self, deed: Deed)
+    pub(crate) fn tell(&mut self, marks: &mut Marks, deed: Deed)
         requires { 0 < self.old.room }
+        ensures marks { marks.new ≡ marks.old }
         ensures people { (t : ℕ) → person_at self.new.list t ≡ cond (is_about t deed) (heard deed (person_at self.old.list t)) (person_at self.old.list t) }
         ensures lists { Widens self.old.list self.new.list }
         ensures room { self.old.room ≤ self.new.room + 1 }
@@ -241,7 +286,7 @@ impl People {
         let Some(session) = subject(&deed) else {
             return;
         };
-        self.open(session);
+        self.open(marks, session);
         self.update(session, deed);
     }
 
@@ -260,14 +305,20 @@ impl People {
     }
 
     /// A session has this nickname from now on. It returns the one before. There has to be room for a card, and it takes no memory.
-    pub(crate) fn rename(&mut self, session: SessionId, nick: Octets) -> Option<Octets>
+    pub(crate) fn rename(
+        &mut self,
+        marks: &mut Marks,
+        session: SessionId,
+        nick: Octets,
+    ) -> Option<Octets>
         requires { 0 < self.old.room }
+        ensures marks { marks.new ≡ marks.old }
         ensures people { (t : ℕ) → person_at self.new.list t ≡ cond (session == t) (record (person_at self.old.list t) { nick = Some nick }) (person_at self.old.list t) }
         ensures nick { result ≡ (person_at self.old.list session).nick }
         ensures lists { Widens self.old.list self.new.list }
         ensures room { self.old.room ≤ self.new.room + 1 }
     {
-        self.open(session);
+        self.open(marks, session);
         self.change_nick(session, nick)
     }
 
@@ -287,7 +338,7 @@ impl People {
     fn empty(&mut self, session: SessionId) -> Option<Octets>
         ensures people { (t : ℕ) → person_at self.new.list t ≡ cond (session == t) nobody (person_at self.old.list t) }
         ensures nick { result ≡ (person_at self.old.list session).nick }
-        ensures lists { Relists self.old.list self.new.list (λ s cs. cond (session == s) [] cs) (λ s. false) }
+        ensures lists { Relists self.old.list self.new.list (λ s cs. cond (session == s) [] cs) (λ s ns. cond (session == s) [] ns) (λ s. false) }
         ensures room { self.new.room ≡ self.old.room }
     {
         let stranger = nobody(self.alloc);
@@ -299,29 +350,47 @@ impl People {
         before.nick
     }
 
+    /// The last card takes the place of one that was taken out: its session is told so.
+    fn replace_at(&self, marks: &mut Marks, place: usize)
+        ensures { marks.new ≡ marks.old }
+    {
+        if let Some((number, _)) = self.cards.get_index(place) {
+            marks.put(SessionId::new(*number), place);
+        }
+    }
+
     /// The card of a session is taken out.
-    fn remove(&mut self, session: SessionId) -> Option<Octets>
+    fn remove(&mut self, marks: &mut Marks, session: SessionId) -> Option<Octets>
+        ensures marks { marks.new ≡ marks.old }
         ensures people { (t : ℕ) → person_at self.new.list t ≡ cond (session == t) nobody (person_at self.old.list t) }
         ensures nick { result ≡ (person_at self.old.list session).nick }
-        ensures lists { (t : ℕ) → row_of self.new.list t ≡ cond (session == t) (record { list = []; room = 0 }) (row_of self.old.list t) }
+        ensures lists { (t : ℕ) → row_of self.new.list t ≡ cond (session == t) (record { list = []; notes = []; room = 0 }) (row_of self.old.list t) }
         ensures room { self.old.room ≤ self.new.room }
     {
-        let card = self.cards.swap_remove(&session.number())?;
+        let (place, _, card) = self.cards.swap_remove_full(&session.number())?;
+        self.replace_at(marks, place);
         let person = card.person;
         person.nick
     }
 
     /// Nothing is known of a session any more, and it is on no channel. Its card is taken out, but where room for names in it may
     /// still be wanted. It returns the nickname that it had, and takes no memory.
-    pub(crate) fn forget(&mut self, session: SessionId, is_last: bool) -> Option<Octets>
+    pub(crate) fn forget(
+        &mut self,
+        marks: &mut Marks,
+        session: SessionId,
+        is_last: bool,
+    ) -> Option<Octets>
+        ensures marks { marks.new ≡ marks.old }
         ensures people { (t : ℕ) → person_at self.new.list t ≡ cond (session == t) nobody (person_at self.old.list t) }
         ensures nick { result ≡ (person_at self.old.list session).nick }
         ensures lists { (t : ℕ) → (row_of self.new.list t).list ≡ cond (session == t) [] (row_of self.old.list t).list }
+        ensures notes { (t : ℕ) → (row_of self.new.list t).notes ≡ cond (session == t) [] (row_of self.old.list t).notes }
         ensures rooms { is_last ≡ false → (t : ℕ) → (row_of self.old.list t).room ≤ (row_of self.new.list t).room }
         ensures room { self.old.room ≤ self.new.room }
     {
         if is_last {
-            self.remove(session)
+            self.remove(marks, session)
         } else {
             self.empty(session)
         }
@@ -331,7 +400,7 @@ impl People {
     pub(crate) fn join(&mut self, session: SessionId, name: Octets)
         requires { 0 < (row_of self.old.list session).room }
         ensures people { (t : ℕ) → person_at self.new.list t ≡ person_at self.old.list t }
-        ensures lists { Relists self.old.list self.new.list (λ s cs. cond (session == s) (with_last_name name cs) cs) (λ s. session == s) }
+        ensures lists { Relists self.old.list self.new.list (λ s cs. cond (session == s) (with_last_name name cs) cs) (λ s ns. ns) (λ s. session == s) }
         ensures room { self.new.room ≡ self.old.room }
     {
         let Some(card) = self.cards.get_mut(&session.number()) else {
@@ -343,7 +412,7 @@ impl People {
     /// A session leaves a channel. It takes no memory.
     pub(crate) fn leave(&mut self, session: SessionId, name: &[u8])
         ensures people { (t : ℕ) → person_at self.new.list t ≡ person_at self.old.list t }
-        ensures lists { Relists self.old.list self.new.list (λ s cs. cond (session == s) (without_name name.now cs) cs) (λ s. false) }
+        ensures lists { Relists self.old.list self.new.list (λ s cs. cond (session == s) (without_name name.now cs) cs) (λ s ns. ns) (λ s. false) }
         ensures room { self.new.room ≡ self.old.room }
     {
         if let Some(card) = self.cards.get_mut(&session.number()) {
@@ -351,31 +420,53 @@ impl People {
         }
     }
 
-    /// Makes room for names in the card of a session.
-    fn reserve_card(&mut self, session: SessionId, more: usize) -> Result<(), AllocError>
+    /// A channel invites a session. It takes no memory.
+    pub(crate) fn note(&mut self, session: SessionId, name: Octets)
+        requires { 0 < (row_of self.old.list session).room }
         ensures people { (t : ℕ) → person_at self.new.list t ≡ person_at self.old.list t }
-        ensures lists { Widens self.old.list self.new.list }
+        ensures lists { Relists self.old.list self.new.list (λ s cs. cs) (λ s ns. cond (session == s) (with_last_name name ns) ns) (λ s. session == s) }
+        ensures room { self.new.room ≡ self.old.room }
+    {
+        let Some(card) = self.cards.get_mut(&session.number()) else {
+            unreachable!();
+        };
+        card.names.note(name);
+    }
+
+    /// Makes room for names in the card of a session.
+    fn reserve_card(
+        &mut self,
+        channels: &Channels,
+        session: SessionId,
+        more: usize,
+    ) -> Result<(), AllocError>
+        ensures people { (t : ℕ) → person_at self.new.list t ≡ person_at self.old.list t }
+        ensures lists { Refits channels.now.list self.old.list self.new.list }
         ensures names { OnOk result (IsSome (card_in self.old.list session) → more ≤ (row_of self.new.list session).room) }
         ensures room { self.new.room ≡ self.old.room }
     {
         let Some(card) = self.cards.get_mut(&session.number()) else {
             return Ok(());
         };
-        card.names.reserve(more)
+        card.names.refit(channels, session, more)
     }
 
-    /// Makes room for names of channels of a session, and for as many cards.
+    /// Makes room for names of channels of a session, and for its card. Before its notes grow those are taken out whose channels
+    /// invite it no more.
     pub(crate) fn reserve_names(
         &mut self,
+        marks: &mut Marks,
+        channels: &Channels,
         session: SessionId,
         more: usize,
     ) -> Result<(), AllocError>
+        ensures marks { marks.new ≡ marks.old }
         ensures people { (t : ℕ) → person_at self.new.list t ≡ person_at self.old.list t }
-        ensures lists { Widens self.old.list self.new.list }
+        ensures lists { Refits channels.now.list self.old.list self.new.list }
         ensures names { OnOk result (more ≤ (row_of self.new.list session).room) }
     {
         self.cards.reserve(1)?;
-        self.open(session);
-        self.reserve_card(session, more)
+        self.open(marks, session);
+        self.reserve_card(channels, session, more)
     }
 }

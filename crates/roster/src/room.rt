@@ -2,12 +2,12 @@
 ghost use Rattle.std.specs.Prelude.{◌≡◌, ◌≤◌, length, count_by, option_copied, OnOk};
 ghost use Rattle.roster.specs.Stands.{is_making, Alike, AreApart, HaveSeats, ReservesBy, changed_name, AreSpare};
 
+use crate::boxed::Boxed;
 use crate::channels::Channels;
 use crate::deed::Deed;
+use crate::marks::Marks;
 use crate::nicks::Nicks;
 use crate::people::People;
-use crate::whys::Whys;
-use channel_state::ChannelState;
 use line_grammar::Octets;
 use std::alloc::{AllocError, Global};
 
@@ -54,11 +54,7 @@ fn is_making(deed: &Deed) -> bool
 }
 
 /// Makes what channels that will be made are kept in.
-fn fill_spare(
-    alloc: Global,
-    spare: &mut Vec<ChannelState>,
-    deeds: &[Deed],
-) -> Result<(), AllocError>
+fn fill_spare(alloc: Global, spare: &mut Vec<Boxed>, deeds: &[Deed]) -> Result<(), AllocError>
     ensures none { AreSpare 0 spare.new.items }
     ensures enough { OnOk result (count_by is_making deeds.now ≤ length spare.new.items) }
     ensures empty { OnOk result (AreSpare (length deeds.now) spare.new.items) }
@@ -66,7 +62,7 @@ fn fill_spare(
     let makings = deeds.iter().filter(|deed| is_making(deed)).count();
     spare.clear();
     'fill: while spare.len() < makings {
-        spare.push(ChannelState::with_room(alloc, deeds.len())?)?;
+        spare.push(Boxed::with_room(alloc, deeds.len())?)?;
     }
     Ok(())
 }
@@ -74,19 +70,19 @@ fn fill_spare(
 /// Makes room in the tables of sessions.
 pub(crate) fn reserve_people(
     people: &mut People,
-    whys: &mut Whys,
+    marks: &mut Marks,
     nicks: &mut Nicks,
     deeds: usize,
 ) -> Result<(), AllocError>
     ensures people { people.new.list ≡ people.old.list }
-    ensures whys { whys.new.list ≡ whys.old.list }
+    ensures marks { marks.new.list ≡ marks.old.list }
     ensures nicks { nicks.new.list ≡ nicks.old.list }
     ensures people_room { OnOk result (deeds ≤ people.new.room) }
-    ensures whys_room { OnOk result (deeds ≤ whys.new.room) }
+    ensures marks_room { OnOk result (deeds ≤ marks.new.room) }
     ensures nicks_room { OnOk result (deeds ≤ nicks.new.room) }
 {
     people.reserve(deeds)?;
-    whys.reserve(deeds)?;
+    marks.reserve(deeds)?;
     nicks.reserve(deeds)
 }
 
@@ -94,7 +90,7 @@ pub(crate) fn reserve_people(
 pub(crate) fn reserve_channels(
     alloc: Global,
     channels: &mut Channels,
-    spare: &mut Vec<ChannelState>,
+    spare: &mut Vec<Boxed>,
     deeds: &[Deed],
 ) -> Result<(), AllocError>
     requires { AreApart channels.old.list }

@@ -3,18 +3,20 @@ ghost use Rattle.std.specs.Option.{option_map, option_map_or};
 ghost use Rattle.std.specs.Prelude.{◌≡◌, ◌<◌, ◌^◌, ◌∷◌, [], Some, None, drop, length, slice_get, option_copied, unwrap_or, IfOk, IfSome, OnOk, OnErr};
 ghost use Rattle.roster.specs.declared.deed.Deed.TheVariants.{Ended};
 
+use crate::boxed::Boxed;
 use crate::channels::Channels;
 use crate::deed::Deed;
 use crate::given::Given;
+use crate::hashing::NameHashing;
 use crate::keys::{change, copy_keys, make, take};
 use crate::lists::{copy_names, has_name, join_made, reseat, reserve_lists, seat_of};
+use crate::marks::Marks;
 use crate::nicks::Nicks;
 use crate::people::{People, blank_enrol, enrol_of};
 use crate::room::{reserve_channels, reserve_people};
 use crate::sessions::Sessions;
 use crate::sharing::find_sharers;
 use crate::touched::{Touched, touched_by};
-use crate::whys::Whys;
 use casemapping::Folded;
 use channel_state::ChannelState;
 use chronicle::{SessionId, Why};
@@ -23,6 +25,7 @@ use line_grammar::Octets;
 use registration::{Caps, Enrol, Settings};
 use std::alloc::{AllocError, Global};
 use std::collections::{LinkedList, VecDeque};
+use std::hash::RandomState;
 use std::marker::Model;
 
 /// What is known of sessions and channels, by all facts that were ever established. A clause sees it as the list of these,
@@ -32,11 +35,11 @@ pub struct Roster {
     alloc: Global,
     given: Given,
     people: People,
-    whys: Whys,
+    marks: Marks,
     nicks: Nicks,
     channels: Channels,
     /// What channels that will be made are kept in.
-    spare: Vec<ChannelState>,
+    spare: Vec<Boxed>,
     /// The names of channels that will be made, for the lists of those who make them.
     copies: VecDeque<Octets>,
     /// The folded names of channels and nicknames that deeds will give.
@@ -54,7 +57,7 @@ impl Model for Roster {
 
     ghost view = { λ a. record { settings = a.given; facts = a.facts.value; ready = a.ready.value } };
 
-    ghost invariant = { λ a. IsKept a.people a.whys a.nicks a.channels a.spare.items a.keys.items a.facts.value a.ready.value × AreListed a.people.list a.copies.items a.facts.value a.ready.value };
+    ghost invariant = { λ a. IsKept a.people a.marks a.nicks a.channels a.spare.items a.keys.items a.facts.value a.ready.value × AreListed a.people.list a.copies.items a.facts.value a.ready.value };
 }
 
 // A fact is added, as the newest.
@@ -78,8 +81,26 @@ impl Roster {
     ghost use Rattle.roster.specs.LookBack.{opened, host, nick, user, real, caps, enrol, registered, away, invisible, why, parting, holder, found, on, state, members, name_of, channels, channel_count, channels_on, sharers};
     ghost use Rattle.channel_state.specs.State.{nothing};
 
-    /// The roster of no facts, on a server whose settings are within their limits.
+    /// The roster of no facts, on a server whose settings are within their limits. Names are looked up by a hash that everybody
+    /// can compute: it is for servers whose clients choose no names that fall into one place, as those of scripts.
     pub fn new(alloc: Global, settings: Settings) -> Roster
+        requires { IsWellSet settings }
+        ensures { result ≡ record { settings = settings; facts = []; ready = [] } }
+    {
+        Roster::hashed(alloc, settings, NameHashing::fixed())
+    }
+
+    /// The same, where names are looked up by a hash that has the keys of a state, which nobody outside knows. No answer depends
+    /// on these.
+    pub fn with_hasher(alloc: Global, settings: Settings, state: RandomState) -> Roster
+        requires { IsWellSet settings }
+        ensures { result ≡ record { settings = settings; facts = []; ready = [] } }
+    {
+        Roster::hashed(alloc, settings, NameHashing::keyed(state))
+    }
+
+    /// The roster of no facts, where names are hashed so.
+    fn hashed(alloc: Global, settings: Settings, hashing: NameHashing) -> Roster
         requires { IsWellSet settings }
         ensures { result ≡ record { settings = settings; facts = []; ready = [] } }
     {
@@ -87,9 +108,9 @@ impl Roster {
             alloc,
             given: Given::new(settings),
             people: People::new(alloc),
-            whys: Whys::new(alloc),
-            nicks: Nicks::new(alloc),
-            channels: Channels::new(alloc),
+            marks: Marks::new(alloc),
+            nicks: Nicks::new(alloc, hashing),
+            channels: Channels::new(alloc, hashing),
             spare: Vec::new(alloc),
             copies: VecDeque::new(alloc),
             keys: VecDeque::new(alloc),
@@ -106,7 +127,7 @@ impl Roster {
             alloc: self.alloc,
             given: self.given.copied()?,
             people: self.people.copied()?,
-            whys: self.whys.copied()?,
+            marks: self.marks.copied()?,
             nicks: self.nicks.copied()?,
             channels: self.channels.copied()?,
             spare: Vec::new(self.alloc),
@@ -130,10 +151,10 @@ impl Roster {
             return Ok(());
         }
         reserve_channels(self.alloc, &mut self.channels, &mut self.spare, deeds)?;
-        reserve_lists(&mut self.people, deeds)?;
+        reserve_lists(&mut self.people, &mut self.marks, &self.channels, deeds)?;
         reserve_people(
             &mut self.people,
-            &mut self.whys,
+            &mut self.marks,
             &mut self.nicks,
             deeds.len(),
         )?;
@@ -152,11 +173,11 @@ impl Roster {
     {
         apply::<Adds, LinkedList<Deed>, Deed>(&mut self.facts, &deed);
         apply::<DropsFirst, LinkedList<Deed>, ()>(&mut self.ready, &());
-        self.whys.hear(&deed);
+        self.marks.hear(&deed);
         match touched_by(deed) {
-            Touched::Person { deed } => self.people.tell(deed),
+            Touched::Person { deed } => self.people.tell(&mut self.marks, deed),
             Touched::Nick { session, nick } => {
-                let before = self.people.rename(session, nick);
+                let before = self.people.rename(&mut self.marks, session, nick);
                 self.nicks.give_back(before);
                 take(&mut self.nicks, &mut self.keys, session);
             }
@@ -179,9 +200,13 @@ impl Roster {
                 reseat(&mut self.people, seat, channel);
             }
             Touched::All { session } => {
-                let nick = self.people.forget(session, self.keys.is_empty());
+                let names = self.people.names(&self.marks, session);
+                self.channels.leave_each(names, session);
+                let notes = self.people.notes(&self.marks, session);
+                self.channels.leave_each(notes, session);
+                let is_last = self.keys.is_empty();
+                let nick = self.people.forget(&mut self.marks, session, is_last);
                 self.nicks.give_back(nick);
-                self.channels.leave_all(session);
             }
         }
     }
@@ -201,7 +226,7 @@ impl Roster {
         };
         apply::<Adds, LinkedList<Deed>, Deed>(&mut self.facts, &deed);
         self.ready = blank(self.alloc);
-        self.whys.set(session, reason);
+        self.marks.set(session, reason);
         self.people.part(session);
     }
 
@@ -218,14 +243,14 @@ impl Roster {
         ensures count { result ≡ length (opened self.now.facts) }
         ensures bound { result < 2 ^ 63 }
     {
-        self.whys.len()
+        self.marks.len()
     }
 
     /// The host of a session, empty where it wasn't opened or is gone.
     pub fn host_of(&self, session: SessionId) -> &[u8]
         ensures { result.now ≡ host self.now.facts session }
     {
-        match self.people.find(session) {
+        match self.people.find(&self.marks, session) {
             Some(person) => person.host.as_slice(),
             None => &[],
         }
@@ -236,7 +261,7 @@ impl Roster {
         ensures nick { option_copied result ≡ nick self.now.facts session }
         ensures unknown { (IsOpened self.now.facts session → ⊥) → result ≡ None }
     {
-        match self.people.find(session) {
+        match self.people.find(&self.marks, session) {
             Some(person) => person.nick.as_ref(),
             None => None,
         }
@@ -246,7 +271,7 @@ impl Roster {
     pub fn user_of(&self, session: SessionId) -> Option<&Octets>
         ensures { option_copied result ≡ user self.now.facts session }
     {
-        match self.people.find(session) {
+        match self.people.find(&self.marks, session) {
             Some(person) => person.user.as_ref(),
             None => None,
         }
@@ -256,7 +281,7 @@ impl Roster {
     pub fn real_of(&self, session: SessionId) -> Option<&Octets>
         ensures { option_copied result ≡ real self.now.facts session }
     {
-        match self.people.find(session) {
+        match self.people.find(&self.marks, session) {
             Some(person) => person.real.as_ref(),
             None => None,
         }
@@ -266,7 +291,7 @@ impl Roster {
     pub fn enrol_of(&self, session: SessionId) -> Enrol<'_>
         ensures { enrolment result ≡ enrol self.now.facts session }
     {
-        match self.people.find(session) {
+        match self.people.find(&self.marks, session) {
             Some(person) => enrol_of(person),
             None => blank_enrol(),
         }
@@ -276,7 +301,7 @@ impl Roster {
     pub fn caps_of(&self, session: SessionId) -> Caps
         ensures { result ≡ caps self.now.facts session }
     {
-        match self.people.find(session) {
+        match self.people.find(&self.marks, session) {
             Some(person) => person.caps,
             None => Caps::none(),
         }
@@ -286,7 +311,7 @@ impl Roster {
     pub fn is_registered(&self, session: SessionId) -> bool
         ensures { result ≡ registered self.now.facts session }
     {
-        match self.people.find(session) {
+        match self.people.find(&self.marks, session) {
             Some(person) => person.registered,
             None => false,
         }
@@ -296,7 +321,7 @@ impl Roster {
     pub fn away_of(&self, session: SessionId) -> Option<&Octets>
         ensures { option_copied result ≡ away self.now.facts session }
     {
-        match self.people.find(session) {
+        match self.people.find(&self.marks, session) {
             Some(person) => person.away.as_ref(),
             None => None,
         }
@@ -306,7 +331,7 @@ impl Roster {
     pub fn is_invisible(&self, session: SessionId) -> bool
         ensures { result ≡ invisible self.now.facts session }
     {
-        match self.people.find(session) {
+        match self.people.find(&self.marks, session) {
             Some(person) => person.invisible,
             None => false,
         }
@@ -316,14 +341,14 @@ impl Roster {
     pub fn why_of(&self, session: SessionId) -> Why
         ensures { result ≡ why self.now.facts session }
     {
-        self.whys.why(session)
+        self.marks.why(session)
     }
 
     /// The text that a session's client gave when it ended.
     pub fn parting_of(&self, session: SessionId) -> &[u8]
         ensures { result.now ≡ parting self.now.facts session }
     {
-        match self.people.find(session) {
+        match self.people.find(&self.marks, session) {
             Some(person) => person.parting.as_slice(),
             None => &[],
         }
@@ -353,7 +378,18 @@ impl Roster {
         ensures { option_map_or (λ k. k.now.state) result nothing ≡ state self.now.facts channel.now }
     {
         match self.channels.find(channel) {
-            Some(channel) => Some(&channel.held),
+            Some(channel) => Some(channel.held.get()),
+            None => None,
+        }
+    }
+
+    /// A channel that is there: its name as it was first spelled, and the channel, by one look-up.
+    pub fn channel(&self, spelled: &[u8]) -> Option<(&Octets, &ChannelState)>
+        ensures name { option_map (λ k. k.0.now) result ≡ name_of self.now.facts spelled.now }
+        ensures state { option_map_or (λ k. k.1.now.state) result nothing ≡ state self.now.facts spelled.now }
+    {
+        match self.channels.find(spelled) {
+            Some(found) => Some((&found.name, found.held.get())),
             None => None,
         }
     }
@@ -363,7 +399,7 @@ impl Roster {
         ensures { result.now ≡ members self.now.facts channel.now }
     {
         match self.channels.find(channel) {
-            Some(channel) => channel.held.members(),
+            Some(channel) => channel.held.get().members(),
             None => &[],
         }
     }
@@ -389,14 +425,14 @@ impl Roster {
     pub fn channels_of(&self, session: SessionId) -> &[Octets]
         ensures { result.now ≡ channels_on self.now.facts session }
     {
-        self.people.names(session)
+        self.people.names(&self.marks, session)
     }
 
     /// On how many channels a session is.
     pub fn channel_count_of(&self, session: SessionId) -> usize
         ensures { result ≡ channel_count self.now.facts session }
     {
-        self.people.names(session).len()
+        self.people.names(&self.marks, session).len()
     }
 
     /// How many channels there are.
@@ -423,7 +459,7 @@ impl Roster {
         ensures state { IfSome result (λ k. k.1.now.state ≡ state self.now.facts k.0.now) }
     {
         match self.channels.nth(place) {
-            Some(channel) => Some((&channel.name, &channel.held)),
+            Some(channel) => Some((&channel.name, channel.held.get())),
             None => None,
         }
     }
@@ -435,9 +471,10 @@ impl Roster {
         find_sharers(
             self.alloc,
             &self.people,
+            &self.marks,
             &self.channels,
             session,
-            self.whys.len(),
+            self.marks.len(),
         )
     }
 }

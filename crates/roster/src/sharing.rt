@@ -5,6 +5,7 @@ ghost use Rattle.roster.specs.Lists.{row_of};
 ghost use Rattle.roster.specs.Tables.{members_in, mates, is_mate, mated};
 
 use crate::channels::Channels;
+use crate::marks::Marks;
 use crate::people::People;
 use crate::sessions::Sessions;
 use chronicle::SessionId;
@@ -26,7 +27,7 @@ fn push_members(numbers: &mut Vec<u64>, channels: &Channels, name: &[u8]) -> Res
     ensures { OnOk result (numbers.new.items ≡ numbers.old.items ++ members_in channels.now.list name.now) }
 {
     match channels.find(name) {
-        Some(channel) => push_numbers(numbers, channel.held.members()),
+        Some(channel) => push_numbers(numbers, channel.held.get().members()),
         None => Ok(()),
     }
 }
@@ -78,13 +79,14 @@ fn mates_of(
 pub(crate) fn find_sharers(
     alloc: Global,
     people: &People,
+    marks: &Marks,
     channels: &Channels,
     session: SessionId,
     count: usize,
 ) -> Result<Sessions, AllocError>
     ensures { IfOk result (λ v. v ≡ mates channels.now.list (row_of people.now.list session).list session count) }
 {
-    let mut numbers = numbers_on(alloc, channels, people.names(session))?;
+    let mut numbers = numbers_on(alloc, channels, people.names(marks, session))?;
     numbers.sort_unstable();
     numbers.dedup();
     mates_of(alloc, &numbers, session, count)

@@ -1,8 +1,8 @@
 //! The tables' rows.
 ghost use Rattle.std.specs.Prelude.{◌≡◌};
 
+use crate::boxed::Boxed;
 use crate::lists::Names;
-use channel_state::ChannelState;
 use line_grammar::Octets;
 use registration::Caps;
 use std::alloc::AllocError;
@@ -51,7 +51,7 @@ impl Clone for Person {
     }
 }
 
-/// What is known of a session, with the channels that it is on, by its last joins.
+/// What is known of a session, with the channels that it is on, by its last joins, and those that may invite it.
 #[derive(Drop)]
 pub(crate) struct Card {
     pub person: Person,
@@ -60,7 +60,7 @@ pub(crate) struct Card {
 
 // A copy may have room for other numbers of names.
 impl Clone for Card {
-    ghost is_clone = { λ a b. (b.person ≡ a.person) × (b.names.list ≡ a.names.list) };
+    ghost is_clone = { λ a b. (b.person ≡ a.person) × (b.names.list ≡ a.names.list) × (b.names.notes ≡ a.names.notes) };
 
     fn clone(&self) -> Result<Card, AllocError> {
         Ok(Card {
@@ -74,7 +74,7 @@ impl Clone for Card {
 #[derive(Drop)]
 pub struct Channel {
     pub name: Octets,
-    pub held: ChannelState,
+    pub held: Boxed,
 }
 
 // A copy has room for no change.

@@ -1,8 +1,11 @@
 //! Accepting connections.
 use crate::connections::{Connections, PAUSE};
+use crate::opening::Serving;
 use crate::post::{Arrival, WAKE, Watch};
 use crate::stopping::Stopping;
-use hall::Naming;
+use chronicle::Moment;
+use crew::{Gate, beat};
+use hall::{Naming, Told};
 use mio::net::TcpListener;
 use mio::{Interest, Registry, Token, Waker};
 use std::alloc::Global;
@@ -17,6 +20,9 @@ const EVENTS: usize = 4;
 
 /// Seconds between two times at which it is told what happened.
 const BETWEEN: u64 = 1;
+
+/// Milliseconds of the server's clock between two beats, in each of which who is quiet is pinged, and who is so for too long is ended.
+const BEAT: i64 = 10_000;
 
 /// Where clients connect.
 #[derive(Drop)]
@@ -86,15 +92,50 @@ fn tell_news<L: Naming, R: Wait + Clock + Eprint + Copy + Drop>(
     true
 }
 
-/// Accepts connections until the server is asked to stop, and tells of those that are refused and of rolls of the journal, unless it is
-/// to be quiet.
-pub(crate) fn accept_on<L: Naming, R: Wait + Clock + Eprint + Copy + Drop>(
+/// When the last beat was, by the server's clock.
+#[derive(Drop)]
+pub(crate) struct Beats {
+    told: Told,
+    last: i64,
+}
+
+impl Beats {
+    /// The first is to come as long after this moment as each later one after the last.
+    pub(crate) fn new(alloc: Global, now: Moment) -> Beats {
+        Beats {
+            told: Told::new(alloc),
+            last: now.milliseconds(),
+        }
+    }
+
+    /// Has a beat where it is time for one, or where the clock was set back, and answers in how many milliseconds the next is to be.
+    fn beat_in_time<L: Naming, R: Wait + Clock + Copy + Drop, G: Gate, C: crew::Clock>(
+        &mut self,
+        rt: &R,
+        server: &Serving<'_, L, R, G, C>,
+    ) -> u64 {
+        let now = server.clock.now().milliseconds();
+        let passed = now.saturating_sub(self.last);
+        if 0 <= passed && passed < BEAT {
+            return BEAT.saturating_sub(passed) as u64;
+        }
+        self.last = now;
+        let _ = beat(rt, server, &mut self.told);
+        BEAT as u64
+    }
+}
+
+/// Accepts connections until the server is asked to stop, has a beat every so often, and tells of connections that are refused and of
+/// rolls of the journal, unless it is to be quiet.
+pub(crate) fn accept_on<L: Naming, R: Wait + Clock + Eprint + Copy + Drop, G: Gate, C: crew::Clock>(
     rt: &R,
-    connections: &Connections<L, R>,
+    server: &Serving<'_, L, R, G, C>,
+    mut beats: Beats,
     watch: &mut Watch,
     listeners: &Listeners,
     is_quiet: bool,
 ) {
+    let connections = server.sockets.all;
     let Watch { poll, events } = watch;
     let mut told = None;
     for _ in rt.forever() {
@@ -103,15 +144,16 @@ pub(crate) fn accept_on<L: Naming, R: Wait + Clock + Eprint + Copy + Drop>(
         if connections.is_stopping() {
             break;
         }
+        let next = Duration::from_millis(beats.beat_in_time(rt, server));
         let is_told = is_quiet || tell_news(rt, connections, &mut told);
         let wait = if !is_all_tcp || !is_all_ws {
-            Some(Duration::from_millis(PAUSE))
+            Duration::from_millis(PAUSE)
         } else if !is_told {
-            Some(Duration::from_secs(BETWEEN))
+            Duration::from_secs(BETWEEN).min(next)
         } else {
-            None
+            next
         };
-        if poll.poll(events, wait).is_err() {
+        if poll.poll(events, Some(wait)).is_err() {
             thread::sleep(rt, Duration::from_millis(PAUSE));
         }
     }

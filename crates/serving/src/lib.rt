@@ -19,5 +19,5 @@ mod worker;
 
 pub use accepting::listen;
 pub use clock::SystemClock;
-pub use crew::Gate;
+pub use crew::{Clock, Gate};
 pub use serve::{OpenGate, Options, ServeFault, serve_on, serve_with};

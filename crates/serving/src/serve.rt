@@ -2,7 +2,7 @@
 ghost use Rattle.std.specs.Prelude.{◌≡◌, ◌<◌, [], false, Err};
 ghost use Rattle.serving.specs.declared.serve.ServeFault.TheVariants.{BadSettings, Memory};
 
-use crate::accepting::{Listeners, accept_on, door_of};
+use crate::accepting::{Beats, Listeners, accept_on, door_of};
 use crate::clock::SystemClock;
 use crate::connections::{Connections, View};
 use crate::opening::Serving;
@@ -185,6 +185,29 @@ fn end_all<L: Naming, R: Wait + Clock + Copy + Drop, G: Gate, C: crew::Clock>(
     view.all.close();
 }
 
+/// Accepts connections until the server is asked to stop.
+fn accept_in<L: Naming, R: Wait + Clock + Eprint + Copy + Drop, G: Gate, C: crew::Clock>(
+    rt: &R,
+    alloc: Global,
+    house: &House<'_, L, R, G, C>,
+    watch: &mut Watch,
+    listeners: &Listeners,
+    is_quiet: bool,
+) {
+    let Some(view) = house.views.last() else {
+        return;
+    };
+    let server = Server {
+        hall: house.hall,
+        gate: house.gate,
+        sockets: view,
+        clock: house.clock,
+        burst: house.burst,
+    };
+    let beats = Beats::new(alloc, server.clock.now());
+    accept_on(rt, &server, beats, watch, listeners, is_quiet);
+}
+
 /// Has a thread for each of the workers, accepts connections until the server is asked to stop, then ends all sessions, and waits
 /// for the threads. It answers whether all could be started.
 fn run_on<
@@ -196,7 +219,6 @@ fn run_on<
     rt: &R,
     alloc: Global,
     house: &House<'_, L, R, G, C>,
-    connections: &Connections<L, R>,
     watches: Vec<Watch>,
     watch: &mut Watch,
     listeners: &Listeners,
@@ -212,7 +234,7 @@ fn run_on<
             drop(started);
         }
         if are_started {
-            accept_on(rt, connections, watch, listeners, is_quiet);
+            accept_in(rt, alloc, house, watch, listeners, is_quiet);
         }
         end_all(rt, house);
         are_started
@@ -358,16 +380,7 @@ fn serve_in<
         burst,
     };
     let is_quiet = terms.is_quiet;
-    if !run_on(
-        rt,
-        alloc,
-        &house,
-        &connections,
-        watches,
-        &mut watch,
-        &listeners,
-        is_quiet,
-    ) {
+    if !run_on(rt, alloc, &house, watches, &mut watch, &listeners, is_quiet) {
         return Err(ServeFault::Memory);
     }
     if stopping.is_full() {

@@ -1,11 +1,12 @@
 //! A server that runs while its clients talk.
 use crate::client::Until;
+use crate::clocks::Dial;
 use crate::gates::Turnstile;
 use crate::talks::{Story, talk};
 use chronicle::Moment;
 use line_grammar::Octets;
 use registration::{Accounts, Settings};
-use serving::serve_on;
+use serving::{Options, serve_on, serve_with};
 use std::alloc::{AllocError, Global};
 use std::net::{IpAddr, Ipv4Addr, Net, TcpListener, TcpStream};
 use std::sync::atomic::{AtomicBool, Ordering};
@@ -25,6 +26,44 @@ fn settings(alloc: Global) -> Result<Settings, AllocError> {
         accounts: Accounts::new(alloc),
         sessions: 16,
     })
+}
+
+/// Serves with two workers, by the machine's clock, or by a clock that is set by hand where somebody is silent. Whether that ends well.
+fn serves<R>(
+    rt: &R,
+    alloc: Global,
+    listener: TcpListener,
+    settings: Settings,
+    gate: &Turnstile<R>,
+    clock: &Dial,
+    story: Story,
+    stop: Until<R>,
+) -> bool
+where
+    R: Threads + Wait + Clock + Net<Listener = TcpListener, Stream = TcpStream> + Eprint,
+    R: Copy + Drop + Send + Sync + 'static,
+{
+    let (tcp, ws) = match story {
+        Story::ByWebSocket => (None, Some(listener)),
+        _ => (Some(listener), None),
+    };
+    if !matches!(story, Story::Silence) {
+        return serve_on(rt, alloc, tcp, ws, settings, 1000, 2, 16, gate, stop).is_ok();
+    }
+    let options = Options {
+        tcp,
+        ws,
+        settings,
+        limit: 1000,
+        journal_bytes: 65_536,
+        workers: 2,
+        sendq: 16,
+        sendq_bytes: 65_536,
+        gate,
+        clock,
+        is_quiet: false,
+    };
+    serve_with(rt, alloc, options, stop).is_ok()
 }
 
 /// Whether a server with two workers ends well, after clients heard what they should.
@@ -51,15 +90,13 @@ where
         rt: *rt,
         has_ended: again,
     };
-    let (tcp, ws) = match story {
-        Story::ByWebSocket => (None, Some(listener)),
-        _ => (Some(listener), None),
-    };
+    let clock = Dial::new();
+    let dial = &clock;
     let served = thread::scope(thread::scope_env(), rt, |scope| {
         let serving = scope.spawn(move || {
-            serve_on(rt, alloc, tcp, ws, settings, 1000, 2, 16, gate, stop).is_ok()
+            serves(rt, alloc, listener, settings, gate, dial, story, stop)
         });
-        let heard = talk(rt, alloc, address, gate, story).unwrap_or(false);
+        let heard = talk(rt, alloc, address, gate, dial, story).unwrap_or(false);
         has_ended.store(true, Ordering::SeqCst);
         match serving {
             Ok(serving) => serving.join(rt) && heard,

@@ -1,5 +1,6 @@
 //! What clients say, and what they have to hear.
 use crate::client::Client;
+use crate::clocks::Dial;
 use crate::gates::Turnstile;
 use crate::running::is_served;
 use std::alloc::Global;
@@ -17,6 +18,8 @@ pub(crate) enum Story {
     AtOnce,
     /// One comes by WebSocket, asks and leaves.
     ByWebSocket,
+    /// One is silent by a clock that is set by hand, answers a PING, and is silent once more.
+    Silence,
 }
 
 /// A client that has registered.
@@ -94,6 +97,42 @@ fn by_websocket<R: Net<Stream = TcpStream>>(
     Ok(is_greeted && is_answered && is_told)
 }
 
+/// Time passes, and somebody connects, which wakes the thread that accepts. Whether a client then hears a line.
+fn hears_after<R: Net<Stream = TcpStream>>(
+    rt: &R,
+    alloc: Global,
+    address: SocketAddr,
+    dial: &Dial,
+    client: &mut Client,
+    line: &[u8],
+) -> io::Result<bool> {
+    dial.move_on(120_000);
+    let knocks = Client::connect(rt, alloc, address)?;
+    let is_heard = client.hears(alloc, line)?;
+    drop(knocks);
+    Ok(is_heard)
+}
+
+/// Whether a session that is silent for two minutes is pinged, once more two minutes after it answered, and ended after four.
+fn silence<R: Net<Stream = TcpStream>>(
+    rt: &R,
+    alloc: Global,
+    address: SocketAddr,
+    dial: &Dial,
+) -> io::Result<bool> {
+    let mut client = Client::connect(rt, alloc, address)?;
+    client.send(b"PING x\r\n")?;
+    let is_there = client.hears(alloc, b":irc.example PONG irc.example x")?;
+    let ping: &[u8] = b":irc.example PING irc.example";
+    let is_pinged = hears_after(rt, alloc, address, dial, &mut client, ping)?;
+    client.send(b"PONG irc.example\r\nPING y\r\n")?;
+    let is_heard = client.hears(alloc, b":irc.example PONG irc.example y")?;
+    let again = hears_after(rt, alloc, address, dial, &mut client, ping)?;
+    let end: &[u8] = b"ERROR :Closing Link: 127.0.0.1 (Ping timeout)";
+    let is_ended = hears_after(rt, alloc, address, dial, &mut client, end)?;
+    Ok(is_there && is_pinged && is_heard && again && is_ended)
+}
+
 /// Two clients that have registered.
 fn both<R: Net<Stream = TcpStream>>(
     rt: &R,
@@ -114,10 +153,13 @@ pub(crate) fn talk<R: Clock + Drop + Net<Stream = TcpStream>>(
     alloc: Global,
     address: SocketAddr,
     gate: &Turnstile<R>,
+    dial: &Dial,
     story: Story,
 ) -> io::Result<bool> {
-    if let Story::ByWebSocket = story {
-        return by_websocket(rt, alloc, address);
+    match story {
+        Story::ByWebSocket => return by_websocket(rt, alloc, address),
+        Story::Silence => return silence(rt, alloc, address, dial),
+        Story::TwoPeople | Story::AtOnce => {}
     }
     let Some((mut al, mut bo)) = both(rt, alloc, address)? else {
         return Ok(false);
@@ -139,6 +181,13 @@ fn two_people_talk_over_the_loopback(rt: HostRuntime) -> Result<(), Fail> {
 fn ping_by_websocket_is_answered(rt: HostRuntime) -> Result<(), Fail> {
     let gate = Turnstile::new(rt);
     assert!(rt; is_served(&rt, rt.alloc(), &gate, Story::ByWebSocket)?);
+    Ok(())
+}
+
+#[test]
+fn who_is_silent_is_pinged_and_then_ended(rt: HostRuntime) -> Result<(), Fail> {
+    let gate = Turnstile::new(rt);
+    assert!(rt; is_served(&rt, rt.alloc(), &gate, Story::Silence)?);
     Ok(())
 }
 

@@ -1,11 +1,17 @@
--- What AWAY does: RFC 2812, section 4.1.
-use Rattle.std.specs.Prelude.{ℕ, ◌==◌, List, [], ◌∷◌, length, take, Some, None, if◌then◌else◌}
+-- What AWAY does: RFC 2812, section 4.1, and IRCv3 away-notify.
+use Rattle.std.specs.Prelude.{ℕ, ◌==◌, Bool, true, false, List, [], ◌∷◌, filter, length, take, Option, Some, None, if◌then◌else◌}
+use Rattle.std.specs.Str.{bytes_eq}
+use Rattle.numerics.specs.declared.numeric.Numeric.{Numeric}
 use Rattle.numerics.specs.declared.numeric.Numeric.TheVariants.{UnAway, NowAway}
+use Rattle.registration.specs.declared.caps.Cap.TheVariants.{AwayNotify}
 use Rattle.registration.specs.declared.settings.Settings.{Settings}
 use Rattle.roster.specs.declared.deed.Deed.{Deed}
 use Rattle.roster.specs.declared.deed.Deed.TheVariants.{AwaySet}
+use Rattle.roster.specs.LookBack.{away, sharers}
 use Rattle.drafts.specs.declared.effect.Effect.{Effect}
 use Rattle.drafts.specs.declared.effect.Effect.TheVariants.{Establish}
+use Rattle.drafts.specs.Hearers.{shown, takes}
+use Rattle.drafts.specs.Lines.{away_line, prefix}
 use Rattle.drafts.specs.Replies.{tells}
 
 -- the most octets of a text that are kept
@@ -13,7 +19,24 @@ abbrev pub AWAYLEN : ℕ
 AWAYLEN = 200
 
 -- away with a text, or here again where it is empty
+abbrev pub kept : List ℕ → Option (List ℕ)
+kept text = if length text == 0 then None else Some (take AWAYLEN text)
+
+abbrev pub is_same_text : Option (List ℕ) → Option (List ℕ) → Bool
+is_same_text None None = true
+is_same_text (Some a) (Some b) = bytes_eq a b
+is_same_text a b = false
+
+-- whom it is shown, where something changes: who shares a channel and takes away-notify
+abbrev pub notified : List Deed → ℕ → Option (List ℕ) → List ℕ
+notified fs s text = if is_same_text (away fs s) text then [] else filter (takes fs AwayNotify) (sharers fs s)
+
+abbrev pub away_answer : Option (List ℕ) → Numeric
+away_answer None = UnAway
+away_answer (Some text) = NowAway
+
+abbrev pub goes_as : Settings → List Deed → ℕ → Option (List ℕ) → List Effect
+goes_as g fs s text = Establish (AwaySet s text) ∷ tells g fs s (away_answer text) ∷ shown (notified fs s text) (away_line (prefix fs s) text)
+
 abbrev pub goes_away : Settings → List Deed → ℕ → List ℕ → List Effect
-goes_away g fs s text =
-    if length text == 0 then Establish (AwaySet s None) ∷ tells g fs s UnAway ∷ []
-    else Establish (AwaySet s (Some (take AWAYLEN text))) ∷ tells g fs s NowAway ∷ []
+goes_away g fs s text = goes_as g fs s (kept text)

@@ -5,7 +5,9 @@ use Rattle.channel_state.specs.State.{State, among, is_banned, without}
 use Rattle.numerics.specs.declared.numeric.Numeric.{Numeric}
 use Rattle.numerics.specs.declared.outgoing.Out.{Out}
 use Rattle.numerics.specs.declared.numeric.Numeric.TheVariants.{NoSuchChannel, CannotSendToChan, NoSuchNick, TooManyTargets, Away}
+use Rattle.registration.specs.declared.caps.Cap.TheVariants.{EchoMessage, MessageTags}
 use Rattle.registration.specs.declared.settings.Settings.{Settings}
+use Rattle.registration.specs.Caps.{is_on}
 use Rattle.roster.specs.declared.deed.Deed.{Deed}
 use Rattle.roster.specs.LookBack.{nick, away, caps, found, state, name_of}
 use Rattle.drafts.specs.declared.effect.Effect.{Effect}
@@ -25,7 +27,7 @@ answers g fs s v n = tells g fs s n ∷ []
 
 -- TAGMSG reaches those alone who take tags, and nobody where it has none
 abbrev pub reached : List Deed → Verb → List ℕ → ℕ → Bool
-reached fs Tagmsg tags t = not (length tags == 0) && (caps fs t).message_tags
+reached fs Tagmsg tags t = not (length tags == 0) && is_on (caps fs t) MessageTags
 reached fs v tags t = true
 
 abbrev pub reaches : List Deed → Sent → ℕ → Bool
@@ -33,7 +35,7 @@ reaches fs b t = reached fs b.verb b.tags t
 
 -- its sender gets it back as a part of the answer, if it wants to
 abbrev pub echoes : List Deed → ℕ → Sent → Out → List Effect
-echoes fs s b l = if (caps fs s).echo_message && reaches fs b s then Answer l ∷ [] else []
+echoes fs s b l = if is_on (caps fs s) EchoMessage && reaches fs b s then Answer l ∷ [] else []
 
 -- ---- a channel
 

@@ -16,6 +16,7 @@ use chronicle::SessionId;
 use drafts::{Denial, Draft, deny, prefix_of, tell, title_of};
 use line_grammar::Octets;
 use numerics::{Line, Numeric};
+use registration::Cap;
 use roster::{Roster, Sessions};
 use std::alloc::{AllocError, Global};
 
@@ -45,7 +46,8 @@ fn reaches(roster: &Roster, sending: &Sending<'_>, session: SessionId) -> bool
     ensures { result ≡ reaches roster.now.facts sending.now session }
 {
     match sending.verb {
-        Verb::Tagmsg => !sending.tags.is_empty() && roster.caps_of(session).message_tags,
+        Verb::Tagmsg => !sending.tags.is_empty()
+            && roster.caps_of(session).contains(Cap::MessageTags),
         Verb::Privmsg | Verb::Notice => true,
     }
 }
@@ -92,7 +94,8 @@ fn echo(
     requires first { draft.old.facts ≡ draft.old.base }
     ensures { OnOk result (draft.new ≡ grown draft.old (echoes draft.old.facts session sending.now (sent_line sending.now from.now target.now))) }
 {
-    let wants = draft.before().caps_of(session).echo_message;
+    let caps = draft.before().caps_of(session);
+    let wants = caps.contains(Cap::EchoMessage);
     if !wants || !reaches(draft.before(), sending, session) {
         return Ok(());
     }

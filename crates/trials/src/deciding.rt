@@ -12,6 +12,7 @@ use numerics::Line;
 use registration::{Accounts, Settings, is_well_set};
 use roster::{Deed, Roster};
 use std::alloc::{AllocError, Global};
+use std::hash::RandomState;
 use std::process::Abort;
 use std::test::Fail;
 
@@ -187,10 +188,19 @@ fn is_away(roster: &Roster, session: SessionId, channels: usize) -> bool {
     roster.away_of(session).is_some() && roster.channel_count_of(session) == channels
 }
 
+/// Whether a channel is found by a name, has that as it was first spelled, and invites a session.
+fn invites(roster: &Roster, spelled: &[u8], name: &[u8], session: SessionId) -> bool {
+    match roster.channel(spelled) {
+        Some((found, state)) => found.as_slice() == name && state.is_invited(session),
+        None => false,
+    }
+}
+
 /// Whether what the lines were to leave is left.
 fn are_dealt(roster: &Roster, al: SessionId, bo: SessionId) -> bool {
     roster.channel_count() == 2
         && is_absent(roster, b"#a")
+        && invites(roster, b"#B", b"#b", bo)
         && is_away(roster, al, 2)
         && !roster.is_invisible(bo)
 }
@@ -213,6 +223,17 @@ fn a_line_that_does_much_is_done_whole(rt: HostRuntime) -> Result<(), Fail> {
     let settings = settings(rt.alloc())?;
     assert!(rt; is_well_set(&settings));
     let mut roster = Roster::new(rt.alloc(), settings);
+    deal_all(&rt, &mut roster, rt.alloc())?;
+    assert!(rt; are_dealt(&roster, SessionId::new(1), SessionId::new(2)));
+    Ok(())
+}
+
+#[test]
+fn names_are_found_by_the_keys_of_a_state(rt: HostRuntime) -> Result<(), Fail> {
+    let settings = settings(rt.alloc())?;
+    assert!(rt; is_well_set(&settings));
+    let state = RandomState::new(&rt)?;
+    let mut roster = Roster::with_hasher(rt.alloc(), settings, state);
     deal_all(&rt, &mut roster, rt.alloc())?;
     assert!(rt; are_dealt(&roster, SessionId::new(1), SessionId::new(2)));
     Ok(())

@@ -1,4 +1,4 @@
-use Rattle.std.proofs.Common.{arith, ◌≡◌, ◌+◌, ◌<◌, ◌≤◌, ℕ, ◌∷◌, length, true, false, List, ap, sym, ◌∙◌, subst, refl}
+use Rattle.std.proofs.Common.{arith, ◌≡◌, ◌+◌, ◌<◌, ◌≤◌, ℕ, ◌∷◌, length, nat_eq, true, false, List, ap, sym, ◌∙◌, subst, refl}
 use Rattle.std.proofs.lemmas.Grind.{common_steps}
 use Rattle.line_grammar.specs.declared.splitter.Piece.{Piece}
 use Rattle.chronicle.specs.declared.record.Kind.TheVariants.{Said}
@@ -14,13 +14,16 @@ use Rattle.drafts.specs.Effects.{deeds_of}
 use Rattle.commands.specs.Asked.{asked_of}
 use Rattle.deeds.specs.Rows.{of_asked}
 use Rattle.book.specs.declared.seat.Seat.{Seat}
-use Rattle.book.specs.Seats.{IsSeated, seat_at, planned_from}
+use Rattle.book.specs.Seats.{IsSeated, IsThere, seat_at, planned_from}
 use Rattle.book.specs.Kept.{IsKept}
 use Rattle.book.specs.Book.{Turn, MayBegin, plan_of, begun, held}
 use Rattle.book.proofs.KeptSteps.{shown}
 use Rattle.book.proofs.Opened.{accepted_le}
 use Rattle.book.proofs.Begins.{begun_is}
 use Rattle.book.proofs.Appends.{said_seats, known_opened, few_lines, said_plan, said_kept}
+use Rattle.std.specs.Map.{remove_entry}
+use Rattle.book.specs.declared.last_heard.Since.{Since}
+use Rattle.book.proofs.Hearing.{since_as, since_said}
 use Rattle.book.proofs.Based.{based_as, based_record}
 use Rattle.book.proofs.book.Book.begin.Given as given
 use Rattle.book.proofs.book.Book.begin.Goals as goal
@@ -87,6 +90,11 @@ invariant_of-self-3 over c =
           (may over c) c.in_ok-prepared.ensures.quits few (plan over c) (history over c) (limit over c) room free known same));
       based = (let h = a.journal.history in let r = fresh_record h c.args.moment (Said c.args.baton.now.session c.args.baton.now.next c.args.piece.now) in let n = a.journal.limit.dropped in let g = a.roster.settings in let was = a.outboxes.boxes in
           based_as a.base (r ∷ h) c.append.new.self.history n c.append.new.self.limit.dropped g c.commit.new.roster.settings was was (based_record a.base h r n g was c.self.invariant.based) (history over c) (ap (λ l. l.dropped) (limit over c)) (settings over c) refl);
+      since = (let h = a.journal.history in let m = c.args.moment in let x : Since = record { moment = m; pinged = false } in let t = may over c in
+          let there : IsThere a.outboxes.boxes s = record { from_1 = t.turn.from_1; opened = (let l = t.turn.opened in let many = c.self.invariant.kept.sound.sessions in omega arith); here = t.turn.here } in
+          since_as ((s, x) ∷ remove_entry (nat_eq s) a.last_heard) c.hear.new.self (fresh_record h m (Said s c.args.baton.now.next c.args.piece.now) ∷ h) c.append.new.self.history a.outboxes.boxes a.outboxes.boxes
+          (since_said a.last_heard h s c.args.baton.now.next c.args.piece.now m a.outboxes.boxes c.self.invariant.since there t.in_time.not_earlier)
+          (c.hear.ensures ∙ ap (λ (k : ℕ). (k, x) ∷ remove_entry (nat_eq k) a.last_heard) (session over c)) (history over c) refl);
     }
 
 pub returns-clause-ok : goal.returns-clause-ok

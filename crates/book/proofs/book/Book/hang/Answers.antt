@@ -15,6 +15,7 @@ use Rattle.book.proofs.Begins.{hung_put_is, hung_miss_is}
 use Rattle.book.proofs.Appends.{shut_seats, hang_room, hung_follows, hung_put, hung_missed}
 use Rattle.book.proofs.Sent.{item_is}
 use Rattle.book.proofs.Owes.{few_put}
+use Rattle.book.proofs.Hearing.{since_as, since_record, since_missed, since_put}
 use Rattle.book.proofs.Based.{based_as, based_boxes, based_record, based_missed, set_many, put_came}
 use Rattle.book.proofs.book.Book.hang.Goals as goal
 
@@ -44,6 +45,10 @@ invariant_of-self over c =
           let few : s ≤ length was = (let l = may.known.opened in let many = c.self.invariant.kept.sound.sessions in omega arith) in
           based_as a.base (r ∷ h) c.append-number.new.self.history n c.append-number.new.self.limit.dropped g c.end.new.self.settings new c.offer.new.self.boxes
           (based_boxes a.base (r ∷ h) n g was new (based_record a.base h r n g was c.self.invariant.based) (set_many was (s - 1) (Some took.after)) (put_came was s took.after may.known.here may.known.from_1 few)) app.history (ap (λ l. l.dropped) app.limit) c.end.ensures.settings took.now);
+      since = (let h = a.journal.history in let r = fresh_record h c.args.moment (Hung s w) in let was = a.outboxes.boxes in let new = slice_set was (s - 1) (Some took.after) in
+          let few : s ≤ length was = (let l = may.known.opened in let many = c.self.invariant.kept.sound.sessions in omega arith) in
+          since_as a.last_heard a.last_heard (r ∷ h) c.append-number.new.self.history new c.offer.new.self.boxes
+          (since_put a.last_heard (r ∷ h) was s took.after (since_record a.last_heard h (Hung s w) c.args.moment was c.self.invariant.since (λ t. refl) refl may.in_time.not_earlier) may.known.here may.known.from_1 few) refl app.history took.now);
     }
 
 pub returns-then-offer-clause-ok : goal.returns-then-offer-clause-ok
@@ -77,6 +82,10 @@ invariant_of-self-2 over c =
           let grown = based_as a.base (r ∷ h) k.history n k.limit.dropped g g was was (based_record a.base h r n g was c.self.invariant.based) app.history (ap (λ l. l.dropped) app.limit) refl refl in
           based_as a.base (miss k.history s) c.miss.new.self.history k.limit.dropped c.miss.new.self.limit.dropped g c.end.new.self.settings was c.offer.new.self.boxes (based_missed a.base k.history s k.limit.dropped g was c.append-number.ensures.kept grown)
           c.miss.ensures.history (ap (λ l. l.dropped) c.miss.ensures.limit) c.end.ensures.settings (c.offer.ensures.same c.if-offer.false));
+      since = (let h = a.journal.history in let r = fresh_record h c.args.moment (Hung s w) in let was = a.outboxes.boxes in
+          since_as a.last_heard a.last_heard (miss (r ∷ h) s) c.miss.new.self.history was c.offer.new.self.boxes
+          (since_missed a.last_heard (r ∷ h) s was (since_record a.last_heard h (Hung s w) c.args.moment was c.self.invariant.since (λ t. refl) refl may.in_time.not_earlier)) refl
+          (c.miss.ensures.history ∙ ap (λ k. miss k s) app.history) (c.offer.ensures.same c.if-offer.false));
     }
 
 pub returns-clause-ok : goal.returns-clause-ok

@@ -12,6 +12,7 @@ use Rattle.book.proofs.Sound.{next_here, next_follows}
 use Rattle.book.proofs.Sent.{item_is}
 use Rattle.book.proofs.Puts.{put_is, miss_is}
 use Rattle.book.proofs.Owes.{few_put}
+use Rattle.book.proofs.Hearing.{since_as, since_missed, since_put}
 use Rattle.book.proofs.Based.{based_as, based_boxes, based_missed, set_many, put_came}
 use Rattle.book.proofs.book.Book.put_next.Goals as goal
 
@@ -46,6 +47,9 @@ invariant_of-self-then-offer over c =
       based = (let was = a.outboxes.boxes in let h = a.journal.history in let n = a.journal.limit.dropped in let g = a.roster.settings in let s = p.session in let new = slice_set was (s - 1) (Some took.after) in
           let is = subst (IsPlan g h (length was)) plan c.self.invariant.kept.sound.plan in let there : is_here was s ≡ true = ap (λ o. is_some o) took.here in
           based_as a.base h h n n g g new c.offer.new.self.boxes (based_boxes a.base h n g was new c.self.invariant.based (set_many was (s - 1) (Some took.after)) (put_came was s took.after there is.0 is.1)) refl refl refl took.now);
+      since = (let was = a.outboxes.boxes in let h = a.journal.history in let s = p.session in let new = slice_set was (s - 1) (Some took.after) in
+          let is = subst (IsPlan a.roster.settings h (length was)) plan c.self.invariant.kept.sound.plan in let there : is_here was s ≡ true = ap (λ o. is_some o) took.here in
+          since_as a.last_heard a.last_heard h h new c.offer.new.self.boxes (since_put a.last_heard h was s took.after c.self.invariant.since there is.0 is.1) refl refl took.now);
     }
 
 pub returns-then-offer-clause-put : goal.returns-then-offer-clause-put
@@ -69,6 +73,8 @@ invariant_of-self-2 over c =
       based = (let was = a.outboxes.boxes in let h = a.journal.history in let n = a.journal.limit.dropped in let g = a.roster.settings in
           let few : n < length h = subst (λ m. m.limit.dropped < length m.history) (sym c.self.view_is) c.requires.out.kept in
           based_as a.base (miss h p.session) c.miss.new.self.history n c.miss.new.self.limit.dropped g g was c.offer.new.self.boxes (based_missed a.base h p.session n g was few c.self.invariant.based) c.miss.ensures.history (ap (λ l. l.dropped) c.miss.ensures.limit) refl (c.offer.ensures.same c.if-offer.false));
+      since = since_as a.last_heard a.last_heard (miss a.journal.history p.session) c.miss.new.self.history a.outboxes.boxes c.offer.new.self.boxes
+          (since_missed a.last_heard a.journal.history p.session a.outboxes.boxes c.self.invariant.since) refl c.miss.ensures.history (c.offer.ensures.same c.if-offer.false);
     }
 
 pub returns-clause-put : goal.returns-clause-put

@@ -1,8 +1,9 @@
-use Rattle.std.proofs.Common.{arith, ◌≡◌, ℕ, ◌<◌, ◌≤◌, true, length, ap, ◌∙◌, sym, subst}
+use Rattle.std.proofs.Common.{arith, ◌≡◌, ℕ, ◌<◌, ◌≤◌, true, length, refl, ap, ◌∙◌, sym, subst}
 use Rattle.chronicle.specs.History.{sessions}
 use Rattle.chronicle.proofs.Most.{most_low}
 use Rattle.book.specs.Book.{is_here, rolled}
 use Rattle.book.specs.Noted.{is_noted}
+use Rattle.book.proofs.Hearing.{since_as}
 use Rattle.book.proofs.Rolling.{cut_kept, cut_based, shown_cut}
 use Rattle.book.proofs.book.Book.roll.Goals as goal
 
@@ -19,6 +20,7 @@ invariant_of-self over c =
       based = cut_based j c.cut.new.self a.roster.settings a.outboxes.boxes c.in_ok-base.base c.cut.ensures (base.front.0 ∙ sym (ap (λ m. m.history) c.self.view_is)) (base.front.1 ∙ sym (ap (λ m. m.settings) c.self.view_is)) i.sound.sessions
           (subst (λ m. (t : ℕ) → 0 < t → t ≤ sessions m.history → is_noted c.in_ok-base.base t ≡ is_here m.outboxes t) (sym c.self.view_is) base.noted)
           (subst (λ m. (t : ℕ) → is_noted c.in_ok-base.base t ≡ true → (0 < t) × (t ≤ sessions m.history)) (sym c.self.view_is) base.opened);
+      since = since_as a.last_heard a.last_heard j.history c.cut.new.self.history a.outboxes.boxes a.outboxes.boxes c.self.invariant.since refl c.cut.ensures.history refl;
     }
 
 pub returns-clause-ok : goal.returns-clause-ok

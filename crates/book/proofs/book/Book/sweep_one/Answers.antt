@@ -15,6 +15,7 @@ use Rattle.book.proofs.Sweeps.{swept_is, seats_sweep}
 use Rattle.book.proofs.KeptSteps.{shown}
 use Rattle.book.proofs.Begins.{begun_is}
 use Rattle.book.proofs.Appends.{sweep_room, gone_plan, gone_kept}
+use Rattle.book.proofs.Hearing.{since_as, since_record}
 use Rattle.book.proofs.Based.{based_as, based_record}
 use Rattle.book.proofs.book.Book.sweep_one.Given as given
 use Rattle.book.proofs.book.Book.sweep_one.Goals as goal
@@ -82,6 +83,8 @@ invariant_of-self-2 over c =
           c.in_ok-prepared.prepared.plan.items c.args.moment c.args.session may next (plan over c) (history over c) (limit over c) room free known same));
       based = (let h = a.journal.history in let r = fresh_record h c.args.moment (Gone c.args.session) in let n = a.journal.limit.dropped in let g = a.roster.settings in let was = a.outboxes.boxes in
           based_as a.base (r ∷ h) c.append.new.self.history n c.append.new.self.limit.dropped g c.commit.new.roster.settings was was (based_record a.base h r n g was c.self.invariant.based) (history over c) (ap (λ l. l.dropped) (limit over c)) (settings over c) refl);
+      since = since_as a.last_heard a.last_heard (fresh_record a.journal.history c.args.moment (Gone c.args.session) ∷ a.journal.history) c.append.new.self.history a.outboxes.boxes a.outboxes.boxes
+          (since_record a.last_heard a.journal.history (Gone c.args.session) c.args.moment a.outboxes.boxes c.self.invariant.since (λ t. refl) refl may.in_time.not_earlier) refl (history over c) refl;
     }
 
 pub returns-clause-ok : goal.returns-clause-ok
@@ -98,7 +101,7 @@ returns-clause-out over c =
     let number : c.new-number.result ≡ length h + 1 = grind (arith, common_steps) in
     let longer : length c.append.new.self.history ≡ length h + 1 = ap length eh ∙ (let f : length (fresh_record h c.args.moment (Gone c.args.session) ∷ h) ≡ length h + 1 = omega arith in f) in
     let same : sessions c.append.new.self.history ≡ sessions h = ap sessions eh ∙ zero-add (sessions h) in
-    let few = is.1 in let from = is.0 in
+    let few = is.1 in
     let none : c.in_ok-prepared.prepared.missed.items ≡ [] = c.in_ok-prepared.ensures.missed.0 in
     let empty : vec_len c.in_ok-prepared.prepared.missed ≡ 0 = grind (arith, common_steps) in
     let room = c.in_ok-prepared.ensures.missed.1 in
@@ -107,7 +110,6 @@ returns-clause-out over c =
       number = number ∙ sym longer;
       session = sym (ap newest_actor eh);
       next = sym (ap newest_next eh);
-      from_1 = omega arith;
       opened = omega arith;
       missed = none ∙ sym (ap newest_missed eh);
       room = omega arith;

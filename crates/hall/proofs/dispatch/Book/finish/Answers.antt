@@ -1,4 +1,4 @@
-use Rattle.std.proofs.Common.{◌≡◌, ◌<◌, ◌≤◌, ◌+◌, ℕ, List, [], ◌∷◌, ◌++◌, length, Some, length-append, refl, sym, ap, ◌∙◌, subst, arith}
+use Rattle.std.proofs.Common.{◌≡◌, ◌<◌, ◌≤◌, ◌+◌, ℕ, List, [], ◌∷◌, length, Some, length-append, refl, sym, ap, ◌∙◌, subst, arith}
 use Rattle.line_grammar.specs.declared.splitter.Piece.{Piece}
 use Rattle.chronicle.specs.History.{sessions, accepted}
 use Rattle.register.specs.declared.claims.Row.{Row}
@@ -8,7 +8,7 @@ use Rattle.batons.specs.Turn.{Turn}
 use Rattle.book.specs.Book.{IsOut, finished}
 use Rattle.hall.specs.Tied.{newest_line, begun_of, IsTied}
 use Rattle.hall.proofs.Outcomes.{at_some}
-use Rattle.hall.proofs.Ties.{out_line, line_ties, done_accepts}
+use Rattle.hall.proofs.Ties.{newest_from_1, out_line, line_ties, done_accepts}
 use Rattle.hall.proofs.dispatch.Book.finish.Given as given
 use Rattle.hall.proofs.dispatch.Book.finish.Goals as goal
 
@@ -50,7 +50,8 @@ pieces g c =
     let mark = c.baton.inside.mark in
     let whose : c.args.plan.session ≡ turn.session = c.requires.line.0 ∙ sym (ap (λ (t : Turn). t.session) c.baton.view_is) in
     let o = out g c in
-    let from = subst (λ (s : ℕ). 0 < s) whose o.from_1 in
+    let next = sym o.next ∙ c.requires.line.1 in
+    let from = subst (λ (s : ℕ). 0 < s) (sym o.session ∙ whose) (newest_from_1 a.book.settings a.book.history (c.args.baton.now.next + 1) c.sound.ensures.legal next) in
     let to = subst (λ (s : ℕ). s ≤ sessions a.book.history) whose o.opened in
     let knew = ap (pieces_at a.register.rows) (sym c.baton.invariant.0) ∙ c.advance.ensures.knew in
     ap (λ m. m.pieces) (turned g c).mark ∙ done_accepts g.O.Outbox.name (finished a.book) turn.session (turned g c).said mark.pieces a.register.rows refl (tied g c) from to knew

@@ -1,5 +1,5 @@
 use Rattle.std.proofs.Common.{◌≡◌, ◌+◌, ◌<◌, ℕ, List, [], ◌∷◌, length, sym, ap, ◌∙◌, subst, append-nil, arith}
-use Rattle.chronicle.specs.History.{Rec, sessions, accepted}
+use Rattle.chronicle.specs.History.{sessions, accepted}
 use Rattle.register.specs.declared.claims.Row.{Row}
 use Rattle.register.specs.Rows.{new_row}
 use Rattle.book.specs.Book.{Shown, opened}

@@ -11,6 +11,7 @@ use Rattle.chronicle.specs.History.{shut}
 use Rattle.book.specs.Book.{Turn, newest_actor}
 use Rattle.interleave.specs.declared.event.Note.TheVariants as note
 use Rattle.interleave.specs.Steps.{ended, IsEnd}
+use Rattle.interleave.proofs.Ended.{line_is_shut}
 use Rattle.interleave.proofs.Does.{MayEnd, may_end, ends_sweep, plan_goes, ends_line}
 use Rattle.interleave.proofs.play.Play.end.Goals as goal
 
@@ -22,8 +23,8 @@ invariant_of-self g c =
     let may : MayEnd m a.sendq boxes jobs x w = may_end m a.sendq boxes jobs a.holder x w held c.self.invariant free in
     let none : slice_index_or jobs (w - 1) None ≡ None = grind (arith, common_steps) in
     let gone : c.take.new.self ≡ None = grind (arith, common_steps) in
-    subst (λ (o : Option Holder). IsKept c.finish_sweep-done.new.self a.sendq boxes jobs o) (sym gone)
-    (ends_sweep m c.finish_sweep-done.new.self a.sendq boxes jobs x w may none c.finish_sweep-done.ensures.book c.sound.ensures)
+    subst (λ (o : Option Holder). IsKept c.finish-done.new.book a.sendq boxes jobs o) (sym gone)
+    (ends_sweep m c.finish-done.new.book a.sendq boxes jobs x w may none c.finish-done.ensures.book c.sound.ensures)
 
 pub end-done-requires-clause-none : goal.end-done-requires-clause-none
 end-done-requires-clause-none g c =
@@ -90,5 +91,5 @@ returns g c =
     ∙ all.0 ∙ ap (λ (o : Option ℕ). ended st w o) (sym has) in (
       c.requires.free,
       subst (λ (y : State). IsEnd y w (note.Done d) (state_of k a.sendq c.end-done.new.inboxes.items c.set_job.new.jobs.items c.take.new.self)) c.self.view_is
-          (d, refl, c.end-done.ensures.number, c.end-done.ensures.missed, is_shut ∙ ap (shut m.history) actor, state),
+          (d, refl, c.end-done.ensures.number, c.end-done.ensures.missed, is_shut ∙ ap (shut m.history) actor ∙ line_is_shut m.history (l.turn.next + 1) (sym may.kept.holding.0.next ∙ l.plan.1), state),
     )

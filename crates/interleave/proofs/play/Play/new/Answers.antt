@@ -1,4 +1,4 @@
-use Rattle.std.proofs.Common.{◌≡◌, ℕ, List, [], replicate, Option, None, sym, subst}
+use Rattle.std.proofs.Common.{ℕ, List, [], Option, None, sym, subst}
 use Rattle.outbox.specs.Ring.{Waiting}
 use Rattle.book.specs.Book.{Shown, empty_book}
 use Rattle.interleave.specs.Inbox.{Held}

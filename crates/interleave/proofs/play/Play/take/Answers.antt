@@ -1,4 +1,4 @@
-use Rattle.std.proofs.Common.{◌≡◌, ℕ, slice_get, List, [], ◌∷◌, Option, Some, None, sym, subst, refl, ap, ◌∙◌}
+use Rattle.std.proofs.Common.{◌≡◌, ℕ, slice_get, List, [], ◌∷◌, Option, Some, None, sym, subst, ap, ◌∙◌}
 use Rattle.interleave.specs.declared.event.Event.TheVariants as event
 use Rattle.interleave.specs.Refusals.{own_refusal}
 use Rattle.interleave.specs.Inbox.{Held, held_at, with_held, with_seen}

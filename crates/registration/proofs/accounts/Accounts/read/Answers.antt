@@ -1,5 +1,4 @@
-use Rattle.std.proofs.Common.{◌∷◌, Err, ap, rules}
-use Rattle.registration.specs.Accounts.{with_line}
+use Rattle.std.proofs.Common.{Err, ap, rules}
 use Rattle.registration.specs.Parts.{parts}
 use Rattle.registration.specs.PartSteps.{parts_left}
 use Rattle.registration.proofs.AccountLines.{next_line, one_more, up_to}

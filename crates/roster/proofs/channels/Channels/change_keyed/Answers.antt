@@ -1,6 +1,7 @@
 use Rattle.std.proofs.Common.{List, arith, sym, ap, ◌∙◌, subst}
 use Rattle.std.specs.Map.{values_of}
-use Rattle.channel_state.specs.State.{changed}
+use Rattle.channel_state.specs.Held.{Held}
+use Rattle.channel_state.specs.State.{is_some_one, changed}
 use Rattle.roster.specs.Table.{Table}
 use Rattle.roster.specs.declared.tables.Channel.{Channel}
 use Rattle.roster.specs.Tables.{state_in, Reholds}
@@ -39,10 +40,10 @@ pub returns-clause-ended : goal.returns-clause-ended
 returns-clause-ended c = λ e.
     let a = c.self.inside in let x = c.in-Some.channel.now in let n = c.args.name.now in let ks = c.args.self.now.list in let h = c.change.new.self in let view = ap (λ (t : Table Channel). t.list) c.self.view_is in
     let list = now_list a.channels.entries _ ks c.args.key.now n x h c.requires.key c.self.invariant view c.in-Some.ensures.value (c.get_mut.follows.holds _).0 in
-    subst (AreHeldBut n) (sym list) (held_but ks n h (sym c.is_there.ensures ∙ not_true c.is_there.result e) c.requires.held)
+    subst (AreHeldBut n) (sym list) (held_but ks n h (sym (c.is_there.ensures ∙ ap (λ (k : Held). is_some_one k.state.members) c.get.ensures) ∙ not_true c.is_there.result e) c.requires.held)
 
 pub returns-clause-held : goal.returns-clause-held
 returns-clause-held c = λ e.
     let a = c.self.inside in let x = c.in-Some.channel.now in let n = c.args.name.now in let ks = c.args.self.now.list in let h = c.change.new.self in let view = ap (λ (t : Table Channel). t.list) c.self.view_is in
     let list = now_list a.channels.entries _ ks c.args.key.now n x h c.requires.key c.self.invariant view c.in-Some.ensures.value (c.get_mut.follows.holds _).0 in
-    subst AreHeld (sym list) (held_with ks n h (sym c.is_there.ensures ∙ not_false c.is_there.result e) c.requires.held)
+    subst AreHeld (sym list) (held_with ks n h (sym (c.is_there.ensures ∙ ap (λ (k : Held). is_some_one k.state.members) c.get.ensures) ∙ not_false c.is_there.result e) c.requires.held)

@@ -1,0 +1,129 @@
+//! Ticks: sessions that are quiet are pinged, and those that are late are found.
+ghost use Rattle.std.specs.Prelude.{◌≡◌, ◌<◌, ◌≤◌, ◌+◌, [], Some, None, true, false, length, IfOk, IfErr, IfSome, OnOk, OnErr};
+ghost use Rattle.chronicle.specs.declared.record.Kind.TheVariants as kind;
+
+use crate::book::{Book, reserve};
+use crate::out::{Done, Plan};
+use crate::plan::{Planning, prepare_tick};
+use crate::refusals::TickRefusal;
+use chronicle::{Kind, Moment, RecordNumber, SessionId};
+use outbox::Outbox;
+use roster::Sessions;
+use std::alloc::AllocError;
+
+impl<O: Outbox> Book<O> {
+    ghost use Rattle.book.specs.Book.{begun, finished, IsDone, IsOut, newest_missed, MayTick, IsTickRefusal, IsSomebodyQuiet, HasRoom, to_ping, late};
+
+    /// Begins a tick: each session that isn't shut, was quiet for at least 120,000 milliseconds at the moment, and wasn't pinged
+    /// since it was heard of, is sent a PING. Its record is appended, and a plan is handed out. It answers `None` where there is no
+    /// such session. All memory is taken here; a refusal changes nothing.
+    pub fn begin_tick(&mut self, moment: Moment) -> Result<Option<Plan>, TickRefusal>
+        ensures some { IfOk result (λ o. IfSome o (λ p. (self.new ≡ begun self.old kind.Ticked moment) × IsOut self.new p × (p.session ≡ 0) × (p.next ≡ None))) }
+        ensures quiet { IfOk result (λ o. IfSome o (λ p. IsSomebodyQuiet self.old moment × HasRoom self.old)) }
+        ensures none { IfOk result (λ o. o ≡ None → (to_ping self.old.history moment ≡ []) × (self.new ≡ self.old)) }
+        ensures may { OnOk result (MayTick self.old moment) }
+        ensures refusal { IfErr result (λ e. IsTickRefusal self.old moment e) }
+        ensures err { OnErr result (self.new ≡ self.old) }
+    {
+        let free = self.free();
+        if self.busy {
+            return Err(TickRefusal::Busy);
+        }
+        if !moment.may_follow(self.journal.last_moment()) {
+            return Err(TickRefusal::BadMoment);
+        }
+        if !self.is_somebody_quiet(moment) {
+            return Ok(None);
+        }
+        if free < 1 {
+            return Err(TickRefusal::JournalFull);
+        }
+        Ok(Some(self.ping_all(moment)?))
+    }
+
+    /// Whether a tick at a moment pings somebody.
+    fn is_somebody_quiet(&self, moment: Moment) -> bool
+        ensures yes { result ≡ true → IsSomebodyQuiet self.now moment }
+        ensures no { result ≡ false → to_ping self.now.history moment ≡ [] }
+    {
+        self.last_heard.is_somebody_due(&self.seats, moment)
+    }
+
+    /// Begins a tick that pings somebody.
+    fn ping_all(&mut self, moment: Moment) -> Result<Plan, AllocError>
+        requires may { MayTick self.old moment }
+        requires room { HasRoom self.old }
+        ensures ok { OnOk result (self.new ≡ begun self.old kind.Ticked moment) }
+        ensures out { IfOk result (λ p. IsOut self.new p) }
+        ensures tick { IfOk result (λ p. (p.session ≡ 0) × (p.next ≡ None)) }
+        ensures err { OnErr result (self.new ≡ self.old) }
+    {
+        let room = self.held() + 1;
+        let number = RecordNumber::new(self.journal.newest() as u64 + 1);
+        let nobody = SessionId::new(0);
+        let due = self.last_heard.due(self.alloc, &self.seats, moment)?;
+        let by = Planning {
+            alloc: self.alloc,
+            roster: &self.roster,
+            seats: &self.seats,
+            actor: nobody,
+            number,
+            moment,
+        };
+        let (plan, missed) = prepare_tick(&by, &due)?;
+        reserve(&mut self.journal, room, plan.len())?;
+        self.journal.append(moment, Kind::Ticked);
+        self.last_heard.ping_each(&due);
+        self.plan = plan;
+        self.busy = true;
+        Ok(Plan {
+            number,
+            session: nobody,
+            next: None,
+            missed,
+        })
+    }
+
+    /// Gives back the plan of a tick, with nothing left in it. It takes no memory.
+    pub fn finish_tick(&mut self, plan: Plan) -> Done
+        requires out { IsOut self.old plan }
+        requires none { self.old.plan ≡ [] }
+        requires tick { plan.session ≡ 0 }
+        ensures book { self.new ≡ finished self.old }
+        ensures number { result.number ≡ length self.old.history }
+        ensures missed { result.missed ≡ newest_missed self.old.history }
+        ensures shut { result.shut ≡ false }
+    {
+        self.busy = false;
+        Done {
+            number: plan.number,
+            missed: Sessions::from_vec(plan.missed),
+            shut: false,
+        }
+    }
+
+    /// Pings all that are quiet for at least 120,000 milliseconds and weren't pinged since they were heard of: begins, puts or
+    /// misses all that it owes, and finishes. It answers `None` where there is nobody. A refusal changes nothing.
+    pub fn tick(&mut self, moment: Moment) -> Result<Option<Done>, TickRefusal>
+        ensures some { IfOk result (λ o. IfSome o (λ d. IsDone O.accepts O.refuses self.old kind.Ticked moment self.new × (d.number ≡ length self.old.history + 1) × (d.missed ≡ newest_missed self.new.history) × (d.shut ≡ false))) }
+        ensures quiet { IfOk result (λ o. IfSome o (λ d. IsSomebodyQuiet self.old moment × HasRoom self.old)) }
+        ensures none { IfOk result (λ o. o ≡ None → (to_ping self.old.history moment ≡ []) × (self.new ≡ self.old)) }
+        ensures may { OnOk result (MayTick self.old moment) }
+        ensures refusal { IfErr result (λ e. IsTickRefusal self.old moment e) }
+        ensures err { OnErr result (self.new ≡ self.old) }
+    {
+        let Some(mut plan) = self.begin_tick(moment)? else {
+            return Ok(None);
+        };
+        self.put_rest(&mut plan);
+        Ok(Some(self.finish_tick(plan)))
+    }
+
+    /// The session of the lowest number that isn't shut and was quiet for at least 240,000 milliseconds at a moment. It takes no
+    /// memory.
+    pub fn late(&self, moment: Moment) -> Option<SessionId>
+        ensures { result ≡ late self.now.history moment }
+    {
+        self.last_heard.late(&self.seats, moment)
+    }
+}

@@ -1,0 +1,136 @@
+//! What members are shown of a session that joined (RFC 2812, section 3.2.1; IRCv3 extended-join and away-notify).
+ghost use Rattle.std.specs.Prelude.{◌≡◌, ◌∷◌, ◌++◌, [], filter, IfOk, OnOk};
+ghost use Rattle.roster.specs.LookBack.{account, away, real};
+ghost use Rattle.drafts.specs.Drafted.{grown};
+ghost use Rattle.drafts.specs.Hearers.{shown};
+ghost use Rattle.drafts.specs.Lines.{join_line, extended_join_line};
+ghost use Rattle.channel_commands.specs.Joining.{absence_shown, introduced, join_shown, takes_extended, takes_plain};
+
+use chronicle::SessionId;
+use drafts::{Draft, Seen, extended_join_line, join_line, show_away, takers};
+use registration::Cap;
+use roster::{Roster, Sessions};
+use std::alloc::{AllocError, Global};
+
+// ---- by the form of JOIN that members take
+
+/// Adds a session to those that take extended-join, or to the others.
+fn push_parted(
+    roster: &Roster,
+    extended: &mut Sessions,
+    plain: &mut Sessions,
+    session: SessionId,
+) -> Result<(), AllocError>
+    ensures extended { OnOk result (extended.new ≡ extended.old ++ filter (takes_extended roster.now.facts) (session ∷ [])) }
+    ensures plain { OnOk result (plain.new ≡ plain.old ++ filter (takes_plain roster.now.facts) (session ∷ [])) }
+{
+    if roster.caps_of(session).contains(Cap::ExtendedJoin) {
+        extended.push(session)
+    } else {
+        plain.push(session)
+    }
+}
+
+/// Sessions that take extended-join, and the others, each in their order.
+fn parted(
+    alloc: Global,
+    roster: &Roster,
+    sessions: &[SessionId],
+) -> Result<(Sessions, Sessions), AllocError>
+    ensures extended { IfOk result (λ p. p.0 ≡ filter (takes_extended roster.now.facts) sessions.now) }
+    ensures plain { IfOk result (λ p. p.1 ≡ filter (takes_plain roster.now.facts) sessions.now) }
+{
+    let mut extended = Sessions::from_vec(Vec::new(alloc));
+    let mut plain = Sessions::from_vec(Vec::with_capacity(alloc, sessions.len())?);
+    for session in sessions {
+        push_parted(roster, &mut extended, &mut plain, *session)?;
+    }
+    Ok((extended, plain))
+}
+
+// ---- what they are shown
+
+/// Shows sessions, where there are any, a join.
+#[tactic(auto, unfolding(drafts::specs::Hearers::shown))]
+fn show_plainly(
+    draft: &mut Draft,
+    hearers: Sessions,
+    from: &[u8],
+    seen: &Seen,
+) -> Result<(), AllocError>
+    ensures { OnOk result (draft.new ≡ grown draft.old (shown hearers (join_line from.now seen.now.name))) }
+{
+    if hearers.as_slice().is_empty() {
+        return Ok(());
+    }
+    let line = join_line(draft.alloc(), from, seen.name().as_slice())?;
+    draft.show(hearers, line)
+}
+
+/// Shows sessions, where there are any, a join with the account and the real name.
+#[tactic(auto, unfolding(drafts::specs::Hearers::shown))]
+fn show_extended(
+    draft: &mut Draft,
+    hearers: Sessions,
+    session: SessionId,
+    from: &[u8],
+    seen: &Seen,
+) -> Result<(), AllocError>
+    ensures { OnOk result (draft.new ≡ grown draft.old (shown hearers (extended_join_line from.now seen.now.name (account draft.old.base session) (real draft.old.base session)))) }
+{
+    if hearers.as_slice().is_empty() {
+        return Ok(());
+    }
+    let roster = draft.before();
+    let account = roster.enrol_of(session).account;
+    let real = roster.real_of(session);
+    let line = extended_join_line(draft.alloc(), from, seen.name().as_slice(), account, real)?;
+    draft.show(hearers, line)
+}
+
+/// Shows members a join, each in the form that it takes.
+#[tactic(auto, using(drafts::proofs::Replay::grown_grown))]
+fn show_join(
+    draft: &mut Draft,
+    session: SessionId,
+    from: &[u8],
+    seen: &Seen,
+) -> Result<(), AllocError>
+    ensures { OnOk result (draft.new ≡ grown draft.old (join_shown draft.old.base session from.now seen.now)) }
+{
+    let (extended, plain) = parted(draft.alloc(), draft.before(), seen.state().members())?;
+    show_plainly(draft, plain, from, seen)?;
+    show_extended(draft, extended, session, from, seen)
+}
+
+/// Shows members, but for who joined, that it is away, where it is.
+fn show_absence(
+    draft: &mut Draft,
+    session: SessionId,
+    from: &[u8],
+    seen: &Seen,
+) -> Result<(), AllocError>
+    ensures { OnOk result (draft.new ≡ grown draft.old (absence_shown draft.old.base session from.now seen.now (away draft.old.base session))) }
+{
+    let Some(text) = draft.before().away_of(session) else {
+        return Ok(());
+    };
+    let members = seen.state().members();
+    let mut hearers = takers(draft.alloc(), draft.before(), Cap::AwayNotify, members)?;
+    hearers.remove(session);
+    show_away(draft, hearers, from, Some(text))
+}
+
+/// Shows members that a session joined, and that it is away, where it is.
+#[tactic(auto, unfolding(crate::specs::Joining::introduced), using(drafts::proofs::Replay::grown_grown))]
+pub(crate) fn introduce(
+    draft: &mut Draft,
+    session: SessionId,
+    from: &[u8],
+    seen: &Seen,
+) -> Result<(), AllocError>
+    ensures { OnOk result (draft.new ≡ grown draft.old (introduced draft.old.base session from.now seen.now)) }
+{
+    show_join(draft, session, from, seen)?;
+    show_absence(draft, session, from, seen)
+}

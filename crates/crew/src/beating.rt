@@ -1,0 +1,221 @@
+//! Who is quiet is pinged, and who is quiet for too long is ended.
+ghost use Rattle.std.specs.Prelude.{◌≡◌, ℤ, All, None, IfOk, IfSome, OnOk, OnErr, IsSomeAnd};
+ghost use Rattle.chronicle.specs.History.{last_moment};
+ghost use Rattle.crew.specs.Beating.{Ticks, HangsLate, IsLast};
+ghost use Rattle.crew.specs.Timing.{IsLater};
+
+use crate::server::{Clock, Gate, Server, Sockets, later};
+use crate::shutting::{hang_at, shut_missed};
+use crate::telling::{tell, tell_many};
+use chronicle::{Moment, SessionId, Why};
+use ghosts::Snapshot;
+use hall::{Done, Hall, HangRefusal, Hung, Naming, TickRefusal, Told};
+use outbox::Sender;
+use std::sync::Wait;
+
+/// What came of a tick, with the hall before that and after it, which exist for clauses alone.
+#[derive(Drop)]
+pub struct Ticked<L: Naming, R: Wait + Drop> {
+    pub answer: Result<Option<Done>, TickRefusal>,
+    pub moment: Moment,
+    pub before: Snapshot<Hall<L, Sender<R>>>,
+    pub after: Snapshot<Hall<L, Sender<R>>>,
+}
+
+/// The session that was late at a moment, if there was one, and what came of ending it, with the hall before that and after it, which
+/// exist for clauses alone.
+#[derive(Drop)]
+pub struct Late<L: Naming, R: Wait + Drop> {
+    pub ended: Option<(SessionId, Result<Hung, HangRefusal>)>,
+    pub moment: Moment,
+    pub before: Snapshot<Hall<L, Sender<R>>>,
+    pub after: Snapshot<Hall<L, Sender<R>>>,
+}
+
+/// What came of a beat: of its tick, and of the last look for who is late, where there was one.
+#[derive(Drop)]
+pub struct Beaten<L: Naming, R: Wait + Drop> {
+    pub ticked: Ticked<L, R>,
+    pub last: Option<Late<L, R>>,
+}
+
+/// Ticks in the hall at this moment.
+fn tick_once<L: Naming, R: Wait + Drop>(
+    hall: &mut Hall<L, Sender<R>>,
+    moment: Moment,
+) -> Ticked<L, R>
+    ensures ticks { Ticks result.before.value result.after.value result.moment result.answer }
+    ensures moment { result.moment ≡ moment }
+    ensures before { result.before.value ≡ hall.old }
+    ensures refused { OnErr result.answer (hall.new ≡ hall.old) }
+{
+    let before = Snapshot::of(&*hall);
+    let answer = hall.tick(moment);
+    let after = Snapshot::of(&*hall);
+    Ticked {
+        answer,
+        moment,
+        before,
+        after,
+    }
+}
+
+/// Ticks in the hall at this moment. Where its journal has no room for the record, that is rolled, and the tick is tried again.
+fn tick_or_roll<L: Naming, R: Wait + Drop, S: Sockets>(
+    sockets: &S,
+    hall: &mut Hall<L, Sender<R>>,
+    moment: Moment,
+) -> Ticked<L, R>
+    ensures ticks { Ticks result.before.value result.after.value result.moment result.answer }
+    ensures moment { result.moment ≡ moment }
+    ensures before { result.before.value.history ≡ hall.old.history }
+{
+    let first = tick_once(hall, moment);
+    if !matches!(first.answer, Err(TickRefusal::JournalFull)) {
+        return first;
+    }
+    match hall.roll() {
+        Ok(rolled) => {
+            sockets.rolled(rolled.dropped);
+            tick_once(hall, moment)
+        }
+        Err(_) => first,
+    }
+}
+
+/// Ticks in the hall, at this moment or at that of the newest record where that is later, and adds who got something.
+fn tick_in<L: Naming, R: Wait + Drop, S: Sockets>(
+    sockets: &S,
+    hall: &mut Hall<L, Sender<R>>,
+    moment: Moment,
+    told: &mut Told,
+) -> Ticked<L, R>
+    ensures ticks { Ticks result.before.value result.after.value result.moment result.answer }
+    ensures moment { IsLater moment (last_moment result.before.value.history) result.moment }
+{
+    let moment = later(moment, hall.last_moment());
+    told.begin();
+    hall.swap_told(told);
+    let ticked = tick_or_roll(sockets, hall, moment);
+    hall.swap_told(told);
+    ticked
+}
+
+/// Pings whoever is quiet for long enough and wasn't pinged since it was heard of, by one record, and shuts whoever missed that. Where
+/// the journal has no room for it, that is rolled first. Who got something is added to `told`.
+///
+/// The answer tells what came of it in the server's hall, at a moment that the clock showed or at that of the newest record where that
+/// is later: the record; that nobody was to be pinged; or why there is none.
+pub fn tick<L: Naming, R: Wait + Drop, G: Gate, S: Sockets, C: Clock>(
+    rt: &R,
+    server: &Server<'_, L, R, G, S, C>,
+    told: &mut Told,
+) -> Ticked<L, R>
+    ensures ticks { Ticks result.before.value result.after.value result.moment result.answer }
+    ensures moment { (t : ℤ) × C.shows server.now.clock.now t × IsLater t (last_moment result.before.value.history) result.moment }
+    ensures shut { IfOk result.answer (λ o. IfSome o (λ d. All (S.shuts server.now.sockets.now) d.missed)) }
+{
+    let moment = server.clock.now();
+    let ticked = tick_in(server.sockets, &mut *server.hall.lock(rt), moment, told);
+    tell_many(server, told);
+    if let Ok(Some(done)) = &ticked.answer {
+        shut_missed(server.sockets, done);
+    }
+    ticked
+}
+
+/// Ends the late session of the lowest number in the hall, if there is one, at this moment or at that of the newest record where that is
+/// later, and adds who got something.
+fn hang_late_in<L: Naming, R: Wait + Drop>(
+    hall: &mut Hall<L, Sender<R>>,
+    moment: Moment,
+    told: &mut Told,
+) -> Late<L, R>
+    ensures hangs { HangsLate result.before.value result.after.value result.moment result.ended }
+    ensures moment { IsLater moment (last_moment result.before.value.history) result.moment }
+{
+    let moment = later(moment, hall.last_moment());
+    let Some(session) = hall.late(moment) else {
+        return Late {
+            ended: None,
+            moment,
+            before: Snapshot::of(&*hall),
+            after: Snapshot::of(&*hall),
+        };
+    };
+    let ending = hang_at(hall, session, Why::PingTimeout, moment, told);
+    Late {
+        ended: Some((session, ending.hung)),
+        moment,
+        before: ending.before,
+        after: ending.after,
+    }
+}
+
+/// Ends the session of the lowest number that is quiet for too long, if there is one, and shuts its connection. Who got something is
+/// added to `told`.
+///
+/// The answer tells what came of it in the server's hall, at a moment that the clock showed or at that of the newest record where that
+/// is later.
+pub fn hang_late<L: Naming, R: Wait + Drop, G: Gate, S: Sockets, C: Clock>(
+    rt: &R,
+    server: &Server<'_, L, R, G, S, C>,
+    told: &mut Told,
+) -> Late<L, R>
+    ensures hangs { HangsLate result.before.value result.after.value result.moment result.ended }
+    ensures moment { (t : ℤ) × C.shows server.now.clock.now t × IsLater t (last_moment result.before.value.history) result.moment }
+    ensures shut { IfSome result.ended (λ e. OnOk e.1 (S.shuts server.now.sockets.now e.0)) }
+{
+    let moment = server.clock.now();
+    let late = hang_late_in(&mut *server.hall.lock(rt), moment, told);
+    tell_many(server, told);
+    if let Some((session, Ok(_))) = &late.ended {
+        server.sockets.shut(*session);
+    }
+    late
+}
+
+/// Ends one session after another that is quiet for too long, each under a hold of the lock of its own, until nobody is.
+fn hang_all_late<L: Naming, R: Wait + Drop, G: Gate, S: Sockets, C: Clock>(
+    rt: &R,
+    server: &Server<'_, L, R, G, S, C>,
+    told: &mut Told,
+) -> Late<L, R>
+    ensures hangs { HangsLate result.before.value result.after.value result.moment result.ended }
+    ensures last { IsLast result.ended }
+{
+    for _ in rt.forever() {
+        let late = hang_late(rt, server, told);
+        if !matches!(late.ended, Some((_, Ok(_)))) {
+            return late;
+        }
+    }
+    unreachable!()
+}
+
+/// Pings whoever is quiet for long enough, then ends whoever is quiet for too long, and tells who got something. A tick that is refused
+/// waits for the next beat, and nobody is ended then.
+///
+/// After a tick that wasn't refused, the last look found nobody who is late; or ending somebody was refused.
+pub fn beat<L: Naming, R: Wait + Drop, G: Gate, S: Sockets, C: Clock>(
+    rt: &R,
+    server: &Server<'_, L, R, G, S, C>,
+    told: &mut Told,
+) -> Beaten<L, R>
+    ensures ticks { Ticks result.ticked.before.value result.ticked.after.value result.ticked.moment result.ticked.answer }
+    ensures shut { IfOk result.ticked.answer (λ o. IfSome o (λ d. All (S.shuts server.now.sockets.now) d.missed)) }
+    ensures late { OnOk result.ticked.answer (IsSomeAnd result.last (λ l. HangsLate l.before.value l.after.value l.moment l.ended × IsLast l.ended)) }
+    ensures refused { OnErr result.ticked.answer (result.last ≡ None) }
+{
+    let ticked = tick(rt, server, told);
+    tell(server, told);
+    if ticked.answer.is_err() {
+        return Beaten { ticked, last: None };
+    }
+    let last = hang_all_late(rt, server, told);
+    tell(server, told);
+    Beaten {
+        ticked,
+        last: Some(last),
+    }
+}

@@ -1,0 +1,11 @@
+use Rattle.std.proofs.Common.{◌≡◌}
+use Rattle.halld.proofs.Late.{HungSoFar}
+use Rattle.halld.proofs.player.Player.hang_all.Given as goal
+
+-- so many sessions so far
+abbrev pub invariant-loop : goal.invariant-loop
+invariant-loop g l =
+    record {
+      hung : HungSoFar l.counter l.moment l.fn.self.play l.self.play (g.W.Write.contents l.fn.output) (g.W.Write.contents l.output);
+      hosts : l.self.hosts.items ≡ l.fn.self.hosts.items;
+    }
