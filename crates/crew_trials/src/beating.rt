@@ -61,8 +61,8 @@ fn room<L: Naming, R: Wait + Drop>(rt: &R, lock: &Mutex<Hall<L, Sender<R>>>) -> 
     usize::saturating_sub(61, lock.lock(rt).len())
 }
 
-/// A session says lines until the journal is full, each of which is answered. Nothing, where that isn't so.
-fn fills<'a, L: Naming, R: Wait + Drop>(
+/// A session says lines, all of which are done, and takes an item. Nothing, where that isn't so.
+fn says<'a, L: Naming, R: Wait + Drop>(
     rt: &R,
     server: &Story<'a, L, R>,
     desk: &'a Desk,
@@ -71,25 +71,41 @@ fn fills<'a, L: Naming, R: Wait + Drop>(
     told: &mut Told,
 ) -> Option<Tokens<L, R>> {
     let Tokens {
-        mut baton,
-        stub,
-        mut writer,
-    } = tokens;
-    for _ in 0..room(rt, server.hall) {
-        let worked = work(rt, server, desk, baton, pieces, told);
-        baton = worked.baton;
-        if !worked.all || writer.take_now(rt).is_err() {
-            return None;
-        }
-    }
-    if room(rt, server.hall) != 0 {
-        return None;
-    }
-    Some(Tokens {
         baton,
         stub,
         writer,
-    })
+    } = tokens;
+    let worked = work(rt, server, desk, baton, pieces, told);
+    let mut tokens = Tokens {
+        baton: worked.baton,
+        stub,
+        writer,
+    };
+    let has_taken = tokens.writer.take_now(rt).is_ok();
+    if worked.all && has_taken {
+        Some(tokens)
+    } else {
+        None
+    }
+}
+
+/// A session says a line again and again until the journal is full, each of which is answered. Nothing, where that isn't so.
+fn fills<'a, L: Naming, R: Wait + Drop>(
+    rt: &R,
+    server: &Story<'a, L, R>,
+    desk: &'a Desk,
+    mut tokens: Tokens<L, R>,
+    pieces: &[Piece],
+    told: &mut Told,
+) -> Option<Tokens<L, R>> {
+    for _ in 0..room(rt, server.hall) {
+        tokens = says(rt, server, desk, tokens, pieces, told)?;
+    }
+    if room(rt, server.hall) == 0 {
+        Some(tokens)
+    } else {
+        None
+    }
 }
 
 /// Both are pinged, and bo answers; al doesn't, and is ended.

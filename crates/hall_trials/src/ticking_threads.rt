@@ -288,6 +288,15 @@ fn come_often<L: Naming, R: Wait + Copy + Drop>(
     came
 }
 
+/// The two who said lines and those who came beside them, and the moment of the end.
+#[derive(Drop)]
+struct Met<L: Naming, O: Lasting<Taker = T>, T: Drop> {
+    al: Talked<L, O, T>,
+    bo: Talked<L, O, T>,
+    came: Came,
+    end: i64,
+}
+
 /// A session that is open, when it was last heard, and whether it was pinged since.
 #[derive(Clone, Copy)]
 struct Watched {
@@ -381,52 +390,110 @@ fn owed_by<L: Naming, R: Wait + Drop>(alloc: Global, hall: &Hall<L, Sender<R>>) 
     owed
 }
 
-/// Two say lines, a third looks who is silent, and a fourth has others come. At last all are ended.
+/// Who said lines goes: it took what the journal owes it, and nothing is left for it.
+fn leaves<L: Naming, R: Wait + Abort + Drop>(
+    rt: &R,
+    hall: &mut Hall<L, Sender<R>>,
+    talked: Talked<L, Sender<R>, Writer>,
+    owed: &Owed,
+) {
+    let Talked {
+        mut guest,
+        mut taken,
+        said,
+    } = talked;
+    assert_eq!(rt; said, ROUNDS, "all is said");
+    take_all(rt, &mut guest, &mut taken);
+    let session = guest.baton.session().number();
+    assert!(rt; owed.is_of(session, session, &taken), "what it took");
+    assert_eq!(rt; guest.leaves(hall), Some(0));
+}
+
+/// Two say lines side by side.
+fn talk_both<L: Naming + Send + Sync, R: Threads + Wait + Copy + Drop + Send + Sync>(
+    rt: &R,
+    alloc: Global,
+    hall: &Mutex<Hall<L, Sender<R>>>,
+    (al, bo): (Caller<L, R>, Caller<L, R>),
+    piece: &Piece,
+    hands: &Hands,
+) -> (Talked<L, Sender<R>, Writer>, Talked<L, Sender<R>, Writer>) {
+    join(
+        rt,
+        || talk(rt, alloc, hall, al, piece, hands, 0),
+        || talk(rt, alloc, hall, bo, piece, hands, 1),
+    )
+}
+
+/// One looks who is silent, while another has sessions come.
+fn beat_beside<L: Naming + Send + Sync, R: Threads + Wait + Copy + Drop + Send + Sync>(
+    rt: &R,
+    alloc: Global,
+    hall: &Mutex<Hall<L, Sender<R>>>,
+    hands: &Hands,
+) -> (Beaten, Came) {
+    join(
+        rt,
+        || beat_often(rt, hall, hands),
+        || come_often(rt, alloc, hall, hands),
+    )
+}
+
+/// Two say lines while a third looks who is silent and a fourth has others come. Then nobody says anything, and all are ended.
+fn meet<L: Naming + Send + Sync, R: Threads + Wait + Abort + Copy + Drop + Send + Sync>(
+    rt: &R,
+    alloc: Global,
+    hall: &Mutex<Hall<L, Sender<R>>>,
+    callers: (Caller<L, R>, Caller<L, R>),
+    piece: &Piece,
+    hands: &Hands,
+) -> Met<L, Sender<R>, Writer> {
+    let ((al, bo), (mut beaten, came)) = join(
+        rt,
+        || talk_both(rt, alloc, hall, callers, piece, hands),
+        || beat_beside(rt, alloc, hall, hands),
+    );
+    assert!(rt; beaten.ticks > 0, "somebody was pinged");
+    assert!(rt; 0 < came.hung && came.hung < came.count, "some were late");
+    let end = hands.now().saturating_add(LATE_AFTER);
+    beat(rt, hall, end, &mut beaten);
+    Met { al, bo, came, end }
+}
+
+/// All took what the journal owes them, and the two go.
+fn part<L: Naming, R: Wait + Abort + Drop>(
+    rt: &R,
+    alloc: Global,
+    hall: &mut Hall<L, Sender<R>>,
+    met: Met<L, Sender<R>, Writer>,
+) {
+    let Met { al, bo, came, end } = met;
+    let owed = owed_by(alloc, &*hall);
+    assert!(rt; owed.is_well && came.is_well, "nobody missed anything");
+    assert!(rt;
+        owed.is_of(3, u64::MAX, &came.taken),
+        "what the others took"
+    );
+    for _ in 0..2u32 {
+        assert!(rt; hall.sweep(Moment::new(end)).is_ok(), "swept");
+    }
+    leaves(rt, hall, al, &owed);
+    leaves(rt, hall, bo, &owed);
+}
+
+/// Two come, all meet, and all part.
 fn race<L: Naming + Send + Sync, R: Threads + Wait + Abort + Copy + Drop + Send + Sync>(
     rt: &R,
     alloc: Global,
     mut hall: Hall<L, Sender<R>>,
     piece: &Piece,
-) -> Result<(), Fail> {
-    let al: Caller<L, R> = enter(rt, alloc, &mut hall, CAP).ok_or("al")?;
-    let bo: Caller<L, R> = enter(rt, alloc, &mut hall, CAP).ok_or("bo")?;
+) {
+    let al: Caller<L, R> = enter(rt, alloc, &mut hall, CAP).expect(rt, "al");
+    let bo: Caller<L, R> = enter(rt, alloc, &mut hall, CAP).expect(rt, "bo");
     let (lock, hands) = (Mutex::new(hall), Hands::new());
-    let ((mut al, mut bo), (mut beaten, came)) = join(
-        rt,
-        || {
-            join(
-                rt,
-                || talk(rt, alloc, &lock, al, piece, &hands, 0),
-                || talk(rt, alloc, &lock, bo, piece, &hands, 1),
-            )
-        },
-        || {
-            join(
-                rt,
-                || beat_often(rt, &lock, &hands),
-                || come_often(rt, alloc, &lock, &hands),
-            )
-        },
-    );
-    assert!(rt; al.said == ROUNDS && bo.said == ROUNDS, "all is said");
-    assert!(rt; beaten.ticks > 0, "somebody was pinged");
-    assert!(rt; 0 < came.hung && came.hung < came.count, "some were late");
-    let end = hands.now().saturating_add(LATE_AFTER);
-    beat(rt, &lock, end, &mut beaten);
+    let met = meet(rt, alloc, &lock, (al, bo), piece, &hands);
     let mut hall = lock.into_inner();
-    take_all(rt, &mut al.guest, &mut al.taken);
-    take_all(rt, &mut bo.guest, &mut bo.taken);
-    let owed = owed_by(alloc, &hall);
-    assert!(rt; owed.is_well && came.is_well, "nobody missed anything");
-    assert!(rt; owed.is_of(1, 1, &al.taken), "al's");
-    assert!(rt; owed.is_of(2, 2, &bo.taken), "bo's");
-    assert!(rt; owed.is_of(3, u64::MAX, &came.taken), "the others'");
-    for _ in 0..2u32 {
-        assert!(rt; matches!(hall.sweep(Moment::new(end)), Ok(_)), "swept");
-    }
-    assert!(rt; al.guest.leaves(&mut hall) == Some(0), "al leaves");
-    assert!(rt; bo.guest.leaves(&mut hall) == Some(0), "bo leaves");
-    Ok(())
+    part(rt, alloc, &mut hall, met);
 }
 
 /// The same in a hall of its own, whose sessions this register has.
@@ -442,7 +509,8 @@ fn race_in_one<L: Naming + Send + Sync, R: Threads + Wait + Abort + Copy + Drop 
     let Ok(hall) = hall_of::<L, Sender<R>>(alloc, register, 3, RECORDS) else {
         return Err("a hall".into());
     };
-    race(rt, alloc, hall, &piece)
+    race(rt, alloc, hall, &piece);
+    Ok(())
 }
 
 #[test]
