@@ -40,37 +40,60 @@ fn late<L: Naming, O: Lasting>(hall: &Hall<L, O>, moment: i64) -> u64 {
     }
 }
 
+/// Whether the session is pinged at this moment, which isn't before, by the second record, and is told.
+fn is_pinged<L: Naming, O: Lasting>(
+    alloc: Global,
+    hall: &mut Hall<L, O>,
+    session: SessionId,
+) -> bool {
+    let mut told = Told::new(alloc);
+    hall.swap_told(&mut told);
+    let is_second = tick(hall, 120_000) == Ok(Some(2));
+    hall.swap_told(&mut told);
+    let is_told = told.is_all() || told.sessions() == [session].as_slice();
+    is_second && is_told
+}
+
+/// Whether the session is late at the moment that it is to be, and not pinged again before.
+fn is_late<L: Naming, O: Lasting>(hall: &mut Hall<L, O>) -> bool {
+    let is_once = tick(hall, 239_999) == Ok(None);
+    let is_early = late(hall, 239_999) == 0;
+    is_once && is_early && late(hall, 240_000) == 1
+}
+
+/// Whether who is late is ended, and then neither late nor pinged.
+fn is_ended<L: Naming, O: Lasting>(hall: &mut Hall<L, O>, session: SessionId) -> bool {
+    let moment = Moment::new(240_000);
+    let is_hung = hall.hang(session, Why::PingTimeout, moment).is_ok();
+    let is_over = late(hall, 900_000) == 0 && tick(hall, 900_000) == Ok(None);
+    is_hung && is_over && hall.sweep(moment).is_ok()
+}
+
 /// A session that says nothing, in a journal that is rolled after its opening and after its PING, or isn't.
 #[derive(Drop)]
 struct Silent {
     is_rolled: bool,
 }
 
+impl Silent {
+    /// Rolls the journal, where it is to be.
+    fn rolls<L: Naming, O: Lasting>(&self, hall: &mut Hall<L, O>) -> bool {
+        !self.is_rolled || hall.roll().is_ok()
+    }
+}
+
 impl<O: Made<R, T>, R: Abort, T: Drop> Trial<O, R, T> for Silent {
     fn run<L: Naming>(&self, rt: &R, alloc: Global, hall: &mut Hall<L, O>) -> Result<(), Fail> {
         let al: Guest<L, O, T> = enter(rt, alloc, hall, 4).ok_or("al")?;
+        let session = al.baton.session();
         assert!(rt; tick(hall, 119_999) == Ok(None), "not yet");
-        assert!(rt; !self.is_rolled || hall.roll().is_ok(), "rolled");
+        assert!(rt; self.rolls(hall), "rolled");
         assert!(rt; tick(hall, 119_999) == Ok(None), "nor yet");
-        let mut told = Told::new(alloc);
-        hall.swap_told(&mut told);
-        assert!(rt; tick(hall, 120_000) == Ok(Some(2)), "pinged");
-        hall.swap_told(&mut told);
-        assert!(rt;
-            told.is_all() || told.sessions() == [al.baton.session()].as_slice(),
-            "told"
-        );
-        assert!(rt; !self.is_rolled || hall.roll().is_ok(), "rolled again");
-        assert!(rt; tick(hall, 239_999) == Ok(None), "once");
-        assert!(rt; late(hall, 239_999) == 0, "nobody is late");
-        assert!(rt; late(hall, 240_000) == 1, "who is late");
+        assert!(rt; is_pinged(alloc, hall, session), "pinged");
+        assert!(rt; self.rolls(hall), "rolled again");
+        assert!(rt; is_late(hall), "late");
         assert!(rt; tick(hall, -1) == Err(TickRefusal::BadMoment), "a moment");
-        let (session, moment) = (SessionId::new(1), Moment::new(240_000));
-        let hung = hall.hang(session, Why::PingTimeout, moment);
-        assert!(rt; hung.is_ok(), "hung");
-        assert!(rt; late(hall, 900_000) == 0, "who is hung isn't late");
-        assert!(rt; tick(hall, 900_000) == Ok(None), "nor pinged");
-        assert!(rt; hall.sweep(moment).is_ok(), "swept");
+        assert!(rt; is_ended(hall, session), "ended");
         assert!(rt; al.leaves(hall) == Some(2), "a PING and the end");
         Ok(())
     }
