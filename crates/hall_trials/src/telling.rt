@@ -99,26 +99,44 @@ fn talk<L: Naming, O: Made<R, T>, R: Abort, T: Drop>(
     );
 }
 
+/// Two come and meet on a channel.
+fn meet<L: Naming, O: Made<R, T>, R, T: Drop>(
+    rt: &R,
+    alloc: Global,
+    hall: &mut Hall<L, O>,
+) -> Option<(Guest<L, O, T>, Guest<L, O, T>)> {
+    let mut al = enter(rt, alloc, hall, 16)?;
+    let mut bo = enter(rt, alloc, hall, 16)?;
+    let has_met = al.says_all(alloc, hall, &["NICK al", "USER a 0 * :Al", "JOIN #a"])
+        && bo.says_all(alloc, hall, &["NICK bo", "USER b 0 * :Bo", "JOIN #a"]);
+    if has_met { Some((al, bo)) } else { None }
+}
+
+/// Whether the second is told where it is hung, and the first where it sees that one leave.
+fn is_told_of_ends<L: Naming, O: Lasting>(
+    hall: &mut Hall<L, O>,
+    list: &mut List,
+    session: SessionId,
+) -> bool {
+    let is_hung = list.hang(hall, session) && list.was(&[2], 1);
+    is_hung && list.sweep(hall) && list.was(&[1], 1)
+}
+
 /// Al and bo meet on a channel and talk; then bo is ended.
 struct Listed;
 
 impl<O: Made<R, T>, R: Abort, T: Drop> Trial<O, R, T> for Listed {
     fn run<L: Naming>(&self, rt: &R, alloc: Global, hall: &mut Hall<L, O>) -> Result<(), Fail> {
-        let mut al: Guest<L, O, T> = enter(rt, alloc, hall, 16).ok_or("al")?;
-        let mut bo: Guest<L, O, T> = enter(rt, alloc, hall, 16).ok_or("bo")?;
-        assert!(rt; al.says_all(alloc, hall, &["NICK al", "USER a 0 * :Al", "JOIN #a"]));
-        assert!(rt; bo.says_all(alloc, hall, &["NICK bo", "USER b 0 * :Bo", "JOIN #a"]));
+        let (mut al, mut bo) = meet(rt, alloc, hall).ok_or("two who meet")?;
         let mut list = List {
             told: Told::new(alloc),
             alls: 0,
         };
         talk(rt, alloc, hall, &mut list, &mut al, &mut bo);
-        let session = bo.baton.session();
         assert!(rt;
-            list.hang(hall, session) && list.was(&[2], 1),
-            "who is hung"
+            is_told_of_ends(hall, &mut list, bo.baton.session()),
+            "ends"
         );
-        assert!(rt; list.sweep(hall) && list.was(&[1], 1), "who sees it leave");
         Ok(())
     }
 }
