@@ -279,6 +279,56 @@ fn leaves<L: Naming, R: Wait + Drop + Abort>(
     assert_eq!(rt; guest.leaves(hall), Some(left));
 }
 
+/// Each says its lines while what comes of them is taken.
+fn serve_both<L: Naming + Send + Sync, R: Threads + Wait + Drop + Send + Sync>(
+    rt: &R,
+    alloc: Global,
+    hall: &Mutex<Hall<L, Sender<R>>>,
+    (al, bo): (Guest<L, Sender<R>, Writer>, Guest<L, Sender<R>, Writer>),
+    (one, two): (&Speaker<'_>, &Speaker<'_>),
+    run: Run,
+) -> (Served<L, Sender<R>, Writer>, Served<L, Sender<R>, Writer>) {
+    let (als, bos) = (Pace::new(), Pace::new());
+    join(
+        rt,
+        || serve(rt, alloc, hall, al, one, run, (&als, &bos)),
+        || serve(rt, alloc, hall, bo, two, run, (&bos, &als)),
+    )
+}
+
+/// Each line has a record, each record of a line that is kept is as it was said, and a base has the counts of the others.
+fn look_back<L: Naming, R: Wait + Drop + Abort>(
+    rt: &R,
+    hall: &Hall<L, Sender<R>>,
+    (al, bo): (&Served<L, Sender<R>, Writer>, &Served<L, Sender<R>, Writer>),
+    (one, two): (&Speaker<'_>, &Speaker<'_>),
+    lines: &Lines,
+) {
+    let (als, bos) = (&al.said, &bo.said);
+    assert!(rt; are_each_once(als.numbers.as_slice(), bos.numbers.as_slice(), MET + 1));
+    let dropped = als.dropped.saturating_add(bos.dropped);
+    assert_eq!(rt; dropped.saturating_add(hall.len() as u64), MET + 2 * LINES);
+    if hall.base().is_none() {
+        compare(rt, hall, al, two.session, &lines.two);
+        compare(rt, hall, bo, one.session, &lines.one);
+    }
+    assert!(rt; are_counted(hall, one, dropped), "al's lines");
+    assert!(rt; are_counted(hall, two, dropped), "bo's lines");
+}
+
+/// Both quit, are swept and reaped.
+fn leave_both<L: Naming, R: Wait + Drop + Abort>(
+    rt: &R,
+    hall: &mut Hall<L, Sender<R>>,
+    mut al: Served<L, Sender<R>, Writer>,
+    mut bo: Served<L, Sender<R>, Writer>,
+    quit: &Piece,
+) {
+    assert!(rt; end_both(hall, &mut al, &mut bo, quit), "two ends");
+    leaves(rt, hall, al);
+    leaves(rt, hall, bo);
+}
+
 /// Each says its lines while what comes of them is taken; then both quit, are swept and reaped.
 fn speak<L: Naming + Send + Sync, R: Threads + Wait + Abort + Copy + Drop + Send + Sync>(
     rt: &R,
@@ -292,32 +342,13 @@ fn speak<L: Naming + Send + Sync, R: Threads + Wait + Abort + Copy + Drop + Send
     let (al, bo) = meet(rt, alloc, &mut hall, run.cap).expect(rt, "two who meet");
     let one = Speaker::new(&al, &bo, &lines.one, 2);
     let two = Speaker::new(&bo, &al, &lines.two, 3);
-    let (als, bos) = (Pace::new(), Pace::new());
     let lock = Mutex::new(hall);
-    let (mut al, mut bo) = join(
-        rt,
-        || serve(rt, alloc, &lock, al, &one, run, (&als, &bos)),
-        || serve(rt, alloc, &lock, bo, &two, run, (&bos, &als)),
-    );
+    let (al, bo) = serve_both(rt, alloc, &lock, (al, bo), (&one, &two), run);
     let mut hall = lock.into_inner();
     look_at(rt, &al, &bo, run);
     look_at(rt, &bo, &al, run);
-    let (als, bos) = (&al.said, &bo.said);
-    assert!(rt; are_each_once(als.numbers.as_slice(), bos.numbers.as_slice(), MET + 1));
-    let dropped = als.dropped.saturating_add(bos.dropped);
-    assert_eq!(rt; dropped.saturating_add(hall.len() as u64), MET + 2 * LINES);
-    if hall.base().is_none() {
-        compare(rt, &hall, &al, two.session, &lines.two);
-        compare(rt, &hall, &bo, one.session, &lines.one);
-    }
-    assert!(rt; are_counted(&hall, &one, dropped), "al's lines");
-    assert!(rt; are_counted(&hall, &two, dropped), "bo's lines");
-    assert!(rt;
-        end_both(&mut hall, &mut al, &mut bo, &lines.quit),
-        "two ends"
-    );
-    leaves(rt, &mut hall, al);
-    leaves(rt, &mut hall, bo);
+    look_back(rt, &hall, (&al, &bo), (&one, &two), lines);
+    leave_both(rt, &mut hall, al, bo, &lines.quit);
 }
 
 /// They speak in a hall for two, whose journal is full then or isn't.
