@@ -32,6 +32,7 @@ use registration::Settings;
 use roster::{Deed, Roster, Sessions};
 use std::alloc::{AllocError, Global};
 use std::collections::VecDeque;
+use std::hash::RandomState;
 use std::marker::Model;
 use std::slice;
 
@@ -78,7 +79,7 @@ impl<O: Outbox> Book<O> {
     ghost use Rattle.book.specs.Book.{empty_book, opened, begun, finished, reaped, IsPutNext, IsPutAll, IsDone, IsLeft, to_sweep, IsKnown, IsTurn, MayOpen, MayBegin, MayHang, MaySweep, MayReap, IsOpenRefusal, IsLineRefusal, IsHangRefusal, IsSweepRefusal, IsReapRefusal, IsSound, IsOut, newest_missed, held, is_here, rolled, base_of, IsRollRefusal};
     ghost use Rattle.book.specs.Noted.{base_by, is_noted};
 
-    /// An empty book for at most `limit` records.
+    /// An empty book for at most `limit` records. Names are hashed by keys that everybody knows.
     pub fn new(alloc: Global, settings: Settings, limit: usize) -> Result<Book<O>, BookFault>
         ensures ok { IfOk result (λ b. (b ≡ empty_book limit settings) × IsWellSet settings limit) }
         ensures bad { IfErr result (λ e. e ≡ BookFault.BadSettings → IsWellSet settings limit → ⊥) }
@@ -87,6 +88,33 @@ impl<O: Outbox> Book<O> {
         if !is_well_set(&settings, limit) {
             return Err(BookFault::BadSettings);
         }
+        Book::empty(alloc, Roster::new(alloc, settings), limit)
+    }
+
+    /// An empty book for at most `limit` records. Names are hashed by the keys of a state.
+    pub fn with_hasher(
+        alloc: Global,
+        settings: Settings,
+        limit: usize,
+        state: RandomState,
+    ) -> Result<Book<O>, BookFault>
+        ensures ok { IfOk result (λ b. (b ≡ empty_book limit settings) × IsWellSet settings limit) }
+        ensures bad { IfErr result (λ e. e ≡ BookFault.BadSettings → IsWellSet settings limit → ⊥) }
+        ensures memory { IfErr result (λ e. e ≡ BookFault.Memory → IsWellSet settings limit) }
+    {
+        if !is_well_set(&settings, limit) {
+            return Err(BookFault::BadSettings);
+        }
+        Book::empty(alloc, Roster::with_hasher(alloc, settings, state), limit)
+    }
+
+    /// An empty book, with a roster of no facts.
+    fn empty(alloc: Global, roster: Roster, limit: usize) -> Result<Book<O>, BookFault>
+        requires set { IsWellSet roster.settings limit }
+        requires none { roster.facts ≡ [] }
+        ensures ok { IfOk result (λ b. b ≡ empty_book limit roster.settings) }
+        ensures memory { IfErr result (λ e. e ≡ BookFault.Memory) }
+    {
         let Ok(journal) = Journal::with_limit(alloc, limit) else {
             return Err(BookFault::Memory);
         };
@@ -96,7 +124,7 @@ impl<O: Outbox> Book<O> {
         Ok(Book {
             alloc,
             journal,
-            roster: Roster::new(alloc, settings),
+            roster,
             seats: Seats::new(alloc),
             outboxes: Outboxes::new(alloc),
             plan: VecDeque::new(alloc),

@@ -31,6 +31,7 @@ use outbox::{Outbox, Ring};
 use register::{Mark, Naming, Register, Stub};
 use registration::Settings;
 use std::alloc::Global;
+use std::hash::RandomState;
 use std::marker::{Model, PhantomData};
 
 /// A book, and the register of its sessions' tokens, which `L` names. A clause sees the book.
@@ -94,6 +95,28 @@ impl<L: Naming, O: Lasting> Book<L, O> {
         ensures memory { IfErr result (λ e. e ≡ BookFault.Memory → IsWellSet settings limit) }
     {
         let book = book::Book::new(alloc, settings, limit)?;
+        Ok(Book {
+            book,
+            register,
+            of: PhantomData,
+        })
+    }
+
+    /// An empty book for at most `limit` records, as `new` makes one. Names are hashed by the keys of a state.
+    pub fn with_hasher(
+        alloc: Global,
+        register: Register<O::Name>,
+        settings: Settings,
+        limit: usize,
+        state: RandomState,
+    ) -> Result<Book<L, O>, BookFault>
+        requires named { register.table ≡ L.table }
+        requires empty { register.rows ≡ [] }
+        ensures ok { IfOk result (λ b. (b ≡ empty_book limit settings) × IsWellSet settings limit) }
+        ensures bad { IfErr result (λ e. e ≡ BookFault.BadSettings → IsWellSet settings limit → ⊥) }
+        ensures memory { IfErr result (λ e. e ≡ BookFault.Memory → IsWellSet settings limit) }
+    {
+        let book = book::Book::with_hasher(alloc, settings, limit, state)?;
         Ok(Book {
             book,
             register,

@@ -25,6 +25,7 @@ use outbox::Outbox;
 use register::{Naming, Register, Stub};
 use registration::Settings;
 use std::alloc::Global;
+use std::hash::RandomState;
 use std::marker::Model;
 use std::mem;
 
@@ -66,6 +67,27 @@ impl<L: Naming, O: Lasting> Hall<L, O> {
         ensures memory { IfErr result (λ e. e ≡ BookFault.Memory → IsWellSet settings limit) }
     {
         let book = Book::new(alloc, register, settings, limit)?;
+        Ok(Hall {
+            book,
+            told: Told::new(alloc),
+        })
+    }
+
+    /// An empty hall for at most `limit` records, as `new` makes one. Names are hashed by the keys of a state.
+    pub fn with_hasher(
+        alloc: Global,
+        register: Register<O::Name>,
+        settings: Settings,
+        limit: usize,
+        state: RandomState,
+    ) -> Result<Hall<L, O>, BookFault>
+        requires named { register.table ≡ L.table }
+        requires empty { register.rows ≡ [] }
+        ensures ok { IfOk result (λ b. (b ≡ empty_book limit settings) × IsWellSet settings limit) }
+        ensures bad { IfErr result (λ e. e ≡ BookFault.BadSettings → IsWellSet settings limit → ⊥) }
+        ensures memory { IfErr result (λ e. e ≡ BookFault.Memory → IsWellSet settings limit) }
+    {
+        let book = Book::with_hasher(alloc, register, settings, limit, state)?;
         Ok(Hall {
             book,
             told: Told::new(alloc),

@@ -11,6 +11,7 @@ use std::fmt::Display;
 use std::fs::Files;
 use std::io::Read;
 use std::net::{Net, SocketAddr, TcpListener, TcpStream};
+use std::random::RandomSource;
 use std::sync::Wait;
 use std::thread::Threads;
 use std::time::Clock as Ticks;
@@ -41,6 +42,8 @@ pub(crate) enum Ended<'a> {
     Memory,
     /// The journal is full.
     JournalFull,
+    /// The system gave no random keys.
+    NoKeys,
 }
 
 impl<'a> Display for Ended<'a> {
@@ -53,6 +56,7 @@ impl<'a> Display for Ended<'a> {
             Ended::Settings => f.write_str("settings"),
             Ended::Memory => f.write_str("out of memory"),
             Ended::JournalFull => f.write_str("journal full"),
+            Ended::NoKeys => f.write_str("no random keys"),
         }
     }
 }
@@ -160,6 +164,7 @@ where
         + Ticks
         + Files
         + Net<Listener = TcpListener, Stream = TcpStream>
+        + RandomSource
         + Eprint
         + Alloc<A = Global>,
     R: Copy + Drop + Send + Sync + 'static,
@@ -195,6 +200,7 @@ where
         ServeFault::BadSettings => Ended::Settings,
         ServeFault::JournalFull => Ended::JournalFull,
         ServeFault::Memory => Ended::Memory,
+        ServeFault::NoKeys => Ended::NoKeys,
     })
 }
 
@@ -206,6 +212,7 @@ where
         + Ticks
         + Files
         + Net<Listener = TcpListener, Stream = TcpStream>
+        + RandomSource
         + Eprint
         + Alloc<A = Global>,
     R: Copy + Drop + Send + Sync + 'static,

@@ -22,6 +22,7 @@ use chronicle::{Moment, SessionId, Why};
 use hall::{Book, BookFault, Done, Naming, Plan, Register, Ring, Settings, TakeRefusal};
 use line_grammar::Octets;
 use std::alloc::{AllocError, Global};
+use std::hash::RandomState;
 use std::marker::Model;
 
 /// Workers that a server may have, at most.
@@ -129,6 +130,43 @@ impl<L: Naming> Play<L> {
             return Err(PlayRefusal::BadSettings);
         }
         let book = match Book::new(alloc, register, settings, limit) {
+            Ok(book) => book,
+            Err(BookFault::BadSettings) => return Err(PlayRefusal::BadSettings),
+            Err(BookFault::Memory) => return Err(PlayRefusal::Memory),
+        };
+        let Ok(jobs) = idle(alloc, workers) else {
+            return Err(PlayRefusal::Memory);
+        };
+        Ok(Play {
+            alloc,
+            book,
+            sendq,
+            inboxes: Vec::new(alloc),
+            jobs,
+            holder: None,
+        })
+    }
+
+    /// A play with no sessions, as `new` makes one. Names are hashed by the keys of a state.
+    pub fn with_hasher(
+        alloc: Global,
+        register: Register<()>,
+        settings: Settings,
+        limit: usize,
+        workers: usize,
+        sendq: usize,
+        state: RandomState,
+    ) -> Result<Play<L>, PlayRefusal>
+        requires named { register.table ≡ L.table }
+        requires empty { register.rows ≡ [] }
+        ensures ok { IfOk result (λ p. (p ≡ empty_state limit settings sendq workers) × IsWellSet settings limit workers sendq) }
+        ensures bad { IfErr result (λ e. e ≡ PlayRefusal.BadSettings → IsWellSet settings limit workers sendq → ⊥) }
+        ensures memory { IfErr result (λ e. e ≡ PlayRefusal.Memory → IsWellSet settings limit workers sendq) }
+    {
+        if !are_well_set(workers, sendq) {
+            return Err(PlayRefusal::BadSettings);
+        }
+        let book = match Book::with_hasher(alloc, register, settings, limit, state) {
             Ok(book) => book,
             Err(BookFault::BadSettings) => return Err(PlayRefusal::BadSettings),
             Err(BookFault::Memory) => return Err(PlayRefusal::Memory),

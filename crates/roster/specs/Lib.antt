@@ -1,6 +1,5 @@
 pub mod LookBack
 pub mod Known
-pub mod Hashing
 pub mod Row
 pub mod Table
 pub mod Lists

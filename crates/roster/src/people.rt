@@ -7,10 +7,10 @@ ghost use Rattle.roster.specs.Lists.{row_of, Relists, Widens, Refits};
 
 use crate::channels::Channels;
 use crate::deed::Deed;
-use crate::hashing::Quick;
 use crate::lists::Names;
 use crate::marks::Marks;
 use crate::tables::{Card, Person};
+use channel_state::Quick;
 use chronicle::SessionId;
 use indexmap::IndexMap;
 use line_grammar::Octets;

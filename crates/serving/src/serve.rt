@@ -15,9 +15,11 @@ use hall::{BookFault, Hall, Naming, Register, Settings};
 use mio::net::TcpListener;
 use outbox::{ChannelName, Sender};
 use std::alloc::{AllocError, Global};
+use std::hash::RandomState;
 use std::io::{ErrorKind, Read};
 use std::marker::Brand;
 use std::net::Net;
+use std::random::RandomSource;
 use std::sync::{Arc, Mutex, Wait};
 use std::thread::{Builder, Threads};
 use std::time::Clock;
@@ -47,6 +49,8 @@ pub enum ServeFault {
     JournalFull,
     /// A growth was refused, or the listener can't be shared.
     Memory,
+    /// The system gave no random keys, by which names are hashed.
+    NoKeys,
 }
 
 impl From<AllocError> for ServeFault {
@@ -392,7 +396,7 @@ fn serve_in<
 /// Serves by a register of its own.
 fn serve_named<
     L: Naming + Send + Sync,
-    R: Threads + Wait + Clock + Net + Eprint + Copy + Drop + Send + Sync + 'static,
+    R: Threads + Wait + Clock + Net + RandomSource + Eprint + Copy + Drop + Send + Sync + 'static,
     G: Gate + Sync,
     C: crew::Clock + Sync,
     I: Read + Send + Drop + 'static,
@@ -415,7 +419,11 @@ fn serve_named<
         journal_bytes: options.journal_bytes,
         is_quiet: options.is_quiet,
     };
-    let hall: Hall<L, Sender<R>> = Hall::new(alloc, register, options.settings, options.limit)?;
+    let Ok(state) = RandomState::new(rt) else {
+        return Err(ServeFault::NoKeys);
+    };
+    let (settings, limit) = (options.settings, options.limit);
+    let hall: Hall<L, Sender<R>> = Hall::with_hasher(alloc, register, settings, limit, state)?;
     let hall = Mutex::new(hall);
     let served = serve_in(rt, alloc, &hall, options.tcp, options.ws, &terms, stop);
     drop(hall);
@@ -432,17 +440,18 @@ fn is_within(number: u64, limits: (u64, u64)) -> bool
 
 /// Serves whoever connects, until `stop` ends or fails.
 ///
-/// Each line is done by one of the workers, between two calls of the gate. Who connects is a session, by WebSocket after its
-/// handshake, whose host is its address. A connection that isn't taken is closed without a line, and told of on standard error: how
-/// many there were, at most once a second, unless the server is to be quiet; so are the times that the journal was rolled. At the end every session is told that the server shuts
-/// down, and all threads are joined but the one that reads `stop`.
+/// Names are hashed by keys that nobody outside knows. Each line is done by one of the workers, between two calls of the gate. Who
+/// connects is a session, by WebSocket after its handshake, whose host is its address. A connection that isn't taken is closed
+/// without a line, and told of on standard error: how many there were, at most once a second, unless the server is to be quiet; so
+/// are the times that the journal was rolled. At the end every session is told that the server shuts down, and all threads are
+/// joined but the one that reads `stop`.
 ///
 /// # Errors
 ///
 /// Where settings or numbers are beyond their limits, where a journal that was rolled is full still, and where a growth was refused
-/// at the start.
+/// or there were no random keys at the start.
 pub fn serve_with<
-    R: Threads + Wait + Clock + Net + Eprint + Copy + Drop + Send + Sync + 'static,
+    R: Threads + Wait + Clock + Net + RandomSource + Eprint + Copy + Drop + Send + Sync + 'static,
     G: Gate + Sync,
     C: crew::Clock + Sync,
     I: Read + Send + Drop + 'static,
@@ -474,7 +483,7 @@ pub fn serve_with<
 ///
 /// Those of `serve_with`.
 pub fn serve_on<
-    R: Threads + Wait + Clock + Net + Eprint + Copy + Drop + Send + Sync + 'static,
+    R: Threads + Wait + Clock + Net + RandomSource + Eprint + Copy + Drop + Send + Sync + 'static,
     G: Gate + Sync,
     I: Read + Send + Drop + 'static,
 >(

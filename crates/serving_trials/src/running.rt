@@ -9,6 +9,7 @@ use registration::{Accounts, Settings};
 use serving::{Options, serve_on, serve_with};
 use std::alloc::{AllocError, Global};
 use std::net::{IpAddr, Ipv4Addr, Net, TcpListener, TcpStream};
+use std::random::RandomSource;
 use std::sync::atomic::{AtomicBool, Ordering};
 use std::sync::{Arc, Wait};
 use std::thread::Threads;
@@ -41,7 +42,7 @@ fn serves<R>(
 ) -> bool
 where
     R: Threads + Wait + Clock + Net<Listener = TcpListener, Stream = TcpStream> + Eprint,
-    R: Copy + Drop + Send + Sync + 'static,
+    R: RandomSource + Copy + Drop + Send + Sync + 'static,
 {
     let (tcp, ws) = match story {
         Story::ByWebSocket => (None, Some(listener)),
@@ -75,7 +76,7 @@ pub(crate) fn is_served<R>(
 ) -> io::Result<bool>
 where
     R: Threads + Wait + Clock + Net<Listener = TcpListener, Stream = TcpStream> + Eprint,
-    R: Copy + Drop + Send + Sync + 'static,
+    R: RandomSource + Copy + Drop + Send + Sync + 'static,
 {
     let listener = TcpListener::bind(rt, (IpAddr::V4(Ipv4Addr::new(127, 0, 0, 1)), 0))?;
     let address = listener.local_addr()?;

@@ -1,6 +1,6 @@
 -- FNV-1a, in 64 bits.
 use Rattle.std.specs.Prelude.{ℕ, ◌*◌, ◌%◌, ◌^◌, List, fold, bit_xor}
-use Rattle.roster.specs.declared.hashing.Fnv.{Fnv}
+use Rattle.channel_state.specs.declared.hashing.Fnv.{Fnv}
 
 -- a round for an octet
 abbrev pub fnv_step : ℕ → ℕ → ℕ

@@ -1,25 +1,25 @@
 use Rattle.std.proofs.lemmas.Grind.{common_steps}
-use Rattle.std.proofs.Common.{arith, ◌≡◌, ℕ, false, [], ap, ◌∙◌}
+use Rattle.std.proofs.Common.{arith, ◌≡◌, ℕ, false, [], refl, ap, ◌∙◌}
 use Rattle.chronicle.specs.Journal.{Limit}
 use Rattle.registration.specs.declared.settings.Settings.{Settings}
 use Rattle.book.specs.Book.{empty_book}
 use Rattle.book.proofs.KeptSteps.{shown, empty_kept}
 use Rattle.book.proofs.Rolling.{shown_empty}
 use Rattle.book.proofs.Hearing.{since_none}
-use Rattle.book.proofs.book.Book.new.Goals as goal
+use Rattle.book.proofs.book.Book.empty.Goals as goal
 
 pub invariant_of-result : goal.invariant_of-result
 invariant_of-result over c =
     let history : c.in-Ok.journal.history ≡ [] = c.in-Ok.ensures.0 in
     record {
-      kept = empty_kept over.O.Outbox.sent c.in-Ok.journal c.new-2.result.settings c.new-2.result.facts c.new-3.result c.new-4.result.boxes c.new-5.result.items
-          history (ap (λ r. r.facts) c.new-2.ensures) c.new-3.ensures c.new-4.ensures c.new-5.ensures.items;
+      kept = empty_kept over.O.Outbox.sent c.in-Ok.journal c.args.roster.settings c.args.roster.facts c.new-2.result c.new-3.result.boxes c.new-4.result.items
+          history c.requires.none c.new-2.ensures c.new-3.ensures c.new-4.ensures.items;
       based = ap (λ (l : Limit). l.dropped) c.in-Ok.ensures.1;
-      since = since_none c.in-Ok-new.last_heard c.in-Ok.journal.history c.new-4.result.boxes c.in-Ok-new.ensures c.new-4.ensures;
+      since = since_none c.in-Ok-new.last_heard c.in-Ok.journal.history c.new-3.result.boxes c.in-Ok-new.ensures c.new-3.ensures;
     }
 
 pub returns-clause-ok : goal.returns-clause-ok
 returns-clause-ok over c =
     let history : c.in-Ok.journal.history ≡ [] = c.in-Ok.ensures.0 in
     let limit : c.in-Ok.journal.limit ≡ record { records = c.args.limit; dropped = 0 } = c.in-Ok.ensures.1 in
-    (shown_empty c.in-Ok.journal c.new-2.result.settings c.args.settings c.new-4.result.boxes c.new-5.result.items c.args.limit history limit (ap (λ r. r.settings) c.new-2.ensures) c.new-4.ensures c.new-5.ensures.items, grind (arith, common_steps))
+    shown_empty c.in-Ok.journal c.args.roster.settings c.args.roster.settings c.new-3.result.boxes c.new-4.result.items c.args.limit history limit refl c.new-3.ensures c.new-4.ensures.items
