@@ -1,9 +1,9 @@
 //! What each hearer of a record hears.
-ghost use Rattle.std.specs.Prelude.{◌≡◌, ◌≤ℤ◌, ℕ, ◌++◌, pos, map, IfOk, OnOk};
+ghost use Rattle.std.specs.Prelude.{◌≡◌, ℕ, ◌++◌, map, IfOk, OnOk};
 ghost use Rattle.book.specs.Seats.{heard_text};
 ghost use Rattle.book.specs.Heard.{heard_by, all_heard, text_for, rises};
 
-use chronicle::{Moment, SessionId};
+use chronicle::{RecordMoment, SessionId};
 use deeds::Shown;
 use labels_batches::{Spellings, Text};
 use roster::Roster;
@@ -48,10 +48,8 @@ fn hear_line(
     roster: &Roster,
     heard: &mut Vec<Heard>,
     shown: Shown,
-    moment: Moment,
+    moment: RecordMoment,
 ) -> Result<(), AllocError>
-    requires from_1970 { pos 0 ≤ℤ moment }
-    requires to_9998 { moment ≤ℤ pos 253370764799999 }
     ensures { OnOk result (heard.new.items ≡ heard.old.items ++ map (heard_by roster.now.facts moment shown.line) shown.hearers) }
 {
     let Shown { hearers, line } = shown;
@@ -64,10 +62,8 @@ fn hear_all(
     alloc: Global,
     roster: &Roster,
     shown: Vec<Shown>,
-    moment: Moment,
+    moment: RecordMoment,
 ) -> Result<Vec<Heard>, AllocError>
-    requires from_1970 { pos 0 ≤ℤ moment }
-    requires to_9998 { moment ≤ℤ pos 253370764799999 }
     ensures { IfOk result (λ v. v.items ≡ all_heard roster.now.facts moment shown.items) }
 {
     let mut heard = Vec::new(alloc);
@@ -95,10 +91,8 @@ pub(crate) fn heard_in_order(
     alloc: Global,
     roster: &Roster,
     shown: Vec<Shown>,
-    moment: Moment,
+    moment: RecordMoment,
 ) -> Result<Vec<Heard>, AllocError>
-    requires from_1970 { pos 0 ≤ℤ moment }
-    requires to_9998 { moment ≤ℤ pos 253370764799999 }
     ensures texts { IfOk result (λ v. (t : ℕ) → text_for v.items t ≡ heard_text roster.now.facts moment shown.items t) }
     ensures order { IfOk result (λ v. rises 0 v.items) }
 {

@@ -1,5 +1,5 @@
 //! The deliveries of a record, before they are put.
-ghost use Rattle.std.specs.Prelude.{◌≡◌, ◌≤◌, ◌≤ℤ◌, ◌++◌, [], false, not, length, pos, vec_capacity, None, OnOk, IfOk};
+ghost use Rattle.std.specs.Prelude.{◌≡◌, ◌≤◌, ◌++◌, [], false, not, length, vec_capacity, None, OnOk, IfOk};
 ghost use Rattle.chronicle.specs.History.{is_quit};
 ghost use Rattle.roster.specs.LookBack.{after, caps, opened};
 ghost use Rattle.roster.specs.Legal.{IsOpened, AreNext};
@@ -18,7 +18,7 @@ ghost use Rattle.book.specs.Heard.{delivery_of, deliveries_of, joined};
 
 use crate::heard::{Heard, heard_in_order};
 use crate::seats::Seats;
-use chronicle::{Moment, RecordNumber, SessionId, Why};
+use chronicle::{RecordMoment, RecordNumber, SessionId, Why};
 use commands::read_piece;
 use deeds::{Shown, Verdict, decide, decide_gone, ping};
 use deliveries::Delivery;
@@ -53,7 +53,7 @@ pub(crate) struct Planning<'a> {
     pub(crate) seats: &'a Seats,
     pub(crate) actor: SessionId,
     pub(crate) number: RecordNumber,
-    pub(crate) moment: Moment,
+    pub(crate) moment: RecordMoment,
 }
 
 /// What the actor of a record is told: the answer, under the label of its line, and what it sent to itself.
@@ -63,8 +63,6 @@ fn own_text(
     reply: Vec<Line>,
     copies: &[Line],
 ) -> Result<Octets, AllocError>
-    requires from_1970 { pos 0 ≤ℤ by.now.moment }
-    requires to_9998 { by.now.moment ≤ℤ pos 253370764799999 }
     ensures { IfOk result (λ t. t ≡ rendered (caps by.now.roster.now.facts by.now.actor) by.now.moment (answered by.now.roster.now.settings.server label by.now.number reply.items copies.now)) }
 {
     let server = by.roster.settings().server.as_slice();
@@ -170,8 +168,6 @@ fn plan_for(
     shown: Vec<Shown>,
     quits: bool,
 ) -> Result<VecDeque<Planned>, AllocError>
-    requires from_1970 { pos 0 ≤ℤ by.now.moment }
-    requires to_9998 { by.now.moment ≤ℤ pos 253370764799999 }
     ensures { IfOk result (λ plan. plan.items ≡ planned_with by.now.seats.now by.now.actor by.now.number own (heard_text by.now.roster.now.facts by.now.moment shown.items) quits) }
 {
     let heard = heard_in_order(by.alloc, by.roster, shown, by.moment)?;
@@ -187,8 +183,6 @@ fn with_room(
     verdict: Verdict,
     quits: bool,
 ) -> Result<Prepared, AllocError>
-    requires from_1970 { pos 0 ≤ℤ by.now.moment }
-    requires to_9998 { by.now.moment ≤ℤ pos 253370764799999 }
     ensures deeds { IfOk result (λ p. p.deeds.items ≡ verdict.deeds.items) }
     ensures plan { IfOk result (λ p. p.plan.items ≡ planned_with by.now.seats.now by.now.actor by.now.number (rendered (caps by.now.roster.now.facts by.now.actor) by.now.moment (answered by.now.roster.now.settings.server label by.now.number verdict.reply.items verdict.copies.items)) (heard_text by.now.roster.now.facts by.now.moment verdict.others.items) quits) }
     ensures missed { IfOk result (λ p. (p.missed.items ≡ []) × (length p.plan.items ≤ vec_capacity p.missed)) }
@@ -212,23 +206,19 @@ fn with_room(
 /// Decides what a piece of a session does, and whether it quits by it.
 fn decide_piece(by: &Planning<'_>, piece: &Piece) -> Result<(Verdict, bool), AllocError>
     requires known { IsOpened by.now.roster.now.facts by.now.actor }
-    requires from_1970 { pos 0 ≤ℤ by.now.moment }
-    requires to_9998 { by.now.moment ≤ℤ pos 253370764799999 }
     ensures verdict { IfOk result (λ v. IsVerdict v.0 by.now.actor (of_asked by.now.roster.now.settings by.now.roster.now.facts by.now.actor (asked_of piece.now))) }
     ensures next { IfOk result (λ v. AreNext by.now.roster.now.facts v.0.deeds.items) }
     ensures opened { IfOk result (λ v. opened (after by.now.roster.now.facts v.0.deeds.items) ≡ opened by.now.roster.now.facts) }
     ensures quits { IfOk result (λ v. v.1 ≡ is_quit piece.now) }
 {
     let asked = read_piece(by.alloc, piece)?;
-    let verdict = decide(by.alloc, by.roster, by.actor, &asked, by.moment)?;
+    let verdict = decide(by.alloc, by.roster, by.actor, &asked, by.moment.moment())?;
     Ok((verdict, asked.is_quit()))
 }
 
 /// Decides what a line of a session does, and plans its deliveries.
 pub(crate) fn prepare_line(by: &Planning<'_>, piece: &Piece) -> Result<(Prepared, bool), AllocError>
     requires known { IsOpened by.now.roster.now.facts by.now.actor }
-    requires from_1970 { pos 0 ≤ℤ by.now.moment }
-    requires to_9998 { by.now.moment ≤ℤ pos 253370764799999 }
     ensures deeds { IfOk result (λ p. p.0.deeds.items ≡ deeds_of (of_asked by.now.roster.now.settings by.now.roster.now.facts by.now.actor (asked_of piece.now))) }
     ensures next { IfOk result (λ p. AreNext by.now.roster.now.facts p.0.deeds.items) }
     ensures opened { IfOk result (λ p. opened (after by.now.roster.now.facts p.0.deeds.items) ≡ opened by.now.roster.now.facts) }
@@ -245,8 +235,6 @@ pub(crate) fn prepare_line(by: &Planning<'_>, piece: &Piece) -> Result<(Prepared
 /// Decides what it does that a session is gone, and plans who is told.
 pub(crate) fn prepare_gone(by: &Planning<'_>) -> Result<Prepared, AllocError>
     requires known { IsOpened by.now.roster.now.facts by.now.actor }
-    requires from_1970 { pos 0 ≤ℤ by.now.moment }
-    requires to_9998 { by.now.moment ≤ℤ pos 253370764799999 }
     ensures deeds { IfOk result (λ p. p.deeds.items ≡ deeds_of (departs by.now.roster.now.facts by.now.actor)) }
     ensures next { IfOk result (λ p. AreNext by.now.roster.now.facts p.deeds.items) }
     ensures opened { IfOk result (λ p. opened (after by.now.roster.now.facts p.deeds.items) ≡ opened by.now.roster.now.facts) }
@@ -262,8 +250,6 @@ pub(crate) fn prepare_tick(
     by: &Planning<'_>,
     sessions: &[SessionId],
 ) -> Result<(VecDeque<Planned>, Vec<SessionId>), AllocError>
-    requires from_1970 { pos 0 ≤ℤ by.now.moment }
-    requires to_9998 { by.now.moment ≤ℤ pos 253370764799999 }
     ensures plan { IfOk result (λ p. p.0.items ≡ planned_with by.now.seats.now by.now.actor by.now.number [] (pinged_text by.now.roster.now.settings by.now.roster.now.facts by.now.moment sessions.now) false) }
     ensures missed { IfOk result (λ p. (p.1.items ≡ []) × (length p.0.items ≤ vec_capacity p.1)) }
 {

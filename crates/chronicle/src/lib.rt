@@ -8,6 +8,6 @@ mod record;
 mod why;
 
 pub use journal::{Journal, JournalRefusal};
-pub use names::{Moment, RecordNumber, SessionId};
+pub use names::{Moment, RecordMoment, RecordNumber, SessionId};
 pub use record::{Kind, Record};
 pub use why::Why;

@@ -113,3 +113,44 @@ impl Moment {
             && last.milliseconds <= self.milliseconds
     }
 }
+
+/// A moment that a record may have: from 1970 to the end of the year 9998.
+#[derive(Clone, Copy, Debug, PartialEq, Eq)]
+pub struct RecordMoment {
+    moment: Moment,
+}
+
+impl Model for RecordMoment {
+    ghost use Rattle.std.specs.Prelude.{◌≤ℤ◌, ℤ, pos};
+
+    ghost Value = { ℤ };
+
+    ghost view = { λ a. a.moment };
+
+    ghost inverse = { λ n. record { moment = n } };
+
+    ghost invariant = { λ a. (pos 0 ≤ℤ a.moment) × (a.moment ≤ℤ pos 253370764799999) };
+}
+
+impl RecordMoment {
+    ghost use Rattle.std.specs.Prelude.{pos, None, IfSome, ◌≤ℤ◌};
+
+    /// A moment, if a record may have it.
+    pub fn of(moment: Moment) -> Option<RecordMoment>
+        ensures some { IfSome result (λ m. m ≡ moment) }
+        ensures none { result ≡ None → (pos 0 ≤ℤ moment) × (moment ≤ℤ pos 253370764799999) → ⊥ }
+    {
+        if 0 <= moment.milliseconds && moment.milliseconds <= Moment::LATEST {
+            Some(RecordMoment { moment })
+        } else {
+            None
+        }
+    }
+
+    /// The moment.
+    pub fn moment(self) -> Moment
+        ensures { result ≡ self }
+    {
+        self.moment
+    }
+}

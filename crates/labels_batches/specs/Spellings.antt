@@ -1,5 +1,5 @@
 -- A line that is no part of an answer, for receivers of any capabilities: of these only server-time and message-tags tell how it is spelled (IRCv3 server-time, IRCv3 message-tags).
-use Rattle.std.specs.Prelude.{◌≡◌, ◌≤ℤ◌, pos, ℕ, ℤ, Bool, true, false, List, [], ◌++◌, codes, cond, Option, None, IfSome}
+use Rattle.std.specs.Prelude.{◌≡◌, ℕ, ℤ, Bool, true, false, List, [], ◌++◌, codes, cond, Option, None, IfSome}
 use Rattle.numerics.specs.declared.outgoing.Out.{Out}
 use Rattle.numerics.specs.CivilTime.{time_text}
 use Rattle.numerics.specs.Outgoing.{octets}
@@ -21,10 +21,8 @@ spelled_with time tags m l =
     let timed = cond time (with_tag [] (codes "time=" ++ time_text m)) [] in
     ended (cond tags (with_tag timed l.tags) timed) ++ octets l
 
--- the spellings that are kept are those of the line, whose moment has a text
+-- the spellings that are kept are those of the line
 pub record AreOf (l : Out) (m : ℤ) (tags plain : List ℕ) (timed tagged both : Option (List ℕ)) : Type 0 where
-  pub from_1970 : pos 0 ≤ℤ m
-  pub to_9998 : m ≤ℤ pos 253370764799999
   pub are_tags : tags ≡ l.tags
   pub is_plain : plain ≡ octets l
   pub is_timed : IfSome timed (λ t. t ≡ spelled_with true false m l)

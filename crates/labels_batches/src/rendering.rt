@@ -1,11 +1,11 @@
 //! Lines with their tags, as a receiver takes them (IRCv3 message-tags; IRCv3 server-time).
-ghost use Rattle.std.specs.Prelude.{◌≡◌, ◌++◌, ◌≤ℤ◌, codes, decimal, pos, IfOk, OnOk};
+ghost use Rattle.std.specs.Prelude.{◌≡◌, ◌++◌, codes, decimal, IfOk, OnOk};
 ghost use Rattle.message_tags.specs.Value.{escaped};
 ghost use Rattle.numerics.specs.CivilTime.{time_text};
 ghost use Rattle.labels_batches.specs.Rendered.{answered_tag, ended, relayed_tags, rendered, spelled_line, tag_block, timed, with_tag};
 
 use crate::{AnswerTag, Tagged};
-use chronicle::{Moment, RecordNumber};
+use chronicle::{RecordMoment, RecordNumber};
 use line_grammar::Octets;
 use message_tags::push_escaped;
 use numerics::{TimeFault, time_text};
@@ -55,12 +55,10 @@ fn answered_tag(alloc: Global, tag: &Option<AnswerTag>, more: usize) -> Result<O
 }
 
 /// The text of a record's moment.
-fn moment_text(alloc: Global, moment: Moment) -> Result<Octets, AllocError>
-    requires from_1970 { pos 0 ≤ℤ moment }
-    requires to_9998 { moment ≤ℤ pos 253370764799999 }
+fn moment_text(alloc: Global, moment: RecordMoment) -> Result<Octets, AllocError>
     ensures { IfOk result (λ t. t ≡ time_text moment) }
 {
-    match time_text(alloc, moment.milliseconds()) {
+    match time_text(alloc, moment.moment().milliseconds()) {
         Ok(text) => Ok(text),
         Err(TimeFault::OutOfRange) => unreachable!(),
         Err(TimeFault::Memory) => Err(AllocError),
@@ -71,10 +69,8 @@ fn moment_text(alloc: Global, moment: Moment) -> Result<Octets, AllocError>
 pub(crate) fn push_moment(
     alloc: Global,
     block: &mut Octets,
-    moment: Moment,
+    moment: RecordMoment,
 ) -> Result<(), AllocError>
-    requires from_1970 { pos 0 ≤ℤ moment }
-    requires to_9998 { moment ≤ℤ pos 253370764799999 }
     ensures { OnOk result (block.new ≡ with_tag block.old (codes "time=" ++ time_text moment)) }
 {
     let text = moment_text(alloc, moment)?;
@@ -92,10 +88,8 @@ fn push_time(
     alloc: Global,
     block: &mut Octets,
     caps: Caps,
-    moment: Moment,
+    moment: RecordMoment,
 ) -> Result<(), AllocError>
-    requires from_1970 { pos 0 ≤ℤ moment }
-    requires to_9998 { moment ≤ℤ pos 253370764799999 }
     ensures { OnOk result (block.new ≡ timed caps moment block.old) }
 {
     if !caps.contains(Cap::ServerTime) {
@@ -119,11 +113,9 @@ pub(crate) fn head_of(
     alloc: Global,
     tag: &Option<AnswerTag>,
     caps: Caps,
-    moment: Moment,
+    moment: RecordMoment,
     more: usize,
 ) -> Result<Octets, AllocError>
-    requires from_1970 { pos 0 ≤ℤ moment }
-    requires to_9998 { moment ≤ℤ pos 253370764799999 }
     ensures { IfOk result (λ b. b ≡ timed caps moment (answered_tag tag.now)) }
 {
     let mut block = answered_tag(alloc, tag, more)?;
@@ -132,9 +124,12 @@ pub(crate) fn head_of(
 }
 
 /// The tags of a line.
-fn tag_block(alloc: Global, line: &Tagged, caps: Caps, moment: Moment) -> Result<Octets, AllocError>
-    requires from_1970 { pos 0 ≤ℤ moment }
-    requires to_9998 { moment ≤ℤ pos 253370764799999 }
+fn tag_block(
+    alloc: Global,
+    line: &Tagged,
+    caps: Caps,
+    moment: RecordMoment,
+) -> Result<Octets, AllocError>
     ensures { IfOk result (λ b. b ≡ tag_block caps moment line.now) }
 {
     let mut block = head_of(alloc, &line.tag, caps, moment, 0)?;
@@ -159,10 +154,8 @@ fn push_line(
     text: &mut Octets,
     line: &Tagged,
     caps: Caps,
-    moment: Moment,
+    moment: RecordMoment,
 ) -> Result<(), AllocError>
-    requires from_1970 { pos 0 ≤ℤ moment }
-    requires to_9998 { moment ≤ℤ pos 253370764799999 }
     ensures { OnOk result (text.new ≡ text.old ++ spelled_line caps moment line.now) }
 {
     let mut block = tag_block(alloc, line, caps, moment)?;
@@ -177,10 +170,8 @@ pub fn render(
     alloc: Global,
     lines: &[Tagged],
     caps: Caps,
-    moment: Moment,
+    moment: RecordMoment,
 ) -> Result<Octets, AllocError>
-    requires from_1970 { pos 0 ≤ℤ moment }
-    requires to_9998 { moment ≤ℤ pos 253370764799999 }
     ensures { IfOk result (λ t. t ≡ rendered caps moment lines.now) }
 {
     let mut text = Octets::from_vec(Vec::new(alloc));

@@ -1,5 +1,5 @@
 //! A line that is no part of an answer, for receivers of any capabilities.
-ghost use Rattle.std.specs.Prelude.{◌≡◌, ◌≤ℤ◌, ◌++◌, ◌&&◌, ◌==◌, length, not, pos, IfOk, IfSome, OnOk};
+ghost use Rattle.std.specs.Prelude.{◌≡◌, ◌++◌, ◌&&◌, ◌==◌, length, not, IfOk, IfSome, OnOk};
 ghost use Rattle.numerics.specs.Outgoing.{octets};
 ghost use Rattle.registration.specs.declared.caps.Cap.TheVariants.{MessageTags};
 ghost use Rattle.registration.specs.Caps.{is_on};
@@ -7,7 +7,7 @@ ghost use Rattle.labels_batches.specs.Spellings.{spelled_for, spelled_with};
 
 use crate::Text;
 use crate::rendering::{end, push_moment, push_tag};
-use chronicle::Moment;
+use chronicle::RecordMoment;
 use ghosts::Snapshot;
 use line_grammar::Octets;
 use numerics::Line;
@@ -20,7 +20,7 @@ use std::marker::Model;
 struct Untagged {
     alloc: Global,
     line: Snapshot<Line>,
-    moment: Moment,
+    moment: RecordMoment,
     tags: Octets,
     plain: Text,
 }
@@ -38,8 +38,6 @@ impl Untagged {
     fn spelled(&self, time: bool, tags: bool) -> Result<Octets, AllocError>
         requires octets { self.now.plain ≡ octets self.now.line.value }
         requires tags { self.now.tags ≡ self.now.line.value.tags }
-        requires from_1970 { pos 0 ≤ℤ self.now.moment }
-        requires to_9998 { self.now.moment ≤ℤ pos 253370764799999 }
         ensures { IfOk result (λ t. t ≡ spelled_with time tags self.now.moment self.now.line.value) }
     {
         let mut text = Octets::from_vec(Vec::new(self.alloc));
@@ -64,8 +62,6 @@ fn kept_or_made(
 ) -> Result<Text, AllocError>
     requires octets { line.now.plain ≡ octets line.now.line.value }
     requires tags { line.now.tags ≡ line.now.line.value.tags }
-    requires from_1970 { pos 0 ≤ℤ line.now.moment }
-    requires to_9998 { line.now.moment ≤ℤ pos 253370764799999 }
     requires kept { IfSome kept.old (λ t. t ≡ spelled_with time tags line.now.moment line.now.line.value) }
     ensures kept { IfSome kept.new (λ t. t ≡ spelled_with time tags line.now.moment line.now.line.value) }
     ensures text { IfOk result (λ t. t ≡ spelled_with time tags line.now.moment line.now.line.value) }
@@ -101,9 +97,7 @@ impl Model for Spellings {
 
 impl Spellings {
     /// No spelling of a line yet but that without tags.
-    pub fn new(alloc: Global, line: Line, moment: Moment) -> Result<Spellings, AllocError>
-        requires from_1970 { pos 0 ≤ℤ moment }
-        requires to_9998 { moment ≤ℤ pos 253370764799999 }
+    pub fn new(alloc: Global, line: Line, moment: RecordMoment) -> Result<Spellings, AllocError>
         ensures { IfOk result (λ s. s ≡ record { line = line; moment = moment }) }
     {
         let told = Snapshot::of(&line);

@@ -1,5 +1,5 @@
 //! The text of an answer, spelled from its lines.
-ghost use Rattle.std.specs.Prelude.{◌≡◌, ◌∷◌, ◌++◌, ◌≤ℤ◌, [], map, pos, Some, None, IfOk, IfErr, OnOk, true};
+ghost use Rattle.std.specs.Prelude.{◌≡◌, ◌∷◌, ◌++◌, [], map, Some, None, IfOk, IfErr, OnOk, true};
 ghost use Rattle.std.specs.List.{flat_map};
 ghost use Rattle.labels_batches.specs.Answers.{answered, labelled, tagged_as, wrapped};
 ghost use Rattle.labels_batches.specs.Headed.{batched_as, headed, is_bare, label_mark};
@@ -8,7 +8,7 @@ ghost use Rattle.labels_batches.specs.Rendered.{ended, relayed_tags, rendered, s
 use crate::AnswerTag;
 use crate::answers::{ack, batch_ends, batch_opens};
 use crate::rendering::{MORE_TAGS, end, head_of, push_relayed};
-use chronicle::{Moment, RecordNumber};
+use chronicle::{RecordMoment, RecordNumber};
 use line_grammar::Octets;
 use numerics::Line;
 use registration::{Cap, Caps};
@@ -19,7 +19,7 @@ use std::slice;
 #[derive(Clone, Copy)]
 pub struct Receiver {
     pub caps: Caps,
-    pub moment: Moment,
+    pub moment: RecordMoment,
 }
 
 /// Adds the tags of another client after those that a line has, and the space that ends them.
@@ -85,8 +85,6 @@ fn push_lines(
     lines: &[Line],
     to: &Receiver,
 ) -> Result<(), AllocError>
-    requires from_1970 { pos 0 ≤ℤ to.now.moment }
-    requires to_9998 { to.now.moment ≤ℤ pos 253370764799999 }
     ensures { OnOk result (text.new.items ≡ text.old.items ++ rendered to.now.caps to.now.moment (map (tagged_as tag.now) lines.now)) }
 {
     if lines.is_empty() {
@@ -104,8 +102,6 @@ fn push_untagged(
     lines: &[Line],
     to: &Receiver,
 ) -> Result<(), AllocError>
-    requires from_1970 { pos 0 ≤ℤ to.now.moment }
-    requires to_9998 { to.now.moment ≤ℤ pos 253370764799999 }
     ensures { OnOk result (text.new.items ≡ text.old.items ++ rendered to.now.caps to.now.moment (map (tagged_as None) lines.now)) }
 {
     push_lines(alloc, text, &None, lines, to)
@@ -119,8 +115,6 @@ fn push_line(
     line: &Line,
     to: &Receiver,
 ) -> Result<(), AllocError>
-    requires from_1970 { pos 0 ≤ℤ to.now.moment }
-    requires to_9998 { to.now.moment ≤ℤ pos 253370764799999 }
     ensures { OnOk result (text.new.items ≡ text.old.items ++ rendered to.now.caps to.now.moment (tagged_as tag.now line.now ∷ [])) }
 {
     push_lines(alloc, text, tag, slice::from_ref(line), to)
@@ -137,8 +131,6 @@ fn push_batch(
     lines: &[Line],
     to: &Receiver,
 ) -> Result<(), AllocError>
-    requires from_1970 { pos 0 ≤ℤ to.now.moment }
-    requires to_9998 { to.now.moment ≤ℤ pos 253370764799999 }
     ensures { OnOk result (text.new.items ≡ text.old.items ++ rendered to.now.caps to.now.moment (batched_as server.now label.now number lines.now)) }
 {
     push_line(alloc, text, label, &batch_opens(alloc, server, number)?, to)?;
@@ -156,8 +148,6 @@ fn push_labelled(
     lines: &[Line],
     to: &Receiver,
 ) -> Result<(), AllocError>
-    requires from_1970 { pos 0 ≤ℤ to.now.moment }
-    requires to_9998 { to.now.moment ≤ℤ pos 253370764799999 }
     ensures { OnOk result (text.new.items ≡ text.old.items ++ rendered to.now.caps to.now.moment (labelled server.now label number lines.now)) }
 {
     let label = Some(AnswerTag::Label(label));
@@ -178,8 +168,6 @@ fn push_answer(
     lines: &[Line],
     to: &Receiver,
 ) -> Result<(), AllocError>
-    requires from_1970 { pos 0 ≤ℤ to.now.moment }
-    requires to_9998 { to.now.moment ≤ℤ pos 253370764799999 }
     ensures { OnOk result (text.new.items ≡ text.old.items ++ rendered to.now.caps to.now.moment (wrapped server.now label number lines.now)) }
 {
     match label {
@@ -203,8 +191,6 @@ fn tagged_text(
     line: &Line,
     to: &Receiver,
 ) -> Result<Octets, AllocError>
-    requires from_1970 { pos 0 ≤ℤ to.now.moment }
-    requires to_9998 { to.now.moment ≤ℤ pos 253370764799999 }
     ensures { IfOk result (λ t. t ≡ spelled_line to.now.caps to.now.moment (tagged_as tag.now line.now)) }
 {
     let length = line.octets().len().saturating_add(line.tags().len());
@@ -224,8 +210,6 @@ fn sole_text(
     line: Line,
     to: &Receiver,
 ) -> Result<Octets, AllocError>
-    requires from_1970 { pos 0 ≤ℤ to.now.moment }
-    requires to_9998 { to.now.moment ≤ℤ pos 253370764799999 }
     ensures { IfOk result (λ t. t ≡ spelled_line to.now.caps to.now.moment (tagged_as (label_mark label) line)) }
 {
     match label {
@@ -257,8 +241,6 @@ fn listed_text(
     copies: &[Line],
     to: &Receiver,
 ) -> Result<Octets, AllocError>
-    requires from_1970 { pos 0 ≤ℤ to.now.moment }
-    requires to_9998 { to.now.moment ≤ℤ pos 253370764799999 }
     ensures { IfOk result (λ t. t ≡ rendered to.now.caps to.now.moment (answered server.now label number reply.now copies.now)) }
 {
     let mut text = Vec::new(alloc);
@@ -279,8 +261,6 @@ pub fn answer_text(
     copies: &[Line],
     to: &Receiver,
 ) -> Result<Octets, AllocError>
-    requires from_1970 { pos 0 ≤ℤ to.now.moment }
-    requires to_9998 { to.now.moment ≤ℤ pos 253370764799999 }
     ensures { IfOk result (λ t. t ≡ rendered to.now.caps to.now.moment (answered server.now label number reply.items copies.now)) }
 {
     match sole_line(reply, copies) {
