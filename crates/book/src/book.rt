@@ -16,7 +16,7 @@ use crate::baton::Baton;
 use crate::last_heard::LastHeard;
 use crate::out::{Done, Hung, Left, Plan, Rolled, Step};
 use crate::outboxes::Outboxes;
-use crate::plan::{Planned, Planning, Prepared, commit, prepare_gone, prepare_line};
+use crate::plan::{Planned, Planning, Prepared, commit, moment_of_record, prepare_gone, prepare_line};
 use crate::refusals::{
     BookFault, HangRefusal, LineRefusal, OpenRefusal, ReapRefusal, RollRefusal, SweepRefusal,
     TakeRefusal,
@@ -290,7 +290,7 @@ impl<O: Outbox> Book<O> {
             seats: &self.seats,
             actor: baton.session,
             number,
-            moment,
+            moment: moment_of_record(moment),
         };
         let (prepared, quits) = prepare_line(&by, piece)?;
         let Prepared {
@@ -536,7 +536,7 @@ impl<O: Outbox> Book<O> {
             seats: &self.seats,
             actor: session,
             number,
-            moment,
+            moment: moment_of_record(moment),
         };
         let prepared = prepare_gone(&by)?;
         let Prepared {

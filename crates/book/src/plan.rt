@@ -1,5 +1,5 @@
 //! The deliveries of a record, before they are put.
-ghost use Rattle.std.specs.Prelude.{◌≡◌, ◌≤◌, ◌++◌, [], false, not, length, vec_capacity, None, OnOk, IfOk};
+ghost use Rattle.std.specs.Prelude.{◌≡◌, ◌≤◌, ◌≤ℤ◌, ◌++◌, [], false, not, length, pos, vec_capacity, None, OnOk, IfOk};
 ghost use Rattle.chronicle.specs.History.{is_quit};
 ghost use Rattle.roster.specs.LookBack.{after, caps, opened};
 ghost use Rattle.roster.specs.Legal.{IsOpened, AreNext};
@@ -18,7 +18,7 @@ ghost use Rattle.book.specs.Heard.{delivery_of, deliveries_of, joined};
 
 use crate::heard::{Heard, heard_in_order};
 use crate::seats::Seats;
-use chronicle::{RecordMoment, RecordNumber, SessionId, Why};
+use chronicle::{Moment, RecordMoment, RecordNumber, SessionId, Why};
 use commands::read_piece;
 use deeds::{Shown, Verdict, decide, decide_gone, ping};
 use deliveries::Delivery;
@@ -54,6 +54,18 @@ pub(crate) struct Planning<'a> {
     pub(crate) actor: SessionId,
     pub(crate) number: RecordNumber,
     pub(crate) moment: RecordMoment,
+}
+
+/// The moment of a record, where it may have it.
+pub(crate) fn moment_of_record(moment: Moment) -> RecordMoment
+    requires from_1970 { pos 0 ≤ℤ moment }
+    requires to_9998 { moment ≤ℤ pos 253370764799999 }
+    ensures { result ≡ moment }
+{
+    let Some(moment) = RecordMoment::of(moment) else {
+        unreachable!()
+    };
+    moment
 }
 
 /// What the actor of a record is told: the answer, under the label of its line, and what it sent to itself.

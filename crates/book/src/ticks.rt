@@ -4,7 +4,7 @@ ghost use Rattle.chronicle.specs.declared.record.Kind.TheVariants as kind;
 
 use crate::book::{Book, reserve};
 use crate::out::{Done, Plan};
-use crate::plan::{Planning, prepare_tick};
+use crate::plan::{Planning, moment_of_record, prepare_tick};
 use crate::refusals::TickRefusal;
 use chronicle::{Kind, Moment, RecordNumber, SessionId};
 use outbox::Outbox;
@@ -68,7 +68,7 @@ impl<O: Outbox> Book<O> {
             seats: &self.seats,
             actor: nobody,
             number,
-            moment,
+            moment: moment_of_record(moment),
         };
         let (plan, missed) = prepare_tick(&by, &due)?;
         reserve(&mut self.journal, room, plan.len())?;

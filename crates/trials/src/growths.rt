@@ -1,7 +1,7 @@
 //! Growths that are refused while an answer is wrapped and rendered, or a moment is told: the same call with memory answers what it is
 //! to.
 use crate::again::twice;
-use chronicle::{Moment, RecordNumber};
+use chronicle::{Moment, RecordMoment, RecordNumber};
 use labels_batches::{Receiver, Tagged, answer_text, render, wrap};
 use line_grammar::Octets;
 use numerics::{Line, TimeFault, time_text};
@@ -64,18 +64,26 @@ const ANSWERS: [(usize, usize, &str); 4] = [
     ),
 ];
 
+/// The moment of the record.
+fn moment() -> RecordMoment {
+    match RecordMoment::of(Moment::new(951782400123)) {
+        Some(moment) => moment,
+        None => unreachable!(),
+    }
+}
+
 /// The text of an answer.
 fn text(alloc: Global, reply: usize, copies: usize) -> Result<Octets, AllocError> {
     let caps = Caps::none().with(Cap::ServerTime).with(Cap::MessageTags);
     let tagged = twice(|| wrapped(alloc, reply, copies))?;
-    twice(|| render(alloc, &tagged, caps, Moment::new(951782400123)))
+    twice(|| render(alloc, &tagged, caps, moment()))
 }
 
 /// The same, spelled from its lines.
 fn spelled(alloc: Global, reply: usize, copies: usize) -> Result<Octets, AllocError> {
     let to = Receiver {
         caps: Caps::none().with(Cap::ServerTime).with(Cap::MessageTags),
-        moment: Moment::new(951782400123),
+        moment: moment(),
     };
     let label = Octets::copied(alloc, b"l;")?;
     let reply = lines(alloc, reply)?;

@@ -1,4 +1,5 @@
-//! What moments are spelled out as.
+//! What moments are spelled out as, and which of them a record may have.
+use chronicle::{Moment, RecordMoment};
 use numerics::{TimeFault, time_text};
 use std::alloc::Global;
 use std::test::Fail;
@@ -26,6 +27,22 @@ fn moments_are_told(rt: HostRuntime) -> Result<(), Fail> {
             is_told(rt.alloc(), *moment, want) || is_told(rt.alloc(), *moment, want),
             "{moment}"
         );
+    }
+    Ok(())
+}
+
+/// Whether a record may have a moment, as it is told to, and has just this one.
+fn is_of_record(moment: i64, want: bool) -> bool {
+    match RecordMoment::of(Moment::new(moment)) {
+        Some(of_record) => want && of_record.moment().milliseconds() == moment,
+        None => !want,
+    }
+}
+
+#[test]
+fn records_have_moments_that_have_texts(rt: HostRuntime) -> Result<(), Fail> {
+    for (moment, want) in &MOMENTS {
+        assert!(rt; is_of_record(*moment, !want.is_empty()), "{moment}");
     }
     Ok(())
 }

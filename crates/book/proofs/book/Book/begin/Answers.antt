@@ -1,4 +1,4 @@
-use Rattle.std.proofs.Common.{arith, ◌≡◌, ◌+◌, ◌<◌, ◌≤◌, ℕ, ◌∷◌, length, nat_eq, true, false, List, ap, sym, ◌∙◌, subst, refl}
+use Rattle.std.proofs.Common.{arith, ◌≡◌, ◌+◌, ◌<◌, ◌≤◌, ℕ, ℤ, ◌∷◌, length, nat_eq, true, false, List, ap, sym, ◌∙◌, subst, refl}
 use Rattle.std.proofs.lemmas.Grind.{common_steps}
 use Rattle.line_grammar.specs.declared.splitter.Piece.{Piece}
 use Rattle.chronicle.specs.declared.record.Kind.TheVariants.{Said}
@@ -60,7 +60,8 @@ plan : (over : given.Over) (c : goal.After-result-1 over) → c.in_ok-prepared.p
 plan over c =
     let a = c.self.inside in let q = c.in_ok-prepared.quits in let g = a.roster.settings in let fs = a.roster.facts in
     let number : c.new-number.result ≡ length a.journal.history + 1 = grind (arith, common_steps) in
-    let made = c.in_ok-prepared.ensures.plan ∙ ap (λ (t : ℕ). planned_from a.seats t c.new-number.result (spelled g fs t (label_of (caps fs t) c.args.piece.now) (of_asked g fs t (asked_of c.args.piece.now)) c.args.moment c.new-number.result) q) (session over c) in
+    let dated = subst (λ (m : ℤ). c.in_ok-prepared.prepared.plan.items ≡ planned_from a.seats c.baton.inside.session c.new-number.result (spelled g fs c.baton.inside.session (label_of (caps fs c.baton.inside.session) c.args.piece.now) (of_asked g fs c.baton.inside.session (asked_of c.args.piece.now)) m c.new-number.result) q) c.moment_of_record.ensures c.in_ok-prepared.ensures.plan in
+    let made = dated ∙ ap (λ (t : ℕ). planned_from a.seats t c.new-number.result (spelled g fs t (label_of (caps fs t) c.args.piece.now) (of_asked g fs t (asked_of c.args.piece.now)) c.args.moment c.new-number.result) q) (session over c) in
     said_plan over.O.Outbox.sent a.journal g fs a.seats a.outboxes.boxes a.plan.items a.busy c.self.invariant.kept c.args.baton.now c.args.piece.now c.args.moment
     c.new-number.result q c.in_ok-prepared.prepared.plan.items (may over c) number c.in_ok-prepared.ensures.quits made
 

@@ -1,4 +1,4 @@
-use Rattle.std.proofs.Common.{arith, ◌≡◌, ℕ, ◌+◌, ◌<◌, ◌≤◌, ◌∷◌, [], false, true, length, List, is_some, slice_index_or, refl, ap, sym, ◌∙◌, subst}
+use Rattle.std.proofs.Common.{arith, ◌≡◌, ℕ, ℤ, ◌+◌, ◌<◌, ◌≤◌, ◌∷◌, [], false, true, length, List, is_some, slice_index_or, refl, ap, sym, ◌∙◌, subst}
 use Rattle.std.proofs.lemmas.Grind.{common_steps}
 use Rattle.chronicle.specs.declared.record.Kind.TheVariants.{Ticked}
 use Rattle.chronicle.specs.Journal.{fresh_record}
@@ -30,7 +30,8 @@ plan : (over : given.Over) (c : goal.After-drop-due-2 over) → c.in_ok-plan.pla
 plan over c =
     let a = c.self.inside in let n = c.new-number.result in let g = a.roster.settings in let fs = a.roster.facts in let m = c.args.moment in
     let number : n ≡ length a.journal.history + 1 = grind (arith, common_steps) in
-    c.in_ok-plan.ensures.plan ∙ ap (λ (s : ℕ). planned_with a.seats s n [] (pinged_text g fs m c.deref.result.now) false) c.new-nobody.ensures
+    c.in_ok-plan.ensures.plan ∙ ap (λ (k : ℤ). planned_with a.seats c.new-nobody.result n [] (pinged_text g fs k c.deref.result.now) false) c.moment_of_record.ensures
+    ∙ ap (λ (s : ℕ). planned_with a.seats s n [] (pinged_text g fs m c.deref.result.now) false) c.new-nobody.ensures
     ∙ ap (λ (ts : List ℕ). planned_with a.seats 0 n [] (pinged_text g fs m ts) false) (c.deref.ensures.value ∙ c.in_ok-due.ensures.due)
     ∙ tick_plan over.O.Outbox.sent a.journal g fs a.seats a.outboxes.boxes a.plan.items a.busy c.self.invariant.kept a.last_heard c.self.invariant.since c.in_ok-due.ensures.once m n number
 

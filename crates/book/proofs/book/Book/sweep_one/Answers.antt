@@ -1,4 +1,4 @@
-use Rattle.std.proofs.Common.{arith, ◌≡◌, ◌+◌, ◌<◌, ◌≤◌, ◌∷◌, true, length, vec_len, Some, List, [], zero-add, refl, ap, sym, ◌∙◌, subst}
+use Rattle.std.proofs.Common.{arith, ◌≡◌, ◌+◌, ◌<◌, ◌≤◌, ◌∷◌, true, false, length, vec_len, ℤ, Some, None, List, [], zero-add, refl, ap, sym, ◌∙◌, subst}
 use Rattle.std.proofs.lemmas.Grind.{common_steps}
 use Rattle.chronicle.specs.declared.record.Kind.TheVariants.{Gone}
 use Rattle.chronicle.specs.Journal.{most, fresh_record}
@@ -7,9 +7,11 @@ use Rattle.roster.specs.declared.deed.Deed.{Deed}
 use Rattle.roster.specs.LookBack.{after, opened}
 use Rattle.drafts.specs.Effects.{deeds_of}
 use Rattle.deeds.specs.Departure.{departs}
+use Rattle.deeds.specs.Deeds.{spelled}
 use Rattle.book.specs.declared.seat.Seat.{Seat}
 use Rattle.chronicle.specs.History.{sessions}
 use Rattle.book.specs.Kept.{IsKept}
+use Rattle.book.specs.Seats.{planned_from}
 use Rattle.book.specs.Book.{MaySweep, to_sweep, plan_of, begun, held, newest_actor, newest_next, newest_missed}
 use Rattle.book.proofs.Sweeps.{swept_is, seats_sweep}
 use Rattle.book.proofs.KeptSteps.{shown}
@@ -59,7 +61,7 @@ plan over c =
     let a = c.self.inside in let next = subst (λ m. to_sweep m.history ≡ Some c.args.session) (sym c.self.view_is) c.requires.next in
     let number : c.new-number.result ≡ length a.journal.history + 1 = grind (arith, common_steps) in
     gone_plan over.O.Outbox.sent a.journal a.roster.settings a.roster.facts a.seats a.outboxes.boxes a.plan.items a.busy c.self.invariant.kept c.args.session c.new-number.result c.args.moment c.in_ok-prepared.prepared.plan.items
-    next number c.in_ok-prepared.ensures.plan
+    next number (subst (λ (m : ℤ). c.in_ok-prepared.prepared.plan.items ≡ planned_from a.seats c.args.session c.new-number.result (spelled a.roster.settings a.roster.facts c.args.session None (departs a.roster.facts c.args.session) m c.new-number.result) false) c.moment_of_record.ensures c.in_ok-prepared.ensures.plan)
 
 settings : (over : given.Over) (c : goal.After-self-1 over) → c.commit.new.roster.settings ≡ c.self.inside.roster.settings
 settings over c = c.commit.ensures.settings ∙ c.prepare.ensures.settings
