@@ -1,0 +1,57 @@
+// Names of channels whose hashes end alike: SipHash-1-3 of their octets after their number, by keys that are all noughts.
+//
+//   tilted COUNT BITS     prints so many names whose hashes have noughts in so many lowest bits
+//   tilted COUNT 0        prints names that weren't chosen
+#include <stdint.h>
+#include <stdio.h>
+#include <stdlib.h>
+#include <string.h>
+
+// Octets of a name, its `#` with them: with how many there are they fill two words of eight octets.
+#define LENGTH 7
+
+struct state { uint64_t v0, v1, v2, v3; };
+
+static uint64_t turned(uint64_t word, int by) { return word << by | word >> (64 - by); }
+
+static void round_of(struct state *s) {
+    s->v0 += s->v1; s->v1 = turned(s->v1, 13); s->v1 ^= s->v0; s->v0 = turned(s->v0, 32);
+    s->v2 += s->v3; s->v3 = turned(s->v3, 16); s->v3 ^= s->v2;
+    s->v0 += s->v3; s->v3 = turned(s->v3, 21); s->v3 ^= s->v0;
+    s->v2 += s->v1; s->v1 = turned(s->v1, 17); s->v1 ^= s->v2; s->v2 = turned(s->v2, 32);
+}
+
+static void take(struct state *s, uint64_t word) {
+    s->v3 ^= word;
+    round_of(s);
+    s->v0 ^= word;
+}
+
+static uint64_t hash_of(struct state begun, const char *name) {
+    uint64_t word = (uint64_t)((8 + LENGTH) & 0xff) << 56;
+    for (int at = 0; at < LENGTH; at++) word |= (uint64_t)(unsigned char)name[at] << 8 * at;
+    take(&begun, word);
+    begun.v2 ^= 0xff;
+    for (int round = 0; round < 3; round++) round_of(&begun);
+    return begun.v0 ^ begun.v1 ^ begun.v2 ^ begun.v3;
+}
+
+int main(int words, char **word) {
+    static const char letters[] = "abcdefghijklmnopqrstuvwxyz0123456789";
+    if (words != 3) return 2;
+    long wanted = atol(word[1]);
+    uint64_t mask = ((uint64_t)1 << atoi(word[2])) - 1;
+    struct state begun = { 0x736f6d6570736575, 0x646f72616e646f6d, 0x6c7967656e657261, 0x7465646279746573 };
+    take(&begun, LENGTH);
+    char name[LENGTH + 1] = "#";
+    for (uint64_t number = 0; wanted > 0; number++) {
+        uint64_t left = number;
+        for (int at = LENGTH - 1; at > 0; at--, left /= 36) name[at] = letters[left % 36];
+        if (left) return 1;
+        if ((hash_of(begun, name) & mask) == 0) {
+            puts(name);
+            wanted--;
+        }
+    }
+    return 0;
+}
