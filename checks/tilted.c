@@ -1,11 +1,11 @@
-// Names of channels whose hashes end alike: SipHash-1-3 of their octets after their number, by keys that are all noughts.
+// Names of channels that a table holds in one place: SipHash-1-3 of their octets after their number, by keys that are all noughts,
+// its upper half laid over its lower.
 //
-//   tilted COUNT BITS     prints so many names whose hashes have noughts in so many lowest bits
+//   tilted COUNT MASK     prints so many names whose hashes have noughts in all bits of the mask (hexadecimal)
 //   tilted COUNT 0        prints names that weren't chosen
 #include <stdint.h>
 #include <stdio.h>
 #include <stdlib.h>
-#include <string.h>
 
 // Octets of a name, its `#` with them: with how many there are they fill two words of eight octets.
 #define LENGTH 7
@@ -33,14 +33,15 @@ static uint64_t hash_of(struct state begun, const char *name) {
     take(&begun, word);
     begun.v2 ^= 0xff;
     for (int round = 0; round < 3; round++) round_of(&begun);
-    return begun.v0 ^ begun.v1 ^ begun.v2 ^ begun.v3;
+    uint64_t hash = begun.v0 ^ begun.v1 ^ begun.v2 ^ begun.v3;
+    return hash ^ hash >> 32;
 }
 
 int main(int words, char **word) {
     static const char letters[] = "abcdefghijklmnopqrstuvwxyz0123456789";
     if (words != 3) return 2;
     long wanted = atol(word[1]);
-    uint64_t mask = ((uint64_t)1 << atoi(word[2])) - 1;
+    uint64_t mask = strtoull(word[2], NULL, 16);
     struct state begun = { 0x736f6d6570736575, 0x646f72616e646f6d, 0x6c7967656e657261, 0x7465646279746573 };
     take(&begun, LENGTH);
     char name[LENGTH + 1] = "#";

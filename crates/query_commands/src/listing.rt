@@ -70,10 +70,9 @@ fn push_channel(
 ) -> Result<(), AllocError>
     ensures { OnOk result (numerics.new.items ≡ numerics.old.items ++ listed roster.now.facts session channel.now) }
 {
-    let channel = channel.as_slice();
-    match (roster.name_of(channel), roster.state_of(channel)) {
-        (Some(name), Some(state)) => push_seen(alloc, numerics, session, name, state),
-        _ => Ok(()),
+    match roster.channel(channel.as_slice()) {
+        Some((name, state)) => push_seen(alloc, numerics, session, name, state),
+        None => Ok(()),
     }
 }
 

@@ -42,9 +42,7 @@ pub(crate) fn channel_for<'a>(
 ) -> Option<Listed<'a>>
     ensures { result ≡ channel_for roster.now.facts session channel.now }
 {
-    let (Some(name), Some(state)) = (roster.name_of(channel), roster.state_of(channel)) else {
-        return None;
-    };
+    let (name, state) = roster.channel(channel)?;
     if sees(session, state) {
         Some(Listed { name, state })
     } else {

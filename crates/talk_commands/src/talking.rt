@@ -183,11 +183,7 @@ fn send_to_channel(
     requires { draft.old.facts ≡ draft.old.base }
     ensures { OnOk result (draft.new ≡ grown draft.old (to_channel draft.old.settings draft.old.facts session sending.now channel.now (name_of draft.old.facts channel.now))) }
 {
-    let before = draft.before();
-    let (Some(name), Some(state)) = (
-        before.name_of(channel.as_slice()),
-        before.state_of(channel.as_slice()),
-    ) else {
+    let Some((name, state)) = draft.before().channel(channel.as_slice()) else {
         return refuse(draft, session, sending.verb, Denial::NoSuchChannel, channel);
     };
     send_to_open(draft, session, sending, name, state)
