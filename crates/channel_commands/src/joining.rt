@@ -6,6 +6,7 @@ ghost use Rattle.drafts.specs.Drafted.{grown};
 ghost use Rattle.drafts.specs.Effects.{deeds_of};
 ghost use Rattle.drafts.specs.Seen.{IsSeen};
 ghost use Rattle.channel_commands.specs.Each.{each_counted};
+ghost use Rattle.channel_commands.specs.Found.{channel_of};
 ghost use Rattle.channel_commands.specs.Joining.{welcomed, entered, makes, enters, enters_unless, joins_seen, joins_one, joins};
 
 use crate::arriving::introduce;
@@ -157,6 +158,23 @@ fn join_new(
     Ok(count + 1)
 }
 
+/// Joins the channel of a name that has the shape of one.
+fn join_named(
+    draft: &mut Draft,
+    session: SessionId,
+    from: &[u8],
+    count: usize,
+    target: &JoinTarget,
+) -> Result<usize, AllocError>
+    ensures grown { OnOk result (draft.new ≡ grown draft.old (joins_seen draft.old.settings draft.old.base draft.old.facts session from.now count target.now (channel_of draft.old.facts target.now.channel))) }
+    ensures count { IfOk result (λ n. n ≡ count + length (deeds_of (joins_seen draft.old.settings draft.old.base draft.old.facts session from.now count target.now (channel_of draft.old.facts target.now.channel)))) }
+{
+    match channel_of(draft, &target.channel)? {
+        Some(mut seen) => join_there(draft, session, from, count, target, &mut seen),
+        None => join_new(draft, session, from, count, target),
+    }
+}
+
 /// Joins one channel.
 fn join_one(
     draft: &mut Draft,
@@ -168,15 +186,11 @@ fn join_one(
     ensures grown { OnOk result (draft.new ≡ grown draft.old (joins_one draft.old.settings draft.old.base session from.now draft.old.facts count target.now)) }
     ensures count { IfOk result (λ n. n ≡ count + length (deeds_of (joins_one draft.old.settings draft.old.base session from.now draft.old.facts count target.now))) }
 {
-    let channel = &target.channel;
-    if !is_channel(channel.as_slice()) {
-        deny(draft, session, Denial::NoSuchChannel, channel)?;
+    if !is_channel(target.channel.as_slice()) {
+        deny(draft, session, Denial::NoSuchChannel, &target.channel)?;
         return Ok(count);
     }
-    match channel_of(draft, channel)? {
-        Some(mut seen) => join_there(draft, session, from, count, target, &mut seen),
-        None => join_new(draft, session, from, count, target),
-    }
+    join_named(draft, session, from, count, target)
 }
 
 // ---- JOIN
