@@ -16,7 +16,9 @@ use crate::baton::Baton;
 use crate::last_heard::LastHeard;
 use crate::out::{Done, Hung, Left, Plan, Rolled, Step};
 use crate::outboxes::Outboxes;
-use crate::plan::{Planned, Planning, Prepared, commit, moment_of_record, prepare_gone, prepare_line};
+use crate::plan::{
+    Planned, Planning, Prepared, commit, moment_of_record, prepare_gone, prepare_line,
+};
 use crate::refusals::{
     BookFault, HangRefusal, LineRefusal, OpenRefusal, ReapRefusal, RollRefusal, SweepRefusal,
     TakeRefusal,
