@@ -1,14 +1,19 @@
 -- What stands in a map by the numbers of sessions, as a list of the first n.
 use Rattle.std.proofs.lemmas.List.{map-append, length-map}
 use Rattle.std.proofs.lemmas.Bool.Decides.{eqb_tells, nat_tests}
-use Rattle.std.proofs.Common.{◌≡◌, ◌≢◌, inl, inr, ℕ, zero, suc, ◌+◌, ◌-◌, ◌<◌, ◌≤◌, Bool, true, false, not, ◌&&◌, cond, nat_eq, nat_lt, nat_le, List, [], ◌∷◌, ◌++◌, map, length, slice_set, slice_index_or, Option, Some, None, IsSome, Result, Ok, Err, is_ok, arith, refl, sym, ap, ◌∙◌, subst, eq-eqb, ne_eqb}
+use Rattle.std.proofs.Common.{◌≡◌, ◌≢◌, inl, inr, ℕ, zero, suc, ◌+◌, ◌-◌, ◌<◌, ◌≤◌, Bool, true, false, not, ◌&&◌, cond, nat_eq, nat_lt, nat_le, List, [], ◌∷◌, ◌++◌, map, length, slice_get, slice_set, slice_index_or, Option, Some, None, IsSome, Result, Ok, Err, is_ok, arith, refl, sym, ap, ◌∙◌, subst, eq-eqb, ne_eqb}
 use Rattle.std.specs.Option.{is_some}
 use Rattle.std.specs.Prelude.{OnOk, IfOk, IfErr}
-use Rattle.std.specs.Map.{lookup}
+use Rattle.std.specs.Map.{lookup, lookup_key, values_of}
+use Rattle.std.specs.Cmp.{nat_eq_equiv}
+use Rattle.std.specs.Option.{option_map}
+use Rattle.std.proofs.lemmas.Option.{slice_get-map}
+use Rattle.indexmap.specs.IndexMap.{IndexMap, with_value_at, IsUnique}
+use Rattle.indexmap.proofs.CallerLemmas.{updates-with_value_at}
 use Rattle.roster.specs.LookBack.{numbers}
 use Rattle.book.specs.declared.seat.Seat.{Seat}
 use Rattle.book.specs.Book.{box_at, count_here}
-use Rattle.book.specs.Seats.{no_seat, away, or_away, stands, seat_at, hears, IsSeated, IsCounted, AreOpened, AreSeats, seats_of, AreBoxes, boxes_of, IsThere}
+use Rattle.book.specs.Seats.{no_seat, away, or_away, stands, seat_at, hears, IsSeated, IsCounted, AreOpened, AreSeats, IsPlace, seats_of, AreBoxes, boxes_of, IsThere}
 use Rattle.book.proofs.Opened.{numbers_push}
 use Rattle.book.proofs.Counted.{count_same, count_more, count_less}
 
@@ -44,6 +49,33 @@ module _ {X : Type 0} (kept now : List (ℕ × X)) (t : ℕ) (w : Option X) (c :
 -- the same number
 pub changed_at : {X : Type 0} (kept now : List (ℕ × X)) (k t : ℕ) (w : Option X) → k ≡ t → IsChanged kept now k w → IsChanged kept now t w
 changed_at kept now k t w e c = subst (λ (j : ℕ). IsChanged kept now j w) e c
+
+-- ---- an entry by its place
+
+-- a key that is found by a number is that number
+key_is : {X : Type 0} (kept : List (ℕ × X)) (n k : ℕ) → lookup_key (nat_eq n) kept ≡ Some k → n ≡ k
+key_is [] n k e = absurd (let f : ◌≡◌ {A = Option ℕ} None (Some k) = e in cc)
+key_is (x ∷ kept) n k e =
+    elim (eqb_tells n x.0) [
+      | inl same ↦ let f : Some x.0 ≡ Some k = sym (ap (λ b. cond b (Some x.0) (lookup_key (nat_eq n) kept)) same.0) ∙ e in let g : x.0 ≡ k = cc in same.1 ∙ g
+      | inr other ↦ key_is kept n k (sym (ap (λ b. cond b (Some x.0) (lookup_key (nat_eq n) kept)) other.0) ∙ e)
+    ]
+
+-- something stands there
+pub place_missed : {X : Type 0} (kept : List (ℕ × X)) (s i : ℕ) → IsPlace kept s i → None ≡ slice_get (values_of kept) i → ⊥
+place_missed {X} kept s i p none = let f : ◌≡◌ {A = Option X} None (Some p.value) = none ∙ slice_get-map (λ (e : ℕ × X). e.1) kept i ∙ ap (option_map (λ (e : ℕ × X). e.1)) p.entry in cc
+
+module _ {X S : Type 0} (m : IndexMap ℕ X S) (s i : ℕ) (p : IsPlace m.entries s i) (x : X) (read : Some x ≡ slice_get (values_of m.entries) i) where
+  value_is : x ≡ p.value
+  value_is = let f : Some x ≡ Some p.value = read ∙ slice_get-map (λ (e : ℕ × X). e.1) m.entries i ∙ ap (option_map (λ (e : ℕ × X). e.1)) p.entry in cc
+
+  -- what is read there is found
+  pub place_found : Some x ≡ lookup (nat_eq s) m.entries
+  place_found = ap (λ (y : X). Some y) value_is ∙ sym p.found
+
+  -- what is written there is the session's
+  pub place_changed : (w : X) → IsUnique nat_eq m → IsChanged m.entries (with_value_at m i w).entries s (Some w)
+  place_changed w unique = (updates-with_value_at m i w nat_eq_equiv unique s p.value p.entry).0
 
 -- nothing stands at a number that isn't opened yet
 opened_none : {X : Type 0} (kept : List (ℕ × X)) (n t : ℕ) → AreOpened kept n → n < t → lookup (nat_eq t) kept ≡ None

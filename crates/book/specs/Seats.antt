@@ -1,5 +1,5 @@
 -- What a book keeps for its sessions, and how that stands for the history.
-use Rattle.std.specs.Prelude.{◌≡◌, ℕ, ℤ, ◌+◌, ◌-◌, ◌^◌, ◌<◌, ◌≤◌, Bool, true, false, not, ◌&&◌, nat_eq, nat_lt, nat_le, cond, if◌then◌else◌, List, [], ◌∷◌, ◌++◌, filter, map, length, sum_by, slice_index_or, slice_set, Option, Some, None, IsSome, IfSome}
+use Rattle.std.specs.Prelude.{◌≡◌, ℕ, ℤ, ◌+◌, ◌-◌, ◌^◌, ◌<◌, ◌≤◌, Bool, true, false, not, ◌&&◌, nat_eq, nat_lt, nat_le, cond, if◌then◌else◌, List, [], ◌∷◌, ◌++◌, filter, map, length, sum_by, slice_index_or, slice_get, slice_set, Option, Some, None, IsSome, IfSome}
 use Rattle.std.specs.Map.{lookup}
 use Rattle.chronicle.specs.History.{Rec, accepted, shut, gone}
 use Rattle.deliveries.specs.declared.delivery.Delivery.{Delivery}
@@ -76,6 +76,12 @@ pub record IsCounted (seats : List Seat) (kept : ℕ) (to_sweep : List ℕ) (mos
 -- each that is kept is of one of the first n sessions
 abbrev pub AreOpened : {X : Type 0} → List (ℕ × X) → ℕ → Type 0
 AreOpened kept n = (t : ℕ) → IsSome (lookup (nat_eq t) kept) → (0 < t) × (t ≤ n)
+
+-- at place i stands the entry of session s
+pub record IsPlace {X : Type 0} (kept : List (ℕ × X)) (s i : ℕ) : Type 0 where
+  pub value : X
+  pub entry : slice_get kept i ≡ Some (s, value)
+  pub found : lookup (nat_eq s) kept ≡ Some value
 
 -- the seats of the first n sessions
 abbrev pub seats_of : List (ℕ × Seat) → ℕ → List Seat

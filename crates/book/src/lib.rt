@@ -10,6 +10,7 @@ mod last_heard;
 mod laws;
 mod out;
 mod outboxes;
+mod places;
 mod plan;
 mod refusals;
 mod rings;

@@ -9,6 +9,7 @@ ghost use Rattle.book.specs.Noted.{AreCountsOf};
 use crate::base::Counts;
 use crate::counting::Counting;
 use crate::last_heard::LastHeard;
+use crate::places::{Places, is_in, place_in, take_out};
 use crate::seats::Seats;
 use chronicle::SessionId;
 use deliveries::Item;
@@ -22,6 +23,7 @@ use std::marker::Model;
 pub(crate) struct Outboxes<O: Outbox> {
     /// By the numbers of their sessions.
     outboxes: IndexMap<u64, Counting<O>>,
+    places: Places,
     opened: u64,
 }
 
@@ -43,6 +45,7 @@ impl<O: Outbox> Outboxes<O> {
     {
         Outboxes {
             outboxes: IndexMap::new(alloc),
+            places: Places::new(alloc),
             opened: 0,
         }
     }
@@ -59,7 +62,7 @@ impl<O: Outbox> Outboxes<O> {
         ensures yes { result ≡ true → IsThere self.now.boxes session }
         ensures no { result ≡ false → IsThere self.now.boxes session → ⊥ }
     {
-        self.outboxes.contains_key(&session.number())
+        is_in(&self.outboxes, &self.places, session)
     }
 
     /// Makes room for one more.
@@ -67,6 +70,7 @@ impl<O: Outbox> Outboxes<O> {
         ensures same { self.new.boxes ≡ self.old.boxes }
         ensures ok { OnOk result (0 < self.new.room) }
     {
+        self.places.make_room()?;
         self.outboxes.reserve(1)
     }
 
@@ -78,6 +82,7 @@ impl<O: Outbox> Outboxes<O> {
         ensures { self.new.boxes ≡ self.old.boxes ++ Some outbox ∷ [] }
     {
         let number = session.number();
+        self.places.open(self.outboxes.len());
         let _ = self.outboxes.insert(number, Counting::new(outbox)).unwrap();
         self.opened = number;
     }
@@ -91,7 +96,10 @@ impl<O: Outbox> Outboxes<O> {
         ensures fault { result ≡ false → IsNotTaken O.refuses self.old.boxes item }
         ensures same { result ≡ false → self.new.boxes ≡ self.old.boxes }
     {
-        let Some(outbox) = self.outboxes.get_mut(&item.session().number()) else {
+        let Some(place) = place_in(&self.outboxes, &self.places, item.session()) else {
+            unreachable!();
+        };
+        let Some(outbox) = self.outboxes.get_index_mut(place) else {
             unreachable!();
         };
         outbox.put(item)
@@ -138,7 +146,7 @@ impl<O: Outbox> Outboxes<O> {
         ensures left { IsLeft O.sent O.taken (box_at self.old.boxes session) taker result }
         ensures given { self.new.boxes ≡ slice_set self.old.boxes (session - 1) None }
     {
-        let Some(outbox) = self.outboxes.swap_remove(&session.number()) else {
+        let Some(outbox) = take_out(&mut self.outboxes, &mut self.places, session) else {
             unreachable!();
         };
         outbox.close(taker)
@@ -153,7 +161,10 @@ impl Outboxes<Ring> {
         ensures none { result ≡ None → self.new.boxes ≡ self.old.boxes }
         ensures taken { self.new.boxes ≡ slice_set self.old.boxes (session - 1) (Some (with_taken (outbox_at self.old.boxes session))) }
     {
-        let Some(outbox) = self.outboxes.get_mut(&session.number()) else {
+        let Some(place) = place_in(&self.outboxes, &self.places, session) else {
+            unreachable!();
+        };
+        let Some(outbox) = self.outboxes.get_index_mut(place) else {
             unreachable!();
         };
         outbox.take_now()

@@ -5,6 +5,7 @@ ghost use Rattle.roster.specs.LookBack.{numbers};
 ghost use Rattle.book.specs.Book.{first};
 ghost use Rattle.book.specs.Seats.{no_seat, away, stands, seat_at, kept_by, hears, sweeps, placed, IsSeated};
 
+use crate::places::{Places, find_in, place_in, take_out};
 use crate::seat::Seat;
 use chronicle::SessionId;
 use indexmap::IndexMap;
@@ -18,6 +19,7 @@ use std::marker::Model;
 pub(crate) struct Seats {
     /// By the numbers of their sessions.
     seats: IndexMap<u64, Seat>,
+    places: Places,
     opened: u64,
     held: usize,
     /// The numbers of those that are shut and aren't gone, in their order.
@@ -76,6 +78,7 @@ impl Seats {
     {
         Seats {
             seats: IndexMap::new(alloc),
+            places: Places::new(alloc),
             opened: 0,
             held: 0,
             to_sweep: VecDeque::new(alloc),
@@ -102,7 +105,7 @@ impl Seats {
         ensures stands { IfSome result (λ seat. stands seat ≡ true) }
         ensures none { result ≡ None → IsSeated self.now session → seat_at self.now session ≡ away }
     {
-        let seat = self.seats.get(&session.number())?;
+        let seat = find_in(&self.seats, &self.places, session)?;
         Some(standing(*seat))
     }
 
@@ -110,7 +113,7 @@ impl Seats {
     pub(crate) fn is_listening(&self, session: SessionId) -> bool
         ensures { result ≡ hears self.now session }
     {
-        let Some(seat) = self.seats.get(&session.number()) else {
+        let Some(seat) = find_in(&self.seats, &self.places, session) else {
             return false;
         };
         !seat.shut
@@ -124,6 +127,7 @@ impl Seats {
         ensures err { OnErr result (self.new ≡ self.old) }
     {
         self.seats.reserve(1)?;
+        self.places.make_room()?;
         self.to_sweep.reserve(self.held + 2)?;
         let number = session.number();
         let seat = Seat {
@@ -131,6 +135,7 @@ impl Seats {
             gone: false,
             accepted: 0,
         };
+        self.places.open(self.seats.len());
         let _ = self.seats.insert(number, seat).unwrap();
         self.opened = number;
         self.held += 2;
@@ -145,7 +150,10 @@ impl Seats {
         ensures { self.new ≡ slice_set self.old (session - 1) (record { shut = shut; gone = (seat_at self.old session).gone; accepted = accepted }) }
     {
         let number = session.number();
-        let Some(seat) = self.seats.get_mut(&number) else {
+        let Some(place) = place_in(&self.seats, &self.places, session) else {
+            unreachable!();
+        };
+        let Some(seat) = self.seats.get_index_mut(place) else {
             unreachable!();
         };
         let is_end = ends(seat, shut);
@@ -188,7 +196,10 @@ impl Seats {
         requires next { first (sweeps self.old) (numbers 1 (length self.old)) ≡ Some session }
         ensures { self.new ≡ slice_set self.old (session - 1) (record { shut = (seat_at self.old session).shut; gone = true; accepted = (seat_at self.old session).accepted }) }
     {
-        let Some(seat) = self.seats.get_mut(&session.number()) else {
+        let Some(place) = place_in(&self.seats, &self.places, session) else {
+            unreachable!();
+        };
+        let Some(seat) = self.seats.get_index_mut(place) else {
             unreachable!();
         };
         seat.gone = true;
@@ -202,7 +213,7 @@ impl Seats {
         requires gone { (seat_at self.old session).gone ≡ true }
         ensures { self.new ≡ slice_set self.old (session - 1) away }
     {
-        let _ = self.seats.swap_remove(&session.number());
+        let _ = take_out(&mut self.seats, &mut self.places, session);
     }
 
     /// The shut session of the lowest number that isn't gone.

@@ -1,18 +1,18 @@
 use Rattle.std.proofs.Common.{None}
 use Rattle.std.specs.VecDeque.{deque_capacity}
 use Rattle.book.proofs.Counted.{given_counted}
-use Rattle.book.proofs.Mapped.{IsChanged, changed_at, seats_counted, seats_set, kept_set}
+use Rattle.book.proofs.Mapped.{IsChanged, seats_counted, seats_set, kept_set}
 use Rattle.book.proofs.seats.Seats.give_up.Goals as goal
 
 pub invariant_of-self : goal.invariant_of-self
 invariant_of-self c =
-    let a = c.self.inside in let s = c.args.session in let rows = c.args.self.now in let most = deque_capacity a.to_sweep in let now = c.swap_remove.new.self.entries in
-    let taken : IsChanged a.seats.entries now s None = changed_at a.seats.entries now c.number.result s None c.number.ensures c.swap_remove.ensures.updates.0 in
+    let a = c.self.inside in let s = c.args.session in let rows = c.args.self.now in let most = deque_capacity a.to_sweep in let now = c.take_out.new.map.entries in
+    let taken : IsChanged a.seats.entries now s None = c.take_out.ensures.others in
     kept_set a.seats.entries a.opened rows c.self.view_is now s None taken a.held a.to_sweep.items most c.self.invariant.opened c.requires.seated
     (given_counted rows a.held a.to_sweep.items most (seats_counted a.seats.entries a.opened rows c.self.view_is a.held a.to_sweep.items most c.self.invariant) s c.requires.seated c.requires.gone)
 
 pub returns : goal.returns
 returns c =
-    let a = c.self.inside in let s = c.args.session in let now = c.swap_remove.new.self.entries in
-    let taken : IsChanged a.seats.entries now s None = changed_at a.seats.entries now c.number.result s None c.number.ensures c.swap_remove.ensures.updates.0 in
+    let a = c.self.inside in let s = c.args.session in let now = c.take_out.new.map.entries in
+    let taken : IsChanged a.seats.entries now s None = c.take_out.ensures.others in
     seats_set a.seats.entries a.opened c.args.self.now c.self.view_is now s None taken c.requires.seated
