@@ -53,13 +53,21 @@ changed_at kept now k t w e c = subst (λ (j : ℕ). IsChanged kept now j w) e c
 -- ---- an entry by its place
 
 -- a key that is found by a number is that number
-key_is : {X : Type 0} (kept : List (ℕ × X)) (n k : ℕ) → lookup_key (nat_eq n) kept ≡ Some k → n ≡ k
-key_is [] n k e = absurd (let f : ◌≡◌ {A = Option ℕ} None (Some k) = e in cc)
+key_is : {X : Type 0} (kept : List (ℕ × X)) (n k : ℕ) → Some k ≡ lookup_key (nat_eq n) kept → k ≡ n
+key_is [] n k e = absurd (let f : ◌≡◌ {A = Option ℕ} (Some k) None = e in cc)
 key_is (x ∷ kept) n k e =
     elim (eqb_tells n x.0) [
-      | inl same ↦ let f : Some x.0 ≡ Some k = sym (ap (λ b. cond b (Some x.0) (lookup_key (nat_eq n) kept)) same.0) ∙ e in let g : x.0 ≡ k = cc in same.1 ∙ g
-      | inr other ↦ key_is kept n k (sym (ap (λ b. cond b (Some x.0) (lookup_key (nat_eq n) kept)) other.0) ∙ e)
+      | inl same ↦ let f : Some k ≡ Some x.0 = e ∙ ap (λ b. cond b (Some x.0) (lookup_key (nat_eq n) kept)) same.0 in let g : k ≡ x.0 = cc in g ∙ sym same.1
+      | inr other ↦ key_is kept n k (e ∙ ap (λ b. cond b (Some x.0) (lookup_key (nat_eq n) kept)) other.0)
     ]
+
+-- an entry that a look-up by place finds, and one that a look-up by number finds
+module _ {X : Type 0} (kept : List (ℕ × X)) (s i k : ℕ) (x : X) where
+  pub place_read : Some (k, x) ≡ slice_get kept i → lookup (nat_eq k) kept ≡ Some x → k ≡ s → IsPlace kept s i
+  place_read entry found same = record { value = x; entry = sym entry ∙ ap (λ (n : ℕ). Some (n, x)) same; found = subst (λ (n : ℕ). lookup (nat_eq n) kept ≡ Some x) same found }
+
+  pub place_hashed : (n : ℕ) → slice_get kept i ≡ Some (k, x) → Some x ≡ lookup (nat_eq n) kept → Some k ≡ lookup_key (nat_eq n) kept → n ≡ s → IsPlace kept s i
+  place_hashed n entry found key same = let e : k ≡ n = key_is kept n k key in place_read (sym entry) (ap (λ (j : ℕ). lookup (nat_eq j) kept) e ∙ sym found) (e ∙ same)
 
 -- something stands there
 pub place_missed : {X : Type 0} (kept : List (ℕ × X)) (s i : ℕ) → IsPlace kept s i → None ≡ slice_get (values_of kept) i → ⊥

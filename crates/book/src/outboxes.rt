@@ -28,12 +28,13 @@ pub(crate) struct Outboxes<O: Outbox> {
 }
 
 impl<O: Outbox> Model for Outboxes<O> {
+    ghost use Rattle.std.specs.Prelude.{min};
     ghost use Rattle.indexmap.specs.IndexMap.{spare};
     ghost use Rattle.book.specs.Seats.{Boxes, AreBoxes, boxes_of};
 
     ghost Value = { Boxes O };
 
-    ghost view = { λ a. record { boxes = boxes_of a.outboxes.entries a.opened; room = spare a.outboxes } };
+    ghost view = { λ a. record { boxes = boxes_of a.outboxes.entries a.opened; room = min (spare a.outboxes) a.places } };
 
     ghost invariant = { λ a. AreBoxes a.outboxes.entries a.opened };
 }
@@ -82,7 +83,7 @@ impl<O: Outbox> Outboxes<O> {
         ensures { self.new.boxes ≡ self.old.boxes ++ Some outbox ∷ [] }
     {
         let number = session.number();
-        self.places.open(self.outboxes.len());
+        self.places.open(session, self.outboxes.len());
         let _ = self.outboxes.insert(number, Counting::new(outbox)).unwrap();
         self.opened = number;
     }

@@ -1,22 +1,26 @@
-//! Where the entry of each session stands in a map, so that a look-up needs no hash.
-ghost use Rattle.std.specs.Prelude.{◌≡◌, ◌+◌, ℕ, cond, nat_eq, length, is_some, if◌then◌else◌, None, Some, IfSome, option_copied};
+//! Where the entry of each session is in a map, so that a look-up needs no hash.
+ghost use Rattle.std.specs.Prelude.{◌≡◌, ◌+◌, ◌<◌, ℕ, cond, nat_eq, length, is_some, if◌then◌else◌, None, Some, IfSome, OnOk, option_copied};
 ghost use Rattle.std.specs.Map.{lookup};
 ghost use Rattle.book.specs.Seats.{IsPlace};
 
 use chronicle::SessionId;
 use indexmap::IndexMap;
 use std::alloc::{AllocError, Global};
+use std::marker::Model;
 
-/// Where the entry of each session that was opened was put last, by their numbers. It may be another's by now, so clauses know no
-/// place. Each takes two octets.
+/// Where the entry of each session that was opened was put last, by their numbers. Each takes four octets. Clauses see no place,
+/// since it may be another's by now, but for how many more there is room.
 #[derive(Drop)]
 pub(crate) struct Places {
-    places: Vec<u16>,
+    places: Vec<u32>,
 }
 
-/// A place as it is kept. Beyond 65,535 it is kept wrong, and the entry is looked up by hash.
-fn kept(place: usize) -> u16 {
-    u16::try_from(place).unwrap_or(u16::MAX)
+impl Model for Places {
+    ghost use Rattle.std.specs.Prelude.{◌-◌, ℕ, vec_len, vec_capacity};
+
+    ghost Value = { ℕ };
+
+    ghost view = { λ a. vec_capacity a.places - vec_len a.places };
 }
 
 impl Places {
@@ -27,46 +31,56 @@ impl Places {
         }
     }
 
-    /// Makes room for one session more.
-    pub(crate) fn make_room(&mut self) -> Result<(), AllocError> {
+    /// Makes room for one more.
+    pub(crate) fn make_room(&mut self) -> Result<(), AllocError>
+        ensures { OnOk result (0 < self.new) }
+    {
         self.places.reserve(1)
     }
 
-    /// The next session is opened, and its entry put at a place. With the room that was made it takes no memory.
-    pub(crate) fn open(&mut self, place: usize) {
-        let _ = self.places.push(kept(place));
+    /// The next session is opened, and its entry was put at a place. It takes no memory.
+    pub(crate) fn open(&mut self, session: SessionId, place: usize)
+        requires { 0 < self.old }
+    {
+        self.places.push_reserved(0);
+        self.put(session, place);
     }
 
-    /// The entry of a session was put at a place.
-    fn put(&mut self, number: u64, place: usize) {
-        if number == 0 {
+    /// The entry of a session was put at a place, which is kept if the session was opened and the place is below 2 ^ 32.
+    fn put(&mut self, session: SessionId, place: usize) {
+        let number = session.number();
+        if number == 0 || place > u32::MAX as usize {
             return;
         }
         if let Some(last) = self.places.get_mut(number as usize - 1) {
-            *last = kept(place);
+            *last = place as u32;
         }
     }
 
-    /// Where the entry of a session was put last.
-    fn last(&self, number: u64) -> usize {
+    /// Where the entry of a session was put last. It may be another's by now.
+    fn last(&self, session: SessionId) -> usize {
+        let number = session.number();
         if number == 0 {
             return 0;
         }
         match self.places.get(number as usize - 1) {
-            Some(place) => usize::from(*place),
+            Some(place) => *place as usize,
             None => 0,
         }
     }
 }
 
-/// The place at which a session's entry was put last, if it is still there.
+/// The place at which the entry of a session was put last, if it is still there.
 fn last_place_in<V>(map: &IndexMap<u64, V>, places: &Places, session: SessionId) -> Option<usize>
     ensures { IfSome result (IsPlace map.now.entries session) }
 {
-    let number = session.number();
-    let place = places.last(number);
-    let (key, _) = map.get_index(place)?;
-    if *key == number { Some(place) } else { None }
+    let place = places.last(session);
+    let (number, _) = map.get_index(place)?;
+    if *number == session.number() {
+        Some(place)
+    } else {
+        None
+    }
 }
 
 /// The place of a session's entry: where it was put last, if it is still there, and else by its number.
@@ -89,15 +103,15 @@ pub(crate) fn place_in<V>(
 fn entry_at<V>(map: &IndexMap<u64, V>, place: usize, session: SessionId) -> Option<&V>
     ensures { IfSome result (λ v. lookup (nat_eq session) map.now.entries ≡ Some v.now) }
 {
-    let (key, value) = map.get_index(place)?;
-    if *key == session.number() {
+    let (number, value) = map.get_index(place)?;
+    if *number == session.number() {
         Some(value)
     } else {
         None
     }
 }
 
-/// The entry of a session.
+/// The entry of a session: where it was put last, if it is still there, and else by its number.
 pub(crate) fn find_in<'a, V>(
     map: &'a IndexMap<u64, V>,
     places: &Places,
@@ -105,7 +119,7 @@ pub(crate) fn find_in<'a, V>(
 ) -> Option<&'a V>
     ensures { option_copied result ≡ lookup (nat_eq session) map.now.entries }
 {
-    match entry_at(map, places.last(session.number()), session) {
+    match entry_at(map, places.last(session), session) {
         Some(value) => Some(value),
         None => map.get(&session.number()),
     }
@@ -118,7 +132,7 @@ pub(crate) fn is_in<V>(map: &IndexMap<u64, V>, places: &Places, session: Session
     find_in(map, places, session).is_some()
 }
 
-/// Takes the entry of a session out. The last takes its place, and its session is told so.
+/// Takes the entry of a session out. The last takes its place: its session is told so.
 pub(crate) fn take_out<V>(
     map: &mut IndexMap<u64, V>,
     places: &mut Places,
@@ -129,8 +143,8 @@ pub(crate) fn take_out<V>(
     ensures count { length map.new.entries + (if is_some result then 1 else 0) ≡ length map.old.entries }
 {
     let (place, _, value) = map.swap_remove_full(&session.number())?;
-    if let Some((moved, _)) = map.get_index(place) {
-        places.put(*moved, place);
+    if let Some((number, _)) = map.get_index(place) {
+        places.put(SessionId::new(*number), place);
     }
     Some(value)
 }

@@ -135,7 +135,7 @@ impl Seats {
             gone: false,
             accepted: 0,
         };
-        self.places.open(self.seats.len());
+        self.places.open(session, self.seats.len());
         let _ = self.seats.insert(number, seat).unwrap();
         self.opened = number;
         self.held += 2;
