@@ -1,5 +1,5 @@
 -- What stands in a map by the numbers of sessions, as a list of the first n.
-use Rattle.std.proofs.lemmas.List.{map-append, length-map}
+use Rattle.std.proofs.lemmas.List.{map-append, length-map, set-get_or}
 use Rattle.std.proofs.lemmas.Bool.Decides.{eqb_tells, nat_tests}
 use Rattle.std.proofs.Common.{◌≡◌, ◌≢◌, inl, inr, ℕ, zero, suc, ◌+◌, ◌-◌, ◌<◌, ◌≤◌, Bool, true, false, not, ◌&&◌, cond, nat_eq, nat_lt, nat_le, List, [], ◌∷◌, ◌++◌, map, length, slice_get, slice_set, slice_index_or, Option, Some, None, IsSome, Result, Ok, Err, is_ok, arith, refl, sym, ap, ◌∙◌, subst, eq-eqb, ne_eqb}
 use Rattle.std.specs.Option.{is_some}
@@ -284,6 +284,10 @@ module _ {O : Type 0} (kept : List (ℕ × O)) (n : ℕ) (boxes : List (Option O
   box_put now t v i there c same =
       let from = there.from_1 in let to = there.opened in let l : t - 1 < length boxes = omega arith in
       boxes_still now t (Some v) c i there (same ∙ boxes_count i ∙ sym (count_same boxes (t - 1) v l there.here))
+
+  -- what stood there was written again
+  pub box_same : (now : List (ℕ × O)) (t : ℕ) (v : O) → IsThere boxes t → IsChanged kept now t (Some v) → box_at boxes t ≡ Some v → boxes_of now n ≡ boxes
+  box_same now t v there c at = boxes_set now t (Some v) c there ∙ ap (λ o. slice_set boxes (t - 1) o) (sym at) ∙ set-get_or boxes (t - 1) None
 
   pub box_gone : (now : List (ℕ × O)) (t : ℕ) → AreBoxes kept n → IsThere boxes t → IsChanged kept now t None → length now + 1 ≡ length kept → AreBoxes now n
   box_gone now t i there c less =

@@ -3,7 +3,7 @@ use Rattle.std.specs.Prelude.{IfSome}
 use Rattle.indexmap.specs.IndexMap.{with_value_at}
 use Rattle.book.specs.Seats.{MayFollow}
 use Rattle.indexmap.proofs.CallerLemmas.{index_map_len-with_value_at}
-use Rattle.book.proofs.Mapped.{changed_at, on_ok, if_err, place_found, place_missed, place_changed, box_missed, box_found, box_put, boxes_set}
+use Rattle.book.proofs.Mapped.{IsChanged, changed_at, place_found, place_missed, place_changed, box_missed, box_found, box_put, box_same, boxes_set}
 use Rattle.book.proofs.outboxes.Outboxes.offer.Goals as goal
 
 pub unreachable-requires-in_default-get_index_mut : goal.unreachable-requires-in_default-get_index_mut
@@ -56,3 +56,11 @@ returns-clause-fault over c =
       here = box_found a.outboxes.entries a.opened c.args.self.now.boxes (ap (λ m. m.boxes) c.self.view_is) c.session.result t c.in-Some-get_index_mut.outbox.now c.session.ensures c.requires.there (place_found a.outboxes c.session.result c.in-Some.place c.in-Some.ensures.there c.in-Some-get_index_mut.outbox.now c.in-Some-get_index_mut.ensures.value);
       refused = e.1;
     }
+
+pub returns-clause-same : goal.returns-clause-same
+returns-clause-same over c =
+    let a = c.self.inside in let t = c.args.item.session in let x = c.in-Some-get_index_mut.outbox.now in
+    let view = ap (λ m. m.boxes) c.self.view_is in let there = c.in-Some.ensures.there in let read = c.in-Some-get_index_mut.ensures.value in let unique = c.in-Some-get_index_mut.ensures.unique in
+    let at = box_found a.outboxes.entries a.opened c.args.self.now.boxes view c.session.result t x c.session.ensures c.requires.there (place_found a.outboxes c.session.result c.in-Some.place there x read) in
+    λ no. let written = subst (λ v. IsChanged a.outboxes.entries (with_value_at a.outboxes c.in-Some.place c.put.new.self).entries c.session.result (Some v)) (c.put.ensures.same no) (place_changed a.outboxes c.session.result c.in-Some.place there x read c.put.new.self unique) in
+    box_same a.outboxes.entries a.opened c.args.self.now.boxes view (with_value_at a.outboxes c.in-Some.place c.put.new.self).entries t x c.requires.there (changed_at a.outboxes.entries (with_value_at a.outboxes c.in-Some.place c.put.new.self).entries c.session.result t (Some x) c.session.ensures written) at
