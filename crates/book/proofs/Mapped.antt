@@ -169,40 +169,39 @@ module _ (kept : List (ℕ × Seat)) (n : ℕ) (rows : List Seat) (view : seats_
       sym (ap (λ r. seat_at r t) view) ∙ seen_at or_away kept no_seat n t from (omega arith)
 
   -- a session's seat was found
-  pub seat_found : (k t : ℕ) (x : Seat) → k ≡ t → AreOpened kept n → Some x ≡ lookup (nat_eq k) kept → IsSeated rows t × (x ≡ seat_at rows t)
-  seat_found k t x e opened found =
-      let at : Some x ≡ lookup (nat_eq t) kept = found ∙ ap (λ (j : ℕ). lookup (nat_eq j) kept) e in
-      let many = seats_many in let is = opened t (ap is_some (sym at)) in let to = is.1 in
+  pub seat_found : (t : ℕ) (x : Seat) → AreOpened kept n → Some x ≡ lookup (nat_eq t) kept → IsSeated rows t × (x ≡ seat_at rows t)
+  seat_found t x opened found =
+      let many = seats_many in let is = opened t (ap is_some (sym found)) in let to = is.1 in
       let seated : IsSeated rows t = record { from_1 = is.0; opened = (omega arith) } in
-      (seated, ap or_away at ∙ sym (seat_is t seated))
+      (seated, ap or_away found ∙ sym (seat_is t seated))
 
   -- it wasn't
-  pub seat_missed : (k t : ℕ) → k ≡ t → None ≡ lookup (nat_eq k) kept → IsSeated rows t → seat_at rows t ≡ away
-  seat_missed k t e missed seated = seat_is t seated ∙ sym (ap or_away (missed ∙ ap (λ (j : ℕ). lookup (nat_eq j) kept) e))
+  pub seat_missed : (t : ℕ) → None ≡ lookup (nat_eq t) kept → IsSeated rows t → seat_at rows t ≡ away
+  seat_missed t missed seated = seat_is t seated ∙ sym (ap or_away missed)
 
   -- so it isn't where the session has one
-  pub seat_stands : (k t : ℕ) → k ≡ t → IsSeated rows t → stands (seat_at rows t) ≡ true → None ≡ lookup (nat_eq k) kept → ⊥
-  seat_stands k t e seated is missed = let f : false ≡ true = ap stands (sym (seat_missed k t e missed seated)) ∙ is in cc
+  pub seat_stands : (t : ℕ) → IsSeated rows t → stands (seat_at rows t) ≡ true → None ≡ lookup (nat_eq t) kept → ⊥
+  seat_stands t seated is missed = let f : false ≡ true = ap stands (sym (seat_missed t missed seated)) ∙ is in cc
 
   -- nor where it isn't gone
-  pub seat_stays : (k t : ℕ) → k ≡ t → IsSeated rows t → (seat_at rows t).gone ≡ false → None ≡ lookup (nat_eq k) kept → ⊥
-  seat_stays k t e seated is missed = let f : true ≡ false = ap (λ (s : Seat). s.gone) (sym (seat_missed k t e missed seated)) ∙ is in cc
+  pub seat_stays : (t : ℕ) → IsSeated rows t → (seat_at rows t).gone ≡ false → None ≡ lookup (nat_eq t) kept → ⊥
+  seat_stays t seated is missed = let f : true ≡ false = ap (λ (s : Seat). s.gone) (sym (seat_missed t missed seated)) ∙ is in cc
 
-  pub hears_found : (k t : ℕ) (x : Seat) → k ≡ t → AreOpened kept n → Some x ≡ lookup (nat_eq k) kept → not x.shut ≡ hears rows t
-  hears_found k t x e opened found =
-      let is = seat_found k t x e opened found in let from = is.0.from_1 in let to = is.0.opened in
+  pub hears_found : (t : ℕ) (x : Seat) → AreOpened kept n → Some x ≡ lookup (nat_eq t) kept → not x.shut ≡ hears rows t
+  hears_found t x opened found =
+      let is = seat_found t x opened found in let from = is.0.from_1 in let to = is.0.opened in
       let above : nat_lt 0 t ≡ true = grind (arith, nat_tests) in let below : nat_le t (length rows) ≡ true = grind (arith, nat_tests) in
       rw (above, below) (ap (λ (s : Seat). not s.shut) is.1)
 
-  pub hears_missed : (k t : ℕ) → k ≡ t → None ≡ lookup (nat_eq k) kept → false ≡ hears rows t
-  hears_missed k t e missed = by (nat_lt 0 t) (nat_le t (length rows)) refl refl
+  pub hears_missed : (t : ℕ) → None ≡ lookup (nat_eq t) kept → false ≡ hears rows t
+  hears_missed t missed = by (nat_lt 0 t) (nat_le t (length rows)) refl refl
     where
       by : (a b : Bool) → nat_lt 0 t ≡ a → nat_le t (length rows) ≡ b → false ≡ (a && b && not (seat_at rows t).shut)
       by false b above below = refl
       by true false above below = refl
       by true true above below =
           let from : 0 < t = grind (arith, nat_tests) in let to : t ≤ length rows = grind (arith, nat_tests) in
-          ap (λ (s : Seat). not s.shut) (sym (seat_missed k t e missed (record { from_1 = from; opened = to })))
+          ap (λ (s : Seat). not s.shut) (sym (seat_missed t missed (record { from_1 = from; opened = to })))
 
   pub seats_counted : (held : ℕ) (to_sweep : List ℕ) (most : ℕ) → AreSeats kept n held to_sweep most → IsCounted rows held to_sweep most
   seats_counted held to_sweep most i = subst (λ (r : List Seat). IsCounted r held to_sweep most) view i.counted

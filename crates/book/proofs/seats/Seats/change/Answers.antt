@@ -14,12 +14,12 @@ unreachable-requires-in_default-get_index_mut c = place_missed c.self.inside.sea
 pub unreachable-requires : goal.unreachable-requires
 unreachable-requires c =
     let a = c.self.inside in
-    seat_stands a.seats.entries a.opened c.args.self.now c.self.view_is c.args.session c.args.session refl c.requires.seated c.requires.stands (sym (c.in_default.ensures.absent refl))
+    seat_stands a.seats.entries a.opened c.args.self.now c.self.view_is c.args.session c.requires.seated c.requires.stands (sym (c.in_default.ensures.absent refl))
 
 pub overflow_sub-self : goal.overflow_sub-self
 overflow_sub-self c =
     let a = c.self.inside in let s = c.args.session in let x = c.in-Some-get_index_mut.seat.now in let rows = c.args.self.now in let most = deque_capacity a.to_sweep in
-    let is = seat_found a.seats.entries a.opened rows c.self.view_is s s x refl c.self.invariant.opened (place_found a.seats s c.in-Some.place c.in-Some.ensures.there x c.in-Some-get_index_mut.ensures.value) in
+    let is = seat_found a.seats.entries a.opened rows c.self.view_is s x c.self.invariant.opened (place_found a.seats s c.in-Some.place c.in-Some.ensures.there x c.in-Some-get_index_mut.ensures.value) in
     let e = ends_says c.args.shut x.shut x.gone (sym c.ends-is_end.ensures ∙ c.if-not-is_end.false) in
     shut_kept rows a.held a.to_sweep.items most (seats_counted a.seats.entries a.opened rows c.self.view_is a.held a.to_sweep.items most c.self.invariant) s x is.0.from_1 is.0.opened is.1 e.1 e.2
 
@@ -31,14 +31,14 @@ add_in_order-requires-clause-order c =
 pub add_in_order-requires-clause-absent : goal.add_in_order-requires-clause-absent
 add_in_order-requires-clause-absent c =
     let a = c.self.inside in let s = c.args.session in let x = c.in-Some-get_index_mut.seat.now in let rows = c.args.self.now in let most = deque_capacity a.to_sweep in
-    let is = seat_found a.seats.entries a.opened rows c.self.view_is s s x refl c.self.invariant.opened (place_found a.seats s c.in-Some.place c.in-Some.ensures.there x c.in-Some-get_index_mut.ensures.value) in
+    let is = seat_found a.seats.entries a.opened rows c.self.view_is s x c.self.invariant.opened (place_found a.seats s c.in-Some.place c.in-Some.ensures.there x c.in-Some-get_index_mut.ensures.value) in
     let e = ends_says c.args.shut x.shut x.gone (sym c.ends-is_end.ensures ∙ c.if-not-is_end.false) in
     λ i l at. list_absent rows a.held a.to_sweep.items most (seats_counted a.seats.entries a.opened rows c.self.view_is a.held a.to_sweep.items most c.self.invariant) s x is.1 e.1 e.2 i l (at ∙ c.number-number.ensures)
 
 pub add_in_order-requires-clause-room : goal.add_in_order-requires-clause-room
 add_in_order-requires-clause-room c =
     let a = c.self.inside in let s = c.args.session in let x = c.in-Some-get_index_mut.seat.now in let rows = c.args.self.now in let most = deque_capacity a.to_sweep in
-    let is = seat_found a.seats.entries a.opened rows c.self.view_is s s x refl c.self.invariant.opened (place_found a.seats s c.in-Some.place c.in-Some.ensures.there x c.in-Some-get_index_mut.ensures.value) in
+    let is = seat_found a.seats.entries a.opened rows c.self.view_is s x c.self.invariant.opened (place_found a.seats s c.in-Some.place c.in-Some.ensures.there x c.in-Some-get_index_mut.ensures.value) in
     let e = ends_says c.args.shut x.shut x.gone (sym c.ends-is_end.ensures ∙ c.if-not-is_end.false) in
     shut_room rows a.held a.to_sweep.items most (seats_counted a.seats.entries a.opened rows c.self.view_is a.held a.to_sweep.items most c.self.invariant) s x is.0.from_1 is.0.opened is.1 e.1 e.2
 
@@ -46,7 +46,7 @@ pub invariant_of-self : goal.invariant_of-self
 invariant_of-self c =
     let a = c.self.inside in let s = c.args.session in let x = c.in-Some-get_index_mut.seat.now in let rows = c.args.self.now in let most = deque_capacity a.to_sweep in
     let w : Seat = record { shut = c.args.shut; gone = x.gone; accepted = c.args.accepted } in let now = (with_value_at a.seats c.in-Some.place w).entries in
-    let is = seat_found a.seats.entries a.opened rows c.self.view_is s s x refl c.self.invariant.opened (place_found a.seats s c.in-Some.place c.in-Some.ensures.there x c.in-Some-get_index_mut.ensures.value) in
+    let is = seat_found a.seats.entries a.opened rows c.self.view_is s x c.self.invariant.opened (place_found a.seats s c.in-Some.place c.in-Some.ensures.there x c.in-Some-get_index_mut.ensures.value) in
     let written : IsChanged a.seats.entries now s (Some w) =
     place_changed a.seats s c.in-Some.place c.in-Some.ensures.there x c.in-Some-get_index_mut.ensures.value w c.in-Some-get_index_mut.ensures.unique in
     let same = ends_not c.args.shut x.shut x.gone (sym c.ends-is_end.ensures ∙ c.if-not-is_end.true) (λ e. c.requires.stays (ap (λ (y : Seat). y.shut) (sym is.1) ∙ e)) in
@@ -57,7 +57,7 @@ pub returns-then-not-is_end : goal.returns-then-not-is_end
 returns-then-not-is_end c =
     let a = c.self.inside in let s = c.args.session in let x = c.in-Some-get_index_mut.seat.now in let rows = c.args.self.now in
     let w : Seat = record { shut = c.args.shut; gone = x.gone; accepted = c.args.accepted } in let now = (with_value_at a.seats c.in-Some.place w).entries in
-    let is = seat_found a.seats.entries a.opened rows c.self.view_is s s x refl c.self.invariant.opened (place_found a.seats s c.in-Some.place c.in-Some.ensures.there x c.in-Some-get_index_mut.ensures.value) in
+    let is = seat_found a.seats.entries a.opened rows c.self.view_is s x c.self.invariant.opened (place_found a.seats s c.in-Some.place c.in-Some.ensures.there x c.in-Some-get_index_mut.ensures.value) in
     let written : IsChanged a.seats.entries now s (Some w) =
     place_changed a.seats s c.in-Some.place c.in-Some.ensures.there x c.in-Some-get_index_mut.ensures.value w c.in-Some-get_index_mut.ensures.unique in
     seats_set a.seats.entries a.opened rows c.self.view_is now s (Some w) written is.0
@@ -67,7 +67,7 @@ pub invariant_of-self-2 : goal.invariant_of-self-2
 invariant_of-self-2 c =
     let a = c.self.inside in let s = c.args.session in let x = c.in-Some-get_index_mut.seat.now in let rows = c.args.self.now in let most = deque_capacity a.to_sweep in
     let w : Seat = record { shut = c.args.shut; gone = x.gone; accepted = c.args.accepted } in let now = (with_value_at a.seats c.in-Some.place w).entries in
-    let is = seat_found a.seats.entries a.opened rows c.self.view_is s s x refl c.self.invariant.opened (place_found a.seats s c.in-Some.place c.in-Some.ensures.there x c.in-Some-get_index_mut.ensures.value) in
+    let is = seat_found a.seats.entries a.opened rows c.self.view_is s x c.self.invariant.opened (place_found a.seats s c.in-Some.place c.in-Some.ensures.there x c.in-Some-get_index_mut.ensures.value) in
     let written : IsChanged a.seats.entries now s (Some w) =
     place_changed a.seats s c.in-Some.place c.in-Some.ensures.there x c.in-Some-get_index_mut.ensures.value w c.in-Some-get_index_mut.ensures.unique in
     let e = ends_says c.args.shut x.shut x.gone (sym c.ends-is_end.ensures ∙ c.if-not-is_end.false) in
@@ -80,7 +80,7 @@ pub returns : goal.returns
 returns c =
     let a = c.self.inside in let s = c.args.session in let x = c.in-Some-get_index_mut.seat.now in let rows = c.args.self.now in
     let w : Seat = record { shut = c.args.shut; gone = x.gone; accepted = c.args.accepted } in let now = (with_value_at a.seats c.in-Some.place w).entries in
-    let is = seat_found a.seats.entries a.opened rows c.self.view_is s s x refl c.self.invariant.opened (place_found a.seats s c.in-Some.place c.in-Some.ensures.there x c.in-Some-get_index_mut.ensures.value) in
+    let is = seat_found a.seats.entries a.opened rows c.self.view_is s x c.self.invariant.opened (place_found a.seats s c.in-Some.place c.in-Some.ensures.there x c.in-Some-get_index_mut.ensures.value) in
     let written : IsChanged a.seats.entries now s (Some w) =
     place_changed a.seats s c.in-Some.place c.in-Some.ensures.there x c.in-Some-get_index_mut.ensures.value w c.in-Some-get_index_mut.ensures.unique in
     seats_set a.seats.entries a.opened rows c.self.view_is now s (Some w) written is.0

@@ -13,7 +13,7 @@ unreachable-requires-in_default-get_index_mut c = place_missed c.self.inside.sea
 pub unreachable-requires : goal.unreachable-requires
 unreachable-requires c =
     let a = c.self.inside in let it = next_seat c.args.self.now c.args.session c.requires.next in let seated : IsSeated c.args.self.now c.args.session = record { from_1 = it.0; opened = it.1 } in
-    seat_stays a.seats.entries a.opened c.args.self.now c.self.view_is c.args.session c.args.session refl seated it.3 (sym (c.in_default.ensures.absent refl))
+    seat_stays a.seats.entries a.opened c.args.self.now c.self.view_is c.args.session seated it.3 (sym (c.in_default.ensures.absent refl))
 
 pub overflow_sub-self : goal.overflow_sub-self
 overflow_sub-self c =
@@ -24,7 +24,7 @@ pub invariant_of-self : goal.invariant_of-self
 invariant_of-self c =
     let a = c.self.inside in let s = c.args.session in let x = c.in-Some-get_index_mut.seat.now in let rows = c.args.self.now in let most = deque_capacity a.to_sweep in let it = next_seat rows s c.requires.next in
     let w : Seat = record { shut = x.shut; gone = true; accepted = x.accepted } in let now = (with_value_at a.seats c.in-Some.place w).entries in
-    let is = seat_found a.seats.entries a.opened rows c.self.view_is s s x refl c.self.invariant.opened (place_found a.seats s c.in-Some.place c.in-Some.ensures.there x c.in-Some-get_index_mut.ensures.value) in
+    let is = seat_found a.seats.entries a.opened rows c.self.view_is s x c.self.invariant.opened (place_found a.seats s c.in-Some.place c.in-Some.ensures.there x c.in-Some-get_index_mut.ensures.value) in
     let written : IsChanged a.seats.entries now s (Some w) =
     place_changed a.seats s c.in-Some.place c.in-Some.ensures.there x c.in-Some-get_index_mut.ensures.value w c.in-Some-get_index_mut.ensures.unique in
     subst (λ (m : ℕ). AreSeats now a.opened (a.held - 1) c.pop_front.new.self.items m) (sym c.pop_front.ensures.capacity)
@@ -36,7 +36,7 @@ pub returns : goal.returns
 returns c =
     let a = c.self.inside in let s = c.args.session in let x = c.in-Some-get_index_mut.seat.now in let rows = c.args.self.now in
     let w : Seat = record { shut = x.shut; gone = true; accepted = x.accepted } in let now = (with_value_at a.seats c.in-Some.place w).entries in
-    let is = seat_found a.seats.entries a.opened rows c.self.view_is s s x refl c.self.invariant.opened (place_found a.seats s c.in-Some.place c.in-Some.ensures.there x c.in-Some-get_index_mut.ensures.value) in
+    let is = seat_found a.seats.entries a.opened rows c.self.view_is s x c.self.invariant.opened (place_found a.seats s c.in-Some.place c.in-Some.ensures.there x c.in-Some-get_index_mut.ensures.value) in
     let written : IsChanged a.seats.entries now s (Some w) =
     place_changed a.seats s c.in-Some.place c.in-Some.ensures.there x c.in-Some-get_index_mut.ensures.value w c.in-Some-get_index_mut.ensures.unique in
     seats_set a.seats.entries a.opened rows c.self.view_is now s (Some w) written is.0
