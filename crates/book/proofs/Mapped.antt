@@ -61,13 +61,14 @@ key_is (x ∷ kept) n k e =
       | inr other ↦ key_is kept n k (e ∙ ap (λ b. cond b (Some x.0) (lookup_key (nat_eq n) kept)) other.0)
     ]
 
--- an entry that a look-up by place finds, and one that a look-up by number finds
-module _ {X : Type 0} (kept : List (ℕ × X)) (s i k : ℕ) (x : X) where
-  pub place_read : Some (k, x) ≡ slice_get kept i → lookup (nat_eq k) kept ≡ Some x → k ≡ s → IsPlace kept s i
-  place_read entry found same = record { value = x; entry = sym entry ∙ ap (λ (n : ℕ). Some (n, x)) same; found = subst (λ (n : ℕ). lookup (nat_eq n) kept ≡ Some x) same found }
-
-  pub place_hashed : (n : ℕ) → slice_get kept i ≡ Some (k, x) → Some x ≡ lookup (nat_eq n) kept → Some k ≡ lookup_key (nat_eq n) kept → n ≡ s → IsPlace kept s i
-  place_hashed n entry found key same = let e : k ≡ n = key_is kept n k key in place_read (sym entry) (ap (λ (j : ℕ). lookup (nat_eq j) kept) e ∙ sym found) (e ∙ same)
+-- a look-up by number finds an entry at its place
+pub place_hashed : {X : Type 0} (kept : List (ℕ × X)) (s n i k : ℕ) (x : X) → n ≡ s → slice_get kept i ≡ Some (k, x) → Some x ≡ lookup (nat_eq n) kept → Some k ≡ lookup_key (nat_eq n) kept → IsPlace kept s i
+place_hashed kept s n i k x same entry found key =
+    record {
+      value = x;
+      entry = entry ∙ ap (λ (j : ℕ). Some (j, x)) (key_is kept n k key ∙ same);
+      found = subst (λ (j : ℕ). lookup (nat_eq j) kept ≡ Some x) same (sym found);
+    }
 
 -- something stands there
 pub place_missed : {X : Type 0} (kept : List (ℕ × X)) (s i : ℕ) → IsPlace kept s i → None ≡ slice_get (values_of kept) i → ⊥

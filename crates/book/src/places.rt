@@ -1,5 +1,5 @@
 //! Where the entry of each session is in a map, so that a look-up needs no hash.
-ghost use Rattle.std.specs.Prelude.{◌≡◌, ◌+◌, ◌<◌, ℕ, cond, nat_eq, length, is_some, if◌then◌else◌, None, Some, IfSome, OnOk, option_copied};
+ghost use Rattle.std.specs.Prelude.{◌≡◌, ◌+◌, ◌<◌, ℕ, cond, nat_eq, length, slice_get, is_some, if◌then◌else◌, None, Some, IfSome, OnOk, option_copied};
 ghost use Rattle.std.specs.Map.{lookup};
 ghost use Rattle.book.specs.Seats.{IsPlace};
 
@@ -70,14 +70,14 @@ impl Places {
     }
 }
 
-/// The place at which the entry of a session was put last, if it is still there.
-fn last_place_in<V>(map: &IndexMap<u64, V>, places: &Places, session: SessionId) -> Option<usize>
-    ensures { IfSome result (IsPlace map.now.entries session) }
+/// The entry at a place, where that is a session's.
+fn entry_at<V>(map: &IndexMap<u64, V>, place: usize, session: SessionId) -> Option<&V>
+    ensures entry { IfSome result (λ v. slice_get map.now.entries place ≡ Some (session, v.now)) }
+    ensures found { IfSome result (λ v. lookup (nat_eq session) map.now.entries ≡ Some v.now) }
 {
-    let place = places.last(session);
-    let (number, _) = map.get_index(place)?;
+    let (number, value) = map.get_index(place)?;
     if *number == session.number() {
-        Some(place)
+        Some(value)
     } else {
         None
     }
@@ -92,23 +92,12 @@ pub(crate) fn place_in<V>(
     ensures there { IfSome result (IsPlace map.now.entries session) }
     ensures absent { result ≡ None → lookup (nat_eq session) map.now.entries ≡ None }
 {
-    if let Some(place) = last_place_in(map, places, session) {
+    let place = places.last(session);
+    if entry_at(map, place, session).is_some() {
         return Some(place);
     }
     let (place, _, _) = map.get_full(&session.number())?;
     Some(place)
-}
-
-/// The entry at a place, where that is a session's.
-fn entry_at<V>(map: &IndexMap<u64, V>, place: usize, session: SessionId) -> Option<&V>
-    ensures { IfSome result (λ v. lookup (nat_eq session) map.now.entries ≡ Some v.now) }
-{
-    let (number, value) = map.get_index(place)?;
-    if *number == session.number() {
-        Some(value)
-    } else {
-        None
-    }
 }
 
 /// The entry of a session: where it was put last, if it is still there, and else by its number.
