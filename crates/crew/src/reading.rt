@@ -9,7 +9,7 @@ use crate::intake::Intake;
 use crate::server::{Clock, Gate, Server, Sockets};
 use crate::shutting::hang;
 use crate::telling::tell;
-use crate::working::{Front, Until, Worked, work_by};
+use crate::working::{Until, Worked, work_by};
 use chronicle::Why;
 use hall::{Baton, Naming, Told};
 use outbox::Sender;
@@ -59,13 +59,10 @@ fn do_lines<'a, L: Naming, R: Wait + Drop, G: Gate, S: Sockets, C: Clock, B: Bac
     ensures much { is_left result.next ≡ true → B.finds_much backlog.now }
     ensures session { result.baton.session ≡ baton.session }
 {
-    let Front {
-        baton,
-        count,
-        until,
-    } = work_by(rt, server, desk, backlog, baton, intake.pieces(), told);
-    intake.advance(count);
-    let (all, next) = match until {
+    let mut baton = baton;
+    let count = work_by(rt, server, desk, backlog, &mut baton, intake.pieces(), told);
+    intake.advance(count.done);
+    let (all, next) = match count.until {
         Until::Done => (true, then),
         Until::Refused => (false, Next::Over(Why::ReadFailed)),
         Until::Much => (true, Next::Left),

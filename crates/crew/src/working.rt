@@ -56,11 +56,10 @@ pub(crate) enum Until {
     Much,
 }
 
-/// What comes back of lines of which the first were done: their baton, how many were done, and why no more.
-#[derive(Drop)]
-pub(crate) struct Front<L: Naming, R: Wait + Drop> {
-    pub(crate) baton: Baton<L, Sender<R>>,
-    pub(crate) count: usize,
+/// How many of some lines were done, and why no more.
+#[derive(Clone, Copy, Drop)]
+pub(crate) struct Count {
+    pub(crate) done: usize,
     pub(crate) until: Until,
 }
 
@@ -138,18 +137,15 @@ fn line_at<L: Naming, R: Wait + Drop>(
     baton: &mut Baton<L, Sender<R>>,
     piece: &Piece,
     moment: Moment,
-) -> Outcome
-    ensures done { OnDone result (baton.new.pieces ≡ baton.old.pieces ++ piece.now ∷ []) }
-    ensures refused { OnRefused result (baton.new ≡ baton.old) }
+) -> Result<Done, LineRefusal>
+    ensures done { OnOk result (baton.new.pieces ≡ baton.old.pieces ++ piece.now ∷ []) }
+    ensures refused { OnErr result (baton.new ≡ baton.old) }
     ensures session { baton.new.session ≡ baton.old.session }
-    ensures told { IfDone result (λ d. TellsOf d baton.new.front baton.new.session) }
-    ensures moment { OnDone result (IsAt moment baton.new.front) }
+    ensures told { IfOk result (λ d. TellsOf d baton.new.front baton.new.session) }
+    ensures moment { OnOk result (IsAt moment baton.new.front) }
 {
     let moment = later(moment, hall.last_moment());
-    match line_or_roll(hall, baton, piece, moment) {
-        Ok(done) => Outcome::Done(done),
-        Err(refusal) => Outcome::Refused(refusal),
-    }
+    line_or_roll(hall, baton, piece, moment)
 }
 
 /// Does a line in the hall, and adds who got something.
@@ -159,18 +155,18 @@ fn line_in<L: Naming, R: Wait + Drop>(
     piece: &Piece,
     moment: Moment,
     told: &mut Told,
-) -> Outcome
-    ensures done { OnDone result (baton.new.pieces ≡ baton.old.pieces ++ piece.now ∷ []) }
-    ensures refused { OnRefused result (baton.new ≡ baton.old) }
+) -> Result<Done, LineRefusal>
+    ensures done { OnOk result (baton.new.pieces ≡ baton.old.pieces ++ piece.now ∷ []) }
+    ensures refused { OnErr result (baton.new ≡ baton.old) }
     ensures session { baton.new.session ≡ baton.old.session }
-    ensures told { IfDone result (λ d. TellsOf d baton.new.front baton.new.session) }
-    ensures moment { OnDone result (IsAt moment baton.new.front) }
+    ensures told { IfOk result (λ d. TellsOf d baton.new.front baton.new.session) }
+    ensures moment { OnOk result (IsAt moment baton.new.front) }
 {
     told.begin();
     hall.swap_told(told);
-    let outcome = line_at(hall, baton, piece, moment);
+    let done = line_at(hall, baton, piece, moment);
     hall.swap_told(told);
-    outcome
+    done
 }
 
 /// Does a line, at this moment or at that of the newest record where that is later. Where the journal has no room for it, that is
@@ -196,18 +192,12 @@ pub fn work_one<L: Naming, R: Wait + Drop, G: Gate>(
     let Job { mut baton, piece } = job;
     let session = baton.session();
     gate.enter(session);
-    let outcome = line_in(&mut *lock_soon(rt, hall), &mut baton, &piece, moment, told);
+    let outcome = match line_in(&mut *lock_soon(rt, hall), &mut baton, &piece, moment, told) {
+        Ok(done) => Outcome::Done(done),
+        Err(refusal) => Outcome::Refused(refusal),
+    };
     gate.leave(session);
     Back { baton, outcome }
-}
-
-/// How many records a hall dropped that had so many, and has so many now, of which one is new where a line was done.
-fn dropped_of(before: usize, after: usize, outcome: &Outcome) -> usize {
-    let grown = match outcome {
-        Outcome::Done(_) => before.saturating_add(1),
-        Outcome::Refused(_) => before,
-    };
-    grown.saturating_sub(after)
 }
 
 /// Does a line in the hall, adds who got something, and says so where the journal was rolled for it.
@@ -218,20 +208,25 @@ fn line_told<L: Naming, R: Wait + Drop, S: Sockets>(
     piece: &Piece,
     moment: Moment,
     told: &mut Told,
-) -> Outcome
-    ensures done { OnDone result (baton.new.pieces ≡ baton.old.pieces ++ piece.now ∷ []) }
-    ensures refused { OnRefused result (baton.new ≡ baton.old) }
+) -> Result<Done, LineRefusal>
+    ensures done { OnOk result (baton.new.pieces ≡ baton.old.pieces ++ piece.now ∷ []) }
+    ensures refused { OnErr result (baton.new ≡ baton.old) }
     ensures session { baton.new.session ≡ baton.old.session }
-    ensures told { IfDone result (λ d. TellsOf d baton.new.front baton.new.session) }
-    ensures moment { OnDone result (IsAt moment baton.new.front) }
+    ensures told { IfOk result (λ d. TellsOf d baton.new.front baton.new.session) }
+    ensures moment { OnOk result (IsAt moment baton.new.front) }
 {
     let before = hall.len();
-    let outcome = line_in(hall, baton, piece, moment, told);
-    let dropped = dropped_of(before, hall.len(), &outcome);
+    let done = line_in(hall, baton, piece, moment, told);
+    let grown = if done.is_ok() {
+        before.saturating_add(1)
+    } else {
+        before
+    };
+    let dropped = grown.saturating_sub(hall.len());
     if dropped != 0 {
         sockets.rolled(dropped);
     }
-    outcome
+    done
 }
 
 /// The hall while a thread has it, from one line of a session to the next, and the slot under which it has it, where it needs one.
@@ -277,14 +272,14 @@ impl<'a, L: Naming, R: Wait + Drop> Held<'a, L, R> {
         baton: &mut Baton<L, Sender<R>>,
         piece: &Piece,
         told: &mut Told,
-    ) -> Outcome
+    ) -> Result<Done, LineRefusal>
         requires { C.shows server.now.clock.now self.old.moment }
-        ensures done { OnDone result (baton.new.pieces ≡ baton.old.pieces ++ piece.now ∷ []) }
-        ensures refused { OnRefused result (baton.new ≡ baton.old) }
+        ensures done { OnOk result (baton.new.pieces ≡ baton.old.pieces ++ piece.now ∷ []) }
+        ensures refused { OnErr result (baton.new ≡ baton.old) }
         ensures session { baton.new.session ≡ baton.old.session }
-        ensures told { IfDone result (λ d. TellsOf d baton.new.front baton.new.session) }
+        ensures told { IfOk result (λ d. TellsOf d baton.new.front baton.new.session) }
         ensures shown { C.shows server.now.clock.now self.new.moment }
-        ensures moment { OnDone result (IsAt self.new.moment baton.new.front) }
+        ensures moment { OnOk result (IsAt self.new.moment baton.new.front) }
     {
         if let Some(hall) = &mut self.hall {
             return line_told(server.sockets, &mut **hall, baton, piece, self.moment, told);
@@ -292,9 +287,9 @@ impl<'a, L: Naming, R: Wait + Drop> Held<'a, L, R> {
         server.gate.enter(baton.session());
         self.moment = server.clock.now();
         let mut hall = lock_soon(rt, server.hall);
-        let outcome = line_told(server.sockets, &mut *hall, baton, piece, self.moment, told);
+        let done = line_told(server.sockets, &mut *hall, baton, piece, self.moment, told);
         self.hall = Some(hall);
-        outcome
+        done
     }
 
     /// Gives the hall back, and the slot, where the thread has them.
@@ -355,39 +350,38 @@ impl<'a, L: Naming, R: Wait + Drop> Held<'a, L, R> {
     }
 }
 
-/// Does one piece, in the hall that is held or that it takes. Where the line shut somebody, many are to be told, or it was refused,
-/// it gives the hall and the slot back and sees to that. All says whether the piece was done.
+/// Does one piece, in the hall that is held or that it takes, and answers whether it was done. Where the line shut somebody, many are
+/// to be told, or it was refused, it gives the hall and the slot back and sees to that.
 fn work_next<'a, L: Naming, R: Wait + Drop, G: Gate, S: Sockets, C: Clock>(
     rt: &R,
     server: &Server<'a, L, R, G, S, C>,
-    baton: Baton<L, Sender<R>>,
+    baton: &mut Baton<L, Sender<R>>,
     piece: &Piece,
     told: &mut Told,
     held: &mut Held<'a, L, R>,
-) -> Worked<L, R>
+) -> bool
     requires { C.shows server.now.clock.now held.old.moment }
-    ensures done { result.all ≡ true → result.baton.pieces ≡ baton.pieces ++ piece.now ∷ [] }
-    ensures not_done { result.all ≡ false → result.baton ≡ baton }
-    ensures session { result.baton.session ≡ baton.session }
-    ensures seen_to { result.all ≡ true → IsSeenTo (C.shows server.now.clock.now) (S.shuts server.now.sockets.now) result.baton }
+    ensures done { result ≡ true → baton.new.pieces ≡ baton.old.pieces ++ piece.now ∷ [] }
+    ensures not_done { result ≡ false → baton.new ≡ baton.old }
+    ensures session { baton.new.session ≡ baton.old.session }
+    ensures seen_to { result ≡ true → IsSeenTo (C.shows server.now.clock.now) (S.shuts server.now.sockets.now) baton.new }
     ensures shown { C.shows server.now.clock.now held.new.moment }
 {
     if !held.take_slot(rt) {
-        return Worked { baton, all: false };
+        return false;
     }
-    let mut baton = baton;
     let session = baton.session();
-    match held.line(rt, server, &mut baton, piece, told) {
-        Outcome::Done(done) => {
+    match held.line(rt, server, baton, piece, told) {
+        Ok(done) => {
             let shuts = done.shut || !done.missed.as_slice().is_empty();
             held.give_back_for(rt, server, session, shuts, told);
             shut_those(server.sockets, session, &done);
-            Worked { baton, all: true }
+            true
         }
-        Outcome::Refused(refusal) => {
+        Err(refusal) => {
             held.give_back(rt, server, session);
             let _ = end_refused(rt, server, session, refusal, told);
-            Worked { baton, all: false }
+            false
         }
     }
 }
@@ -397,44 +391,38 @@ fn work_all<'a, L: Naming, R: Wait + Drop, G: Gate, S: Sockets, C: Clock, B: Bac
     rt: &R,
     server: &Server<'a, L, R, G, S, C>,
     backlog: &B,
-    baton: Baton<L, Sender<R>>,
+    baton: &mut Baton<L, Sender<R>>,
     pieces: &[Piece],
     told: &mut Told,
     held: &mut Held<'a, L, R>,
-) -> Front<L, R>
+) -> Count
     requires { C.shows server.now.clock.now held.old.moment }
-    ensures count { result.count ≤ length pieces.now }
-    ensures front { result.baton.pieces ≡ baton.pieces ++ take result.count pieces.now }
-    ensures whole { result.until ≡ Until.Done → result.count ≡ length pieces.now }
+    ensures count { result.done ≤ length pieces.now }
+    ensures front { baton.new.pieces ≡ baton.old.pieces ++ take result.done pieces.now }
+    ensures whole { result.until ≡ Until.Done → result.done ≡ length pieces.now }
     ensures much { result.until ≡ Until.Much → B.finds_much backlog.now }
-    ensures session { result.baton.session ≡ baton.session }
-    ensures newest { IsNewestSeenTo (C.shows server.now.clock.now) (S.shuts server.now.sockets.now) baton result.baton }
+    ensures session { baton.new.session ≡ baton.old.session }
+    ensures newest { IsNewestSeenTo (C.shows server.now.clock.now) (S.shuts server.now.sockets.now) baton.old baton.new }
 {
     let session = baton.session();
-    let mut baton = baton;
-    let mut count = 0;
+    let mut done = 0;
     for piece in pieces {
-        let worked = work_next(rt, server, baton, piece, told, held);
-        baton = worked.baton;
-        if !worked.all {
-            return Front {
-                baton,
-                count,
+        if !work_next(rt, server, baton, piece, told, held) {
+            return Count {
+                done,
                 until: Until::Refused,
             };
         }
-        count += 1;
+        done += 1;
         if held.finds_much(rt, server, session, backlog, told) {
-            return Front {
-                baton,
-                count,
+            return Count {
+                done,
                 until: Until::Much,
             };
         }
     }
-    Front {
-        baton,
-        count,
+    Count {
+        done,
         until: Until::Done,
     }
 }
@@ -445,22 +433,22 @@ pub(crate) fn work_by<'a, L: Naming, R: Wait + Drop, G: Gate, S: Sockets, C: Clo
     server: &Server<'a, L, R, G, S, C>,
     desk: Option<&'a Desk>,
     backlog: &B,
-    baton: Baton<L, Sender<R>>,
+    baton: &mut Baton<L, Sender<R>>,
     pieces: &[Piece],
     told: &mut Told,
-) -> Front<L, R>
-    ensures count { result.count ≤ length pieces.now }
-    ensures front { result.baton.pieces ≡ baton.pieces ++ take result.count pieces.now }
-    ensures whole { result.until ≡ Until.Done → result.count ≡ length pieces.now }
+) -> Count
+    ensures count { result.done ≤ length pieces.now }
+    ensures front { baton.new.pieces ≡ baton.old.pieces ++ take result.done pieces.now }
+    ensures whole { result.until ≡ Until.Done → result.done ≡ length pieces.now }
     ensures much { result.until ≡ Until.Much → B.finds_much backlog.now }
-    ensures session { result.baton.session ≡ baton.session }
-    ensures newest { IsNewestSeenTo (C.shows server.now.clock.now) (S.shuts server.now.sockets.now) baton result.baton }
+    ensures session { baton.new.session ≡ baton.old.session }
+    ensures newest { IsNewestSeenTo (C.shows server.now.clock.now) (S.shuts server.now.sockets.now) baton.old baton.new }
 {
     let session = baton.session();
     let mut held = Held::none(desk, server.clock.now());
-    let front = work_all(rt, server, backlog, baton, pieces, told, &mut held);
+    let count = work_all(rt, server, backlog, baton, pieces, told, &mut held);
     held.give_back(rt, server, session);
-    front
+    count
 }
 
 /// Does pieces of a session in turn, until one is refused or no slot comes, under one slot and one hold of the lock but where
@@ -485,9 +473,10 @@ pub fn work<'a, L: Naming, R: Wait + Drop, G: Gate, S: Sockets, C: Clock>(
     ensures session { result.baton.session ≡ baton.session }
     ensures newest { IsNewestSeenTo (C.shows server.now.clock.now) (S.shuts server.now.sockets.now) baton result.baton }
 {
-    let front = work_by(rt, server, Some(desk), &NoBacklog, baton, pieces, told);
+    let mut baton = baton;
+    let count = work_by(rt, server, Some(desk), &NoBacklog, &mut baton, pieces, told);
     Worked {
-        baton: front.baton,
-        all: front.until == Until::Done,
+        baton,
+        all: count.until == Until::Done,
     }
 }

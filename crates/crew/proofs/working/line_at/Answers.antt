@@ -3,7 +3,7 @@ use Rattle.crew.specs.Timing.{IsLater}
 use Rattle.crew.proofs.Moments.{at_later}
 use Rattle.crew.proofs.working.line_at.Goals as goal
 
-pub returns-in-Ok-clause-moment : goal.returns-in-Ok-clause-moment
-returns-in-Ok-clause-moment g c =
+pub returns-clause-moment : goal.returns-clause-moment
+returns-clause-moment g c =
     let later = subst (λ (m : ℤ). IsLater c.args.moment m c.later-moment.result) c.last_moment.ensures c.later-moment.ensures in
     at_later c.args.moment c.later-moment.result c.args.hall.now.history c.line_or_roll.new.baton.front later c.in-Ok.ensures.next

@@ -3,5 +3,5 @@ use Rattle.crew.proofs.working.work.Goals as goal
 
 pub returns-clause-front : goal.returns-clause-front
 returns-clause-front g c =
-    let work = c.work_by-front in
-    front_of c.args.baton.pieces work.result.baton.pieces c.args.pieces.now work.result.count work.ensures.front
+    let work = c.work_by-count in
+    front_of c.args.baton.pieces work.new.baton.pieces c.args.pieces.now work.result.done work.ensures.front
