@@ -29,12 +29,12 @@ overflow_add-newest over c =
     let few = sweep_room over.O.Outbox.sent a.journal a.roster.settings a.roster.facts a.seats a.outboxes.boxes a.plan.items a.busy c.self.invariant.kept c.args.session c.args.moment next in let some = few.0 in let seated = few.1 in let known = few.2 in let room = few.3 in
     let len : c.newest.result ≡ length a.journal.history = c.newest.ensures in omega arith
 
-pub prepare_gone-requires-clause-known : goal.prepare_gone-requires-clause-known
-prepare_gone-requires-clause-known over c =
+pub prepare_gone-requires : goal.prepare_gone-requires
+prepare_gone-requires over c =
     let a = c.self.inside in let next = subst (λ m. to_sweep m.history ≡ Some c.args.session) (sym c.self.view_is) c.requires.next in
     let limit : most a.journal.limit < 18446744073709551616 = subst (λ m. most m.limit < 18446744073709551616) (sym c.self.view_is) c.held-room.ensures.fits in
     let few = sweep_room over.O.Outbox.sent a.journal a.roster.settings a.roster.facts a.seats a.outboxes.boxes a.plan.items a.busy c.self.invariant.kept c.args.session c.args.moment next in let some = few.0 in let seated = few.1 in let known = few.2 in let room = few.3 in
-    known
+    record { known = known }
 
 pub append-requires : goal.append-requires
 append-requires over c =
