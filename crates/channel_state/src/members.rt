@@ -38,6 +38,8 @@ pub(crate) struct Members {
     sessions: SmallVec<SessionId, 4>,
     /// Of all of them, or of none.
     arrivals: Arrivals,
+    /// Whether these are looked up, where there are many. Those of a copy are searched: it is soon let go.
+    is_looked_up: bool,
 }
 
 impl Model for Members {
@@ -60,6 +62,7 @@ impl Members {
         Members {
             sessions: SmallVec::new(alloc),
             arrivals: Arrivals::new(),
+            is_looked_up: true,
         }
     }
 
@@ -68,22 +71,23 @@ impl Members {
         *self.sessions.allocator()
     }
 
-    /// A copy, with room for no more.
+    /// A copy, with room for no more, which is searched.
     pub(crate) fn copied(&self) -> Result<Members, AllocError>
         ensures { IfOk result (λ m. m.list ≡ self.now.list) }
     {
         Ok(Members {
             sessions: SmallVec::from_slice(self.alloc(), self.sessions.as_slice())?,
             arrivals: Arrivals::new(),
+            is_looked_up: false,
         })
     }
 
-    /// Where there are many it is kept when each came, with room for so many more.
+    /// Where many are looked up it is kept when each came, with room for so many more.
     fn keep_arrivals(&mut self, more: usize) -> Result<(), AllocError>
         ensures { self.new ≡ self.old }
     {
         let count = self.sessions.len();
-        if count < FEW {
+        if !self.is_looked_up || count < FEW {
             self.arrivals.clear();
             return Ok(());
         }
