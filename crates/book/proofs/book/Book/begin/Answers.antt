@@ -110,8 +110,10 @@ returns-clause-ok over c =
 pub prepare_line-requires : goal.prepare_line-requires
 prepare_line-requires over c =
     let a = c.self.inside in let may : MayBegin (shown c.self.inside.journal c.self.inside.roster.settings c.self.inside.outboxes.boxes c.self.inside.plan.items c.self.inside.busy) c.args.baton.now c.args.moment = subst (λ m. MayBegin m c.args.baton.now c.args.moment) (sym c.self.view_is) c.in_ok-check_line.ensures.ok in
-    record { known = subst (λ (s : ℕ). IsOpened a.roster.facts s) (sym (ap (λ (b : Turn). b.session) c.baton.view_is))
-    (known_opened over.O.Outbox.sent a.journal a.roster.settings a.roster.facts a.seats a.outboxes.boxes a.plan.items a.busy c.self.invariant.kept c.args.baton.now.session may.turn.from_1 may.turn.opened) }
+    record {
+      known = subst (λ (s : ℕ). IsOpened a.roster.facts s) (sym (ap (λ (b : Turn). b.session) c.baton.view_is))
+          (known_opened over.O.Outbox.sent a.journal a.roster.settings a.roster.facts a.seats a.outboxes.boxes a.plan.items a.busy c.self.invariant.kept c.args.baton.now.session may.turn.from_1 may.turn.opened);
+    }
 
 pub say-requires-clause-seated : goal.say-requires-clause-seated
 say-requires-clause-seated over c =
