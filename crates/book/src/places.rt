@@ -8,11 +8,11 @@ use indexmap::IndexMap;
 use std::alloc::{AllocError, Global};
 use std::marker::Model;
 
-/// Where the entry of each session that was opened was put last, by their numbers. Each takes four octets. Clauses see no place,
-/// since it may be another's by now, but for how many more there is room.
+/// Where the entry of each session that was opened was put last, by their numbers. Each takes two octets, which is enough for all
+/// that may be there at a time. Clauses see no place, since it may be another's by now, but for how many more there is room.
 #[derive(Drop)]
 pub(crate) struct Places {
-    places: Vec<u32>,
+    places: Vec<u16>,
 }
 
 impl Model for Places {
@@ -46,14 +46,14 @@ impl Places {
         self.put(session, place);
     }
 
-    /// The entry of a session was put at a place, which is kept if the session was opened and the place is below 2 ^ 32.
+    /// The entry of a session was put at a place, which is kept if the session was opened and the place is below 2 ^ 16.
     fn put(&mut self, session: SessionId, place: usize) {
         let number = session.number();
-        if number == 0 || place > u32::MAX as usize {
+        if number == 0 || place > u16::MAX as usize {
             return;
         }
         if let Some(last) = self.places.get_mut(number as usize - 1) {
-            *last = place as u32;
+            *last = place as u16;
         }
     }
 
