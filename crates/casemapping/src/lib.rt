@@ -9,6 +9,6 @@ mod mask;
 mod names;
 
 pub use folded_name::Folded;
-pub use mapping::{fold, same};
+pub use mapping::{fold, is_same};
 pub use mask::matches;
 pub use names::{CHANNELLEN, HOSTLEN, NICKLEN, is_channel, is_host, is_nick};

@@ -33,7 +33,7 @@ fn agree_in_all(a: &[u8], b: &[u8]) -> bool
 }
 
 /// Whether two names differ in case at most (RFC 2812, section 2.2).
-pub fn same(a: &[u8], b: &[u8]) -> bool
+pub fn is_same(a: &[u8], b: &[u8]) -> bool
     ensures folds { IsTrue result ↔ (folded a.now ≡ folded b.now) }
     ensures test { result ≡ is_same a.now b.now }
 {

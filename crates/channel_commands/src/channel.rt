@@ -1,6 +1,6 @@
 //! The commands about channels: how each is named and read, and what it does (RFC 2812, sections 3.2.1, 3.2.2, 3.2.4, 3.2.7
 //! and 3.2.8).
-ghost use Rattle.std.specs.Prelude.{◌≡◌, OnOk};
+ghost use Rattle.std.specs.Prelude.{◌≡◌, ◌∷◌, ◌≤◌, length, OnOk, MatchOption};
 ghost use Rattle.roster.specs.Legal.{IsOpened};
 ghost use Rattle.drafts.specs.Drafted.{grown};
 ghost use Rattle.command_params.specs.Params.{IsRead, IsReadByName};
@@ -13,7 +13,7 @@ use command_params::{
     read_targets,
 };
 use drafts::Draft;
-use line_grammar::Octets;
+use line_grammar::{LineParameters, Octets};
 use std::alloc::{AllocError, Global};
 
 /// What is asked about channels. Names and texts are as given. A list of names has no empty one, and none that
@@ -47,36 +47,45 @@ pub enum ChannelCommand {
     },
 }
 
-fn read_join(alloc: Global, params: &[Octets]) -> Result<ChannelCommand, ReadFault>
+/// The first two parameters, and those after them.
+fn split_two<'a>(params: &LineParameters<'a>) -> Option<(&'a [u8], &'a [u8], LineParameters<'a>)>
+    ensures { MatchOption result (length params.now ≤ 1) (λ p. params.now ≡ p.0.now ∷ p.1.now ∷ p.2) }
+{
+    let (first, params) = params.split_first()?;
+    let (second, params) = params.split_first()?;
+    Some((first, second, params))
+}
+
+fn read_join(alloc: Global, params: &LineParameters<'_>) -> Result<ChannelCommand, ReadFault>
     ensures { IsRead (join_command params.now) result }
 {
-    let [list, params @ ..] = params else {
+    let Some((list, params)) = params.split_first() else {
         return Err(needs_more(b"JOIN"));
     };
-    let targets = read_targets(alloc, list.as_slice(), first(params))?;
+    let targets = read_targets(alloc, list, first(&params))?;
     Ok(ChannelCommand::Join { targets })
 }
 
-fn read_part(alloc: Global, params: &[Octets]) -> Result<ChannelCommand, ReadFault>
+fn read_part(alloc: Global, params: &LineParameters<'_>) -> Result<ChannelCommand, ReadFault>
     ensures { IsRead (part_command params.now) result }
 {
-    let [list, params @ ..] = params else {
+    let Some((list, params)) = params.split_first() else {
         return Err(needs_more(b"PART"));
     };
-    let channels = read_names(alloc, list.as_slice())?;
-    let text = Octets::copied(alloc, first(params))?;
+    let channels = read_names(alloc, list)?;
+    let text = Octets::copied(alloc, first(&params))?;
     Ok(ChannelCommand::Part { channels, text })
 }
 
-fn read_kick(alloc: Global, params: &[Octets]) -> Result<ChannelCommand, ReadFault>
+fn read_kick(alloc: Global, params: &LineParameters<'_>) -> Result<ChannelCommand, ReadFault>
     ensures { IsRead (kick_command params.now) result }
 {
-    let [channel, list, params @ ..] = params else {
+    let Some((channel, list, params)) = split_two(params) else {
         return Err(needs_more(b"KICK"));
     };
-    let channel = channel.clone()?;
-    let nicks = read_names(alloc, list.as_slice())?;
-    let text = Octets::copied(alloc, first(params))?;
+    let channel = Octets::copied(alloc, channel)?;
+    let nicks = read_names(alloc, list)?;
+    let text = Octets::copied(alloc, first(&params))?;
     Ok(ChannelCommand::Kick {
         channel,
         nicks,
@@ -84,25 +93,25 @@ fn read_kick(alloc: Global, params: &[Octets]) -> Result<ChannelCommand, ReadFau
     })
 }
 
-fn read_invite(params: &[Octets]) -> Result<ChannelCommand, ReadFault>
+fn read_invite(alloc: Global, params: &LineParameters<'_>) -> Result<ChannelCommand, ReadFault>
     ensures { IsRead (invite_command params.now) result }
 {
-    let [nick, channel, ..] = params else {
+    let Some((nick, channel, _)) = split_two(params) else {
         return Err(needs_more(b"INVITE"));
     };
-    let nick = nick.clone()?;
-    let channel = channel.clone()?;
+    let nick = Octets::copied(alloc, nick)?;
+    let channel = Octets::copied(alloc, channel)?;
     Ok(ChannelCommand::Invite { nick, channel })
 }
 
-fn read_topic(params: &[Octets]) -> Result<ChannelCommand, ReadFault>
+fn read_topic(alloc: Global, params: &LineParameters<'_>) -> Result<ChannelCommand, ReadFault>
     ensures { IsRead (topic_command params.now) result }
 {
-    let [channel, params @ ..] = params else {
+    let Some((channel, params)) = params.split_first() else {
         return Err(needs_more(b"TOPIC"));
     };
-    let channel = channel.clone()?;
-    let text = copied_first(params)?;
+    let channel = Octets::copied(alloc, channel)?;
+    let text = copied_first(alloc, &params)?;
     Ok(ChannelCommand::Topic { channel, text })
 }
 
@@ -111,7 +120,7 @@ fn read_topic(params: &[Octets]) -> Result<ChannelCommand, ReadFault>
 pub fn read_channel(
     alloc: Global,
     name: &[u8],
-    params: &[Octets],
+    params: &LineParameters<'_>,
 ) -> Option<Result<ChannelCommand, ReadFault>>
     ensures { IsReadByName (channel_command_of name.now params.now) result }
 {
@@ -119,8 +128,8 @@ pub fn read_channel(
         name if is_named(name, b"JOIN") => Some(read_join(alloc, params)),
         name if is_named(name, b"PART") => Some(read_part(alloc, params)),
         name if is_named(name, b"KICK") => Some(read_kick(alloc, params)),
-        name if is_named(name, b"INVITE") => Some(read_invite(params)),
-        name if is_named(name, b"TOPIC") => Some(read_topic(params)),
+        name if is_named(name, b"INVITE") => Some(read_invite(alloc, params)),
+        name if is_named(name, b"TOPIC") => Some(read_topic(alloc, params)),
         _ => None,
     }
 }

@@ -4,7 +4,7 @@ ghost use Rattle.std.specs.List.{list_any};
 ghost use Rattle.casemapping.specs.Fold.{is_same};
 ghost use Rattle.casemapping.specs.Mask.{fits};
 
-use casemapping::{matches, same};
+use casemapping::{is_same, matches};
 use line_grammar::Octets;
 use std::alloc::{AllocError, Global};
 use std::marker::Model;
@@ -71,7 +71,7 @@ impl Masks {
         ensures list { self.new.list ≡ filter (λ m. not (is_same m mask.now)) self.old.list }
         ensures room { self.old.room ≤ self.new.room }
     {
-        self.masks.retain(|other| !same(other.as_slice(), mask));
+        self.masks.retain(|other| !is_same(other.as_slice(), mask));
     }
 
     /// Takes all out. It takes no memory.

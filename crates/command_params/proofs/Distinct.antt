@@ -4,34 +4,12 @@ use Rattle.std.specs.List.{filter, fold, list_any}
 use Rattle.std.proofs.lemmas.Bool.{cases_Bool}
 use Rattle.std.proofs.lemmas.List.{append-nil}
 use Rattle.std.proofs.lemmas.List.Folds.{list_any-append}
-use Rattle.std.proofs.lemmas.Slice.Eq.{bytes_eq-Decides}
-use Rattle.casemapping.specs.Fold.{folded}
-use Rattle.command_params.specs.Lists.{is_empty, is_present, is_same, distinct, paired, names_of, words_of, targets_of}
-use Rattle.command_params.specs.ListSteps.{parts, parts_left, with_one, with_name, with_word, with_target}
+use Rattle.line_grammar.specs.Parts.{is_empty, is_present, parts, parts_left}
+use Rattle.casemapping.specs.Fold.{is_same}
+use Rattle.casemapping.proofs.SameNames.{is_same-left}
+use Rattle.command_params.specs.Lists.{distinct, paired, names_of, words_of, targets_of}
+use Rattle.command_params.specs.ListSteps.{with_one, with_name, with_word, with_target}
 use Rattle.command_params.specs.declared.join_targets.JoinTarget.{JoinTarget}
-
-is_same-true : (a b : List ℕ) → is_same a b ≡ true → folded a ≡ folded b
-unfolding is_same
-is_same-true a b e = (bytes_eq-Decides (folded a) (folded b)).0 e
-
-is_same-folded : (a b : List ℕ) → folded a ≡ folded b → is_same a b ≡ true
-unfolding is_same
-is_same-folded a b e = (bytes_eq-Decides (folded a) (folded b)).1 e
-
-is_same-trans : (a b c : List ℕ) → is_same a b ≡ true → is_same b c ≡ true → is_same a c ≡ true
-is_same-trans a b c e f = is_same-folded a c (is_same-true a b e ∙ is_same-true b c f)
-
--- the code's test
-pub is_same-test : (a b : List ℕ) (r : Bool) → (r ≡ true → folded a ≡ folded b) → (folded a ≡ folded b → r ≡ true) → r ≡ is_same a b
-is_same-test a b r f g =
-    elim (cases_Bool r) [
-      | inl is ↦ is ∙ sym (is_same-folded a b (f is))
-      | inr isnt ↦
-          elim (cases_Bool (is_same a b)) [
-            | inl same ↦ g (is_same-true a b same) ∙ sym same
-            | inr other ↦ isnt ∙ sym other
-          ]
-    ]
 
 -- whether a name is among those of a list
 abbrev among : {X : Type 0} → (X → List ℕ) → List X → X → Bool
@@ -41,7 +19,7 @@ among-same : {X : Type 0} (name : X → List ℕ) (found : List X) (x y : X) →
 among-same name [] x y e f = e
 among-same name (z ∷ found) x y e f =
     elim (cases_Bool (is_same (name z) (name x))) [
-      | inl is ↦ rw (is_same-trans (name z) (name x) (name y) is f) refl
+      | inl is ↦ rw (is_same-left (name z) (name x) (name y) is ∙ f) refl
       | inr isnt ↦
           let rest : among name found x ≡ true = rw isnt at e in
           elim (cases_Bool (is_same (name z) (name y))) [ inl same ↦ rw same refl | inr other ↦ rw other (among-same name found x y rest f) ]

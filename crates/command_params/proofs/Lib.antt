@@ -1,3 +1,3 @@
 pub mod Distinct
-pub mod Cuts
+pub mod Copies
 pub mod Named

@@ -1,22 +1,9 @@
 -- The words of the private steps that read a list, part by part: this project's own choice.
-use Rattle.std.specs.Prelude.{ℕ, ◌+◌, ◌==◌, length, ◌||◌, cond, List, [], ◌∷◌, ◌++◌, Option, Some, None}
-use Rattle.std.specs.Borrow.{Bor}
-use Rattle.std.specs.List.{slice_split, list_any}
+use Rattle.std.specs.Prelude.{ℕ, ◌||◌, cond, List, [], ◌∷◌, ◌++◌}
+use Rattle.std.specs.List.{list_any}
 use Rattle.command_params.specs.declared.join_targets.JoinTarget.{JoinTarget}
-use Rattle.command_params.specs.Lists.{is_empty, is_same}
-
-abbrev pub parts : ℕ → List ℕ → List (List ℕ)
-parts separator list = slice_split (λ b. b == separator) list
-
--- the parts of what is left of a list: none where nothing is left
-abbrev pub parts_left : ℕ → Option (Bor (List ℕ)) → List (List ℕ)
-parts_left separator None = []
-parts_left separator (Some rest) = parts separator rest.now
-
--- how much is left: more than nothing, also where no octet is
-abbrev pub octets_left : Option (Bor (List ℕ)) → ℕ
-octets_left None = 0
-octets_left (Some rest) = length rest.now + 1
+use Rattle.casemapping.specs.Fold.{is_same}
+use Rattle.line_grammar.specs.Parts.{is_empty}
 
 -- the first text, and the others; the empty text where there is none
 abbrev pub first_of : List (List ℕ) → List ℕ

@@ -1,9 +1,9 @@
 -- Lists in one parameter: RFC 2812, section 2.3.1 (names are parted by commas), and IRCv3 Capability Negotiation (words are parted by spaces).
 -- Empty names, and what repeats a name in either case, are left out (this project's own choice).
-use Rattle.std.specs.Prelude.{ℕ, Bool, not, ◌==◌, List, [], ◌∷◌, filter, length, Option, Some, None}
+use Rattle.std.specs.Prelude.{ℕ, Bool, not, ◌==◌, List, [], ◌∷◌, filter, Option, Some, None}
 use Rattle.std.specs.List.{slice_split}
-use Rattle.std.specs.Str.{bytes_eq}
-use Rattle.casemapping.specs.Fold.{folded}
+use Rattle.casemapping.specs.Fold.{is_same}
+use Rattle.line_grammar.specs.Parts.{is_present}
 use Rattle.command_params.specs.declared.join_targets.JoinTarget.{JoinTarget}
 
 abbrev pub is_comma : ℕ → Bool
@@ -11,16 +11,6 @@ is_comma b = b == 44
 
 abbrev pub is_space : ℕ → Bool
 is_space b = b == 32
-
-abbrev pub is_empty : List ℕ → Bool
-is_empty text = length text == 0
-
-abbrev pub is_present : List ℕ → Bool
-is_present text = not (is_empty text)
-
--- the same name in either case
-unfoldable pub is_same : List ℕ → List ℕ → Bool
-is_same a b = bytes_eq (folded a) (folded b)
 
 -- each name once, where it comes first
 abbrev pub distinct : {X : Type 0} → (X → List ℕ) → List X → List X

@@ -1,31 +1,15 @@
 //! Lists in one parameter (RFC 2812, section 2.3.1; IRCv3 Capability Negotiation).
 ghost use Rattle.std.specs.Prelude.{◌≡◌, ◌↔◌, ◌==◌, ◌&&◌, ◌++◌, ◌∷◌, ◌+◌, ◌<◌, [], length, not, cond, position, IfOk, OnOk, IsTrue};
 ghost use Rattle.std.specs.List.{slice_split, list_any};
-ghost use Rattle.command_params.specs.Lists.{is_comma, is_empty, is_same, list_given, names_of, targets_of, words_of};
-ghost use Rattle.command_params.specs.ListSteps.{octets_left, parts, parts_left, first_of, others_of, with_name, with_target, with_word};
+ghost use Rattle.casemapping.specs.Fold.{is_same};
+ghost use Rattle.line_grammar.specs.Parts.{is_empty, octets_left, parts, parts_left};
+ghost use Rattle.command_params.specs.Lists.{is_comma, list_given, names_of, targets_of, words_of};
+ghost use Rattle.command_params.specs.ListSteps.{first_of, others_of, with_name, with_target, with_word};
 
 use crate::{JoinTarget, JoinTargets, Texts};
-use casemapping::same;
-use line_grammar::Octets;
+use casemapping::is_same;
+use line_grammar::{LineParameters, Octets, split_first};
 use std::alloc::{AllocError, Global};
-
-fn first_place(list: &[u8], separator: u8) -> Option<usize>
-    ensures { result ≡ position (λ b. b == separator) list.now }
-{
-    list.iter().position(|octet| *octet == separator)
-}
-
-/// What stands before the first separator, and what after it.
-#[tactic(auto, using(crate::proofs::Cuts::cuts))]
-fn split_first(list: &[u8], separator: u8) -> (&[u8], Option<&[u8]>)
-    ensures shorter { octets_left result.1 < length list.now + 1 }
-    ensures parts { parts separator list.now ≡ result.0.now ∷ parts_left separator result.1 }
-{
-    match first_place(list, separator) {
-        Some(place) => (&list[..place], Some(&list[place + 1..])),
-        None => (list, None),
-    }
-}
 
 /// The first of the keys that are left, which is empty where there is none, and those after it.
 fn take_key(keys: Option<&[u8]>) -> (&[u8], Option<&[u8]>)
@@ -36,12 +20,6 @@ fn take_key(keys: Option<&[u8]>) -> (&[u8], Option<&[u8]>)
         Some(keys) => split_first(keys, b','),
         None => (&[], None),
     }
-}
-
-fn is_same(a: &[u8], b: &[u8]) -> bool
-    ensures { result ≡ is_same a.now b.now }
-{
-    same(a, b)
 }
 
 fn is_among(names: &[Octets], name: &[u8]) -> bool
@@ -107,11 +85,14 @@ pub fn read_names(alloc: Global, list: &[u8]) -> Result<Texts, AllocError>
 }
 
 /// The names of the first parameter, where there is one.
-pub fn read_list_given(alloc: Global, params: &[Octets]) -> Result<Option<Texts>, AllocError>
+pub fn read_list_given(
+    alloc: Global,
+    params: &LineParameters<'_>,
+) -> Result<Option<Texts>, AllocError>
     ensures { IfOk result (λ names. names ≡ list_given params.now) }
 {
-    match params.first() {
-        Some(list) => Ok(Some(read_names(alloc, list.as_slice())?)),
+    match params.split_first() {
+        Some((list, _)) => Ok(Some(read_names(alloc, list)?)),
         None => Ok(None),
     }
 }

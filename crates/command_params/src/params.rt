@@ -3,36 +3,51 @@ ghost use Rattle.std.specs.Prelude.{◌≡◌, IfOk};
 ghost use Rattle.command_params.specs.Params.{first_or_empty, first_or_none};
 
 use crate::Texts;
-use line_grammar::Octets;
+use line_grammar::{LineMessage, LineParameters, Octets};
 use std::alloc::{AllocError, Global};
 
 /// The first parameter. Empty where there is none.
-pub fn first(params: &[Octets]) -> &[u8]
+pub fn first<'a>(params: &LineParameters<'a>) -> &'a [u8]
     ensures { result.now ≡ first_or_empty params.now }
 {
-    match params {
-        [first, ..] => first.as_slice(),
-        [] => &[],
+    match params.split_first() {
+        Some((first, _)) => first,
+        None => &[],
+    }
+}
+
+/// The first parameter of a message, which is kept without taking memory. Empty where there is none.
+pub fn into_first(alloc: Global, message: LineMessage<'_>) -> Octets
+    ensures { result ≡ first_or_empty message.entry.params }
+{
+    match message.into_first_param() {
+        Some(first) => first,
+        None => Octets::from_vec(Vec::new(alloc)),
     }
 }
 
 /// A copy of the first parameter, where there is one.
-pub fn copied_first(params: &[Octets]) -> Result<Option<Octets>, AllocError>
+pub fn copied_first(
+    alloc: Global,
+    params: &LineParameters<'_>,
+) -> Result<Option<Octets>, AllocError>
     ensures { IfOk result (λ o. o ≡ first_or_none params.now) }
 {
-    match params.first() {
-        Some(first) => Ok(Some(first.clone()?)),
+    match params.split_first() {
+        Some((first, _)) => Ok(Some(Octets::copied(alloc, first)?)),
         None => Ok(None),
     }
 }
 
 /// A copy of the parameters.
-pub fn copied(alloc: Global, params: &[Octets]) -> Result<Texts, AllocError>
+pub fn copied(alloc: Global, params: &LineParameters<'_>) -> Result<Texts, AllocError>
     ensures { IfOk result (λ texts. texts ≡ params.now) }
 {
-    let mut texts = Vec::with_capacity(alloc, params.len())?;
-    for param in params {
-        texts.push(param.clone()?)?;
+    let mut texts = Vec::new(alloc);
+    let mut rest = params.split_first();
+    while let Some((param, more)) = rest {
+        texts.push(Octets::copied(alloc, param)?)?;
+        rest = more.split_first();
     }
     Ok(Texts::from_vec(texts))
 }

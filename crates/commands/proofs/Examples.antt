@@ -17,7 +17,7 @@ use Rattle.command_params.specs.declared.fault.ReadFault.TheVariants as fault
 use Rattle.command_params.specs.declared.join_targets.JoinTarget.{JoinTarget}
 use Rattle.commands.specs.declared.asked.Asked.{Asked}
 use Rattle.commands.specs.declared.asked.Asked.TheVariants.{Nothing, TooLong, Command as Asks, Fault as Fails}
-use Rattle.command_params.specs.Lists.{is_same}
+use Rattle.casemapping.specs.Fold.{is_same}
 use Rattle.query_commands.specs.declared.query.Query.TheVariants as query
 use Rattle.query_commands.specs.Query.{query_of}
 use Rattle.session_commands.specs.Session.{session_named, session_of}

@@ -6,7 +6,7 @@ ghost use Rattle.line_grammar.specs.Reading.{reading};
 
 use crate::{Command, read};
 use command_params::ReadFault;
-use line_grammar::{LineFault, Message, Piece, parse};
+use line_grammar::{LineFault, LineMessage, Piece, parse};
 use session_commands::SessionCommand;
 use std::alloc::{AllocError, Global};
 
@@ -36,11 +36,11 @@ impl Asked {
 }
 
 /// What a message asks for.
-pub fn read_message(alloc: Global, message: Message) -> Result<Asked, AllocError>
-    ensures asked { IfOk result (λ asked. asked ≡ asked_by (Some message)) }
+pub fn read_message(alloc: Global, message: LineMessage<'_>) -> Result<Asked, AllocError>
+    ensures asked { IfOk result (λ asked. asked ≡ asked_by (Some message.entry)) }
 
     // Memory is wanting only where the message asks for a command: no fault of it is kept back.
-    ensures memory { IsErr result → asks_for_command (asked_by (Some message)) ≡ true }
+    ensures memory { IsErr result → asks_for_command (asked_by (Some message.entry)) ≡ true }
 {
     match read(alloc, message) {
         Ok(command) => Ok(Asked::Command(command)),

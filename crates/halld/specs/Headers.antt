@@ -5,7 +5,7 @@ use Rattle.std.specs.Result.{result_ok}
 use Rattle.line_grammar.specs.Lines.{before_space, after_space}
 use Rattle.registration.specs.declared.accounts.Account.{Account}
 use Rattle.registration.specs.declared.settings.Settings.{Settings}
-use Rattle.registration.specs.Parts.{is_empty}
+use Rattle.line_grammar.specs.Parts.{is_empty}
 use Rattle.registration.specs.Accounts.{with_line}
 use Rattle.registration.specs.Settings.{is_motd}
 use Rattle.halld.specs.Numbers.{number_below}

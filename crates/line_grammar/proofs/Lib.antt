@@ -1,3 +1,5 @@
+pub mod Cuts
+pub mod Firsts
 pub mod Lengths
 pub mod Middles
 pub mod Readings

@@ -8,7 +8,7 @@ ghost use Rattle.line_grammar.specs.Reading.{after_source, after_tags, begins_wi
 ghost use Rattle.line_grammar.specs.declared.grammar.LineFault.TheVariants.{Memory};
 
 use crate::words::{skip_spaces, split_word};
-use crate::{Message, Octets, Parameters};
+use crate::{LineMessage, Octets, Parameters};
 use std::alloc::{AllocError, Global};
 
 /// The most parameters of a message (RFC 2812, section 2.3).
@@ -34,9 +34,9 @@ impl From<AllocError> for LineFault {
 }
 
 /// Reads a line, without what ended it, as a message. Spaces at either end count for nothing, but for those in a
-/// parameter that runs to the end. A line of any length is read.
+/// parameter that runs to the end. A line of any length is read. The parts of the message are slices of the line.
 #[tactic(auto, unfolding(crate::specs::Reading::reading, crate::specs::Reading::with_command))]
-pub fn parse(alloc: Global, line: &[u8]) -> Result<Message, LineFault>
+pub fn parse(alloc: Global, line: &[u8]) -> Result<LineMessage<'_>, LineFault>
     ensures ok { IfOk result (λ m. reading line.now ≡ Some m) }
     ensures spelled { IfOk result (λ m. Reads line.now m) }
 
@@ -56,13 +56,13 @@ pub fn parse(alloc: Global, line: &[u8]) -> Result<Message, LineFault>
     if !is_command(command) {
         return Err(LineFault::NoCommand);
     }
-    let (params, colon) = read_parameters(alloc, rest)?;
-    Ok(Message {
-        tags: Octets::copied(alloc, tags)?,
-        source: copied(alloc, source)?,
-        command: Octets::copied(alloc, command)?,
-        params,
-        colon,
+    let room = Vec::with_capacity(alloc, command.len().max(rest.len()))?;
+    Ok(LineMessage {
+        tags,
+        source,
+        command,
+        rest,
+        room,
     })
 }
 
@@ -106,15 +106,6 @@ fn split_source(octets: &[u8]) -> (Option<&[u8]>, &[u8])
     }
 }
 
-fn copied(alloc: Global, octets: Option<&[u8]>) -> Result<Option<Octets>, AllocError>
-    ensures { IfOk result (λ o. o ≡ option_map (λ s. s.now) octets.entry) }
-{
-    match octets {
-        Some(octets) => Ok(Some(Octets::copied(alloc, octets)?)),
-        None => Ok(None),
-    }
-}
-
 /// Whether a word is one or more letters, or three digits.
 pub fn is_command(word: &[u8]) -> bool
     ensures { result ≡ is_command word.now }
@@ -136,7 +127,10 @@ fn all_digits(word: &[u8]) -> bool
 }
 
 /// The parameters, and whether the last is spelled with a colon.
-fn read_parameters(alloc: Global, octets: &[u8]) -> Result<(Parameters, bool), AllocError>
+pub(crate) fn read_parameters(
+    alloc: Global,
+    octets: &[u8],
+) -> Result<(Parameters, bool), AllocError>
     ensures { IfOk result (λ read. read ≡ parameters 14 octets.now) }
 {
     let mut found = Vec::new(alloc);
@@ -151,7 +145,7 @@ fn read_parameters(alloc: Global, octets: &[u8]) -> Result<(Parameters, bool), A
 }
 
 /// Whether a parameter comes here that ends at a space, where it isn't the fifteenth.
-fn begins_middle(octets: &[u8]) -> bool
+pub(crate) fn begins_middle(octets: &[u8]) -> bool
     ensures { result ≡ not (begins_with 58 octets.now || length octets.now == 0) }
 {
     !matches!(octets, [] | [b':', ..])

@@ -3,15 +3,19 @@
 
 mod grammar;
 mod laws;
+mod line_message;
 mod message;
 mod octets;
+mod parts;
 mod spelling;
 mod splitter;
 mod words;
 
 pub use grammar::{LineFault, parse, tag_data};
 pub use laws::{any_cutting, one_message_a_line, reads_what_is_spelled};
+pub use line_message::{LineMessage, LineParameters};
 pub use message::{Message, Parameters};
 pub use octets::Octets;
+pub use parts::split_first;
 pub use spelling::{WriteFault, is_writable, needs_colon, push_untagged, write};
 pub use splitter::{Piece, Splitter, split_all};

@@ -12,7 +12,7 @@ use crate::user_modes::own_modes;
 use chronicle::SessionId;
 use command_params::{ReadFault, Texts, copied, is_named, needs_more};
 use drafts::{Denial, Draft, deny, tell};
-use line_grammar::Octets;
+use line_grammar::{LineParameters, Octets};
 use numerics::Numeric;
 use std::alloc::{AllocError, Global};
 
@@ -24,14 +24,14 @@ pub struct ModeCommand {
     pub changes: Texts,
 }
 
-fn read_params(alloc: Global, params: &[Octets]) -> Result<ModeCommand, ReadFault>
+fn read_params(alloc: Global, params: &LineParameters<'_>) -> Result<ModeCommand, ReadFault>
     ensures { IsRead (mode_command params.now) result }
 {
-    let [target, params @ ..] = params else {
+    let Some((target, params)) = params.split_first() else {
         return Err(needs_more(b"MODE"));
     };
-    let target = target.clone()?;
-    let changes = copied(alloc, params)?;
+    let target = Octets::copied(alloc, target)?;
+    let changes = copied(alloc, &params)?;
     Ok(ModeCommand { target, changes })
 }
 
@@ -40,7 +40,7 @@ fn read_params(alloc: Global, params: &[Octets]) -> Result<ModeCommand, ReadFaul
 pub fn read_mode(
     alloc: Global,
     name: &[u8],
-    params: &[Octets],
+    params: &LineParameters<'_>,
 ) -> Option<Result<ModeCommand, ReadFault>>
     ensures { IsReadByName (mode_of name.now params.now) result }
 {

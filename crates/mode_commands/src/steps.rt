@@ -5,7 +5,7 @@ ghost use Rattle.mode_commands.specs.Steps.{agree, ban_step, flag_of, flag_step,
 
 use crate::letters::ModeChange;
 use crate::parameters::{completed, is_key, limit_of};
-use casemapping::same;
+use casemapping::is_same;
 use channel_state::{Change, ChannelState, Flag, Rank};
 use chronicle::SessionId;
 use drafts::title_of;
@@ -185,7 +185,7 @@ fn has_ban(state: &ChannelState, mask: &[u8]) -> bool
     state
         .bans()
         .iter()
-        .any(|other| same(other.as_slice(), mask))
+        .any(|other| is_same(other.as_slice(), mask))
 }
 
 /// A completed mask is banned, or not any more.

@@ -1,7 +1,7 @@
 -- No query is left out among the names, and none is read by another's.
 use Rattle.std.proofs.Common.{refl, codes}
 use Rattle.std.specs.Str.{str_eq_ignore_ascii_case}
-use Rattle.command_params.specs.Lists.{is_empty}
+use Rattle.line_grammar.specs.Parts.{is_empty}
 use Rattle.command_params.proofs.Named.{either-line, either-read}
 use Rattle.query_commands.specs.declared.query.Query.TheVariants as query
 use Rattle.query_commands.specs.Whois.{nick_asked}

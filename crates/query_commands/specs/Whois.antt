@@ -13,7 +13,7 @@ use Rattle.drafts.specs.Seen.{Seen}
 use Rattle.drafts.specs.Lines.{title}
 use Rattle.command_params.specs.declared.fault.ReadFault.{ReadFault}
 use Rattle.command_params.specs.declared.fault.ReadFault.TheVariants.{NoNicknameGiven}
-use Rattle.command_params.specs.Lists.{is_empty}
+use Rattle.line_grammar.specs.Parts.{is_empty}
 use Rattle.command_params.specs.Params.{first_or_empty}
 use Rattle.query_commands.specs.declared.query.Query.{Query}
 use Rattle.query_commands.specs.declared.query.Query.TheVariants as query

@@ -5,19 +5,19 @@ ghost use Rattle.command_params.specs.Params.{IsRead};
 ghost use Rattle.query_commands.specs.Motd.{motd_asked, motd_numerics, motd_query};
 
 use crate::Query;
+use casemapping::is_same;
 use command_params::{ReadFault, copied_first};
 use drafts::Draft;
-use line_grammar::Octets;
+use line_grammar::{LineParameters, Octets};
 use numerics::Numeric;
 use registration::Motd;
-use roster::is_same;
-use std::alloc::AllocError;
+use std::alloc::{AllocError, Global};
 
 /// What MOTD asks for.
-pub(crate) fn read(params: &[Octets]) -> Result<Query, ReadFault>
+pub(crate) fn read(alloc: Global, params: &LineParameters<'_>) -> Result<Query, ReadFault>
     ensures { IsRead (motd_query params.now) result }
 {
-    let server = copied_first(params)?;
+    let server = copied_first(alloc, params)?;
     Ok(Query::Motd { server })
 }
 

@@ -13,13 +13,13 @@ use channel_state::ChannelState;
 use chronicle::SessionId;
 use command_params::{ReadFault, Texts, read_list_given};
 use drafts::{Draft, title_of};
-use line_grammar::Octets;
+use line_grammar::{LineParameters, Octets};
 use numerics::{Numeric, Prefix, Words, prefixed, split_names};
 use roster::Roster;
 use std::alloc::{AllocError, Global};
 
 /// What NAMES asks for.
-pub(crate) fn read(alloc: Global, params: &[Octets]) -> Result<Query, ReadFault>
+pub(crate) fn read(alloc: Global, params: &LineParameters<'_>) -> Result<Query, ReadFault>
     ensures { IsRead (names_query params.now) result }
 {
     let channels = read_list_given(alloc, params)?;

@@ -8,7 +8,7 @@ use crate::{listing, motd, names, who, whois};
 use chronicle::SessionId;
 use command_params::{ReadFault, Texts, is_named};
 use drafts::{Draft, tell_all};
-use line_grammar::Octets;
+use line_grammar::{LineParameters, Octets};
 use numerics::Numeric;
 use std::alloc::{AllocError, Global};
 
@@ -30,15 +30,19 @@ pub enum Query {
 
 /// What is asked by a name, or the numeric that answers it by what it says alone. `None` where it is no query's name.
 #[tactic(auto, unfolding(crate::specs::Query::query_of))]
-pub fn read_query(alloc: Global, name: &[u8], params: &[Octets]) -> Option<Result<Query, ReadFault>>
+pub fn read_query(
+    alloc: Global,
+    name: &[u8],
+    params: &LineParameters<'_>,
+) -> Option<Result<Query, ReadFault>>
     ensures { IsReadByName (query_of name.now params.now) result }
 {
     match name {
         name if is_named(name, b"NAMES") => Some(names::read(alloc, params)),
         name if is_named(name, b"LIST") => Some(listing::read(alloc, params)),
-        name if is_named(name, b"WHO") => Some(who::read(params)),
+        name if is_named(name, b"WHO") => Some(who::read(alloc, params)),
         name if is_named(name, b"WHOIS") => Some(whois::read(alloc, params)),
-        name if is_named(name, b"MOTD") => Some(motd::read(params)),
+        name if is_named(name, b"MOTD") => Some(motd::read(alloc, params)),
         _ => None,
     }
 }

@@ -10,16 +10,16 @@ use crate::visible::{Listed, channel_for, members_for};
 use chronicle::SessionId;
 use command_params::{ReadFault, copied_first};
 use drafts::{Draft, title_of};
-use line_grammar::Octets;
+use line_grammar::{LineParameters, Octets};
 use numerics::{Numeric, Who};
 use roster::Roster;
 use std::alloc::{AllocError, Global};
 
 /// What WHO asks for.
-pub(crate) fn read(params: &[Octets]) -> Result<Query, ReadFault>
+pub(crate) fn read(alloc: Global, params: &LineParameters<'_>) -> Result<Query, ReadFault>
     ensures { IsRead (who_query params.now) result }
 {
-    let name = copied_first(params)?;
+    let name = copied_first(alloc, params)?;
     Ok(Query::Who { name })
 }
 

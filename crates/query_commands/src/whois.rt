@@ -13,25 +13,28 @@ use crate::names::{rank_of, room_of};
 use crate::visible::channel_for;
 use crate::who::real_of;
 use chronicle::SessionId;
-use command_params::{ReadFault, first};
+use command_params::ReadFault;
 use drafts::{Draft, title_of};
-use line_grammar::Octets;
+use line_grammar::{LineParameters, Octets};
 use numerics::{Numeric, Words, prefixed, split_names};
 use roster::Roster;
 use std::alloc::{AllocError, Global};
 
 /// The nickname that is asked for: of two parameters the second.
-fn nick_asked(params: &[Octets]) -> &[u8]
+fn nick_asked<'a>(params: &LineParameters<'a>) -> &'a [u8]
     ensures { result.now ≡ nick_asked params.now }
 {
-    match params {
-        [_, nick, ..] => nick.as_slice(),
-        _ => first(params),
+    let Some((first, others)) = params.split_first() else {
+        return &[];
+    };
+    match others.split_first() {
+        Some((second, _)) => second,
+        None => first,
     }
 }
 
 /// What WHOIS asks for.
-pub(crate) fn read(alloc: Global, params: &[Octets]) -> Result<Query, ReadFault>
+pub(crate) fn read(alloc: Global, params: &LineParameters<'_>) -> Result<Query, ReadFault>
     ensures { IsRead (whois_query params.now) result }
 {
     let nick = nick_asked(params);

@@ -22,7 +22,7 @@ use Rattle.registration.specs.declared.sasl.Credentials.{Credentials}
 use Rattle.registration.specs.Accounts.{accounts_in, logged_in}
 use Rattle.registration.specs.Caps.{after_request, all_caps, cap_name, cap_named, list_of, none_on, turned}
 use Rattle.registration.specs.Enrol.{Enrolment, cap_answer, holds, is_ready, nick_answer, sasl_answer, user_answer}
-use Rattle.registration.specs.Parts.{is_same}
+use Rattle.casemapping.specs.Fold.{is_same}
 use Rattle.registration.specs.Plain.{credentials_of}
 use Rattle.registration.specs.Settings.{is_motd, is_text, is_version}
 

@@ -1,4 +1,4 @@
-pub mod Cuts
+pub mod Fourth
 pub mod Same
 mod Examples
 pub mod Spelled

@@ -1,33 +1,9 @@
--- Names that are the same once folded, and digests that are the same octet by octet.
+-- Digests that are the same octet by octet.
 use Rattle.std.proofs.Common.{◌≡◌, ℕ, ◌+◌, Bool, true, false, not, ◌&&◌, cond, eqb, List, [], ◌∷◌, length, refl, ap, sym, ◌∙◌, zero-add, inl, inr, arith, count_by}
 use Rattle.std.specs.List.{zip}
 use Rattle.std.specs.Str.{bytes_eq}
 use Rattle.std.proofs.lemmas.List.Sums.{sum_by-cons}
 use Rattle.std.proofs.lemmas.Bool.Decides.{nat_tests}
-use Rattle.std.proofs.lemmas.Bool.{cases_Bool}
-use Rattle.std.proofs.lemmas.Slice.Eq.{bytes_eq-Decides}
-use Rattle.casemapping.specs.Fold.{folded}
-use Rattle.registration.specs.Parts.{is_same}
-
-is_same-true : (a b : List ℕ) → is_same a b ≡ true → folded a ≡ folded b
-unfolding is_same
-is_same-true a b e = (bytes_eq-Decides (folded a) (folded b)).0 e
-
-is_same-folded : (a b : List ℕ) → folded a ≡ folded b → is_same a b ≡ true
-unfolding is_same
-is_same-folded a b e = (bytes_eq-Decides (folded a) (folded b)).1 e
-
--- the code's test
-pub is_same-test : (a b : List ℕ) (r : Bool) → (r ≡ true → folded a ≡ folded b) → (folded a ≡ folded b → r ≡ true) → r ≡ is_same a b
-is_same-test a b r f g =
-    elim (cases_Bool r) [
-      | inl is ↦ is ∙ sym (is_same-folded a b (f is))
-      | inr isnt ↦
-          elim (cases_Bool (is_same a b)) [
-            | inl same ↦ g (is_same-true a b same) ∙ sym same
-            | inr other ↦ isnt ∙ sym other
-          ]
-    ]
 
 abbrev differs : ℕ × ℕ → Bool
 differs pair = not (eqb pair.0 pair.1)

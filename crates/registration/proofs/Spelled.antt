@@ -9,7 +9,8 @@ use Rattle.base64.specs.Engines.{standard}
 use Rattle.base64.specs.GeneralPurpose.{IsBytes, decode_of, encode_of}
 use Rattle.base64.proofs.EngineFacts.{decode_of_strict}
 use Rattle.registration.specs.declared.sasl.Credentials.{Credentials}
-use Rattle.registration.specs.Parts.{is_present, parts, three_of}
+use Rattle.line_grammar.specs.Parts.{is_present, parts}
+use Rattle.registration.specs.Parts.{three_of}
 use Rattle.registration.specs.Plain.{Spells, Tells, credentials_from, is_own}
 
 second_true : (a b : Bool) → (a && b) ≡ true → b ≡ true

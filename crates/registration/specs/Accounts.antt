@@ -9,7 +9,9 @@ use Rattle.sha2.specs.Sha256.{sha256}
 use Rattle.registration.specs.declared.accounts.Account.{Account}
 use Rattle.registration.specs.declared.accounts.AccountFault.{AccountFault}
 use Rattle.registration.specs.declared.accounts.AccountFault.TheVariants.{Shape, BadName, BadDigest, Twice}
-use Rattle.registration.specs.Parts.{is_empty, is_present, is_same, parts, three_of}
+use Rattle.casemapping.specs.Fold.{is_same}
+use Rattle.line_grammar.specs.Parts.{is_empty, is_present, parts}
+use Rattle.registration.specs.Parts.{three_of}
 
 -- a digest is 64 hexadecimal digits
 abbrev pub with_digest : List ℕ → List ℕ → Result (List ℕ) FromHexError → Result Account AccountFault

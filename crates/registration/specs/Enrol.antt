@@ -18,7 +18,7 @@ use Rattle.registration.specs.declared.enrol.SaslAnswer.TheVariants.{AlreadyLogg
 use Rattle.registration.specs.declared.sasl.Credentials.{Credentials}
 use Rattle.registration.specs.Accounts.{logged_in}
 use Rattle.registration.specs.Caps.{after_request, is_on}
-use Rattle.registration.specs.Parts.{is_same}
+use Rattle.casemapping.specs.Fold.{is_same}
 use Rattle.registration.specs.Plain.{credentials_of}
 
 -- what a session has told of itself, and by which account it is logged in

@@ -1,6 +1,5 @@
 pub mod Caps
 pub mod Parts
-pub mod PartSteps
 pub mod Plain
 pub mod Accounts
 pub mod Settings

@@ -4,7 +4,9 @@ use Rattle.base64.specs.Engines.{standard}
 use Rattle.base64.specs.GeneralPurpose.{decode_of, encode_of}
 use Rattle.base64.specs.declared.decode.DecodeError.{DecodeError}
 use Rattle.registration.specs.declared.sasl.Credentials.{Credentials}
-use Rattle.registration.specs.Parts.{is_empty, is_present, is_same, parts, three_of}
+use Rattle.casemapping.specs.Fold.{is_same}
+use Rattle.line_grammar.specs.Parts.{is_empty, is_present, parts}
+use Rattle.registration.specs.Parts.{three_of}
 
 -- an authorization identity that is given is the user's own name
 abbrev pub is_own : List ℕ → List ℕ → Bool

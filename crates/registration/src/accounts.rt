@@ -7,12 +7,14 @@ ghost use Rattle.std.specs.Str.{bytes_eq};
 ghost use Rattle.hex.specs.Hex.{decode_sized};
 ghost use Rattle.sha2.specs.Sha256.{sha256};
 ghost use Rattle.registration.specs.Accounts.{account_of, is_known, with_account, words_of};
-ghost use Rattle.registration.specs.Parts.{is_same, parts, three_of};
+ghost use Rattle.casemapping.specs.Fold.{is_same};
+ghost use Rattle.line_grammar.specs.Parts.{parts};
+ghost use Rattle.registration.specs.Parts.{three_of};
 ghost use Rattle.registration.specs.declared.accounts.AccountFault.TheVariants.{Memory};
 
-use crate::parts::{is_same, split_first, three_parts};
-use casemapping::is_nick;
-use line_grammar::Octets;
+use crate::parts::three_parts;
+use casemapping::{is_nick, is_same};
+use line_grammar::{Octets, split_first};
 use sha2::{Digest, Sha256};
 use std::alloc::{AllocError, Global};
 use std::marker::Model;

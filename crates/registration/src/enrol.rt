@@ -3,10 +3,9 @@ ghost use Rattle.std.specs.Prelude.{◌≡◌, ◌+◌, ◌≤◌, ◌++◌, len
 ghost use Rattle.registration.specs.Enrol.{account_by, added, begun, cap_answer, ended_by, enrolment, gone_on, holds, is_own, is_ready, is_too_long, keeps_text, nick_answer, sasl_answer, user_answer};
 ghost use Rattle.registration.specs.Plain.{credentials_of};
 
-use crate::parts::is_same;
 use crate::sasl::{EXCHANGELEN, account_by};
 use crate::{Accounts, Cap, Caps, requested};
-use casemapping::is_nick;
+use casemapping::{is_nick, is_same};
 use line_grammar::Octets;
 use std::alloc::{AllocError, Global};
 

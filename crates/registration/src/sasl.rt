@@ -10,7 +10,7 @@ ghost use Rattle.registration.specs.Parts.{parts, three_of};
 ghost use Rattle.registration.specs.Plain.{Spells, credentials, credentials_from, credentials_of, is_own};
 
 use crate::Accounts;
-use crate::parts::{is_same, three_parts};
+use crate::parts::three_parts;
 use base64::decoded_len_estimate;
 use base64::engine::general_purpose::STANDARD;
 use line_grammar::Octets;

@@ -11,9 +11,8 @@ ghost use Rattle.roster.specs.Stands.{Alike, AreApart, LeavesThose, AreHeld, Are
 
 use crate::boxed::Boxed;
 use crate::hashing::NameHashing;
-use crate::names::is_same;
 use crate::tables::Channel;
-use casemapping::Folded;
+use casemapping::{Folded, is_same};
 use channel_state::Change;
 use chronicle::SessionId;
 use indexmap::IndexMap;

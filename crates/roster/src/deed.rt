@@ -5,8 +5,8 @@ ghost use Rattle.std.specs.Option.{option_map};
 ghost use Rattle.registration.specs.Enrol.{enrolment};
 ghost use Rattle.roster.specs.LookBack.{tells_host, enrolled, tells_name, reshaped};
 
-use crate::names::is_same;
 use crate::people::blank_enrol;
+use casemapping::is_same;
 use channel_state::{Change, ChannelState};
 use chronicle::{SessionId, Why};
 use line_grammar::Octets;

@@ -10,7 +10,6 @@ mod keys;
 mod laws;
 mod lists;
 mod marks;
-mod names;
 mod nicks;
 mod people;
 mod room;
@@ -27,6 +26,5 @@ pub use laws::{
     operators_are_the_last, own_channels_are_there_once, sharers_are_there_once,
     spelled_names_are_names, topics_are_the_last, voices_are_the_last,
 };
-pub use names::is_same;
 pub use roster::Roster;
 pub use sessions::Sessions;

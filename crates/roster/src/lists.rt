@@ -11,8 +11,8 @@ ghost use Rattle.roster.specs.Lists.{row_of, seat_of, is_taken, reseated, noted,
 use crate::channels::Channels;
 use crate::deed::Deed;
 use crate::marks::Marks;
-use crate::names::is_same;
 use crate::people::People;
+use casemapping::is_same;
 use channel_state::Change;
 use chronicle::SessionId;
 use line_grammar::Octets;

@@ -6,8 +6,7 @@ ghost use Rattle.casemapping.specs.Fold.{folded};
 ghost use Rattle.roster.specs.Tables.{held_by, Frees};
 
 use crate::hashing::NameHashing;
-use crate::names::is_same;
-use casemapping::Folded;
+use casemapping::{Folded, is_same};
 use chronicle::SessionId;
 use indexmap::IndexMap;
 use line_grammar::Octets;

@@ -3,7 +3,7 @@ use Rattle.std.proofs.Common.{◌≡◌, ℕ, Bool, true, List, [], ◌∷◌, c
 use Rattle.std.specs.List.{find}
 use Rattle.std.specs.Str.{str_eq_ignore_ascii_case}
 use Rattle.std.proofs.lemmas.Bool.{cases_Bool}
-use Rattle.command_params.specs.Lists.{is_empty}
+use Rattle.line_grammar.specs.Parts.{is_empty}
 use Rattle.command_params.specs.Params.{HasName, first_or_empty}
 use Rattle.command_params.proofs.Named.{either-read}
 use Rattle.session_commands.specs.declared.session.SessionCommand.{SessionCommand}

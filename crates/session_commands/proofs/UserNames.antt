@@ -2,7 +2,7 @@
 use Rattle.std.proofs.Common.{◌≡◌, ℕ, suc, true, not, eqb, List, [], ◌∷◌, length, take, refl, sym, ap, inl, inr, arith}
 use Rattle.std.specs.List.{filter, list_any}
 use Rattle.std.proofs.lemmas.Bool.{cases_Bool, ne_eqb}
-use Rattle.command_params.specs.Lists.{is_present}
+use Rattle.line_grammar.specs.Parts.{is_present}
 use Rattle.session_commands.specs.Session.{is_user_octet, user_name}
 
 more_than_none : (n : ℕ) → true ≡ not (eqb (suc n) 0)

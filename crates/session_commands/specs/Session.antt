@@ -10,7 +10,8 @@ use Rattle.session_commands.specs.declared.session.SessionName.{SessionName}
 use Rattle.session_commands.specs.declared.session.SessionName.TheVariants as name
 use Rattle.command_params.specs.declared.fault.ReadFault.{ReadFault}
 use Rattle.command_params.specs.declared.fault.ReadFault.TheVariants.{NoNicknameGiven, NoOrigin, InvalidCapSubcommand}
-use Rattle.command_params.specs.Lists.{is_empty, words_of}
+use Rattle.line_grammar.specs.Parts.{is_empty}
+use Rattle.command_params.specs.Lists.{words_of}
 use Rattle.command_params.specs.Params.{HasName, first_or_empty, needs_more}
 use Rattle.registration.specs.declared.settings.Settings.{Settings}
 use Rattle.roster.specs.declared.deed.Deed.{Deed}

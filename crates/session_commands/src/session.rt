@@ -1,21 +1,21 @@
 //! The commands of a session's own: how each is named and read, and what it does (RFC 2812, sections 3.1.1 to 3.1.3, 3.1.7,
 //! 3.7.2 and 3.7.3; IRCv3 Capability Negotiation and SASL 3.1).
-ghost use Rattle.std.specs.Prelude.{◌≡◌, ◌∷◌, [], IfOk, OnOk};
+ghost use Rattle.std.specs.Prelude.{◌≡◌, ◌∷◌, ◌≤◌, [], ℕ, List, length, IfOk, OnOk, MatchOption};
 ghost use Rattle.std.specs.List.{list_any};
 ghost use Rattle.roster.specs.Legal.{IsOpened};
 ghost use Rattle.drafts.specs.declared.effect.Effect.TheVariants.{Answer};
 ghost use Rattle.drafts.specs.Drafted.{grown};
 ghost use Rattle.drafts.specs.Lines.{pong_line};
-ghost use Rattle.command_params.specs.Lists.{is_present};
+ghost use Rattle.line_grammar.specs.Parts.{is_present};
 ghost use Rattle.command_params.specs.Params.{IsRead};
 ghost use Rattle.session_commands.specs.Session.{EachSessionIsNamed, NoSessionIsMisnamed, session_named, session_of, session_text, cap_req, cap_subcommand, cap_command, authenticate_command, pass_command, pong_command, nick_command, is_user_octet, user_name, user_command, ping_command, quit_command, serves_session, shows_values, told};
 
 use crate::enrolling::{introduce, pass, quit, take_nick};
 use crate::negotiation::{authenticate, negotiate};
 use chronicle::SessionId;
-use command_params::{ReadFault, Texts, first, is_named, needs_more, read_words};
+use command_params::{ReadFault, Texts, first, into_first, is_named, needs_more, read_words};
 use drafts::{Draft, pong_line};
-use line_grammar::{Octets, Parameters};
+use line_grammar::{LineMessage, LineParameters, Octets};
 use std::alloc::{AllocError, Global};
 
 /// What CAP asks for (IRCv3 Capability Negotiation).
@@ -139,20 +139,20 @@ fn shows_values(version: &[u8]) -> bool
     number == VALUES_VERSION
 }
 
-fn read_cap_req(alloc: Global, params: &[Octets]) -> Result<SessionCommand, ReadFault>
+fn read_cap_req(alloc: Global, params: &LineParameters<'_>) -> Result<SessionCommand, ReadFault>
     ensures { IsRead (cap_req params.now) result }
 {
-    let [list, ..] = params else {
+    let Some((list, _)) = params.split_first() else {
         return Err(needs_more(b"CAP"));
     };
-    let words = read_words(alloc, list.as_slice())?;
+    let words = read_words(alloc, list)?;
     Ok(SessionCommand::Cap(CapSubcommand::Req { words }))
 }
 
 fn read_cap_subcommand(
     alloc: Global,
     subcommand: Octets,
-    params: &[Octets],
+    params: &LineParameters<'_>,
 ) -> Result<SessionCommand, ReadFault>
     ensures { IsRead (cap_subcommand subcommand params.now) result }
 {
@@ -173,44 +173,42 @@ fn read_cap_subcommand(
     Err(ReadFault::InvalidCapSubcommand { subcommand })
 }
 
-/// An unknown subcommand is moved out of the parameters, so that no growth comes before its fault.
-fn read_cap(alloc: Global, mut params: Vec<Octets>) -> Result<SessionCommand, ReadFault>
-    ensures { IsRead (cap_command params.items) result }
+/// A subcommand is kept without taking memory, so that no growth comes before the fault of an unknown one.
+fn read_cap(alloc: Global, message: LineMessage<'_>) -> Result<SessionCommand, ReadFault>
+    ensures { IsRead (cap_command message.entry.params) result }
 {
-    if params.is_empty() {
+    let Some((_, params)) = message.params().split_first() else {
         return Err(needs_more(b"CAP"));
-    }
-    let subcommand = params.remove(0);
+    };
+    let subcommand = into_first(alloc, message);
     read_cap_subcommand(alloc, subcommand, &params)
 }
 
-fn read_authenticate(params: &[Octets]) -> Result<SessionCommand, ReadFault>
-    ensures { IsRead (authenticate_command params.now) result }
+fn read_authenticate(message: LineMessage<'_>) -> Result<SessionCommand, ReadFault>
+    ensures { IsRead (authenticate_command message.entry.params) result }
 {
-    let [piece, ..] = params else {
-        return Err(needs_more(b"AUTHENTICATE"));
-    };
-    let piece = piece.clone()?;
-    Ok(SessionCommand::Authenticate { piece })
-}
-
-fn read_pass(params: &[Octets]) -> Result<SessionCommand, ReadFault>
-    ensures { IsRead (pass_command params.now) result }
-{
-    match params {
-        [_, ..] => Ok(SessionCommand::Pass),
-        [] => Err(needs_more(b"PASS")),
+    match message.into_first_param() {
+        Some(piece) => Ok(SessionCommand::Authenticate { piece }),
+        None => Err(needs_more(b"AUTHENTICATE")),
     }
 }
 
-fn read_nick(alloc: Global, params: &[Octets]) -> Result<SessionCommand, ReadFault>
-    ensures { IsRead (nick_command params.now) result }
+fn read_pass(params: &LineParameters<'_>) -> Result<SessionCommand, ReadFault>
+    ensures { IsRead (pass_command params.now) result }
 {
-    let nick = first(params);
+    match params.split_first() {
+        Some(_) => Ok(SessionCommand::Pass),
+        None => Err(needs_more(b"PASS")),
+    }
+}
+
+fn read_nick(alloc: Global, message: LineMessage<'_>) -> Result<SessionCommand, ReadFault>
+    ensures { IsRead (nick_command message.entry.params) result }
+{
+    let nick = into_first(alloc, message);
     if nick.is_empty() {
         return Err(ReadFault::NoNicknameGiven);
     }
-    let nick = Octets::copied(alloc, nick)?;
     Ok(SessionCommand::Nick { nick })
 }
 
@@ -260,30 +258,40 @@ fn told(alloc: Global, user: &[u8], real: &[u8]) -> Result<SessionCommand, ReadF
     Ok(SessionCommand::User { user, real })
 }
 
-fn read_user(alloc: Global, params: &[Octets]) -> Result<SessionCommand, ReadFault>
+/// The user name and the real name. `None` where a parameter is missing.
+fn user_and_real<'a>(params: &LineParameters<'a>) -> Option<(&'a [u8], &'a [u8])>
+    ensures { MatchOption result (length params.now ≤ 3) (λ p. (second third : List ℕ) × (more : List (List ℕ)) × (params.now ≡ p.0.now ∷ second ∷ third ∷ p.1.now ∷ more)) }
+{
+    let (user, params) = params.split_first()?;
+    let (_, params) = params.split_first()?;
+    let (_, params) = params.split_first()?;
+    let (real, _) = params.split_first()?;
+    Some((user, real))
+}
+
+fn read_user(alloc: Global, params: &LineParameters<'_>) -> Result<SessionCommand, ReadFault>
     ensures { IsRead (user_command params.now) result }
 {
-    match params {
-        [user, _, _, real, ..] => told(alloc, user.as_slice(), real.as_slice()),
-        _ => Err(needs_more(b"USER")),
+    match user_and_real(params) {
+        Some((user, real)) => told(alloc, user, real),
+        None => Err(needs_more(b"USER")),
     }
 }
 
-fn read_ping(alloc: Global, params: &[Octets]) -> Result<SessionCommand, ReadFault>
-    ensures { IsRead (ping_command params.now) result }
+fn read_ping(alloc: Global, message: LineMessage<'_>) -> Result<SessionCommand, ReadFault>
+    ensures { IsRead (ping_command message.entry.params) result }
 {
-    let token = first(params);
+    let token = into_first(alloc, message);
     if token.is_empty() {
         return Err(ReadFault::NoOrigin);
     }
-    let token = Octets::copied(alloc, token)?;
     Ok(SessionCommand::Ping { token })
 }
 
-fn read_quit(alloc: Global, params: &[Octets]) -> Result<SessionCommand, ReadFault>
-    ensures { IsRead (quit_command params.now) result }
+fn read_quit(alloc: Global, message: LineMessage<'_>) -> Result<SessionCommand, ReadFault>
+    ensures { IsRead (quit_command message.entry.params) result }
 {
-    let text = Octets::copied(alloc, first(params))?;
+    let text = into_first(alloc, message);
     Ok(SessionCommand::Quit { text })
 }
 
@@ -292,19 +300,19 @@ fn read_quit(alloc: Global, params: &[Octets]) -> Result<SessionCommand, ReadFau
 pub fn read_session(
     alloc: Global,
     name: SessionName,
-    params: Parameters,
+    message: LineMessage<'_>,
 ) -> Result<SessionCommand, ReadFault>
-    ensures { IsRead (session_of name params) result }
+    ensures { IsRead (session_of name message.entry.params) result }
 {
     match name {
-        SessionName::Cap => read_cap(alloc, params.into_vec()),
-        SessionName::Authenticate => read_authenticate(params.as_slice()),
-        SessionName::Pass => read_pass(params.as_slice()),
-        SessionName::Nick => read_nick(alloc, params.as_slice()),
-        SessionName::User => read_user(alloc, params.as_slice()),
-        SessionName::Ping => read_ping(alloc, params.as_slice()),
+        SessionName::Cap => read_cap(alloc, message),
+        SessionName::Authenticate => read_authenticate(message),
+        SessionName::Pass => read_pass(&message.params()),
+        SessionName::Nick => read_nick(alloc, message),
+        SessionName::User => read_user(alloc, &message.params()),
+        SessionName::Ping => read_ping(alloc, message),
         SessionName::Pong => Ok(SessionCommand::Pong),
-        SessionName::Quit => read_quit(alloc, params.as_slice()),
+        SessionName::Quit => read_quit(alloc, message),
     }
 }
 

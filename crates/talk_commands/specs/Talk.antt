@@ -6,7 +6,8 @@ use Rattle.talk_commands.specs.declared.talk.TalkCommand.{TalkCommand}
 use Rattle.talk_commands.specs.declared.talk.TalkCommand.TheVariants.{Privmsg, Notice, Tagmsg, Away}
 use Rattle.command_params.specs.declared.fault.ReadFault.{ReadFault}
 use Rattle.command_params.specs.declared.fault.ReadFault.TheVariants.{NoRecipient, NoTextToSend}
-use Rattle.command_params.specs.Lists.{is_empty, names_of}
+use Rattle.line_grammar.specs.Parts.{is_empty}
+use Rattle.command_params.specs.Lists.{names_of}
 use Rattle.command_params.specs.Params.{HasName, first_or_empty}
 use Rattle.std.specs.Str.{str_eq_ignore_ascii_case}
 use Rattle.registration.specs.declared.settings.Settings.{Settings}

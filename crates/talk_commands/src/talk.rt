@@ -11,7 +11,7 @@ use crate::{Sending, Verb, go_away, send};
 use chronicle::SessionId;
 use command_params::{CommandName, ReadFault, Texts, first, is_named, read_names};
 use drafts::Draft;
-use line_grammar::Octets;
+use line_grammar::{LineParameters, Octets};
 use message_tags::{client_only, tags_of};
 use std::alloc::{AllocError, Global};
 
@@ -44,12 +44,12 @@ pub enum TalkCommand {
 }
 
 /// The second parameter. Empty where there is none.
-fn second(params: &[Octets]) -> &[u8]
+fn second<'a>(params: &LineParameters<'a>) -> &'a [u8]
     ensures { result.now ≡ second_or_empty params.now }
 {
-    match params {
-        [_, params @ ..] => first(params),
-        [] => &[],
+    match params.split_first() {
+        Some((_, params)) => first(&params),
+        None => &[],
     }
 }
 
@@ -61,7 +61,11 @@ fn relayed(alloc: Global, tag_data: &[u8]) -> Result<Octets, AllocError>
     client_only(alloc, &tags)
 }
 
-fn read_privmsg(alloc: Global, tag_data: &[u8], params: &[Octets]) -> Result<TalkCommand, ReadFault>
+fn read_privmsg(
+    alloc: Global,
+    tag_data: &[u8],
+    params: &LineParameters<'_>,
+) -> Result<TalkCommand, ReadFault>
     ensures { IsRead (privmsg_command tag_data.now params.now) result }
 {
     let list = first(params);
@@ -84,7 +88,11 @@ fn read_privmsg(alloc: Global, tag_data: &[u8], params: &[Octets]) -> Result<Tal
     })
 }
 
-fn read_notice(alloc: Global, tag_data: &[u8], params: &[Octets]) -> Result<TalkCommand, ReadFault>
+fn read_notice(
+    alloc: Global,
+    tag_data: &[u8],
+    params: &LineParameters<'_>,
+) -> Result<TalkCommand, ReadFault>
     ensures { IsRead (notice_command tag_data.now params.now) result }
 {
     let list = first(params);
@@ -106,7 +114,11 @@ fn read_notice(alloc: Global, tag_data: &[u8], params: &[Octets]) -> Result<Talk
     })
 }
 
-fn read_tagmsg(alloc: Global, tag_data: &[u8], params: &[Octets]) -> Result<TalkCommand, ReadFault>
+fn read_tagmsg(
+    alloc: Global,
+    tag_data: &[u8],
+    params: &LineParameters<'_>,
+) -> Result<TalkCommand, ReadFault>
     ensures { IsRead (tagmsg_command tag_data.now params.now) result }
 {
     let list = first(params);
@@ -120,7 +132,7 @@ fn read_tagmsg(alloc: Global, tag_data: &[u8], params: &[Octets]) -> Result<Talk
     Ok(TalkCommand::Tagmsg { targets, tags })
 }
 
-fn read_away(alloc: Global, params: &[Octets]) -> Result<TalkCommand, ReadFault>
+fn read_away(alloc: Global, params: &LineParameters<'_>) -> Result<TalkCommand, ReadFault>
     ensures { IsRead (away_command params.now) result }
 {
     let text = Octets::copied(alloc, first(params))?;
@@ -133,7 +145,7 @@ pub fn read_talk(
     alloc: Global,
     name: &[u8],
     tag_data: &[u8],
-    params: &[Octets],
+    params: &LineParameters<'_>,
 ) -> Option<Result<TalkCommand, ReadFault>>
     ensures { IsReadByName (talk_of name.now tag_data.now params.now) result }
 {

@@ -1,7 +1,7 @@
 //! Messages in lines by the public standard's grammar, and what is held of a line that has no end yet.
 use line_grammar::{
-    LineFault, Message, Octets, Parameters, Piece, Splitter, WriteFault, is_writable, parse,
-    split_all, write,
+    LineFault, LineMessage, LineParameters, Message, Octets, Parameters, Piece, Splitter,
+    WriteFault, is_writable, parse, split_all, write,
 };
 use numerics::copied_all;
 use std::alloc::{AllocError, Global};
@@ -330,9 +330,17 @@ fn is_message(message: &Message, reading: &Reading) -> bool {
         && message.colon == colon
 }
 
+/// The message of a line, with copies of its parts.
+fn message_of(alloc: Global, line: &[u8]) -> Result<Message, LineFault> {
+    match parse(alloc, line) {
+        Ok(message) => Ok(message.to_message(alloc)?),
+        Err(fault) => Err(fault),
+    }
+}
+
 /// Whether a line is read so.
 fn is_read(alloc: Global, reading: &Reading) -> bool {
-    match parse(alloc, reading.0) {
+    match message_of(alloc, reading.0) {
         Ok(message) => is_message(&message, reading),
         Err(_) => false,
     }
@@ -364,6 +372,79 @@ fn reads_sources_and_tags(rt: HostRuntime) -> Result<(), Fail> {
 #[test]
 fn reads_as_many_parameters_as_a_line_has(rt: HostRuntime) -> Result<(), Fail> {
     compare_readings(&rt, rt.alloc(), &FULL);
+    Ok(())
+}
+
+/// Whether parameters are found one by one, and no more.
+fn are_found(params: &LineParameters<'_>, want: &[&[u8]]) -> bool {
+    let mut rest = params.split_first();
+    for octets in want {
+        let Some((param, others)) = rest else {
+            return false;
+        };
+        if param != *octets {
+            return false;
+        }
+        rest = others.split_first();
+    }
+    rest.is_none()
+}
+
+/// Whether the parts of a message are found in its line.
+fn is_found(message: &LineMessage<'_>, reading: &Reading) -> bool {
+    let (_, tags, _, command, parameters, _) = *reading;
+    message.tags() == tags
+        && message.command() == command
+        && are_found(&message.params(), parameters)
+}
+
+/// Whether a parameter that is kept is the first.
+fn is_first(kept: &Option<Octets>, parameters: &[&[u8]]) -> bool {
+    match (kept, parameters.first()) {
+        (Some(kept), Some(first)) => kept.as_slice() == *first,
+        (kept, first) => kept.is_none() && first.is_none(),
+    }
+}
+
+/// Whether a message is found in its line, and keeps its command.
+fn keeps_command(alloc: Global, reading: &Reading) -> bool {
+    match parse(alloc, reading.0) {
+        Ok(message) => {
+            is_found(&message, reading) && message.into_command().as_slice() == reading.3
+        }
+        Err(_) => false,
+    }
+}
+
+/// Whether a message keeps its first parameter.
+fn keeps_parameter(alloc: Global, reading: &Reading) -> bool {
+    match parse(alloc, reading.0) {
+        Ok(message) => is_first(&message.into_first_param(), reading.4),
+        Err(_) => false,
+    }
+}
+
+/// Compares what is found and kept of lines, once more where a growth was refused.
+fn compare_parts(rt: &impl Abort, alloc: Global, readings: &[Reading]) {
+    for reading in readings {
+        assert!(rt;
+            keeps_command(alloc, reading) || keeps_command(alloc, reading),
+            "{:?}",
+            reading.0
+        );
+        assert!(rt;
+            keeps_parameter(alloc, reading) || keeps_parameter(alloc, reading),
+            "{:?}",
+            reading.0
+        );
+    }
+}
+
+#[test]
+fn finds_and_keeps_the_parts_of_messages(rt: HostRuntime) -> Result<(), Fail> {
+    compare_parts(&rt, rt.alloc(), &COMMANDS);
+    compare_parts(&rt, rt.alloc(), &SOURCES);
+    compare_parts(&rt, rt.alloc(), &FULL);
     Ok(())
 }
 
@@ -421,7 +502,7 @@ fn is_spelled(alloc: Global, message: &Message, line: &[u8]) -> bool {
 
 /// Whether the message of a line is spelled as the line.
 fn is_respelled(alloc: Global, line: &[u8]) -> bool {
-    match parse(alloc, line) {
+    match message_of(alloc, line) {
         Ok(message) => is_spelled(alloc, &message, line),
         Err(_) => false,
     }

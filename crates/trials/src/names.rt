@@ -1,5 +1,5 @@
 //! Tables of cases from RFC 2812, sections 1.3, 2.2, 2.3.1 and 2.5.
-use casemapping::{Folded, is_channel, is_host, matches, same};
+use casemapping::{Folded, is_channel, is_host, is_same, matches};
 use std::alloc::{AllocError, Global};
 use std::cmp::Ordering;
 use std::test::Fail;
@@ -21,7 +21,11 @@ const PAIRS: [(&str, &str, bool); 10] = [
 #[test]
 fn same_names(rt: HostRuntime) {
     for (a, b, want) in &PAIRS {
-        assert_eq!(rt; same(a.as_bytes(), b.as_bytes()), *want, "of {a} and {b}");
+        assert_eq!(rt;
+            is_same(a.as_bytes(), b.as_bytes()),
+            *want,
+            "of {a} and {b}"
+        );
     }
 }
 

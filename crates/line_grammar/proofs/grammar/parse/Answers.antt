@@ -1,6 +1,7 @@
 use Rattle.std.proofs.Common.{◌≡◌, None, rules}
 use Rattle.line_grammar.specs.declared.message.Message.{Message}
-use Rattle.line_grammar.specs.Reading.{reading, with_command}
+use Rattle.std.specs.Option.{option_map}
+use Rattle.line_grammar.specs.Reading.{parameters, reading, with_command}
 use Rattle.line_grammar.proofs.Spelled.{reading_is_reads, none_spelled}
 use Rattle.line_grammar.proofs.grammar.parse.Goals as goal
 
@@ -11,5 +12,6 @@ returns-then-not-is_command-clause-unspelled c = λ e. none_spelled c.args.line.
 pub returns-clause-spelled : goal.returns-clause-spelled
 unfolding reading with_command
 returns-clause-spelled c =
-    let found : Message = record { tags = c.in_ok-copied.field-0; source = c.in_ok-copied-2.field-0; command = c.in_ok-copied-3.field-0; params = c.in_ok-params.params; colon = c.in_ok-params.colon } in
+    let more = parameters 14 c.split_word.result.1.now in
+    let found : Message = record { tags = c.split_tags.result.0.now; source = option_map (λ s. s.now) c.split_source.result.0; command = c.split_word.result.0.now; params = more.0; colon = more.1 } in
     reading_is_reads c.args.line.now found (search rules)

@@ -1,4 +1,4 @@
--- A list cut at its first separator.
+-- A text cut at its first separator.
 use Rattle.std.proofs.Common.{◌≡◌, ℕ, ◌+◌, ◌-◌, ◌<◌, Bool, List, [], ◌∷◌, length, take, drop, suc, refl, ap, sym, ◌∙◌, inl, inr, arith, eqb, ltb, not}
 use Rattle.std.specs.Prelude.{Some, None}
 use Rattle.std.specs.List.{position, position_or_len, slice_split, onto_first}
@@ -6,7 +6,7 @@ use Rattle.std.proofs.lemmas.Bool.{cases_Bool, ltb-true, ltb-false}
 use Rattle.std.proofs.lemmas.List.{take_rest}
 use Rattle.std.proofs.lemmas.List.Sums.{prefix_len-le-length}
 use Rattle.std.proofs.lemmas.List.Splits.{slice_split_first}
-use Rattle.command_params.specs.ListSteps.{parts}
+use Rattle.line_grammar.specs.Parts.{parts}
 
 found : (p : ℕ → Bool) (xs : List ℕ) (i : ℕ) → position p xs ≡ Some i → (position_or_len p xs ≡ i) × (i < length xs)
 found p xs i e =
