@@ -6,7 +6,8 @@ ghost use Rattle.line_grammar.specs.Lines.{lines};
 ghost use Rattle.book.specs.Legal.{IsLegal};
 ghost use Rattle.deliveries.specs.Owed.{owed};
 ghost use Rattle.casemapping.specs.Names.{host_shape};
-ghost use Rattle.book.specs.Book.{IsOut, finished, late, newest_missed};
+ghost use Rattle.book.specs.Book.{IsOut, empty_book, finished, late, newest_missed};
+ghost use Rattle.book.specs.Settings.{IsWellSet as IsBookSet};
 ghost use Rattle.interleave.specs.Limits.{IsWellSet};
 ghost use Rattle.interleave.specs.Steps.{is_actor_shut};
 
@@ -67,6 +68,26 @@ fn are_well_set(workers: usize, sendq: usize) -> bool
     1 <= workers && workers <= MAX_WORKERS && 1 <= sendq && sendq <= MAX_SENDQ
 }
 
+/// A book with no sessions, of which names are hashed by the keys of a state, where one is given.
+fn book_of<L: Naming>(
+    alloc: Global,
+    register: Register<()>,
+    settings: Settings,
+    limit: usize,
+    state: Option<RandomState>,
+) -> Result<Book<L, Ring>, BookFault>
+    requires named { register.table ≡ L.table }
+    requires empty { register.rows ≡ [] }
+    ensures ok { IfOk result (λ b. (b ≡ empty_book limit settings) × IsBookSet settings limit) }
+    ensures bad { IfErr result (λ e. e ≡ BookFault.BadSettings → IsBookSet settings limit → ⊥) }
+    ensures memory { IfErr result (λ e. e ≡ BookFault.Memory → IsBookSet settings limit) }
+{
+    match state {
+        Some(state) => Book::with_hasher(alloc, register, settings, limit, state),
+        None => Book::new(alloc, register, settings, limit),
+    }
+}
+
 /// So many workers without a line.
 fn idle(alloc: Global, workers: usize) -> Result<Vec<Option<SessionId>>, AllocError>
     ensures { IfOk result (λ jobs. jobs.items ≡ replicate workers None) }
@@ -110,6 +131,43 @@ impl<L: Naming> Play<L> {
     ghost use Rattle.interleave.specs.Order.{IsPrefix, IsRising};
     ghost use Rattle.interleave.specs.Laws.{IsAnsweredOnce, IsBatchClosed, IsLabelledFirst, IsLoneUnbatched};
 
+    /// A play with no sessions. Names are hashed by the keys of a state, where one is given.
+    fn made(
+        alloc: Global,
+        register: Register<()>,
+        settings: Settings,
+        limit: usize,
+        workers: usize,
+        sendq: usize,
+        state: Option<RandomState>,
+    ) -> Result<Play<L>, PlayRefusal>
+        requires named { register.table ≡ L.table }
+        requires empty { register.rows ≡ [] }
+        ensures ok { IfOk result (λ p. (p ≡ empty_state limit settings sendq workers) × IsWellSet settings limit workers sendq) }
+        ensures bad { IfErr result (λ e. e ≡ PlayRefusal.BadSettings → IsWellSet settings limit workers sendq → ⊥) }
+        ensures memory { IfErr result (λ e. e ≡ PlayRefusal.Memory → IsWellSet settings limit workers sendq) }
+    {
+        if !are_well_set(workers, sendq) {
+            return Err(PlayRefusal::BadSettings);
+        }
+        let book = match book_of(alloc, register, settings, limit, state) {
+            Ok(book) => book,
+            Err(BookFault::BadSettings) => return Err(PlayRefusal::BadSettings),
+            Err(BookFault::Memory) => return Err(PlayRefusal::Memory),
+        };
+        let Ok(jobs) = idle(alloc, workers) else {
+            return Err(PlayRefusal::Memory);
+        };
+        Ok(Play {
+            alloc,
+            book,
+            sendq,
+            inboxes: Vec::new(alloc),
+            jobs,
+            holder: None,
+        })
+    }
+
     /// A play with no sessions, for at most `limit` records, 1 to 64 workers, and outboxes for `sendq` items, 1 to 4,096. Its
     /// sessions' tokens a register has that is named by `L` and has no session yet.
     pub fn new(
@@ -126,25 +184,7 @@ impl<L: Naming> Play<L> {
         ensures bad { IfErr result (λ e. e ≡ PlayRefusal.BadSettings → IsWellSet settings limit workers sendq → ⊥) }
         ensures memory { IfErr result (λ e. e ≡ PlayRefusal.Memory → IsWellSet settings limit workers sendq) }
     {
-        if !are_well_set(workers, sendq) {
-            return Err(PlayRefusal::BadSettings);
-        }
-        let book = match Book::new(alloc, register, settings, limit) {
-            Ok(book) => book,
-            Err(BookFault::BadSettings) => return Err(PlayRefusal::BadSettings),
-            Err(BookFault::Memory) => return Err(PlayRefusal::Memory),
-        };
-        let Ok(jobs) = idle(alloc, workers) else {
-            return Err(PlayRefusal::Memory);
-        };
-        Ok(Play {
-            alloc,
-            book,
-            sendq,
-            inboxes: Vec::new(alloc),
-            jobs,
-            holder: None,
-        })
+        Play::made(alloc, register, settings, limit, workers, sendq, None)
     }
 
     /// A play with no sessions, as `new` makes one. Names are hashed by the keys of a state.
@@ -163,25 +203,15 @@ impl<L: Naming> Play<L> {
         ensures bad { IfErr result (λ e. e ≡ PlayRefusal.BadSettings → IsWellSet settings limit workers sendq → ⊥) }
         ensures memory { IfErr result (λ e. e ≡ PlayRefusal.Memory → IsWellSet settings limit workers sendq) }
     {
-        if !are_well_set(workers, sendq) {
-            return Err(PlayRefusal::BadSettings);
-        }
-        let book = match Book::with_hasher(alloc, register, settings, limit, state) {
-            Ok(book) => book,
-            Err(BookFault::BadSettings) => return Err(PlayRefusal::BadSettings),
-            Err(BookFault::Memory) => return Err(PlayRefusal::Memory),
-        };
-        let Ok(jobs) = idle(alloc, workers) else {
-            return Err(PlayRefusal::Memory);
-        };
-        Ok(Play {
+        Play::made(
             alloc,
-            book,
+            register,
+            settings,
+            limit,
+            workers,
             sendq,
-            inboxes: Vec::new(alloc),
-            jobs,
-            holder: None,
-        })
+            Some(state),
+        )
     }
 
     /// What holds of every play: what was taken of a session, what waits for it and what a plan still has for it is what the

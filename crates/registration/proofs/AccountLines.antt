@@ -4,8 +4,7 @@ use Rattle.std.specs.Result.{IsOk}
 use Rattle.std.proofs.lemmas.List.{take_at}
 use Rattle.registration.specs.declared.accounts.Account.{Account}
 use Rattle.registration.specs.declared.accounts.AccountFault.{AccountFault}
-use Rattle.registration.specs.Parts.{parts}
-use Rattle.registration.specs.PartSteps.{parts_left}
+use Rattle.line_grammar.specs.Parts.{parts, parts_left}
 use Rattle.registration.specs.Accounts.{accounts_from, unless_fault, with_line}
 
 -- of all lines those before number n were read, and the others are left

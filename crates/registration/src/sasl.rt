@@ -6,13 +6,15 @@ ghost use Rattle.base64.specs.Decode.{decoded_estimate};
 ghost use Rattle.base64.specs.Engines.{standard};
 ghost use Rattle.base64.specs.GeneralPurpose.{decode_of, encode_of};
 ghost use Rattle.registration.specs.Enrol.{account_by};
-ghost use Rattle.registration.specs.Parts.{parts, three_of};
+ghost use Rattle.line_grammar.specs.Parts.{parts};
+ghost use Rattle.registration.specs.Parts.{three_of};
 ghost use Rattle.registration.specs.Plain.{Spells, credentials, credentials_from, credentials_of, is_own};
 
 use crate::Accounts;
 use crate::parts::three_parts;
 use base64::decoded_len_estimate;
 use base64::engine::general_purpose::STANDARD;
+use casemapping::is_same;
 use line_grammar::Octets;
 use std::alloc::{AllocError, Global};
 

@@ -1,10 +1,8 @@
 //! The commands that send texts: how each is named and read, and what it does (RFC 2812, sections 3.3.1, 3.3.2 and 4.1; IRCv3 message-tags).
-ghost use Rattle.std.specs.Prelude.{◌≡◌, Some, None, IfOk, OnOk};
+ghost use Rattle.std.specs.Prelude.{◌≡◌, IfOk, OnOk};
 ghost use Rattle.roster.specs.Legal.{IsOpened};
 ghost use Rattle.drafts.specs.Drafted.{grown};
 ghost use Rattle.command_params.specs.Params.{IsRead, IsReadByName};
-ghost use Rattle.talk_commands.specs.declared.verb.Verb.TheVariants.{Tagmsg};
-ghost use Rattle.talk_commands.specs.Talking.{sends};
 ghost use Rattle.talk_commands.specs.Talk.{EachTalkIsNamed, NoTalkIsMisnamed, is_unanswered, serves_talk, talk_of, privmsg_command, notice_command, tagmsg_command, away_command, relayed, second_or_empty};
 
 use crate::{Sending, Verb, go_away, send};
@@ -168,47 +166,6 @@ pub fn no_talk_is_misnamed()
     ensures { NoTalkIsMisnamed }
 {}
 
-/// Sends a text to targets.
-fn send_text(
-    draft: &mut Draft,
-    session: SessionId,
-    verb: Verb,
-    targets: &Texts,
-    text: &Octets,
-    tags: &Octets,
-) -> Result<(), AllocError>
-    requires { draft.old.facts ≡ draft.old.base }
-    ensures { OnOk result (draft.new ≡ grown draft.old (sends draft.old.settings draft.old.facts session (record { verb = verb; text = Some text.now; tags = tags.now }) targets.now)) }
-{
-    let text = Some(text);
-    send(
-        draft,
-        session,
-        &Sending { verb, text, tags },
-        targets.as_slice(),
-    )
-}
-
-/// Sends tags to targets.
-fn send_tags(
-    draft: &mut Draft,
-    session: SessionId,
-    targets: &Texts,
-    tags: &Octets,
-) -> Result<(), AllocError>
-    requires { draft.old.facts ≡ draft.old.base }
-    ensures { OnOk result (draft.new ≡ grown draft.old (sends draft.old.settings draft.old.facts session (record { verb = Tagmsg; text = None; tags = tags.now }) targets.now)) }
-{
-    let verb = Verb::Tagmsg;
-    let text = None;
-    send(
-        draft,
-        session,
-        &Sending { verb, text, tags },
-        targets.as_slice(),
-    )
-}
-
 /// Does what a command asks for that sends something.
 pub fn serve_talk(
     draft: &mut Draft,
@@ -224,13 +181,37 @@ pub fn serve_talk(
             targets,
             text,
             tags,
-        } => send_text(draft, session, Verb::Privmsg, targets, text, tags),
+        } => {
+            let (verb, text) = (Verb::Privmsg, Some(text));
+            send(
+                draft,
+                session,
+                &Sending { verb, text, tags },
+                targets.as_slice(),
+            )
+        }
         TalkCommand::Notice {
             targets,
             text,
             tags,
-        } => send_text(draft, session, Verb::Notice, targets, text, tags),
-        TalkCommand::Tagmsg { targets, tags } => send_tags(draft, session, targets, tags),
+        } => {
+            let (verb, text) = (Verb::Notice, Some(text));
+            send(
+                draft,
+                session,
+                &Sending { verb, text, tags },
+                targets.as_slice(),
+            )
+        }
+        TalkCommand::Tagmsg { targets, tags } => {
+            let (verb, text) = (Verb::Tagmsg, None);
+            send(
+                draft,
+                session,
+                &Sending { verb, text, tags },
+                targets.as_slice(),
+            )
+        }
         TalkCommand::Away { text } => go_away(draft, session, text),
     }
 }

@@ -1,6 +1,6 @@
 //! PRIVMSG, NOTICE and TAGMSG (RFC 2812, sections 3.3.1 and 3.3.2; RFC 2811, sections 4.2 and 4.3; IRCv3 message-tags; IRCv3
 //! echo-message).
-ghost use Rattle.std.specs.Prelude.{◌≡◌, ◌==◌, ◌∷◌, ◌++◌, [], cond, filter, IfOk, OnOk};
+ghost use Rattle.std.specs.Prelude.{◌≡◌, ◌==◌, ◌∷◌, [], cond, filter, IfOk, OnOk};
 ghost use Rattle.std.specs.List.{flat_map};
 ghost use Rattle.roster.specs.LookBack.{away, found, name_of, state};
 ghost use Rattle.drafts.specs.declared.effect.Effect.TheVariants.{Show};
@@ -52,21 +52,6 @@ fn reaches(roster: &Roster, sending: &Sending<'_>, session: SessionId) -> bool
     }
 }
 
-/// Adds a session that it reaches.
-fn push_reached(
-    roster: &Roster,
-    sending: &Sending<'_>,
-    hearers: &mut Sessions,
-    session: SessionId,
-) -> Result<(), AllocError>
-    ensures { OnOk result (hearers.new ≡ hearers.old ++ filter (reaches roster.now.facts sending.now) (session ∷ [])) }
-{
-    if !reaches(roster, sending, session) {
-        return Ok(());
-    }
-    hearers.push(session)
-}
-
 /// Those of some sessions whom it reaches.
 fn reached(
     alloc: Global,
@@ -76,11 +61,9 @@ fn reached(
 ) -> Result<Sessions, AllocError>
     ensures { IfOk result (λ v. v ≡ filter (reaches roster.now.facts sending.now) sessions.now) }
 {
-    let mut hearers = Sessions::from_vec(Vec::with_capacity(alloc, sessions.len())?);
-    for session in sessions {
-        push_reached(roster, sending, &mut hearers, *session)?;
-    }
-    Ok(hearers)
+    let mut hearers = Vec::from_slice(alloc, sessions)?;
+    hearers.retain(|session| reaches(roster, sending, *session));
+    Ok(Sessions::from_vec(hearers))
 }
 
 /// Gives a session back what it sent, as a part of the answer, where it wants to have it.

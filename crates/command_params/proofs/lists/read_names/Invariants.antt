@@ -1,6 +1,7 @@
 use Rattle.std.proofs.Common.{◌≡◌, []}
 use Rattle.std.specs.List.{fold}
-use Rattle.command_params.specs.ListSteps.{parts, parts_left, with_name, octets_left}
+use Rattle.line_grammar.specs.Parts.{octets_left, parts, parts_left}
+use Rattle.command_params.specs.ListSteps.{with_name}
 use Rattle.command_params.proofs.lists.read_names.Given as goal
 
 abbrev pub invariant-loop-rest : goal.invariant-loop-rest

@@ -1,7 +1,8 @@
 use Rattle.std.proofs.Common.{◌≡◌, []}
 use Rattle.std.specs.List.{fold}
 use Rattle.command_params.specs.Lists.{paired}
-use Rattle.command_params.specs.ListSteps.{parts, parts_left, with_target, octets_left}
+use Rattle.line_grammar.specs.Parts.{octets_left, parts, parts_left}
+use Rattle.command_params.specs.ListSteps.{with_target}
 use Rattle.command_params.proofs.lists.read_targets.Given as goal
 
 abbrev pub invariant-loop-rest : goal.invariant-loop-rest

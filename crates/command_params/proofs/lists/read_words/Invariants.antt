@@ -1,6 +1,7 @@
 use Rattle.std.proofs.Common.{◌≡◌, []}
 use Rattle.std.specs.List.{fold}
-use Rattle.command_params.specs.ListSteps.{parts, parts_left, with_word, octets_left}
+use Rattle.line_grammar.specs.Parts.{octets_left, parts, parts_left}
+use Rattle.command_params.specs.ListSteps.{with_word}
 use Rattle.command_params.proofs.lists.read_words.Given as goal
 
 abbrev pub invariant-loop-rest : goal.invariant-loop-rest

@@ -1,6 +1,5 @@
 use Rattle.std.proofs.Common.{Err, ap, rules}
-use Rattle.registration.specs.Parts.{parts}
-use Rattle.registration.specs.PartSteps.{parts_left}
+use Rattle.line_grammar.specs.Parts.{parts, parts_left}
 use Rattle.registration.proofs.AccountLines.{next_line, one_more, up_to}
 use Rattle.registration.proofs.accounts.Accounts.read.Goals as goal
 

@@ -1,7 +1,6 @@
 use Rattle.std.proofs.Common.{◌≡◌, ◌+◌, ◌≤◌, [], length}
 use Rattle.registration.specs.Accounts.{accounts_from}
-use Rattle.registration.specs.Parts.{parts}
-use Rattle.registration.specs.PartSteps.{octets_left, parts_left}
+use Rattle.line_grammar.specs.Parts.{octets_left, parts, parts_left}
 use Rattle.registration.proofs.AccountLines.{AreReadBefore}
 use Rattle.registration.proofs.accounts.Accounts.read.Given as goal
 
