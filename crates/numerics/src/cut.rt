@@ -17,20 +17,25 @@ const MAX_TOKENS: usize = 13;
 /// Cuts names into as few lines as their order allows, where names that stand in one line have `room` octets,
 /// with a space between each two. Each line is filled before the next is begun. No names make no line. A name
 /// that is longer than `room` stands in a line by itself.
-pub fn split_names(alloc: Global, names: &[Octets], room: usize) -> Result<Vec<Words>, AllocError>
-    ensures lines { IfOk result (λ lines. lines.items ≡ cut room (length names.now) names.now) }
-    ensures joined { IfOk result (λ lines. flat_map (λ line. line) lines.items ≡ names.now) }
-    ensures fit { All (λ name. length name ≤ room) names.now → IfOk result (λ lines. All (IsWithin room (length names.now)) lines.items) }
-    ensures full { IfOk result (λ lines. AreFull room (length names.now) lines.items) }
+pub fn split_names(alloc: Global, names: Vec<Octets>, room: usize) -> Result<Vec<Words>, AllocError>
+    ensures lines { IfOk result (λ lines. lines.items ≡ cut room (length names.items) names.items) }
+    ensures joined { IfOk result (λ lines. flat_map (λ line. line) lines.items ≡ names.items) }
+    ensures fit { All (λ name. length name ≤ room) names.items → IfOk result (λ lines. All (IsWithin room (length names.items)) lines.items) }
+    ensures full { IfOk result (λ lines. AreFull room (length names.items) lines.items) }
 {
-    cut(alloc, names, room, names.len())
+    let most = names.len();
+    cut(alloc, names, room, most)
 }
 
 /// Cuts tokens into lines as [`split_names`] does names, with at most 13 in a line.
-pub fn split_tokens(alloc: Global, tokens: &[Octets], room: usize) -> Result<Vec<Words>, AllocError>
-    requires { All (λ token. length token ≤ room) tokens.now }
-    ensures lines { IfOk result (λ lines. lines.items ≡ cut room most_tokens tokens.now) }
-    ensures joined { IfOk result (λ lines. flat_map (λ line. line) lines.items ≡ tokens.now) }
+pub fn split_tokens(
+    alloc: Global,
+    tokens: Vec<Octets>,
+    room: usize,
+) -> Result<Vec<Words>, AllocError>
+    requires { All (λ token. length token ≤ room) tokens.items }
+    ensures lines { IfOk result (λ lines. lines.items ≡ cut room most_tokens tokens.items) }
+    ensures joined { IfOk result (λ lines. flat_map (λ line. line) lines.items ≡ tokens.items) }
     ensures fit { IfOk result (λ lines. All (IsWithin room most_tokens) lines.items) }
     ensures full { IfOk result (λ lines. AreFull room most_tokens lines.items) }
 {
@@ -58,15 +63,13 @@ impl Model for Line {
 
 impl Line {
     #[tactic(auto, using(crate::proofs::Cuts::one_spaced))]
-    fn new(alloc: Global, word: &Octets) -> Result<Line, AllocError>
-        ensures { IfOk result (λ line. line ≡ word.now ∷ []) }
+    fn new(alloc: Global, word: Octets) -> Result<Line, AllocError>
+        ensures { IfOk result (λ line. line ≡ word ∷ []) }
     {
+        let octets = word.len();
         let mut words = Vec::new(alloc);
-        words.push(word.clone()?)?;
-        Ok(Line {
-            words,
-            octets: word.len(),
-        })
+        words.push(word)?;
+        Ok(Line { words, octets })
     }
 
     #[tactic(auto, using(crate::proofs::Cuts::more_spaced))]
@@ -77,11 +80,10 @@ impl Line {
     }
 
     #[tactic(auto, using(crate::proofs::Cuts::more_spaced))]
-    fn push(&mut self, word: &Octets) -> Result<(), AllocError>
-        requires { length (spaced (self.old ++ word.now ∷ [])) < 2 ^ 64 }
-        ensures { OnOk result (self.new ≡ self.old ++ word.now ∷ []) }
+    fn push(&mut self, word: Octets) -> Result<(), AllocError>
+        requires { length (spaced (self.old ++ word ∷ [])) < 2 ^ 64 }
+        ensures { OnOk result (self.new ≡ self.old ++ word ∷ []) }
     {
-        let word = word.clone()?;
         let octets = self.octets + 1 + word.len();
         self.words.push(word)?;
         self.octets = octets;
@@ -95,16 +97,23 @@ impl Line {
     }
 }
 
-fn cut(alloc: Global, words: &[Octets], room: usize, most: usize) -> Result<Vec<Words>, AllocError>
-    ensures { IfOk result (λ lines. lines.items ≡ cut room most words.now) }
+#[tactic(auto, unfolding(crate::specs::Cut::cut))]
+fn cut(
+    alloc: Global,
+    words: Vec<Octets>,
+    room: usize,
+    most: usize,
+) -> Result<Vec<Words>, AllocError>
+    ensures { IfOk result (λ lines. lines.items ≡ cut room most words.items) }
 {
     let mut lines = Vec::new(alloc);
-    let Some((first, more)) = words.split_first() else {
+    let mut rest = words.into_iter();
+    let Some(first) = rest.next() else {
         return Ok(lines);
     };
     let mut line = Line::new(alloc, first)?;
-    for word in more {
-        if line.takes(word, room, most) {
+    for word in rest {
+        if line.takes(&word, room, most) {
             line.push(word)?;
         } else {
             let full = mem::replace(&mut line, Line::new(alloc, word)?);

@@ -30,7 +30,7 @@ impl Prefix {
 pub fn prefixed(alloc: Global, prefix: Option<Prefix>, nick: &[u8]) -> Result<Octets, AllocError>
     ensures { IfOk result (λ name. name ≡ marks prefix ++ nick.now) }
 {
-    let mut name = Vec::new(alloc);
+    let mut name = Vec::with_capacity(alloc, nick.len().saturating_add(1))?;
     if let Some(prefix) = prefix {
         name.push(prefix.mark())?;
     }

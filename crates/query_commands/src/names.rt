@@ -49,8 +49,11 @@ fn member_name(
 ) -> Result<Octets, AllocError>
     ensures { IfOk result (λ n. n ≡ member_name roster.now.facts state.now.state member) }
 {
-    let nick = title_of(alloc, roster.nick_of(member))?;
-    prefixed(alloc, rank_of(state, member), nick.as_slice())
+    let rank = rank_of(state, member);
+    match roster.nick_of(member) {
+        Some(nick) => prefixed(alloc, rank, nick.as_slice()),
+        None => prefixed(alloc, rank, b"*"),
+    }
 }
 
 /// The names of members, in order.
@@ -62,7 +65,7 @@ fn names_in_order(
 ) -> Result<Vec<Octets>, AllocError>
     ensures { IfOk result (λ v. v.items ≡ map (member_name roster.now.facts state.now.state) members.now) }
 {
-    let mut names = Vec::new(alloc);
+    let mut names = Vec::with_capacity(alloc, members.len())?;
     for member in members {
         names.push(member_name(alloc, roster, state, *member)?)?;
     }
@@ -141,10 +144,10 @@ fn push_names(
     alloc: Global,
     numerics: &mut Vec<Numeric>,
     listed: &Listed<'_>,
-    names: &[Octets],
+    names: Vec<Octets>,
     room: usize,
 ) -> Result<(), AllocError>
-    ensures { OnOk result (numerics.new.items ≡ numerics.old.items ++ name_lines listed.now room names.now) }
+    ensures { OnOk result (numerics.new.items ≡ numerics.old.items ++ name_lines listed.now room names.items) }
 {
     let lines = split_names(alloc, names, room)?;
     push_lines(numerics, listed.state.modes().secret, listed.name, lines)
@@ -161,7 +164,7 @@ fn push_listed(
 {
     let room = names_room(draft, session, listed)?;
     let names = member_names(draft.alloc(), draft.before(), session, listed.state)?;
-    push_names(draft.alloc(), numerics, listed, &names, room)?;
+    push_names(draft.alloc(), numerics, listed, names, room)?;
     let channel = listed.name.clone()?;
     numerics.push(Numeric::EndOfNames(channel))?;
     Ok(())

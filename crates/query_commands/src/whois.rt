@@ -135,7 +135,7 @@ fn push_channels(
 {
     let room = channels_room(draft, session, nick)?;
     let titles = titles_of(draft.alloc(), draft.before(), session, user)?;
-    let lines = split_names(draft.alloc(), &titles, room)?;
+    let lines = split_names(draft.alloc(), titles, room)?;
     push_lines(numerics, nick, lines)
 }
 

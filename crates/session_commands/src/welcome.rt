@@ -29,7 +29,7 @@ fn push_support(alloc: Global, numerics: &mut Vec<Numeric>) -> Result<(), AllocE
     ensures { OnOk result (numerics.new.items ≡ numerics.old.items ++ support_numerics) }
 {
     let tokens = tokens(alloc)?;
-    let lines = split_tokens(alloc, &tokens, SUPPORT_ROOM)?;
+    let lines = split_tokens(alloc, tokens, SUPPORT_ROOM)?;
     push_lines(numerics, lines)
 }
 

@@ -14,7 +14,7 @@ loop-key-preserved c =
     let n = c.args.nick.now in let k = c.in-Some.key.now in
     let first = rest_more deref_pair c.loop-key.key-iterator c.next.new.self c.next.result (c.in-Some.key, c.in-Some.session) c.in-Some.is c.next.ensures.steps in
     let low = subst (λ (j : List ℕ). folded j ≡ j) c.as_slice.ensures.octets c.as_slice.ensures.lower_case in
-    let miss = ap (λ (j : List ℕ). is_same j n) (sym c.as_slice.ensures.octets) ∙ sym c.is_same.ensures ∙ c.if-is_same.false in
+    let miss = ap (λ (j : List ℕ). is_same j n) (sym c.as_slice.ensures.octets) ∙ sym c.is_same.ensures.test ∙ c.if-is_same.false in
     sym (passed c.loop-key.key-iterator c.next.new.self k n c.in-Some.session.now first low miss) ∙ c.loop-key.invariant
 
 pub returns-then-is_same : goal.returns-then-is_same
@@ -22,7 +22,7 @@ returns-then-is_same c =
     let n = c.args.nick.now in let k = c.in-Some.key.now in
     let first = rest_more deref_pair c.loop-key.key-iterator c.next.new.self c.next.result (c.in-Some.key, c.in-Some.session) c.in-Some.is c.next.ensures.steps in
     let low = subst (λ (j : List ℕ). folded j ≡ j) c.as_slice.ensures.octets c.as_slice.ensures.lower_case in
-    let it = ap (λ (j : List ℕ). is_same j n) (sym c.as_slice.ensures.octets) ∙ sym c.is_same.ensures ∙ c.if-is_same.true in
+    let it = ap (λ (j : List ℕ). is_same j n) (sym c.as_slice.ensures.octets) ∙ sym c.is_same.ensures.test ∙ c.if-is_same.true in
     sym (hit c.loop-key.key-iterator c.next.new.self k n c.in-Some.session.now first low it) ∙ c.loop-key.invariant
 
 pub returns : goal.returns
