@@ -3,7 +3,7 @@ ghost use Rattle.std.specs.Prelude.{◌≡◌, codes, IfOk, IsErr, IsSome};
 ghost use Rattle.line_grammar.specs.Reading.{reading};
 ghost use Rattle.message_tags.specs.Tags.{tag};
 ghost use Rattle.message_tags.specs.Value.{value};
-ghost use Rattle.labels_batches.specs.Labels.{as_label, is_label, label_of, message_label, takes_labels};
+ghost use Rattle.labels_batches.specs.Labels.{as_label, is_label, label_of, message_label, piece_label, takes_labels};
 
 use line_grammar::{Octets, Piece, tag_data};
 use message_tags::{last_raw_value, unescape, unescaped_len};
@@ -13,8 +13,8 @@ use std::alloc::{AllocError, Global};
 /// The most octets of a label.
 const LABELLEN: usize = 64;
 
-/// Whether labels count for a session of these capabilities.
-fn takes_labels(caps: Caps) -> bool
+/// Whether labels count for a session of these capabilities: labeled-response and batch are both on (IRCv3 labeled-response).
+pub fn takes_labels(caps: Caps) -> bool
     ensures { result ≡ takes_labels caps }
 {
     caps.contains(Cap::LabeledResponse) && caps.contains(Cap::Batch)
@@ -50,16 +50,31 @@ fn line_label(alloc: Global, line: &[u8]) -> Result<Option<Octets>, AllocError>
     }
 }
 
-/// The label of an accepted piece, as it counts for a session that had these capabilities before it: the value of the last tag
-/// `label`, of 1 to 64 octets, where labeled-response and batch are both on (IRCv3 labeled-response).
+/// The label of an accepted piece, whether or not it counts for its session: the value of the last tag `label`, of 1 to 64 octets
+/// (IRCv3 labeled-response).
+pub fn piece_label(alloc: Global, piece: &Piece) -> Result<Option<Octets>, AllocError>
+    ensures label { IfOk result (λ o. o ≡ piece_label piece.now) }
+
+    // Memory is wanting only where there is a label.
+    ensures memory { IsErr result → IsSome (piece_label piece.now) }
+{
+    match piece {
+        Piece::Line(line) => line_label(alloc, line.as_slice()),
+        Piece::TooLong => Ok(None),
+    }
+}
+
+/// The label of an accepted piece, as it counts for a session that had these capabilities before it: that of `piece_label` where
+/// `takes_labels` holds, and none elsewhere.
 pub fn label_of(alloc: Global, caps: Caps, piece: &Piece) -> Result<Option<Octets>, AllocError>
     ensures label { IfOk result (λ o. o ≡ label_of caps piece.now) }
 
     // Memory is wanting only where there is a label.
     ensures memory { IsErr result → IsSome (label_of caps piece.now) }
 {
-    match piece {
-        Piece::Line(line) if takes_labels(caps) => line_label(alloc, line.as_slice()),
-        _ => Ok(None),
+    if takes_labels(caps) {
+        piece_label(alloc, piece)
+    } else {
+        Ok(None)
     }
 }
