@@ -11,7 +11,10 @@ use std::alloc::AllocError;
 
 /// The channel of a name, where it is there.
 #[tactic(auto, unfolding(crate::specs::Found::channel_of), using(crate::proofs::Rows::not_there))]
-pub(crate) fn channel_of(draft: &Draft<'_>, name: &Octets) -> Result<Option<Seen>, AllocError>
+pub(crate) fn channel_of<'a>(
+    draft: &Draft<'a>,
+    name: &Octets,
+) -> Result<Option<Seen<'a>>, AllocError>
     ensures channel { IfOk result (λ o. o ≡ channel_of draft.now.facts name.now) }
     ensures known { IfOk result (λ o. MatchOption o (has_member draft.now.facts name.now ≡ false) (IsSeen draft.now.facts)) }
 {

@@ -92,16 +92,16 @@ fn invite_user(
     session: SessionId,
     user: SessionId,
     nick: &Octets,
-    seen: &mut Seen,
+    seen: &Seen,
 ) -> Result<(), AllocError>
     requires first { draft.old.facts ≡ draft.old.base }
-    requires seen { IsSeen draft.old.facts seen.old }
-    ensures { OnOk result (draft.new ≡ grown draft.old (invites_user draft.old.settings draft.old.facts session user nick.now seen.old)) }
+    requires seen { IsSeen draft.old.facts seen.now }
+    ensures { OnOk result (draft.new ≡ grown draft.old (invites_user draft.old.settings draft.old.facts session user nick.now seen.now)) }
 {
     let away = draft.before().away_of(user);
     let by_operator = seen.state().is_operator(session);
     show_invited(draft, session, user, nick, seen.name())?;
-    draft.change(
+    draft.establish_change(
         seen,
         Change::Invited {
             session: user,
@@ -118,11 +118,11 @@ fn invite_seen(
     session: SessionId,
     user: SessionId,
     nick: &Octets,
-    seen: &mut Seen,
+    seen: &Seen,
 ) -> Result<(), AllocError>
     requires first { draft.old.facts ≡ draft.old.base }
-    requires seen { IsSeen draft.old.facts seen.old }
-    ensures { OnOk result (draft.new ≡ grown draft.old (invites_seen draft.old.settings draft.old.facts session user nick.now [] (Some seen.old))) }
+    requires seen { IsSeen draft.old.facts seen.now }
+    ensures { OnOk result (draft.new ≡ grown draft.old (invites_seen draft.old.settings draft.old.facts session user nick.now [] (Some seen.now))) }
 {
     if !seen.state().has(session) {
         return deny(draft, session, Denial::NotOnChannel, seen.name());
@@ -148,7 +148,7 @@ fn invite_found(
 {
     let nick = title_of(draft.alloc(), draft.before().nick_of(user))?;
     match channel_of(draft, channel)? {
-        Some(mut seen) => invite_seen(draft, session, user, &nick, &mut seen),
+        Some(seen) => invite_seen(draft, session, user, &nick, &seen),
         None => deny(draft, session, Denial::NoSuchChannel, channel),
     }
 }

@@ -74,13 +74,12 @@ fn shown_topic(
 }
 
 /// The topic of a channel is set.
-fn change_topic(draft: &mut Draft, seen: &mut Seen, text: &Octets) -> Result<(), AllocError>
-    requires { IsSeen draft.old.facts seen.old }
-    ensures grown { OnOk result (draft.new ≡ grown draft.old (Establish (Changed seen.old.name (TopicSet (topic_of text.now))) ∷ [])) }
-    ensures members { OnOk result (seen.new.state.members ≡ seen.old.state.members) }
+fn change_topic(draft: &mut Draft, seen: &Seen, text: &Octets) -> Result<(), AllocError>
+    requires { IsSeen draft.old.facts seen.now }
+    ensures { OnOk result (draft.new ≡ grown draft.old (Establish (Changed seen.now.name (TopicSet (topic_of text.now))) ∷ [])) }
 {
     let topic = topic_of(text)?;
-    draft.change(seen, Change::TopicSet { topic })
+    draft.establish_change(seen, Change::TopicSet { topic })
 }
 
 /// Sets the topic of a channel, which all members are shown.
@@ -88,11 +87,11 @@ fn change_topic(draft: &mut Draft, seen: &mut Seen, text: &Octets) -> Result<(),
 fn put_topic(
     draft: &mut Draft,
     session: SessionId,
-    seen: &mut Seen,
+    seen: &Seen,
     text: &Octets,
 ) -> Result<(), AllocError>
-    requires { IsSeen draft.old.facts seen.old }
-    ensures { OnOk result (draft.new ≡ grown draft.old (sets_topic draft.old.facts session seen.old text.now)) }
+    requires { IsSeen draft.old.facts seen.now }
+    ensures { OnOk result (draft.new ≡ grown draft.old (sets_topic draft.old.facts session seen.now text.now)) }
 {
     let line = shown_topic(draft, session, seen, text)?;
     change_topic(draft, seen, text)?;
@@ -104,11 +103,11 @@ fn put_topic(
 fn put_topic_if_it_may(
     draft: &mut Draft,
     session: SessionId,
-    seen: &mut Seen,
+    seen: &Seen,
     text: &Octets,
 ) -> Result<(), AllocError>
-    requires { IsSeen draft.old.facts seen.old }
-    ensures { OnOk result (draft.new ≡ grown draft.old (topic_served draft.old.settings draft.old.facts session seen.old (Some text.now))) }
+    requires { IsSeen draft.old.facts seen.now }
+    ensures { OnOk result (draft.new ≡ grown draft.old (topic_served draft.old.settings draft.old.facts session seen.now (Some text.now))) }
 {
     if seen.state().modes().topic_locked && !seen.state().is_operator(session) {
         return deny(draft, session, Denial::ChanOPrivsNeeded, seen.name());
@@ -122,11 +121,11 @@ fn put_topic_if_it_may(
 fn serve_topic(
     draft: &mut Draft,
     session: SessionId,
-    seen: &mut Seen,
+    seen: &Seen,
     text: &Option<Octets>,
 ) -> Result<(), AllocError>
-    requires { IsSeen draft.old.facts seen.old }
-    ensures { OnOk result (draft.new ≡ grown draft.old (topic_served draft.old.settings draft.old.facts session seen.old text.now)) }
+    requires { IsSeen draft.old.facts seen.now }
+    ensures { OnOk result (draft.new ≡ grown draft.old (topic_served draft.old.settings draft.old.facts session seen.now text.now)) }
 {
     match text {
         Some(text) => put_topic_if_it_may(draft, session, seen, text),
@@ -138,11 +137,11 @@ fn serve_topic(
 fn serve_seen(
     draft: &mut Draft,
     session: SessionId,
-    seen: &mut Seen,
+    seen: &Seen,
     text: &Option<Octets>,
 ) -> Result<(), AllocError>
-    requires { IsSeen draft.old.facts seen.old }
-    ensures { OnOk result (draft.new ≡ grown draft.old (topics_seen draft.old.settings draft.old.facts session [] text.now (Some seen.old))) }
+    requires { IsSeen draft.old.facts seen.now }
+    ensures { OnOk result (draft.new ≡ grown draft.old (topics_seen draft.old.settings draft.old.facts session [] text.now (Some seen.now))) }
 {
     if !seen.state().has(session) {
         return deny(draft, session, Denial::NotOnChannel, seen.name());
@@ -160,7 +159,7 @@ pub fn set_topic(
     ensures { OnOk result (draft.new ≡ grown draft.old (topics draft.old.settings draft.old.facts session channel.now text.now)) }
 {
     match channel_of(draft, channel)? {
-        Some(mut seen) => serve_seen(draft, session, &mut seen, text),
+        Some(seen) => serve_seen(draft, session, &seen, text),
         None => deny(draft, session, Denial::NoSuchChannel, channel),
     }
 }

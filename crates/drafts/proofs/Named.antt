@@ -1,5 +1,5 @@
 -- Names of channels, and which deeds may come next.
-use Rattle.std.proofs.Common.{◌≡◌, inl, inr, ℕ, Bool, ◌⊎◌, true, false, cond, List, [], ◌∷◌, Option, Some, None, option_copied, unwrap_or, IfSome, Bor, refl, sym, subst, ap, ◌∙◌}
+use Rattle.std.proofs.Common.{◌≡◌, inl, inr, ℕ, Bool, ◌⊎◌, true, false, cond, List, [], ◌∷◌, Option, Some, None, option_copied, unwrap_or, IfSome, IfOk, Result, Ok, Err, Bor, refl, sym, subst, ap, ◌∙◌}
 use Rattle.std.specs.Option.{option_or, option_map}
 use Rattle.roster.specs.Laws.{ChannelsHaveOneName, SpelledNamesAreNames}
 use Rattle.roster.specs.declared.deed.Deed.{Deed}
@@ -14,7 +14,7 @@ use Rattle.roster.specs.Legal.{IsNext, AreNext}
 use Rattle.drafts.specs.declared.effect.Effect.{Effect}
 use Rattle.drafts.specs.declared.effect.Effect.TheVariants.{Establish, Answer, Show, Copy}
 use Rattle.drafts.specs.Effects.{deeds_of}
-use Rattle.drafts.specs.Tells.{effect_name}
+use Rattle.drafts.specs.Tells.{effect_name, effect_touches, touches}
 use Rattle.drafts.specs.Seen.{Seen, seen, IsSeen}
 
 -- a test is true or false
@@ -81,12 +81,44 @@ seen_is law spelled fs c e =
     let same : state fs (name fs c) ≡ state fs c = (law fs (name fs c) c (spelled fs c)).0 in
     record { there = ap (λ (st : State). is_some_one st.members) same ∙ e; state = same; lasts = e }
 
+seen_alike : (fs gs : List Deed) (c : List ℕ) → state gs c ≡ state fs c → name gs c ≡ name fs c → seen gs c ≡ seen fs c
+seen_alike fs gs c st named =
+    ap (λ (n : List ℕ). cond (has_member gs c) (Some (record { name = n; state = state gs c })) None) named
+    ∙ ap (λ (k : State). cond (is_some_one k.members) (Some (record { name = name fs c; state = k })) None) st
+
+-- a fact that doesn't tell of it leaves it as it is
+untouched : (fs : List Deed) (d : Deed) (c : List ℕ) → touches c d ≡ false → seen (d ∷ fs) c ≡ seen fs c
+untouched fs (Opened t x) c e = refl
+untouched fs (NickSet t n) c e = refl
+untouched fs (UserSet t u r) c e = refl
+untouched fs (HoldSet t x) c e = refl
+untouched fs (CapsSet t x) c e = refl
+untouched fs (ExchangeSet t x) c e = refl
+untouched fs (LoggedIn t x) c e = refl
+untouched fs (Enrolled t) c e = refl
+untouched fs (Ended t w x) c e = refl
+untouched fs (ChannelMade t k) c e = seen_alike fs (ChannelMade t k ∷ fs) c (ap (λ b. cond b (made_by t) (state fs c)) e) (ap (λ b. unwrap_or (cond b (Some k) None) (name fs c)) e)
+untouched fs (AwaySet t x) c e = refl
+untouched fs (InvisibleSet t x) c e = refl
+untouched fs (Changed k x) c e = seen_alike fs (Changed k x ∷ fs) c (ap (λ b. cond b (lasting (changed x (state fs c))) (state fs c)) e) refl
+untouched fs (Gone t) c e = absurd (let f : true ≡ false = e in cc)
+
+pub untouched_step : (fs : List Deed) (x : Effect) (c : List ℕ) → effect_touches c x ≡ false → seen (after fs (deeds_of (x ∷ []))) c ≡ seen fs c
+untouched_step fs (Establish d) c e = untouched fs d c e
+untouched_step fs (Answer l) c e = refl
+untouched_step fs (Show hs l) c e = refl
+untouched_step fs (Copy l) c e = refl
+
 -- a channel that is seen is known, and one whose name isn't known isn't there
 pub known : ChannelsHaveOneName → SpelledNamesAreNames → (fs : List Deed) (c : List ℕ) → IfSome (seen fs c) (IsSeen fs)
 known law spelled fs c = elim (either (has_member fs c)) [
   | inl there ↦ rw there (seen_is law spelled fs c there)
   | inr nobody ↦ rw nobody tt
 ]
+
+pub known_ok : {E : Type 0} → ChannelsHaveOneName → SpelledNamesAreNames → (fs : List Deed) (c : List ℕ) (r : Result (Option Seen) E) → IfOk r (λ o. o ≡ seen fs c) → IfOk r (λ o. IfSome o (IsSeen fs))
+known_ok law spelled fs c (Ok o) e = subst (λ (o : Option Seen). IfSome o (IsSeen fs)) (sym e) (known law spelled fs c)
+known_ok law spelled fs c (Err x) e = tt
 
 -- and still is after a change that leaves somebody on it
 pub seen_changed : (fs : List Deed) (k : Seen) (x : Change) → IsSeen fs k → is_some_one (changed x k.state).members ≡ true → IsSeen (Changed k.name x ∷ fs) (record { name = k.name; state = changed x k.state })

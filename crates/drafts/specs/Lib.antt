@@ -5,4 +5,5 @@ pub mod Replies
 pub mod Drafted
 pub mod Denials
 pub mod Seen
+pub mod Look
 pub mod Tells

@@ -8,6 +8,7 @@ ghost use Rattle.channel_state.specs.State.{among, changed, is_some_one, made_by
 ghost use Rattle.roster.specs.Legal.{AreNext, IsFit, IsNext};
 ghost use Rattle.drafts.specs.declared.effect.Effect.TheVariants.{Establish, Answer, Show, Copy};
 ghost use Rattle.drafts.specs.Effects.{deeds_of};
+ghost use Rattle.drafts.specs.Seen.{seen};
 
 use crate::effect::Effect;
 use crate::seen::Seen;
@@ -40,16 +41,24 @@ impl<'a> Model for Draft<'a> {
     ghost invariant = { λ a. IsDraft a.roster.now.facts (deeds_of a.effects.items) };
 }
 
-/// A channel by its name, where somebody is on it.
-fn there(name: Octets, state: ChannelState) -> Option<Seen>
+/// A copy of a channel by its name, where somebody is on it.
+fn there<'a>(name: Octets, state: ChannelState) -> Option<Seen<'a>>
     ensures { result ≡ cond (is_some_one state.state.members) (Some (record { name = name; state = state.state })) None }
 {
-    let seen = Seen { name, state };
-    if seen.state.is_there() {
+    let seen = Seen::copied(name, state);
+    if seen.state().is_there() {
         Some(seen)
     } else {
         None
     }
+}
+
+/// The channel of a name in a roster, where it is there.
+fn kept<'a>(roster: &'a Roster, channel: &[u8]) -> Option<Seen<'a>>
+    ensures { result ≡ seen roster.now.facts channel.now }
+{
+    let (name, state) = roster.channel(channel)?;
+    Some(Seen::kept(name, state))
 }
 
 /// A channel that a session has just made.
@@ -63,7 +72,7 @@ fn made(alloc: Global, session: SessionId) -> Result<ChannelState, AllocError>
 
 impl<'a> Draft<'a> {
     ghost use Rattle.drafts.specs.Drafted.{Drafted, IsDraft, grown};
-    ghost use Rattle.drafts.specs.Seen.{IsSeen, seen};
+    ghost use Rattle.drafts.specs.Seen.{IsSeen};
 
     /// The draft of a record that does nothing yet.
     pub fn new(alloc: Global, roster: &'a Roster) -> Draft<'a>
@@ -213,19 +222,41 @@ impl<'a> Draft<'a> {
         spelling
     }
 
-    /// The channel of a name, where it is there.
-    pub fn seen(&self, channel: &[u8]) -> Result<Option<Seen>, AllocError>
-        ensures seen { IfOk result (λ o. o ≡ seen self.now.facts channel.now) }
-        ensures known { IfOk result (λ o. IfSome o (IsSeen self.now.facts)) }
+    /// Whether the record told of a channel, or may have. One that it didn't is as it was before.
+    fn touches(&self, channel: &[u8]) -> bool
+        ensures { result ≡ false → seen self.now.facts channel.now ≡ seen self.now.base channel.now }
     {
-        channels_have_one_name();
-        spelled_names_are_names();
+        for effect in &self.effects {
+            if effect.touches(channel) {
+                return true;
+            }
+        }
+        false
+    }
+
+    /// A copy of the channel of a name, where it is there.
+    fn copied(&self, channel: &[u8]) -> Result<Option<Seen<'a>>, AllocError>
+        ensures { IfOk result (λ o. o ≡ seen self.now.facts channel.now) }
+    {
         let Some(name) = self.spelling(channel) else {
             return Ok(None);
         };
         let name = name.clone()?;
         let state = self.state_of(channel)?;
         Ok(there(name, state))
+    }
+
+    /// The channel of a name, where it is there. One of which the record told nothing yet is looked at where it is kept.
+    pub fn seen(&self, channel: &[u8]) -> Result<Option<Seen<'a>>, AllocError>
+        ensures seen { IfOk result (λ o. o ≡ seen self.now.facts channel.now) }
+        ensures known { IfOk result (λ o. IfSome o (IsSeen self.now.facts)) }
+    {
+        channels_have_one_name();
+        spelled_names_are_names();
+        if self.touches(channel) {
+            return self.copied(channel);
+        }
+        Ok(kept(self.roster, channel))
     }
 
     /// Establishes that a session makes a channel that isn't there.
@@ -238,7 +269,7 @@ impl<'a> Draft<'a> {
     }
 
     /// A session makes a channel that isn't there: the channel as it is then.
-    pub fn make(&mut self, session: SessionId, channel: &Octets) -> Result<Seen, AllocError>
+    pub fn make(&mut self, session: SessionId, channel: &Octets) -> Result<Seen<'a>, AllocError>
         requires { has_member self.old.facts channel.now ≡ false }
         ensures grown { OnOk result (self.new ≡ grown self.old (Establish (ChannelMade session channel.now) ∷ [])) }
         ensures seen { IfOk result (λ k. k ≡ record { name = channel.now; state = made_by session }) }
@@ -246,11 +277,23 @@ impl<'a> Draft<'a> {
         self.establish_made(session, channel)?;
         let name = channel.clone()?;
         let state = made(self.alloc, session)?;
-        Ok(Seen { name, state })
+        Ok(Seen::copied(name, state))
     }
 
-    /// A channel changes in a way by which nobody leaves it.
-    pub fn change(&mut self, seen: &mut Seen, change: Change) -> Result<(), AllocError>
+    /// Establishes that a channel changes in a way by which nobody leaves it. What was seen of it stays as it was.
+    pub fn establish_change(&mut self, seen: &Seen<'_>, change: Change) -> Result<(), AllocError>
+        requires seen { IsSeen self.old.facts seen.now }
+        requires fit { IsFit seen.now.state change }
+        requires lasts { is_some_one (changed change seen.now.state).members ≡ true }
+        ensures { OnOk result (self.new ≡ grown self.old (Establish (Changed seen.now.name change) ∷ [])) }
+    {
+        let channel = seen.name().clone()?;
+        let deed = Deed::Changed { channel, change };
+        self.establish(deed)
+    }
+
+    /// A channel changes in a way by which nobody leaves it, and is seen as it is then, in a copy.
+    pub fn change(&mut self, seen: &mut Seen<'_>, change: Change) -> Result<(), AllocError>
         requires seen { IsSeen self.old.facts seen.old }
         requires fit { IsFit seen.old.state change }
         requires lasts { is_some_one (changed change seen.old.state).members ≡ true }
@@ -258,24 +301,24 @@ impl<'a> Draft<'a> {
         ensures now { OnOk result (seen.new ≡ record { name = seen.old.name; state = changed change seen.old.state }) }
         ensures known { OnOk result (IsSeen self.new.facts seen.new) }
     {
-        let channel = seen.name.clone()?;
+        let channel = seen.name().clone()?;
         let same = change.clone()?;
-        seen.state.reserve(1)?;
+        seen.look.copy()?;
         self.establish(Deed::Changed {
             channel,
             change: same,
         })?;
-        seen.state.change(change);
+        seen.look.change(change);
         Ok(())
     }
 
     /// A member leaves a channel, by itself or put out.
-    pub fn leave(&mut self, seen: &Seen, session: SessionId) -> Result<(), AllocError>
+    pub fn leave(&mut self, seen: &Seen<'_>, session: SessionId) -> Result<(), AllocError>
         requires seen { IsSeen self.old.facts seen.now }
         requires member { among session seen.now.state.members ≡ true }
         ensures { OnOk result (self.new ≡ grown self.old (Establish (Changed seen.now.name (Left session)) ∷ [])) }
     {
-        let channel = seen.name.clone()?;
+        let channel = seen.name().clone()?;
         let change = Change::Left { session };
         self.establish(Deed::Changed { channel, change })
     }

@@ -2,8 +2,9 @@
 ghost use Rattle.std.specs.Prelude.{◌≡◌, option_copied, OnOk};
 ghost use Rattle.std.specs.Option.{option_map};
 ghost use Rattle.registration.specs.Enrol.{enrolment};
-ghost use Rattle.drafts.specs.Tells.{effect_host, effect_enrolled, effect_name, effect_reshaped};
+ghost use Rattle.drafts.specs.Tells.{effect_host, effect_enrolled, effect_name, effect_reshaped, effect_touches, touches};
 
+use casemapping::is_same;
 use channel_state::ChannelState;
 use chronicle::SessionId;
 use line_grammar::Octets;
@@ -23,6 +24,18 @@ pub enum Effect {
     Show { hearers: Sessions, line: Line },
     /// The record's session is given what it sent to itself, besides the answer.
     Copy { line: Line },
+}
+
+/// Whether a fact tells of a channel, or may: who is gone may have been on any.
+fn touches(deed: &Deed, channel: &[u8]) -> bool
+    ensures { result ≡ touches channel.now deed.now }
+{
+    match deed {
+        Deed::ChannelMade { channel: name, .. } => is_same(name.as_slice(), channel),
+        Deed::Changed { channel: name, .. } => is_same(name.as_slice(), channel),
+        Deed::Gone { .. } => true,
+        _ => false,
+    }
 }
 
 impl Effect {
@@ -53,6 +66,16 @@ impl Effect {
         match self {
             Effect::Establish { deed } => deed.tells_name(channel),
             _ => None,
+        }
+    }
+
+    /// Whether it tells of a channel, or may.
+    pub(crate) fn touches(&self, channel: &[u8]) -> bool
+        ensures { result ≡ effect_touches channel.now self.now }
+    {
+        match self {
+            Effect::Establish { deed } => touches(deed, channel),
+            _ => false,
         }
     }
 
