@@ -11,7 +11,7 @@ use Rattle.chronicle.specs.History.{asks_to_quit, is_quit}
 use Rattle.command_params.specs.declared.fault.ReadFault.{ReadFault}
 use Rattle.command_params.specs.declared.fault.ReadFault.TheVariants.{UnknownCommand}
 use Rattle.command_params.specs.Params.{first_or_empty}
-use Rattle.command_params.specs.Lists.{is_empty}
+use Rattle.line_grammar.specs.Parts.{is_empty}
 use Rattle.query_commands.specs.Query.{query_of}
 use Rattle.commands.specs.declared.command.Command.{Command}
 use Rattle.commands.specs.declared.command.Command.TheVariants as topic
