@@ -110,15 +110,15 @@ failed = codes ":irc.example 904 * :SASL authentication failed" ++ crlf
 
 logs_in : owes accounts (asks ++ codes "AUTHENTICATE AGFsAGJj" ∷ [])
     ≡ asked ++ Lines 4 (codes ":irc.example 900 * *!*@h1 al :You are now logged in as al" ++ crlf ++ codes ":irc.example 903 * :SASL authentication successful" ++ crlf) ∷ []
-unfolding reading parameters with_command asked_of command_of session_named session_of channel_command_of mode_of talk_of query_of after_request sasl_answer fold_of credentials_of base64_on_literals logged_in first_words schedule rounds compress hash_after digest_bytes sha256 is_quit prefix octets untagged numeric row_line spelled_line
+unfolding reading parameters with_command asked_of command_of session_named session_of channel_command_of mode_of talk_of query_of after_request sasl_answer fold_of credentials_of base64_on_literals logged_in first_words schedule rounds compress hash_after digest_bytes sha256 is_quit prefix octets untagged numeric row_line spelled_line is_same
 logs_in = refl
 
 wrong_password : owes accounts (asks ++ codes "AUTHENTICATE AGFsAGJk" ∷ []) ≡ asked ++ Lines 4 failed ∷ []
-unfolding reading parameters with_command asked_of command_of session_named session_of channel_command_of mode_of talk_of query_of after_request sasl_answer fold_of credentials_of base64_on_literals logged_in first_words schedule rounds compress hash_after digest_bytes sha256 is_quit prefix octets untagged numeric row_line spelled_line
+unfolding reading parameters with_command asked_of command_of session_named session_of channel_command_of mode_of talk_of query_of after_request sasl_answer fold_of credentials_of base64_on_literals logged_in first_words schedule rounds compress hash_after digest_bytes sha256 is_quit prefix octets untagged numeric row_line spelled_line is_same
 wrong_password = refl
 
 ends_it : owes accounts (asks ++ codes "AUTHENTICATE *" ∷ []) ≡ asked ++ Lines 4 (codes ":irc.example 906 * :SASL authentication aborted" ++ crlf) ∷ []
-unfolding reading parameters with_command asked_of command_of session_named session_of channel_command_of mode_of talk_of query_of after_request sasl_answer fold_of is_quit prefix octets untagged numeric row_line spelled_line
+unfolding reading parameters with_command asked_of command_of session_named session_of channel_command_of mode_of talk_of query_of after_request sasl_answer fold_of is_quit prefix octets untagged numeric row_line spelled_line is_same
 ends_it = refl
 
 abbrev piece : List ℕ
@@ -126,11 +126,11 @@ piece = codes "AUTHENTICATE " ++ replicate 400 65
 
 -- a piece of 400 octets waits for another
 pieces : owes accounts (asks ++ piece ∷ codes "AUTHENTICATE +" ∷ []) ≡ asked ++ Lines 5 failed ∷ []
-unfolding reading parameters with_command asked_of command_of session_named session_of channel_command_of mode_of talk_of query_of after_request sasl_answer fold_of credentials_of base64_on_literals is_quit prefix octets untagged numeric row_line spelled_line
+unfolding reading parameters with_command asked_of command_of session_named session_of channel_command_of mode_of talk_of query_of after_request sasl_answer fold_of credentials_of base64_on_literals is_quit prefix octets untagged numeric row_line spelled_line is_same
 pieces = refl
 
 too_many : owes accounts (asks ++ piece ∷ piece ∷ piece ∷ codes "AUTHENTICATE A" ∷ []) ≡ asked ++ Lines 7 (codes ":irc.example 905 * :SASL message too long" ++ crlf) ∷ []
-unfolding reading parameters with_command asked_of command_of session_named session_of channel_command_of mode_of talk_of query_of after_request sasl_answer fold_of is_quit prefix octets untagged numeric row_line spelled_line
+unfolding reading parameters with_command asked_of command_of session_named session_of channel_command_of mode_of talk_of query_of after_request sasl_answer fold_of is_quit prefix octets untagged numeric row_line spelled_line is_same
 too_many = refl
 
 -- registration waits for the end of the negotiation, and ends an exchange
