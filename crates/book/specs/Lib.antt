@@ -7,3 +7,4 @@ pub mod LastHeard
 pub mod Noted
 pub mod Kept
 pub mod Told
+pub mod Read

@@ -16,9 +16,8 @@ use crate::baton::Baton;
 use crate::last_heard::LastHeard;
 use crate::out::{Done, Hung, Left, Plan, Rolled, Step};
 use crate::outboxes::Outboxes;
-use crate::plan::{
-    Planned, Planning, Prepared, commit, moment_of_record, prepare_gone, prepare_line,
-};
+use crate::plan::{Planned, Planning, Prepared, commit, moment_of_record, prepare_gone};
+use crate::read_line::ReadLine;
 use crate::refusals::{
     BookFault, HangRefusal, LineRefusal, OpenRefusal, ReapRefusal, RollRefusal, SweepRefusal,
     TakeRefusal,
@@ -242,7 +241,7 @@ impl<O: Outbox> Book<O> {
     }
 
     /// Whether a line of the session whose baton it is may be accepted now, memory apart.
-    fn check_line(&self, baton: &Baton, moment: Moment) -> Result<(), LineRefusal>
+    pub(crate) fn check_line(&self, baton: &Baton, moment: Moment) -> Result<(), LineRefusal>
         ensures ok { OnOk result (MayBegin self.now baton.now moment) }
         ensures fits { OnOk result (most self.now.limit < 2 ^ 64) }
         ensures err { IfErr result (λ e. IsLineRefusal self.now baton.now moment e) }
@@ -268,8 +267,8 @@ impl<O: Outbox> Book<O> {
         Ok(())
     }
 
-    /// Begins the next line of a session: its record is appended, and a plan of its deliveries is handed out. All memory is
-    /// taken here; a refusal changes nothing.
+    /// Begins the next line of a session: its piece is read, its record is appended, and a plan of its deliveries is handed out.
+    /// All memory is taken here; a refusal changes nothing.
     pub fn begin(
         &mut self,
         baton: &Baton,
@@ -284,44 +283,8 @@ impl<O: Outbox> Book<O> {
         ensures err { OnErr result (self.new ≡ self.old) }
     {
         self.check_line(baton, moment)?;
-        let number = RecordNumber::new(self.journal.newest() as u64 + 1);
-        let told = piece.copy()?;
-        let by = Planning {
-            alloc: self.alloc,
-            roster: &self.roster,
-            seats: &self.seats,
-            actor: baton.session,
-            number,
-            moment: moment_of_record(moment),
-        };
-        let (prepared, quits) = prepare_line(&by, piece)?;
-        let Prepared {
-            deeds,
-            plan,
-            missed,
-        } = prepared;
-        self.roster.prepare(&deeds)?;
-        let room = self.held() + 1;
-        reserve(&mut self.journal, room, plan.len()).map_err(|_| LineRefusal::Memory)?;
-        self.journal.append(
-            moment,
-            Kind::Said {
-                session: baton.session,
-                index: baton.next,
-                piece: told,
-            },
-        );
-        commit(&mut self.roster, deeds);
-        self.seats.say(baton.session, quits);
-        self.last_heard.hear(baton.session, moment);
-        self.plan = plan;
-        self.busy = true;
-        Ok(Plan {
-            number,
-            session: baton.session,
-            next: Some(baton.next + 1),
-            missed,
-        })
+        let line = ReadLine::read(self.alloc, piece)?;
+        Ok(self.begin_checked(baton, line, moment)?)
     }
 
     /// Puts the first delivery of the plan that is out into its session's outbox, or notes that the session missed the record

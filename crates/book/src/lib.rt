@@ -8,10 +8,12 @@ mod counting;
 mod heard;
 mod last_heard;
 mod laws;
+mod lines;
 mod out;
 mod outboxes;
 mod places;
 mod plan;
+mod read_line;
 mod refusals;
 mod rings;
 mod seat;
@@ -26,6 +28,7 @@ pub use deliveries::{Delivery, Item, Text};
 pub use laws::{rings_take_each_record, rings_take_what_fits};
 pub use out::{Done, Hung, Left, Plan, Rolled, Step};
 pub use outbox::{Outbox, PutFault, Ring};
+pub use read_line::ReadLine;
 pub use refusals::{
     BookFault, HangRefusal, LineRefusal, OpenRefusal, ReapRefusal, RollRefusal, SweepRefusal,
     TakeRefusal, TickRefusal,

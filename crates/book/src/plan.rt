@@ -3,7 +3,7 @@ ghost use Rattle.std.specs.Prelude.{◌≡◌, ◌≤◌, ◌≤ℤ◌, ◌++◌
 ghost use Rattle.chronicle.specs.History.{is_quit};
 ghost use Rattle.roster.specs.LookBack.{after, caps, opened};
 ghost use Rattle.roster.specs.Legal.{IsOpened, AreNext};
-ghost use Rattle.commands.specs.Asked.{asked_of};
+ghost use Rattle.commands.specs.Asked.{asked_of, asks_for_quit};
 ghost use Rattle.labels_batches.specs.Labels.{label_of};
 ghost use Rattle.labels_batches.specs.Answers.{answered};
 ghost use Rattle.labels_batches.specs.Rendered.{rendered};
@@ -15,14 +15,16 @@ ghost use Rattle.deeds.specs.Verdicts.{IsVerdict};
 ghost use Rattle.book.specs.Book.{puts};
 ghost use Rattle.book.specs.Seats.{hears, told_own, heard_text, pinged_text, planned_from, planned_with};
 ghost use Rattle.book.specs.Heard.{delivery_of, deliveries_of, joined};
+ghost use Rattle.book.specs.Read.{counted};
 
 use crate::heard::{Heard, heard_in_order};
+use crate::read_line::ReadLine;
 use crate::seats::Seats;
 use chronicle::{Moment, RecordMoment, RecordNumber, SessionId, Why};
-use commands::read_piece;
+use commands::Asked;
 use deeds::{Shown, Verdict, decide, decide_gone, ping};
 use deliveries::Delivery;
-use labels_batches::{Receiver, Text, answer_text, label_of};
+use labels_batches::{Receiver, Text, answer_text, takes_labels};
 use line_grammar::{Octets, Piece};
 use numerics::Line;
 use roster::{Deed, Roster, Sessions};
@@ -215,33 +217,51 @@ fn with_room(
     })
 }
 
-/// Decides what a piece of a session does, and whether it quits by it.
-fn decide_piece(by: &Planning<'_>, piece: &Piece) -> Result<(Verdict, bool), AllocError>
+/// Decides what a session does that asks for this, and whether it quits by it.
+fn decide_asked(by: &Planning<'_>, asked: Asked) -> Result<(Verdict, bool), AllocError>
     requires known { IsOpened by.now.roster.now.facts by.now.actor }
-    ensures verdict { IfOk result (λ v. IsVerdict v.0 by.now.actor (of_asked by.now.roster.now.settings by.now.roster.now.facts by.now.actor (asked_of piece.now))) }
+    ensures verdict { IfOk result (λ v. IsVerdict v.0 by.now.actor (of_asked by.now.roster.now.settings by.now.roster.now.facts by.now.actor asked)) }
     ensures next { IfOk result (λ v. AreNext by.now.roster.now.facts v.0.deeds.items) }
     ensures opened { IfOk result (λ v. opened (after by.now.roster.now.facts v.0.deeds.items) ≡ opened by.now.roster.now.facts) }
-    ensures quits { IfOk result (λ v. v.1 ≡ is_quit piece.now) }
+    ensures quits { IfOk result (λ v. v.1 ≡ asks_for_quit asked) }
 {
-    let asked = read_piece(by.alloc, piece)?;
     let verdict = decide(by.alloc, by.roster, by.actor, &asked, by.moment.moment())?;
     Ok((verdict, asked.is_quit()))
 }
 
-/// Decides what a line of a session does, and plans its deliveries.
-pub(crate) fn prepare_line(by: &Planning<'_>, piece: &Piece) -> Result<(Prepared, bool), AllocError>
+/// The label of a line as it counts for the actor, by the capabilities that it has before the line.
+fn counted_label(by: &Planning<'_>, label: Option<Octets>) -> Option<Octets>
+    ensures { result ≡ counted (caps by.now.roster.now.facts by.now.actor) label }
+{
+    if takes_labels(by.roster.caps_of(by.actor)) {
+        label
+    } else {
+        None
+    }
+}
+
+/// Decides what a line of a session does, plans its deliveries, and hands its piece back.
+pub(crate) fn prepare_line(
+    by: &Planning<'_>,
+    line: ReadLine,
+) -> Result<(Prepared, Piece, bool), AllocError>
     requires known { IsOpened by.now.roster.now.facts by.now.actor }
-    ensures deeds { IfOk result (λ p. p.0.deeds.items ≡ deeds_of (of_asked by.now.roster.now.settings by.now.roster.now.facts by.now.actor (asked_of piece.now))) }
+    ensures deeds { IfOk result (λ p. p.0.deeds.items ≡ deeds_of (of_asked by.now.roster.now.settings by.now.roster.now.facts by.now.actor (asked_of line))) }
     ensures next { IfOk result (λ p. AreNext by.now.roster.now.facts p.0.deeds.items) }
     ensures opened { IfOk result (λ p. opened (after by.now.roster.now.facts p.0.deeds.items) ≡ opened by.now.roster.now.facts) }
-    ensures quits { IfOk result (λ p. p.1 ≡ is_quit piece.now) }
-    ensures plan { IfOk result (λ p. p.0.plan.items ≡ planned_from by.now.seats.now by.now.actor by.now.number (spelled by.now.roster.now.settings by.now.roster.now.facts by.now.actor (label_of (caps by.now.roster.now.facts by.now.actor) piece.now) (of_asked by.now.roster.now.settings by.now.roster.now.facts by.now.actor (asked_of piece.now)) by.now.moment by.now.number) p.1) }
+    ensures piece { IfOk result (λ p. p.1 ≡ line) }
+    ensures quits { IfOk result (λ p. p.2 ≡ is_quit line) }
+    ensures plan { IfOk result (λ p. p.0.plan.items ≡ planned_from by.now.seats.now by.now.actor by.now.number (spelled by.now.roster.now.settings by.now.roster.now.facts by.now.actor (label_of (caps by.now.roster.now.facts by.now.actor) line) (of_asked by.now.roster.now.settings by.now.roster.now.facts by.now.actor (asked_of line)) by.now.moment by.now.number) p.2) }
     ensures missed { IfOk result (λ p. (p.0.missed.items ≡ []) × (length p.0.plan.items ≤ vec_capacity p.0.missed)) }
 {
-    let (verdict, quits) = decide_piece(by, piece)?;
-    let label = label_of(by.alloc, by.roster.caps_of(by.actor), piece)?;
-    let prepared = with_room(by, label, verdict, quits)?;
-    Ok((prepared, quits))
+    let ReadLine {
+        piece,
+        asked,
+        label,
+    } = line;
+    let (verdict, quits) = decide_asked(by, asked)?;
+    let prepared = with_room(by, counted_label(by, label), verdict, quits)?;
+    Ok((prepared, piece, quits))
 }
 
 /// Decides what it does that a session is gone, and plans who is told.
