@@ -37,7 +37,7 @@ use std::marker::{Model, PhantomData};
 /// A book, and the register of its sessions' tokens, which `L` names. A clause sees the book.
 #[derive(Drop)]
 pub struct Book<L: Naming, O: Outbox> {
-    book: book::Book<O>,
+    pub(crate) book: book::Book<O>,
     register: Register<O::Name>,
     of: PhantomData<L>,
 }
@@ -214,7 +214,7 @@ impl<L: Naming, O: Lasting> Book<L, O> {
     }
 
     /// Puts or misses all that is left of a plan, and notes who got something.
-    fn put_rest(&mut self, plan: &mut Plan, told: &mut Told)
+    pub(crate) fn put_rest(&mut self, plan: &mut Plan, told: &mut Told)
         requires out { IsOut self.old plan.old }
         ensures put { IsPutAll O.accepts O.refuses self.old self.old.plan self.new }
         ensures out { IsOut self.new plan.new }

@@ -16,8 +16,8 @@ use crate::lasting::Lasting;
 use crate::left::Left;
 use crate::told::Told;
 use book::{
-    Base, BookFault, Done, HangRefusal, Hung, LineRefusal, OpenRefusal, ReapRefusal, RollRefusal,
-    Rolled, SweepRefusal, TickRefusal,
+    Base, BookFault, Done, HangRefusal, Hung, LineRefusal, OpenRefusal, ReadLine, ReapRefusal,
+    RollRefusal, Rolled, SweepRefusal, TickRefusal,
 };
 use chronicle::{Moment, Record, RecordNumber, SessionId, Why};
 use line_grammar::{Octets, Piece};
@@ -136,6 +136,28 @@ impl<L: Naming, O: Lasting> Hall<L, O> {
         ensures err { OnErr result ((self.new ≡ self.old) × (baton.new ≡ baton.old)) }
     {
         self.book.line(baton, piece, moment, &mut self.told)
+    }
+
+    /// Accepts the next line of the baton's session, which was read before the hall was taken, as `line` does. Whether its label counts
+    /// is decided here, by the capabilities that the session has before the line. A refusal changes nothing.
+    pub fn line_read(
+        &mut self,
+        baton: &mut Baton<L, O>,
+        line: ReadLine,
+        moment: Moment,
+    ) -> Result<Done, LineRefusal>
+        ensures ok { OnOk result (IsDone O.accepts O.refuses self.old (kind.Said baton.old.session baton.old.next line) moment self.new) }
+        ensures baton { OnOk result (baton.new ≡ next_turn baton.old line self.new.history) }
+        ensures accepted { OnOk result (baton.new.pieces ≡ accepted self.new.history baton.old.session) }
+        ensures may { OnOk result (MayBegin self.old (turn_of baton.old) moment) }
+        ensures number { IfOk result (λ d. d.number ≡ length self.old.history + 1) }
+        ensures missed { IfOk result (λ d. d.missed ≡ newest_missed self.new.history) }
+        ensures shut { IfOk result (λ d. d.shut ≡ shut self.new.history baton.old.session) }
+        ensures refusal { IfErr result (λ e. IsLineRefusal self.old (turn_of baton.old) moment e) }
+        ensures not_busy { IfErr result (λ e. e ≢ LineRefusal.Busy) }
+        ensures err { OnErr result ((self.new ≡ self.old) × (baton.new ≡ baton.old)) }
+    {
+        self.book.line_read(baton, line, moment, &mut self.told)
     }
 
     /// Ends a session: one record is appended, and its last item is put, or missed where its outbox doesn't take it. It takes no

@@ -6,6 +6,7 @@ mod dispatch;
 mod hall;
 mod lasting;
 mod left;
+mod lines;
 mod namesake;
 mod rings;
 mod told;
@@ -13,7 +14,8 @@ mod told;
 pub use baton::Baton;
 pub use book::{
     Base, BookFault, Done, HangRefusal, Hung, LineRefusal, OpenRefusal, Outbox, Plan, PutFault,
-    ReapRefusal, Ring, RollRefusal, Rolled, Settings, Step, SweepRefusal, TakeRefusal, TickRefusal,
+    ReadLine, ReapRefusal, Ring, RollRefusal, Rolled, Settings, Step, SweepRefusal, TakeRefusal,
+    TickRefusal,
 };
 pub use dispatch::Book;
 pub use hall::Hall;

@@ -84,6 +84,11 @@ impl Told {
         }
     }
 
+    /// The allocator of the list.
+    pub fn allocator(&self) -> Global {
+        *self.sessions.allocator()
+    }
+
     /// The sessions, in the order of the puts.
     pub fn sessions(&self) -> &[SessionId]
         ensures { result.now ≡ self.now.sessions }
