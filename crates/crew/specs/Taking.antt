@@ -1,5 +1,5 @@
 -- What is read of a stream: words of private contracts.
-use Rattle.std.specs.Prelude.{◌≡◌, ℕ, Bool, true, List, [], ◌++◌, Option}
+use Rattle.std.specs.Prelude.{◌≡◌, ℕ, Bool, true, List, [], ◌++◌, length, take, Option}
 use Rattle.std.specs.Io.KnownBytes.{Consumes}
 use Rattle.line_grammar.specs.declared.splitter.Piece.{Piece}
 use Rattle.line_grammar.specs.Lines.{lines, left_by, Feeds}
@@ -24,3 +24,7 @@ pub record HasDone (before after : Option (List ℕ)) (old new : List Piece) (no
   pub read : Consumes before after octets
   pub done : new ≡ old ++ lines octets
   pub kept : now ≡ left_by octets
+
+-- these pieces are the first of those
+abbrev pub IsFront : List Piece → List Piece → Type 0
+IsFront first pieces = take (length first) pieces ≡ first

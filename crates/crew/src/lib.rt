@@ -3,6 +3,7 @@
 //! A call that waits owes no return. What is promised of it holds if it returns.
 #![tactic(auto)]
 
+mod ahead;
 mod backlog;
 mod beating;
 mod closing;

@@ -1,15 +1,17 @@
 //! Doing lines.
-ghost use Rattle.std.specs.Prelude.{◌≡◌, ◌≤◌, ◌++◌, ◌∷◌, [], length, take, true, false, IfOk, OnOk, OnErr};
+ghost use Rattle.std.specs.Prelude.{◌≡◌, ◌≤◌, ◌++◌, ◌∷◌, [], length, take, true, false, IfOk, IfSome, OnOk, OnErr};
 ghost use Rattle.crew.specs.Doing.{OnDone, OnRefused, IfDone, TellsOf, IsSeenTo, IsNewestSeenTo, DoesFront};
+ghost use Rattle.crew.specs.Taking.{IsFront};
 ghost use Rattle.crew.specs.Timing.{IsAt, IsNext};
 
+use crate::ahead::{Ahead, read_now};
 use crate::backlog::{Backlog, NoBacklog};
 use crate::desk::Desk;
 use crate::server::{Clock, Gate, Server, Sockets, later};
 use crate::shutting::{end_refused, shut_those};
 use crate::telling::{are_many, tell, tell_many};
 use chronicle::{Moment, SessionId};
-use hall::{Baton, Done, Hall, LineRefusal, Naming, RollRefusal, Told};
+use hall::{Baton, Done, Hall, LineRefusal, Naming, ReadLine, RollRefusal, Told};
 use line_grammar::Piece;
 use outbox::Sender;
 use std::hint::spin_loop;
@@ -105,21 +107,63 @@ fn line_once<L: Naming, R: Wait + Drop>(
     }
 }
 
-/// Does a line in the hall. Where its journal has no room for it, that is rolled, and the line is tried again: nobody else takes the
-/// room, since the hall is held.
+/// Does a line in the hall, if that takes it now, where it was read before.
+fn line_read_once<L: Naming, R: Wait + Drop>(
+    hall: &mut Hall<L, Sender<R>>,
+    baton: &mut Baton<L, Sender<R>>,
+    line: ReadLine,
+    moment: Moment,
+) -> Result<Done, LineRefusal>
+    ensures done { OnOk result (baton.new.pieces ≡ baton.old.pieces ++ line ∷ []) }
+    ensures refused { OnErr result ((hall.new ≡ hall.old) × (baton.new ≡ baton.old)) }
+    ensures session { baton.new.session ≡ baton.old.session }
+    ensures told { IfOk result (λ d. TellsOf d baton.new.front baton.new.session) }
+    ensures next { OnOk result (IsNext moment hall.old.history baton.new.front) }
+{
+    match hall.line_read(baton, line, moment) {
+        Ok(done) => Ok(done),
+        Err(refusal) => Err(refusal),
+    }
+}
+
+/// Does a line in the hall, if that takes it now, as it was read before, where it was.
+fn line_first<L: Naming, R: Wait + Drop>(
+    hall: &mut Hall<L, Sender<R>>,
+    baton: &mut Baton<L, Sender<R>>,
+    piece: &Piece,
+    line: Option<ReadLine>,
+    moment: Moment,
+) -> Result<Done, LineRefusal>
+    requires read { IfSome line (λ r. r ≡ piece.now) }
+    ensures done { OnOk result (baton.new.pieces ≡ baton.old.pieces ++ piece.now ∷ []) }
+    ensures refused { OnErr result ((hall.new ≡ hall.old) × (baton.new ≡ baton.old)) }
+    ensures session { baton.new.session ≡ baton.old.session }
+    ensures told { IfOk result (λ d. TellsOf d baton.new.front baton.new.session) }
+    ensures next { OnOk result (IsNext moment hall.old.history baton.new.front) }
+{
+    match line {
+        Some(line) => line_read_once(hall, baton, line, moment),
+        None => line_once(hall, baton, piece, moment),
+    }
+}
+
+/// Does a line in the hall. Where its journal has no room for it, that is rolled, and the line is read and tried again: nobody else
+/// takes the room, since the hall is held.
 fn line_or_roll<L: Naming, R: Wait + Drop>(
     hall: &mut Hall<L, Sender<R>>,
     baton: &mut Baton<L, Sender<R>>,
     piece: &Piece,
+    line: Option<ReadLine>,
     moment: Moment,
 ) -> Result<Done, LineRefusal>
+    requires read { IfSome line (λ r. r ≡ piece.now) }
     ensures done { OnOk result (baton.new.pieces ≡ baton.old.pieces ++ piece.now ∷ []) }
     ensures refused { OnErr result (baton.new ≡ baton.old) }
     ensures session { baton.new.session ≡ baton.old.session }
     ensures told { IfOk result (λ d. TellsOf d baton.new.front baton.new.session) }
     ensures next { OnOk result (IsNext moment hall.old.history baton.new.front) }
 {
-    match line_once(hall, baton, piece, moment) {
+    match line_first(hall, baton, piece, line, moment) {
         Ok(done) => return Ok(done),
         Err(LineRefusal::JournalFull) => {}
         Err(refusal) => return Err(refusal),
@@ -136,8 +180,10 @@ fn line_at<L: Naming, R: Wait + Drop>(
     hall: &mut Hall<L, Sender<R>>,
     baton: &mut Baton<L, Sender<R>>,
     piece: &Piece,
+    line: Option<ReadLine>,
     moment: Moment,
 ) -> Result<Done, LineRefusal>
+    requires read { IfSome line (λ r. r ≡ piece.now) }
     ensures done { OnOk result (baton.new.pieces ≡ baton.old.pieces ++ piece.now ∷ []) }
     ensures refused { OnErr result (baton.new ≡ baton.old) }
     ensures session { baton.new.session ≡ baton.old.session }
@@ -145,7 +191,7 @@ fn line_at<L: Naming, R: Wait + Drop>(
     ensures moment { OnOk result (IsAt moment baton.new.front) }
 {
     let moment = later(moment, hall.last_moment());
-    line_or_roll(hall, baton, piece, moment)
+    line_or_roll(hall, baton, piece, line, moment)
 }
 
 /// Does a line in the hall, and adds who got something.
@@ -153,9 +199,11 @@ fn line_in<L: Naming, R: Wait + Drop>(
     hall: &mut Hall<L, Sender<R>>,
     baton: &mut Baton<L, Sender<R>>,
     piece: &Piece,
+    line: Option<ReadLine>,
     moment: Moment,
     told: &mut Told,
 ) -> Result<Done, LineRefusal>
+    requires read { IfSome line (λ r. r ≡ piece.now) }
     ensures done { OnOk result (baton.new.pieces ≡ baton.old.pieces ++ piece.now ∷ []) }
     ensures refused { OnErr result (baton.new ≡ baton.old) }
     ensures session { baton.new.session ≡ baton.old.session }
@@ -164,7 +212,7 @@ fn line_in<L: Naming, R: Wait + Drop>(
 {
     told.begin();
     hall.swap_told(told);
-    let done = line_at(hall, baton, piece, moment);
+    let done = line_at(hall, baton, piece, line, moment);
     hall.swap_told(told);
     done
 }
@@ -191,8 +239,16 @@ pub fn work_one<L: Naming, R: Wait + Drop, G: Gate>(
 {
     let Job { mut baton, piece } = job;
     let session = baton.session();
+    let line = read_now(told.allocator(), &piece);
     gate.enter(session);
-    let outcome = match line_in(&mut *lock_soon(rt, hall), &mut baton, &piece, moment, told) {
+    let outcome = match line_in(
+        &mut *lock_soon(rt, hall),
+        &mut baton,
+        &piece,
+        line,
+        moment,
+        told,
+    ) {
         Ok(done) => Outcome::Done(done),
         Err(refusal) => Outcome::Refused(refusal),
     };
@@ -206,9 +262,11 @@ fn line_told<L: Naming, R: Wait + Drop, S: Sockets>(
     hall: &mut Hall<L, Sender<R>>,
     baton: &mut Baton<L, Sender<R>>,
     piece: &Piece,
+    line: Option<ReadLine>,
     moment: Moment,
     told: &mut Told,
 ) -> Result<Done, LineRefusal>
+    requires read { IfSome line (λ r. r ≡ piece.now) }
     ensures done { OnOk result (baton.new.pieces ≡ baton.old.pieces ++ piece.now ∷ []) }
     ensures refused { OnErr result (baton.new ≡ baton.old) }
     ensures session { baton.new.session ≡ baton.old.session }
@@ -216,7 +274,7 @@ fn line_told<L: Naming, R: Wait + Drop, S: Sockets>(
     ensures moment { OnOk result (IsAt moment baton.new.front) }
 {
     let before = hall.len();
-    let done = line_in(hall, baton, piece, moment, told);
+    let done = line_in(hall, baton, piece, line, moment, told);
     let grown = if done.is_ok() {
         before.saturating_add(1)
     } else {
@@ -271,9 +329,11 @@ impl<'a, L: Naming, R: Wait + Drop> Held<'a, L, R> {
         server: &Server<'a, L, R, G, S, C>,
         baton: &mut Baton<L, Sender<R>>,
         piece: &Piece,
+        line: Option<ReadLine>,
         told: &mut Told,
     ) -> Result<Done, LineRefusal>
-        requires { C.shows server.now.clock.now self.old.moment }
+        requires shown { C.shows server.now.clock.now self.old.moment }
+        requires read { IfSome line (λ r. r ≡ piece.now) }
         ensures done { OnOk result (baton.new.pieces ≡ baton.old.pieces ++ piece.now ∷ []) }
         ensures refused { OnErr result (baton.new ≡ baton.old) }
         ensures session { baton.new.session ≡ baton.old.session }
@@ -282,14 +342,40 @@ impl<'a, L: Naming, R: Wait + Drop> Held<'a, L, R> {
         ensures moment { OnOk result (IsAt self.new.moment baton.new.front) }
     {
         if let Some(hall) = &mut self.hall {
-            return line_told(server.sockets, &mut **hall, baton, piece, self.moment, told);
+            return line_told(
+                server.sockets,
+                &mut **hall,
+                baton,
+                piece,
+                line,
+                self.moment,
+                told,
+            );
         }
         server.gate.enter(baton.session());
         self.moment = server.clock.now();
         let mut hall = lock_soon(rt, server.hall);
-        let done = line_told(server.sockets, &mut *hall, baton, piece, self.moment, told);
+        let done = line_told(
+            server.sockets,
+            &mut *hall,
+            baton,
+            piece,
+            line,
+            self.moment,
+            told,
+        );
         self.hall = Some(hall);
         done
+    }
+
+    /// Reads more of these pieces, of which the first are read, as many as may be done in one hold, where the thread hasn't the hall.
+    fn read_ahead(&self, ahead: &mut Ahead, pieces: &[Piece], burst: usize)
+        requires { IsFront ahead.old pieces.now }
+        ensures { IsFront ahead.new pieces.now }
+    {
+        if self.hall.is_none() {
+            ahead.read(pieces, burst.max(1));
+        }
     }
 
     /// Gives the hall back, and the slot, where the thread has them.
@@ -350,17 +436,19 @@ impl<'a, L: Naming, R: Wait + Drop> Held<'a, L, R> {
     }
 }
 
-/// Does one piece, in the hall that is held or that it takes, and answers whether it was done. Where the line shut somebody, many are
-/// to be told, or it was refused, it gives the hall and the slot back and sees to that.
+/// Does one piece, as it was read before, where it was, in the hall that is held or that it takes, and answers whether it was done.
+/// Where the line shut somebody, many are to be told, or it was refused, it gives the hall and the slot back and sees to that.
 fn work_next<'a, L: Naming, R: Wait + Drop, G: Gate, S: Sockets, C: Clock>(
     rt: &R,
     server: &Server<'a, L, R, G, S, C>,
     baton: &mut Baton<L, Sender<R>>,
     piece: &Piece,
+    line: Option<ReadLine>,
     told: &mut Told,
     held: &mut Held<'a, L, R>,
 ) -> bool
-    requires { C.shows server.now.clock.now held.old.moment }
+    requires shown { C.shows server.now.clock.now held.old.moment }
+    requires read { IfSome line (λ r. r ≡ piece.now) }
     ensures done { result ≡ true → baton.new.pieces ≡ baton.old.pieces ++ piece.now ∷ [] }
     ensures not_done { result ≡ false → baton.new ≡ baton.old }
     ensures session { baton.new.session ≡ baton.old.session }
@@ -371,7 +459,7 @@ fn work_next<'a, L: Naming, R: Wait + Drop, G: Gate, S: Sockets, C: Clock>(
         return false;
     }
     let session = baton.session();
-    match held.line(rt, server, baton, piece, told) {
+    match held.line(rt, server, baton, piece, line, told) {
         Ok(done) => {
             let shuts = done.shut || !done.missed.as_slice().is_empty();
             held.give_back_for(rt, server, session, shuts, told);
@@ -386,7 +474,7 @@ fn work_next<'a, L: Naming, R: Wait + Drop, G: Gate, S: Sockets, C: Clock>(
     }
 }
 
-/// Does pieces of a session in turn, until one isn't done or much waits for the session.
+/// Does pieces of a session in turn, until one isn't done or much waits for the session. Those of one hold are read before it.
 fn work_all<'a, L: Naming, R: Wait + Drop, G: Gate, S: Sockets, C: Clock, B: Backlog>(
     rt: &R,
     server: &Server<'a, L, R, G, S, C>,
@@ -405,9 +493,12 @@ fn work_all<'a, L: Naming, R: Wait + Drop, G: Gate, S: Sockets, C: Clock, B: Bac
     ensures newest { IsNewestSeenTo (C.shows server.now.clock.now) (S.shuts server.now.sockets.now) baton.old baton.new }
 {
     let session = baton.session();
+    let mut ahead = Ahead::new(told.allocator());
     let mut done = 0;
     for piece in pieces {
-        if !work_next(rt, server, baton, piece, told, held) {
+        held.read_ahead(&mut ahead, &pieces[done..], server.burst);
+        let line = ahead.next();
+        if !work_next(rt, server, baton, piece, line, told, held) {
             return Count {
                 done,
                 until: Until::Refused,

@@ -3,6 +3,8 @@
 
 #[cfg(test)]
 mod again;
+#[cfg(test)]
+mod ahead;
 mod apart;
 #[cfg(test)]
 mod crowd;

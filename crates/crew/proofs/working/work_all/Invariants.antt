@@ -1,11 +1,13 @@
-use Rattle.std.proofs.Common.{◌≡◌, ◌++◌, take}
+use Rattle.std.proofs.Common.{◌≡◌, ◌++◌, take, drop}
 use Rattle.crew.specs.Doing.{IsNewestSeenTo}
+use Rattle.crew.specs.Taking.{IsFront}
 use Rattle.crew.proofs.working.work_all.Given as goal
 
--- so many pieces were done, in order, and the newest was seen to
+-- so many pieces were done, in order, and the newest was seen to; the next are read
 abbrev pub invariant-loop-piece : goal.invariant-loop-piece
 invariant-loop-piece g l = record {
   count : l.done ≡ l.piece-index;
+  ahead : IsFront l.ahead (drop l.done l.pieces);
   front : l.baton.pieces ≡ l.fn.baton.pieces ++ take l.done l.pieces;
   session : l.baton.session ≡ l.fn.baton.session;
   newest : IsNewestSeenTo (g.C.Clock.shows l.server.clock.now) (g.S.Sockets.shuts l.server.sockets.now) l.fn.baton l.baton;
