@@ -4,11 +4,11 @@ use Rattle.book.specs.Book.{Shown, empty_book}
 use Rattle.interleave.specs.Inbox.{Held}
 use Rattle.interleave.specs.Kept.{IsKept}
 use Rattle.interleave.proofs.Empty.{empty_kept}
-use Rattle.interleave.proofs.play.Play.new.Goals as goal
+use Rattle.interleave.proofs.play.Play.made.Goals as goal
 
 pub invariant_of-result : goal.invariant_of-result
 invariant_of-result g c =
     let q = c.args.sendq in
-    subst (λ (m : Shown Waiting). IsKept m q c.new-2.result.items c.in-Ok-idle.jobs.items None) (sym c.in-Ok.ensures.ok.0)
-    (subst (λ (bs : List Held). IsKept (empty_book c.args.limit c.args.settings) q bs c.in-Ok-idle.jobs.items None) (sym c.new-2.ensures.items)
+    subst (λ (m : Shown Waiting). IsKept m q c.new.result.items c.in-Ok-idle.jobs.items None) (sym c.in-Ok.ensures.ok.0)
+    (subst (λ (bs : List Held). IsKept (empty_book c.args.limit c.args.settings) q bs c.in-Ok-idle.jobs.items None) (sym c.new.ensures.items)
     (subst (λ (js : List (Option ℕ)). IsKept (empty_book c.args.limit c.args.settings) q [] js None) (sym c.in-Ok-idle.ensures) (empty_kept c.args.limit c.args.settings q c.args.workers)))
