@@ -7,7 +7,7 @@ ghost use Rattle.commands.specs.Asked.{asked_of, asks_for_quit};
 ghost use Rattle.labels_batches.specs.Labels.{label_of};
 ghost use Rattle.labels_batches.specs.Answers.{answered};
 ghost use Rattle.labels_batches.specs.Rendered.{rendered};
-ghost use Rattle.drafts.specs.Effects.{deeds_of};
+ghost use Rattle.drafts.specs.Words.{deeds_of};
 ghost use Rattle.deeds.specs.Departure.{departs};
 ghost use Rattle.deeds.specs.Rows.{of_asked};
 ghost use Rattle.deeds.specs.Deeds.{spelled};

@@ -1,8 +1,10 @@
 -- Facts of joins, and who is on a channel after one.
-use Rattle.std.proofs.Common.{◌≡◌, ℕ, Bool, true, false, cond, List, [], ◌∷◌, ◌++◌, filter, Option, Some, None, refl}
+use Rattle.std.proofs.Common.{◌≡◌, ℕ, Bool, true, false, ◌||◌, ◌==◌, cond, List, [], ◌∷◌, ◌++◌, filter, Option, Some, None, refl, sym, ap, eq-eqb}
 use Rattle.numerics.specs.declared.numeric.Numeric.{Numeric}
 use Rattle.registration.specs.declared.settings.Settings.{Settings}
-use Rattle.channel_state.specs.State.{is_some_one, without}
+use Rattle.channel_state.specs.declared.change.Change.TheVariants.{Joined}
+use Rattle.channel_state.specs.State.{State, among, changed, is_some_one, without}
+use Rattle.channel_state.proofs.Once.{without-none}
 use Rattle.roster.specs.declared.deed.Deed.{Deed}
 use Rattle.roster.specs.LookBack.{account, away, has_member, real}
 use Rattle.drafts.specs.Seen.{Seen, seen}
@@ -11,6 +13,8 @@ use Rattle.drafts.specs.Hearers.{shown}
 use Rattle.drafts.specs.Lines.{extended_join_line, join_line}
 use Rattle.drafts.specs.Replies.{tells_all}
 use Rattle.drafts.proofs.Quiet.{both-quiet, shown-quiet}
+use Rattle.query_commands.specs.Names.{member_name, with_members}
+use Rattle.query_commands.specs.Visible.{members_for}
 use Rattle.channel_commands.specs.Joining.{absence_shown, entered, introduced, join_shown, takes_extended, takes_plain, welcomed}
 
 -- answers establish nothing
@@ -39,9 +43,27 @@ some_last : (t : ℕ) (ts : List ℕ) → is_some_one (ts ++ t ∷ []) ≡ true
 some_last t [] = refl
 some_last t (u ∷ us) = refl
 
+-- who made a channel is on it
+pub on_it : (t : ℕ) → among t (t ∷ []) ≡ true
+on_it t = ap (λ b. b || false) (eq-eqb t t refl)
+
+either_true : (a b : Bool) → b ≡ true → (a || b) ≡ true
+either_true true b e = refl
+either_true false b e = e
+
 -- somebody is on a channel that a session joined
 pub some_joined : (t : ℕ) (ts : List ℕ) → is_some_one (without t ts ++ t ∷ []) ≡ true
 some_joined t ts = some_last t (without t ts)
+
+-- who came last is among them
+pub last_on_it : (t : ℕ) (ts : List ℕ) → among t (ts ++ t ∷ []) ≡ true
+last_on_it t [] = on_it t
+last_on_it t (u ∷ us) = either_true (u == t) (among t (us ++ t ∷ [])) (last_on_it t us)
+
+-- a channel that a session joined is the one before with one member more: of the rest its own invitation alone goes, which nobody is told
+pub entered_joined : (g : Settings) (fs0 fs : List Deed) (s : ℕ) (from name : List ℕ) (k : State) → among s k.members ≡ false → entered g fs0 fs s from (with_members name k (k.members ++ s ∷ [])) ≡ entered g fs0 fs s from (record { name = name; state = changed (Joined s) k })
+unfolding entered introduced member_name members_for
+entered_joined g fs0 fs s from name k e = ap (λ ts. entered g fs0 fs s from (with_members name k (ts ++ s ∷ []))) (sym (without-none s k.members e))
 
 none_is_false : {A : Type 0} (b : Bool) (x : A) → cond b (Some x) None ≡ None → b ≡ false
 none_is_false true x e = absurd (let f : Some x ≡ None = e in cc)

@@ -1,13 +1,12 @@
 //! What members are shown of a session that joined (RFC 2812, section 3.2.1; IRCv3 extended-join and away-notify).
 ghost use Rattle.std.specs.Prelude.{◌≡◌, ◌∷◌, ◌++◌, [], filter, IfOk, OnOk};
 ghost use Rattle.roster.specs.LookBack.{account, away, real};
-ghost use Rattle.drafts.specs.Drafted.{grown};
-ghost use Rattle.drafts.specs.Hearers.{shown};
-ghost use Rattle.drafts.specs.Lines.{join_line, extended_join_line};
+ghost use Rattle.drafts.specs.Words.{extended_join_line, grown, join_line, shown};
 ghost use Rattle.channel_commands.specs.Joining.{absence_shown, introduced, join_shown, takes_extended, takes_plain};
 
+use crate::joined::Joined;
 use chronicle::SessionId;
-use drafts::{Draft, Seen, extended_join_line, join_line, show_away, takers};
+use drafts::{Draft, extended_join_line, join_line, show_away, takers};
 use registration::Cap;
 use roster::{Roster, Sessions};
 use std::alloc::{AllocError, Global};
@@ -56,14 +55,14 @@ fn show_plainly(
     draft: &mut Draft,
     hearers: Sessions,
     from: &[u8],
-    seen: &Seen,
+    joined: &Joined<'_>,
 ) -> Result<(), AllocError>
-    ensures { OnOk result (draft.new ≡ grown draft.old (shown hearers (join_line from.now seen.now.name))) }
+    ensures { OnOk result (draft.new ≡ grown draft.old (shown hearers (join_line from.now joined.now.name))) }
 {
     if hearers.as_slice().is_empty() {
         return Ok(());
     }
-    let line = join_line(draft.alloc(), from, seen.name().as_slice())?;
+    let line = join_line(draft.alloc(), from, joined.name.as_slice())?;
     draft.show(hearers, line)
 }
 
@@ -74,9 +73,9 @@ fn show_extended(
     hearers: Sessions,
     session: SessionId,
     from: &[u8],
-    seen: &Seen,
+    joined: &Joined<'_>,
 ) -> Result<(), AllocError>
-    ensures { OnOk result (draft.new ≡ grown draft.old (shown hearers (extended_join_line from.now seen.now.name (account draft.old.base session) (real draft.old.base session)))) }
+    ensures { OnOk result (draft.new ≡ grown draft.old (shown hearers (extended_join_line from.now joined.now.name (account draft.old.base session) (real draft.old.base session)))) }
 {
     if hearers.as_slice().is_empty() {
         return Ok(());
@@ -84,7 +83,7 @@ fn show_extended(
     let roster = draft.before();
     let account = roster.enrol_of(session).account;
     let real = roster.real_of(session);
-    let line = extended_join_line(draft.alloc(), from, seen.name().as_slice(), account, real)?;
+    let line = extended_join_line(draft.alloc(), from, joined.name.as_slice(), account, real)?;
     draft.show(hearers, line)
 }
 
@@ -94,13 +93,13 @@ fn show_join(
     draft: &mut Draft,
     session: SessionId,
     from: &[u8],
-    seen: &Seen,
+    joined: &Joined<'_>,
 ) -> Result<(), AllocError>
-    ensures { OnOk result (draft.new ≡ grown draft.old (join_shown draft.old.base session from.now seen.now)) }
+    ensures { OnOk result (draft.new ≡ grown draft.old (join_shown draft.old.base session from.now joined.now)) }
 {
-    let (extended, plain) = parted(draft.alloc(), draft.before(), seen.state().members())?;
-    show_plainly(draft, plain, from, seen)?;
-    show_extended(draft, extended, session, from, seen)
+    let (extended, plain) = parted(draft.alloc(), draft.before(), joined.members)?;
+    show_plainly(draft, plain, from, joined)?;
+    show_extended(draft, extended, session, from, joined)
 }
 
 /// Shows members, but for who joined, that it is away, where it is.
@@ -108,14 +107,14 @@ fn show_absence(
     draft: &mut Draft,
     session: SessionId,
     from: &[u8],
-    seen: &Seen,
+    joined: &Joined<'_>,
 ) -> Result<(), AllocError>
-    ensures { OnOk result (draft.new ≡ grown draft.old (absence_shown draft.old.base session from.now seen.now (away draft.old.base session))) }
+    ensures { OnOk result (draft.new ≡ grown draft.old (absence_shown draft.old.base session from.now joined.now (away draft.old.base session))) }
 {
     let Some(text) = draft.before().away_of(session) else {
         return Ok(());
     };
-    let members = seen.state().members();
+    let members = joined.members;
     let mut hearers = takers(draft.alloc(), draft.before(), Cap::AwayNotify, members)?;
     hearers.remove(session);
     show_away(draft, hearers, from, Some(text))
@@ -127,10 +126,10 @@ pub(crate) fn introduce(
     draft: &mut Draft,
     session: SessionId,
     from: &[u8],
-    seen: &Seen,
+    joined: &Joined<'_>,
 ) -> Result<(), AllocError>
-    ensures { OnOk result (draft.new ≡ grown draft.old (introduced draft.old.base session from.now seen.now)) }
+    ensures { OnOk result (draft.new ≡ grown draft.old (introduced draft.old.base session from.now joined.now)) }
 {
-    show_join(draft, session, from, seen)?;
-    show_absence(draft, session, from, seen)
+    show_join(draft, session, from, joined)?;
+    show_absence(draft, session, from, joined)
 }

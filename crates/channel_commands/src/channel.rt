@@ -2,18 +2,17 @@
 //! and 3.2.8).
 ghost use Rattle.std.specs.Prelude.{◌≡◌, ◌∷◌, ◌≤◌, length, OnOk, MatchOption};
 ghost use Rattle.roster.specs.Legal.{IsOpened};
-ghost use Rattle.drafts.specs.Drafted.{grown};
+ghost use Rattle.drafts.specs.Words.{grown};
 ghost use Rattle.command_params.specs.Params.{IsRead, IsReadByName};
 ghost use Rattle.channel_commands.specs.Channel.{EachChannelIsNamed, NoChannelIsMisnamed, channel_command_of, join_command, part_command, kick_command, invite_command, topic_command, serves_channel};
 
 use crate::{invite, join, kick, part, set_topic};
 use chronicle::SessionId;
 use command_params::{
-    JoinTargets, ReadFault, Texts, copied_first, first, is_named, needs_more, read_names,
-    read_targets,
+    JoinTargets, ReadFault, copied_first, first, is_named, needs_more, read_names, read_targets,
 };
 use drafts::Draft;
-use line_grammar::{LineParameters, Octets};
+use line_grammar::{LineParameters, Octets, OctetsList};
 use std::alloc::{AllocError, Global};
 
 /// What is asked about channels. Names and texts are as given. A list of names has no empty one, and none that
@@ -26,13 +25,13 @@ pub enum ChannelCommand {
     },
     /// To leave channels, with a text that may be empty (section 3.2.2).
     Part {
-        channels: Texts,
+        channels: OctetsList,
         text: Octets,
     },
     /// To put users out of a channel, with a text that may be empty (section 3.2.8).
     Kick {
         channel: Octets,
-        nicks: Texts,
+        nicks: OctetsList,
         text: Octets,
     },
     /// To invite a user to a channel (section 3.2.7).

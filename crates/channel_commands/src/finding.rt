@@ -1,7 +1,7 @@
 //! Whom and what a command names.
 ghost use Rattle.std.specs.Prelude.{◌≡◌, false, IfOk, MatchOption};
 ghost use Rattle.roster.specs.LookBack.{has_member};
-ghost use Rattle.drafts.specs.Seen.{IsSeen};
+ghost use Rattle.drafts.specs.Words.{IsSeen};
 ghost use Rattle.channel_commands.specs.Found.{channel_of, user_of};
 
 use chronicle::SessionId;

@@ -2,10 +2,7 @@
 ghost use Rattle.std.specs.Prelude.{◌≡◌, ◌∷◌, [], Some, option_copied, OnOk};
 ghost use Rattle.numerics.specs.declared.numeric.Numeric.TheVariants.{Inviting, UserOnChannel};
 ghost use Rattle.drafts.specs.declared.effect.Effect.TheVariants.{Show};
-ghost use Rattle.drafts.specs.Drafted.{grown};
-ghost use Rattle.drafts.specs.Lines.{prefix};
-ghost use Rattle.drafts.specs.Replies.{tells};
-ghost use Rattle.drafts.specs.Seen.{IsSeen};
+ghost use Rattle.drafts.specs.Words.{IsSeen, grown, prefix, tells};
 ghost use Rattle.channel_commands.specs.Lines.{invite_line};
 ghost use Rattle.channel_commands.specs.Inviting.{away_told, invites_user, invites_seen, invites_found, invites};
 

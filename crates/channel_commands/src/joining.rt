@@ -1,10 +1,8 @@
 //! JOIN (RFC 2812, section 3.2.1; RFC 2811, section 4).
-ghost use Rattle.std.specs.Prelude.{◌≡◌, ◌∷◌, ◌+◌, ◌<◌, [], false, length, Some, None, IfOk, OnOk};
+ghost use Rattle.std.specs.Prelude.{◌≡◌, ◌∷◌, ◌+◌, ◌<◌, [], true, false, length, Some, None, IfOk, OnOk};
 ghost use Rattle.channel_state.specs.State.{among};
 ghost use Rattle.roster.specs.LookBack.{has_member};
-ghost use Rattle.drafts.specs.Drafted.{grown};
-ghost use Rattle.drafts.specs.Effects.{deeds_of};
-ghost use Rattle.drafts.specs.Seen.{IsSeen};
+ghost use Rattle.drafts.specs.Words.{IsSeen, deeds_of, grown};
 ghost use Rattle.channel_commands.specs.Each.{each_counted};
 ghost use Rattle.channel_commands.specs.Found.{channel_of};
 ghost use Rattle.channel_commands.specs.Joining.{welcomed, entered, makes, enters, enters_unless, joins_seen, joins_one, joins};
@@ -12,6 +10,7 @@ ghost use Rattle.channel_commands.specs.Joining.{welcomed, entered, makes, enter
 use crate::arriving::introduce;
 use crate::bars::bar_of;
 use crate::finding::channel_of;
+use crate::joined::{Joined, followed_by};
 use casemapping::is_channel;
 use channel_state::Change;
 use chronicle::SessionId;
@@ -28,33 +27,51 @@ const MAX_CHANNELS: usize = 20;
 // ---- a session on a channel that it joined just now
 
 /// What a session is told.
-fn welcome(draft: &Draft<'_>, session: SessionId, seen: &Seen) -> Result<Vec<Numeric>, AllocError>
-    ensures { IfOk result (λ v. v.items ≡ welcomed draft.now.settings draft.now.base session seen.now) }
+fn welcome(
+    draft: &Draft<'_>,
+    session: SessionId,
+    joined: &Joined<'_>,
+) -> Result<Vec<Numeric>, AllocError>
+    requires { among session joined.now.state.members ≡ true }
+    ensures { IfOk result (λ v. v.items ≡ welcomed draft.now.settings draft.now.base session joined.now) }
 {
     let mut numerics = Vec::new(draft.alloc());
-    if let Some(topic) = seen.state().topic() {
-        let channel = seen.name().clone()?;
+    if let Some(topic) = joined.state.topic() {
+        let channel = joined.name.clone()?;
         let topic = topic.clone()?;
         numerics.push(Numeric::Topic { channel, topic })?;
     }
-    push_members(draft, &mut numerics, session, seen.name(), seen.state())?;
+    push_members(
+        draft,
+        &mut numerics,
+        session,
+        joined.name,
+        joined.state,
+        joined.members,
+    )?;
     Ok(numerics)
 }
 
 /// All members are shown that a session joined, which is told of the channel.
 #[tactic(auto, unfolding(crate::specs::Joining::entered), using(drafts::proofs::Replay::grown_grown, crate::proofs::Rows::introduced_quiet))]
-fn enter(draft: &mut Draft, session: SessionId, from: &[u8], seen: &Seen) -> Result<(), AllocError>
-    ensures { OnOk result (draft.new ≡ grown draft.old (entered draft.old.settings draft.old.base draft.old.facts session from.now seen.now)) }
+fn enter(
+    draft: &mut Draft,
+    session: SessionId,
+    from: &[u8],
+    joined: &Joined<'_>,
+) -> Result<(), AllocError>
+    requires { among session joined.now.state.members ≡ true }
+    ensures { OnOk result (draft.new ≡ grown draft.old (entered draft.old.settings draft.old.base draft.old.facts session from.now joined.now)) }
 {
-    let numerics = welcome(draft, session, seen)?;
-    introduce(draft, session, from, seen)?;
+    let numerics = welcome(draft, session, joined)?;
+    introduce(draft, session, from, joined)?;
     tell_all(draft, session, &numerics)
 }
 
 // ---- JOIN of one channel
 
 /// A session makes a channel that isn't there.
-#[tactic(auto, using(drafts::proofs::Replay::grown_grown))]
+#[tactic(auto, using(drafts::proofs::Replay::grown_grown, crate::proofs::Rows::on_it))]
 fn make(
     draft: &mut Draft,
     session: SessionId,
@@ -65,23 +82,29 @@ fn make(
     ensures { OnOk result (draft.new ≡ grown draft.old (makes draft.old.settings draft.old.base draft.old.facts session from.now channel.now)) }
 {
     let seen = draft.make(session, channel)?;
-    enter(draft, session, from, &seen)
+    let joined = Joined {
+        name: seen.name(),
+        state: seen.state(),
+        members: seen.state().members(),
+    };
+    enter(draft, session, from, &joined)
 }
 
-/// A session joins a channel that is there.
-#[tactic(auto, using(drafts::proofs::Replay::grown_grown, crate::proofs::Rows::some_joined))]
-fn come(
-    draft: &mut Draft,
-    session: SessionId,
-    from: &[u8],
-    seen: &mut Seen,
-) -> Result<(), AllocError>
-    requires seen { IsSeen draft.old.facts seen.old }
-    requires away { among session seen.old.state.members ≡ false }
-    ensures { OnOk result (draft.new ≡ grown draft.old (enters draft.old.settings draft.old.base draft.old.facts session from.now seen.old)) }
+/// A session joins a channel that is there, whose members are looked up where it is kept.
+#[tactic(auto, using(drafts::proofs::Replay::grown_grown, crate::proofs::Rows::some_joined, crate::proofs::Rows::last_on_it, crate::proofs::Rows::entered_joined))]
+fn come(draft: &mut Draft, session: SessionId, from: &[u8], seen: &Seen) -> Result<(), AllocError>
+    requires seen { IsSeen draft.old.facts seen.now }
+    requires away { among session seen.now.state.members ≡ false }
+    ensures { OnOk result (draft.new ≡ grown draft.old (enters draft.old.settings draft.old.base draft.old.facts session from.now seen.now)) }
 {
-    draft.change(seen, Change::Joined { session })?;
-    enter(draft, session, from, seen)
+    let members = followed_by(draft.alloc(), seen.state().members(), session)?;
+    draft.establish_change(seen, Change::Joined { session })?;
+    let joined = Joined {
+        name: seen.name(),
+        state: seen.state(),
+        members: members.as_slice(),
+    };
+    enter(draft, session, from, &joined)
 }
 
 /// Joins a channel that is there, unless something bars the session. On how many channels it is then.
@@ -91,14 +114,14 @@ fn come_unless(
     session: SessionId,
     from: &[u8],
     count: usize,
-    seen: &mut Seen,
+    seen: &Seen,
     bar: Option<Denial>,
 ) -> Result<usize, AllocError>
-    requires seen { IsSeen draft.old.facts seen.old }
-    requires away { among session seen.old.state.members ≡ false }
+    requires seen { IsSeen draft.old.facts seen.now }
+    requires away { among session seen.now.state.members ≡ false }
     requires few { count < 20 }
-    ensures grown { OnOk result (draft.new ≡ grown draft.old (enters_unless draft.old.settings draft.old.base draft.old.facts session from.now seen.old bar)) }
-    ensures count { IfOk result (λ n. n ≡ count + length (deeds_of (enters_unless draft.old.settings draft.old.base draft.old.facts session from.now seen.old bar))) }
+    ensures grown { OnOk result (draft.new ≡ grown draft.old (enters_unless draft.old.settings draft.old.base draft.old.facts session from.now seen.now bar)) }
+    ensures count { IfOk result (λ n. n ≡ count + length (deeds_of (enters_unless draft.old.settings draft.old.base draft.old.facts session from.now seen.now bar))) }
 {
     match bar {
         Some(bar) => {
@@ -119,11 +142,11 @@ fn join_there(
     from: &[u8],
     count: usize,
     target: &JoinTarget,
-    seen: &mut Seen,
+    seen: &Seen,
 ) -> Result<usize, AllocError>
-    requires { IsSeen draft.old.facts seen.old }
-    ensures grown { OnOk result (draft.new ≡ grown draft.old (joins_seen draft.old.settings draft.old.base draft.old.facts session from.now count target.now (Some seen.old))) }
-    ensures count { IfOk result (λ n. n ≡ count + length (deeds_of (joins_seen draft.old.settings draft.old.base draft.old.facts session from.now count target.now (Some seen.old)))) }
+    requires { IsSeen draft.old.facts seen.now }
+    ensures grown { OnOk result (draft.new ≡ grown draft.old (joins_seen draft.old.settings draft.old.base draft.old.facts session from.now count target.now (Some seen.now))) }
+    ensures count { IfOk result (λ n. n ≡ count + length (deeds_of (joins_seen draft.old.settings draft.old.base draft.old.facts session from.now count target.now (Some seen.now)))) }
 {
     if seen.state().has(session) {
         return Ok(count);
@@ -170,7 +193,7 @@ fn join_named(
     ensures count { IfOk result (λ n. n ≡ count + length (deeds_of (joins_seen draft.old.settings draft.old.base draft.old.facts session from.now count target.now (channel_of draft.old.facts target.now.channel)))) }
 {
     match channel_of(draft, &target.channel)? {
-        Some(mut seen) => join_there(draft, session, from, count, target, &mut seen),
+        Some(seen) => join_there(draft, session, from, count, target, &seen),
         None => join_new(draft, session, from, count, target),
     }
 }

@@ -1,9 +1,7 @@
 //! KICK (RFC 2812, section 3.2.8).
 ghost use Rattle.std.specs.Prelude.{◌≡◌, [], Some, slice_get, IfOk, OnOk};
 ghost use Rattle.roster.specs.LookBack.{nick as nick_of};
-ghost use Rattle.drafts.specs.Drafted.{grown};
-ghost use Rattle.drafts.specs.Lines.{title};
-ghost use Rattle.drafts.specs.Seen.{IsSeen};
+ghost use Rattle.drafts.specs.Words.{IsSeen, grown, title};
 ghost use Rattle.channel_commands.specs.Each.{each};
 ghost use Rattle.channel_commands.specs.Found.{channel_of};
 ghost use Rattle.channel_commands.specs.Leaving.{kick_text, kicks_user, kicks_one, kicks_each, kicks_seen, kicks};

@@ -1,8 +1,7 @@
 //! PART (RFC 2812, section 3.2.2).
 ghost use Rattle.std.specs.Prelude.{◌≡◌, ◌∷◌, [], true, Some, IfSome, OnOk};
 ghost use Rattle.channel_state.specs.State.{among};
-ghost use Rattle.drafts.specs.Drafted.{grown};
-ghost use Rattle.drafts.specs.Seen.{IsSeen};
+ghost use Rattle.drafts.specs.Words.{IsSeen, grown};
 ghost use Rattle.channel_commands.specs.Each.{each};
 ghost use Rattle.channel_commands.specs.Leaving.{leaves, parts_seen, parts_one, parts};
 

@@ -7,6 +7,7 @@ mod bars;
 mod channel;
 mod finding;
 mod inviting;
+mod joined;
 mod joining;
 mod kicking;
 mod leaving;

@@ -1,7 +1,7 @@
 //! Who is on a channel is shown a line.
 ghost use Rattle.std.specs.Prelude.{◌≡◌, ◌∷◌, [], OnOk};
 ghost use Rattle.drafts.specs.declared.effect.Effect.TheVariants.{Show};
-ghost use Rattle.drafts.specs.Drafted.{grown};
+ghost use Rattle.drafts.specs.Words.{grown};
 
 use drafts::{Draft, Seen};
 use numerics::Line;

@@ -3,9 +3,7 @@ ghost use Rattle.std.specs.Prelude.{◌≡◌, ◌∷◌, [], Some, IfOk, OnOk};
 ghost use Rattle.channel_state.specs.declared.change.Change.TheVariants.{TopicSet};
 ghost use Rattle.roster.specs.declared.deed.Deed.TheVariants.{Changed};
 ghost use Rattle.drafts.specs.declared.effect.Effect.TheVariants.{Establish};
-ghost use Rattle.drafts.specs.Drafted.{grown};
-ghost use Rattle.drafts.specs.Seen.{IsSeen};
-ghost use Rattle.drafts.specs.Lines.{prefix};
+ghost use Rattle.drafts.specs.Words.{IsSeen, grown, prefix};
 ghost use Rattle.channel_commands.specs.Lines.{topic_line};
 ghost use Rattle.channel_commands.specs.Topics.{topic_shown, topic_text, topic_of, sets_topic, topic_served, topics_seen, topics};
 

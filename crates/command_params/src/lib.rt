@@ -7,11 +7,9 @@ mod join_targets;
 mod lists;
 mod name;
 mod params;
-mod texts;
 
 pub use fault::{ReadFault, needs_more};
 pub use join_targets::{JoinTarget, JoinTargets};
 pub use lists::{read_list_given, read_names, read_targets, read_words};
 pub use name::{CommandName, is_named};
 pub use params::{copied, copied_first, first, into_first};
-pub use texts::Texts;

@@ -6,9 +6,9 @@ ghost use Rattle.line_grammar.specs.Parts.{is_empty, octets_left, parts, parts_l
 ghost use Rattle.command_params.specs.Lists.{is_comma, list_given, names_of, targets_of, words_of};
 ghost use Rattle.command_params.specs.ListSteps.{first_of, others_of, with_name, with_target, with_word};
 
-use crate::{JoinTarget, JoinTargets, Texts};
+use crate::{JoinTarget, JoinTargets};
 use casemapping::is_same;
-use line_grammar::{LineParameters, Octets, split_first};
+use line_grammar::{LineParameters, Octets, OctetsList, split_first};
 use std::alloc::{AllocError, Global};
 
 /// The first of the keys that are left, which is empty where there is none, and those after it.
@@ -71,7 +71,7 @@ fn add_target(
 }
 
 /// The names between commas. Empty ones are left out, and so is what repeats a name in either case.
-pub fn read_names(alloc: Global, list: &[u8]) -> Result<Texts, AllocError>
+pub fn read_names(alloc: Global, list: &[u8]) -> Result<OctetsList, AllocError>
     ensures { IfOk result (λ names. names ≡ names_of list.now) }
 {
     let mut names = Vec::new(alloc);
@@ -81,14 +81,14 @@ pub fn read_names(alloc: Global, list: &[u8]) -> Result<Texts, AllocError>
         add_name(&mut names, alloc, name)?;
         rest = more;
     }
-    Ok(Texts::from_vec(names))
+    Ok(OctetsList::from_vec(names))
 }
 
 /// The names of the first parameter, where there is one.
 pub fn read_list_given(
     alloc: Global,
     params: &LineParameters<'_>,
-) -> Result<Option<Texts>, AllocError>
+) -> Result<Option<OctetsList>, AllocError>
     ensures { IfOk result (λ names. names ≡ list_given params.now) }
 {
     match params.split_first() {
@@ -98,7 +98,7 @@ pub fn read_list_given(
 }
 
 /// The words between spaces.
-pub fn read_words(alloc: Global, list: &[u8]) -> Result<Texts, AllocError>
+pub fn read_words(alloc: Global, list: &[u8]) -> Result<OctetsList, AllocError>
     ensures { IfOk result (λ words. words ≡ words_of list.now) }
 {
     let mut words = Vec::new(alloc);
@@ -108,7 +108,7 @@ pub fn read_words(alloc: Global, list: &[u8]) -> Result<Texts, AllocError>
         add_word(&mut words, alloc, word)?;
         rest = more;
     }
-    Ok(Texts::from_vec(words))
+    Ok(OctetsList::from_vec(words))
 }
 
 /// The channels between commas, each with the key at its place.

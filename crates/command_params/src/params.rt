@@ -2,8 +2,7 @@
 ghost use Rattle.std.specs.Prelude.{◌≡◌, IfOk};
 ghost use Rattle.command_params.specs.Params.{first_or_empty, first_or_none};
 
-use crate::Texts;
-use line_grammar::{LineMessage, LineParameters, Octets};
+use line_grammar::{LineMessage, LineParameters, Octets, OctetsList};
 use std::alloc::{AllocError, Global};
 
 /// The first parameter. Empty where there is none.
@@ -40,7 +39,7 @@ pub fn copied_first(
 }
 
 /// A copy of the parameters.
-pub fn copied(alloc: Global, params: &LineParameters<'_>) -> Result<Texts, AllocError>
+pub fn copied(alloc: Global, params: &LineParameters<'_>) -> Result<OctetsList, AllocError>
     ensures { IfOk result (λ texts. texts ≡ params.now) }
 {
     let mut texts = Vec::new(alloc);
@@ -49,5 +48,5 @@ pub fn copied(alloc: Global, params: &LineParameters<'_>) -> Result<Texts, Alloc
         texts.push(Octets::copied(alloc, param)?)?;
         rest = more.split_first();
     }
-    Ok(Texts::from_vec(texts))
+    Ok(OctetsList::from_vec(texts))
 }

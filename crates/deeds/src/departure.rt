@@ -3,7 +3,7 @@ ghost use Rattle.std.specs.Prelude.{◌≡◌, IfOk, OnOk};
 ghost use Rattle.roster.specs.LookBack.{after, opened};
 ghost use Rattle.roster.specs.Legal.{IsOpened, AreNext};
 ghost use Rattle.deeds.specs.Departure.{farewell, departs};
-ghost use Rattle.drafts.specs.Drafted.{grown};
+ghost use Rattle.drafts.specs.Words.{grown};
 ghost use Rattle.deeds.specs.Verdicts.{IsVerdict};
 
 use crate::verdict::{Verdict, verdict_of};

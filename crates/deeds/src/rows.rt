@@ -2,7 +2,7 @@
 ghost use Rattle.std.specs.Prelude.{◌≡◌, Some, None, option_copied, IfOk, OnOk};
 ghost use Rattle.roster.specs.LookBack.{after, opened};
 ghost use Rattle.roster.specs.Legal.{IsOpened, AreNext};
-ghost use Rattle.drafts.specs.Drafted.{grown};
+ghost use Rattle.drafts.specs.Words.{grown};
 ghost use Rattle.deeds.specs.Rows.{asked, fault_numeric, is_for_registered, is_silent, of_asked, of_command, refused, served, turned_away};
 ghost use Rattle.deeds.specs.Verdicts.{IsVerdict};
 

@@ -1,6 +1,6 @@
 //! What comes of a record's effects.
 ghost use Rattle.std.specs.Prelude.{◌≡◌, ◌==◌, ◌++◌, ◌∷◌, [], cond, IfOk, OnOk};
-ghost use Rattle.drafts.specs.Effects.{deeds_of, heard, replied, copied};
+ghost use Rattle.drafts.specs.Words.{copied, deeds_of, heard, replied};
 ghost use Rattle.deeds.specs.Verdicts.{shown, IsVerdict};
 
 use chronicle::SessionId;

@@ -7,3 +7,4 @@ pub mod Denials
 pub mod Seen
 pub mod Look
 pub mod Tells
+pub mod Words

@@ -6,8 +6,8 @@ ghost use Rattle.halld.specs.Headers.{setting_of, header_of, default_limits, wit
 
 use crate::number::number;
 use crate::split::split_at_space;
-use line_grammar::Octets;
-use registration::{AccountFault, Accounts, Motd};
+use line_grammar::{Octets, OctetsList};
+use registration::{AccountFault, Accounts};
 use std::alloc::{AllocError, Global};
 use std::marker::Model;
 
@@ -78,13 +78,13 @@ impl MotdLines {
     }
 
     /// The message, where it has a line.
-    pub(crate) fn copy(&self) -> Result<Option<Motd>, AllocError>
+    pub(crate) fn copy(&self) -> Result<Option<OctetsList>, AllocError>
         ensures { IfOk result (λ motd. motd ≡ motd_of self.now) }
     {
         if self.lines.is_empty() {
             return Ok(None);
         }
-        Ok(Some(Motd::from_vec(self.lines.clone()?)))
+        Ok(Some(OctetsList::from_vec(self.lines.clone()?)))
     }
 }
 

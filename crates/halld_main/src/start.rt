@@ -1,8 +1,8 @@
 //! Starting a server from its options.
 use chronicle::Moment;
 use crew::Clock;
-use line_grammar::Octets;
-use registration::{AccountFault, Accounts, Motd, Settings, is_well_set};
+use line_grammar::{Octets, OctetsList};
+use registration::{AccountFault, Accounts, Settings, is_well_set};
 use serving::{OpenGate, Options, ServeFault, SystemClock, listen, serve_with};
 use serving_options::{FileFault, ServeOptions, accounts_of, content_of, motd_of};
 use std::alloc::{AllocError, Global};
@@ -105,7 +105,7 @@ fn accounts<'a, R: Files + Alloc<A = Global>>(
 fn message_of_the_day<'a, R: Files + Alloc<A = Global>>(
     rt: &R,
     path: Option<&'a str>,
-) -> Result<Option<Motd>, Ended<'a>> {
+) -> Result<Option<OctetsList>, Ended<'a>> {
     let Some(path) = path else {
         return Ok(None);
     };
@@ -120,7 +120,7 @@ fn settings<'a, R: Ticks + Copy + Drop + Alloc<A = Global>>(
     rt: &R,
     name: &str,
     accounts: Accounts,
-    motd: Option<Motd>,
+    motd: Option<OctetsList>,
 ) -> Result<Settings, Ended<'a>> {
     let alloc = rt.alloc();
     Ok(Settings {

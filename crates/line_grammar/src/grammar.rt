@@ -8,7 +8,7 @@ ghost use Rattle.line_grammar.specs.Reading.{after_source, after_tags, begins_wi
 ghost use Rattle.line_grammar.specs.declared.grammar.LineFault.TheVariants.{Memory};
 
 use crate::words::{skip_spaces, split_word};
-use crate::{LineMessage, Octets, Parameters};
+use crate::{LineMessage, Octets, OctetsList};
 use std::alloc::{AllocError, Global};
 
 /// The most parameters of a message (RFC 2812, section 2.3).
@@ -130,7 +130,7 @@ fn all_digits(word: &[u8]) -> bool
 pub(crate) fn read_parameters(
     alloc: Global,
     octets: &[u8],
-) -> Result<(Parameters, bool), AllocError>
+) -> Result<(OctetsList, bool), AllocError>
     ensures { IfOk result (λ read. read ≡ parameters 14 octets.now) }
 {
     let mut found = Vec::new(alloc);
@@ -141,7 +141,7 @@ pub(crate) fn read_parameters(
         rest = skip_spaces(more);
     }
     let colon = push_last(&mut found, alloc, rest)?;
-    Ok((Parameters::from_vec(found), colon))
+    Ok((OctetsList::from_vec(found), colon))
 }
 
 /// Whether a parameter comes here that ends at a space, where it isn't the fifteenth.

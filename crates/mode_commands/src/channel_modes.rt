@@ -1,9 +1,7 @@
 //! MODE of a channel (RFC 2812, section 3.2.3).
 ghost use Rattle.std.specs.Prelude.{◌≡◌, ◌∷◌, ◌++◌, [], map, IfOk, OnOk};
 ghost use Rattle.numerics.specs.declared.numeric.Numeric.TheVariants.{BanList};
-ghost use Rattle.drafts.specs.Drafted.{grown};
-ghost use Rattle.drafts.specs.Replies.{tells, tells_all};
-ghost use Rattle.drafts.specs.Seen.{IsSeen};
+ghost use Rattle.drafts.specs.Words.{IsSeen, grown, tells, tells_all};
 ghost use Rattle.mode_commands.specs.ChannelModes.{asks_bans, ban_numerics, channel_modes, does, does_changes, in_turn, refusal_numeric, shows_changes, takes_changes, takes_steps, tells_modes};
 ghost use Rattle.mode_commands.specs.Steps.{IsMild, all_shown, shown_by, step, stepped, steps};
 
@@ -12,8 +10,8 @@ use crate::lines::{letters_set, mode_line, params_set};
 use crate::steps::{Refusal, Step, step_of};
 use chronicle::SessionId;
 use drafts::{Denial, Draft, Seen, deny, deny_absent, prefix_of, tell, tell_all};
-use line_grammar::Octets;
-use numerics::{Numeric, Words};
+use line_grammar::{Octets, OctetsList};
+use numerics::Numeric;
 use roster::Sessions;
 use std::alloc::{AllocError, Global};
 
@@ -26,7 +24,7 @@ fn tell_modes(draft: &mut Draft, session: SessionId, seen: &Seen) -> Result<(), 
     let is_member = seen.state().has(session);
     let modes = letters_set(draft.alloc(), seen.state().modes())?;
     let params = params_set(draft.alloc(), is_member, seen.state().modes())?;
-    let params = Words::from_vec(params);
+    let params = OctetsList::from_vec(params);
     let channel = seen.name().clone()?;
     tell(
         draft,
@@ -144,6 +142,47 @@ fn take_change(
     take_step(draft, session, seen, step, shown)
 }
 
+/// The last letter changes a channel, has no effect, or is refused. The channel that was seen stays as it was.
+fn end_step(
+    draft: &mut Draft,
+    session: SessionId,
+    seen: &Seen,
+    step: Step,
+    shown: &mut Vec<ModeChange>,
+) -> Result<(), AllocError>
+    requires seen { IsSeen draft.old.facts seen.now }
+    requires mild { IsMild seen.now.state step }
+    ensures grown { OnOk result (draft.new ≡ grown draft.old (does draft.old.settings session seen.now.name draft.old.facts step)) }
+    ensures shown { OnOk result (shown.new.items ≡ shown.old.items ++ shown_by step) }
+{
+    match step {
+        Step::Nothing => Ok(()),
+        Step::Refused { refusal } => refuse(draft, session, seen.name(), refusal),
+        Step::Changes { change, shown: new } => {
+            draft.establish_change(seen, change)?;
+            shown.push(new)?;
+            Ok(())
+        }
+    }
+}
+
+/// Takes the last letter, after which nobody looks at the channel: so it is looked at where it is kept, if it is the only one.
+#[tactic(auto, using(crate::proofs::Mild::step_mild))]
+fn take_last(
+    draft: &mut Draft,
+    session: SessionId,
+    seen: &Seen,
+    asked: &ModeChange,
+    shown: &mut Vec<ModeChange>,
+) -> Result<(), AllocError>
+    requires seen { IsSeen draft.old.facts seen.now }
+    ensures grown { OnOk result (draft.new ≡ grown draft.old (does draft.old.settings session seen.now.name draft.old.facts (step draft.old.base seen.now.state asked.now))) }
+    ensures shown { OnOk result (shown.new.items ≡ shown.old.items ++ shown_by (step draft.old.base seen.now.state asked.now)) }
+{
+    let step = step_of(draft.alloc(), draft.before(), seen.state(), asked)?;
+    end_step(draft, session, seen, step, shown)
+}
+
 /// Takes letters in turn.
 fn take_each(
     draft: &mut Draft,
@@ -156,10 +195,13 @@ fn take_each(
     ensures grown { OnOk result (draft.new ≡ grown draft.old (in_turn draft.old.settings session seen.old.name draft.old.facts (steps draft.old.base seen.old.state changes.now))) }
     ensures shown { OnOk result (shown.new.items ≡ shown.old.items ++ all_shown (steps draft.old.base seen.old.state changes.now)) }
 {
-    for change in changes {
+    let Some((last, others)) = changes.split_last() else {
+        return Ok(());
+    };
+    for change in others {
         take_change(draft, session, seen, change, shown)?;
     }
-    Ok(())
+    take_last(draft, session, seen, last, shown)
 }
 
 /// Shows members what changed, where something did.

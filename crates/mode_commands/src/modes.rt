@@ -2,17 +2,16 @@
 ghost use Rattle.std.specs.Prelude.{◌≡◌, OnOk};
 ghost use Rattle.roster.specs.LookBack.{found};
 ghost use Rattle.roster.specs.Legal.{IsOpened};
-ghost use Rattle.drafts.specs.Drafted.{grown};
-ghost use Rattle.drafts.specs.Seen.{seen};
+ghost use Rattle.drafts.specs.Words.{grown, seen};
 ghost use Rattle.command_params.specs.Params.{IsRead, IsReadByName};
 ghost use Rattle.mode_commands.specs.Modes.{EachModeIsNamed, NoModeIsMisnamed, mode_command, mode_of, modes, names_channel, of_channel, of_user, serves_mode};
 
 use crate::channel_modes::channel_modes;
 use crate::user_modes::own_modes;
 use chronicle::SessionId;
-use command_params::{ReadFault, Texts, copied, is_named, needs_more};
+use command_params::{ReadFault, copied, is_named, needs_more};
 use drafts::{Denial, Draft, deny, tell};
-use line_grammar::{LineParameters, Octets};
+use line_grammar::{LineParameters, Octets, OctetsList};
 use numerics::Numeric;
 use std::alloc::{AllocError, Global};
 
@@ -21,7 +20,7 @@ use std::alloc::{AllocError, Global};
 pub struct ModeCommand {
     pub target: Octets,
     /// The parameters after the target.
-    pub changes: Texts,
+    pub changes: OctetsList,
 }
 
 fn read_params(alloc: Global, params: &LineParameters<'_>) -> Result<ModeCommand, ReadFault>

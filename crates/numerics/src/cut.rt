@@ -4,8 +4,7 @@ ghost use Rattle.std.specs.List.{All, flat_map};
 ghost use Rattle.numerics.specs.Numerics.{spaced};
 ghost use Rattle.numerics.specs.Cut.{AreFull, IsWithin, cut, filled, most_tokens, takes};
 
-use crate::Words;
-use line_grammar::Octets;
+use line_grammar::{Octets, OctetsList};
 use std::alloc::{AllocError, Global};
 use std::marker::Model;
 use std::mem;
@@ -17,7 +16,11 @@ const MAX_TOKENS: usize = 13;
 /// Cuts names into as few lines as their order allows, where names that stand in one line have `room` octets,
 /// with a space between each two. Each line is filled before the next is begun. No names make no line. A name
 /// that is longer than `room` stands in a line by itself.
-pub fn split_names(alloc: Global, names: Vec<Octets>, room: usize) -> Result<Vec<Words>, AllocError>
+pub fn split_names(
+    alloc: Global,
+    names: Vec<Octets>,
+    room: usize,
+) -> Result<Vec<OctetsList>, AllocError>
     ensures lines { IfOk result (λ lines. lines.items ≡ cut room (length names.items) names.items) }
     ensures joined { IfOk result (λ lines. flat_map (λ line. line) lines.items ≡ names.items) }
     ensures fit { All (λ name. length name ≤ room) names.items → IfOk result (λ lines. All (IsWithin room (length names.items)) lines.items) }
@@ -32,7 +35,7 @@ pub fn split_tokens(
     alloc: Global,
     tokens: Vec<Octets>,
     room: usize,
-) -> Result<Vec<Words>, AllocError>
+) -> Result<Vec<OctetsList>, AllocError>
     requires { All (λ token. length token ≤ room) tokens.items }
     ensures lines { IfOk result (λ lines. lines.items ≡ cut room most_tokens tokens.items) }
     ensures joined { IfOk result (λ lines. flat_map (λ line. line) lines.items ≡ tokens.items) }
@@ -90,10 +93,10 @@ impl Line {
         Ok(())
     }
 
-    fn into_words(self) -> Words
+    fn into_words(self) -> OctetsList
         ensures { result ≡ self }
     {
-        Words::from_vec(self.words)
+        OctetsList::from_vec(self.words)
     }
 }
 
@@ -103,7 +106,7 @@ fn cut(
     words: Vec<Octets>,
     room: usize,
     most: usize,
-) -> Result<Vec<Words>, AllocError>
+) -> Result<Vec<OctetsList>, AllocError>
     ensures { IfOk result (λ lines. lines.items ≡ cut room most words.items) }
 {
     let mut lines = Vec::new(alloc);

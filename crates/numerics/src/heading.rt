@@ -7,9 +7,9 @@ ghost use Rattle.numerics.specs.Trailing.{trailing};
 use crate::line::any_line;
 use crate::pushing::{length_of, push_start, push_word};
 use crate::texts::{decimal, push_joined, push_spaced};
-use crate::{Line, Numeric, Out, Prefix, Who, Words};
+use crate::{Line, Numeric, Out, Prefix, Who};
 use ghosts::{Change, Snapshot, apply};
-use line_grammar::{Octets, needs_colon};
+use line_grammar::{Octets, OctetsList, needs_colon};
 use std::alloc::{AllocError, Global};
 
 /// Whom a line comes from and whom it goes to.
@@ -143,7 +143,7 @@ impl Heading<'_, '_> {
     }
 
     /// The line that tells what the server supports.
-    pub(crate) fn isupport(&self, tokens: &Words) -> Result<Line, AllocError>
+    pub(crate) fn isupport(&self, tokens: &OctetsList) -> Result<Line, AllocError>
         ensures { IfOk result (λ o. o ≡ row_line self.now.server.now self.now.to.now (row self.now.server.now (Numeric.ISupport tokens.now))) }
     {
         let text: &[u8] = b"are supported by this server";
@@ -168,7 +168,11 @@ impl Heading<'_, '_> {
     }
 
     /// The line that tells channels that a user is on.
-    pub(crate) fn whois_channels(&self, nick: &Octets, channels: &Words) -> Result<Line, AllocError>
+    pub(crate) fn whois_channels(
+        &self,
+        nick: &Octets,
+        channels: &OctetsList,
+    ) -> Result<Line, AllocError>
         ensures { IfOk result (λ o. o ≡ row_line self.now.server.now self.now.to.now (row self.now.server.now (Numeric.WhoisChannels nick.now channels.now))) }
     {
         self.naming(b"319", &[nick.as_slice()], channels.as_slice())
@@ -179,7 +183,7 @@ impl Heading<'_, '_> {
         &self,
         channel: &Octets,
         modes: &Octets,
-        params: &Words,
+        params: &OctetsList,
     ) -> Result<Line, AllocError>
         ensures { IfOk result (λ o. o ≡ row_line self.now.server.now self.now.to.now (row self.now.server.now (Numeric.ChannelModeIs channel.now modes.now params.now))) }
     {
@@ -291,7 +295,7 @@ impl Heading<'_, '_> {
         &self,
         secret: bool,
         channel: &Octets,
-        names: &Words,
+        names: &OctetsList,
     ) -> Result<Line, AllocError>
         ensures { IfOk result (λ o. o ≡ row_line self.now.server.now self.now.to.now (row self.now.server.now (Numeric.NamReply secret channel.now names.now))) }
     {

@@ -14,7 +14,6 @@ mod pushing;
 mod rows;
 mod support;
 mod texts;
-mod words;
 
 pub use civil_time::{TimeFault, time_text};
 pub use cut::{split_names, split_tokens};
@@ -25,4 +24,3 @@ pub use outgoing::{Out, copied_all};
 pub use prefix::{Prefix, prefixed};
 pub use support::tokens;
 pub use texts::spaced;
-pub use words::Words;

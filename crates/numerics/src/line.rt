@@ -5,7 +5,7 @@ ghost use Rattle.numerics.specs.Outgoing.{line, nameless, octets, room, spelled}
 use crate::Out;
 use crate::pushing::{length_of, push_params, push_start, push_text, push_word, push_words};
 use ghosts::{Change, Snapshot, apply, copied};
-use line_grammar::{Octets, Parameters};
+use line_grammar::{Octets, OctetsList};
 use std::alloc::{AllocError, Global};
 use std::marker::Model;
 
@@ -101,7 +101,7 @@ pub(crate) fn any_line(alloc: Global) -> Snapshot<Out> {
         tags: Octets::from_vec(Vec::new(alloc)),
         source: None,
         command: Octets::from_vec(Vec::new(alloc)),
-        params: Parameters::from_vec(Vec::new(alloc)),
+        params: OctetsList::from_vec(Vec::new(alloc)),
         colon: false,
     };
     Snapshot::of(&out)

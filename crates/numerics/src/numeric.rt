@@ -1,6 +1,6 @@
 //! The numerics (RFC 2812, section 5; IRCv3).
-use crate::{Prefix, Words};
-use line_grammar::Octets;
+use crate::Prefix;
+use line_grammar::{Octets, OctetsList};
 
 /// A member of a channel.
 #[derive(Drop)]
@@ -31,7 +31,7 @@ pub enum Numeric {
     /// 004. The version, with the modes of users and channels that the server knows.
     MyInfo(Octets),
     /// 005. What the server supports: RPL_ISUPPORT, in no RFC. See [`tokens`](crate::tokens).
-    ISupport(Words),
+    ISupport(OctetsList),
     /// 221. The receiver's user modes.
     UModeIs(Octets),
     /// 301. Who is away, and why.
@@ -62,7 +62,7 @@ pub enum Numeric {
     /// 319. Some of the channels that a user is on.
     WhoisChannels {
         nick: Octets,
-        channels: Words,
+        channels: OctetsList,
     },
     /// 322. A channel, how many are on it, and its topic.
     ListReply {
@@ -76,7 +76,7 @@ pub enum Numeric {
     ChannelModeIs {
         channel: Octets,
         modes: Octets,
-        params: Words,
+        params: OctetsList,
     },
     /// 331. A channel without a topic.
     NoTopic(Octets),
@@ -96,7 +96,7 @@ pub enum Numeric {
     NamReply {
         secret: bool,
         channel: Octets,
-        names: Words,
+        names: OctetsList,
     },
     /// 366. The channel whose members were told.
     EndOfNames(Octets),

@@ -1,7 +1,7 @@
 //! Outgoing lines (RFC 2812, section 2.3).
 ghost use Rattle.std.specs.Prelude.{◌≡◌, map, IfOk};
 
-use line_grammar::{Octets, Parameters};
+use line_grammar::{Octets, OctetsList};
 use std::alloc::{AllocError, Global};
 
 /// An outgoing line before its server's tags, in its parts, as clauses see a [`Line`](crate::Line).
@@ -14,7 +14,7 @@ pub struct Out {
     /// A command's name, or a numeric's three digits.
     pub command: Octets,
     /// The parameters, in order.
-    pub params: Parameters,
+    pub params: OctetsList,
     /// Whether the last parameter is spelled with a colon.
     pub colon: bool,
 }

@@ -2,3 +2,4 @@ pub mod Named
 pub mod Lists
 pub mod Listed
 pub mod Examples
+pub mod Members

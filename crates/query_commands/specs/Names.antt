@@ -43,9 +43,17 @@ names_room g fs s k = room (numeric g.server (title (nick fs s)) (NamReply k.sta
 abbrev pub name_lines : Seen → ℕ → List (List ℕ) → List Numeric
 name_lines k octets names = map (NamReply k.state.modes.secret k.name) (cut octets (length names) names)
 
+-- these names, and that they are all
+abbrev pub all_told : Settings → List Deed → ℕ → Seen → List (List ℕ) → List Numeric
+all_told g fs s k names = name_lines k (names_room g fs s k) names ++ EndOfNames k.name ∷ []
+
 -- who is on it
 abbrev pub names_told : Settings → List Deed → ℕ → Seen → List Numeric
-names_told g fs s k = name_lines k (names_room g fs s k) (member_names fs s k.state) ++ EndOfNames k.name ∷ []
+names_told g fs s k = all_told g fs s k (member_names fs s k.state)
+
+-- a channel, with these members in the place of its own
+abbrev pub with_members : List ℕ → State → List ℕ → Seen
+with_members name k members = record { name = name; state = record k { members = members } }
 
 -- nothing tells a channel that isn't seen from one that isn't there
 abbrev pub names_seen : Settings → List Deed → ℕ → List ℕ → Option Seen → List Numeric

@@ -10,9 +10,9 @@ use crate::Query;
 use crate::visible::sees;
 use channel_state::ChannelState;
 use chronicle::SessionId;
-use command_params::{ReadFault, Texts, read_list_given};
+use command_params::{ReadFault, read_list_given};
 use drafts::Draft;
-use line_grammar::{LineParameters, Octets};
+use line_grammar::{LineParameters, Octets, OctetsList};
 use numerics::Numeric;
 use roster::Roster;
 use std::alloc::{AllocError, Global};
@@ -128,7 +128,7 @@ fn push_all(
 pub(crate) fn answer(
     draft: &Draft<'_>,
     session: SessionId,
-    channels: &Option<Texts>,
+    channels: &Option<OctetsList>,
 ) -> Result<Vec<Numeric>, AllocError>
     ensures { IfOk result (λ v. v.items ≡ lists_told draft.now.base session (channels_asked draft.now.base channels.now)) }
 {

@@ -8,9 +8,8 @@ use crate::Query;
 use casemapping::is_same;
 use command_params::{ReadFault, copied_first};
 use drafts::Draft;
-use line_grammar::{LineParameters, Octets};
+use line_grammar::{LineParameters, Octets, OctetsList};
 use numerics::Numeric;
-use registration::Motd;
 use std::alloc::{AllocError, Global};
 
 /// What MOTD asks for.
@@ -32,7 +31,7 @@ fn push_motd_lines(numerics: &mut Vec<Numeric>, lines: &[Octets]) -> Result<(), 
 }
 
 /// Adds the message of the day.
-pub fn push_motd(numerics: &mut Vec<Numeric>, motd: &Option<Motd>) -> Result<(), AllocError>
+pub fn push_motd(numerics: &mut Vec<Numeric>, motd: &Option<OctetsList>) -> Result<(), AllocError>
     ensures { OnOk result (numerics.new.items ≡ numerics.old.items ++ motd_numerics motd.now) }
 {
     match motd {

@@ -1,20 +1,21 @@
 //! NAMES, and who is on a channel as JOIN tells it (RFC 2812, section 3.2.5).
-ghost use Rattle.std.specs.Prelude.{◌≡◌, ◌++◌, map, IfOk, OnOk};
+ghost use Rattle.std.specs.Prelude.{◌≡◌, ◌++◌, true, map, IfOk, OnOk};
 ghost use Rattle.std.specs.List.{flat_map};
 ghost use Rattle.numerics.specs.declared.numeric.Numeric.TheVariants.{NamReply};
 ghost use Rattle.numerics.specs.Numerics.{numeric as numeric_line};
 ghost use Rattle.numerics.specs.Outgoing.{room};
+ghost use Rattle.channel_state.specs.State.{among};
 ghost use Rattle.command_params.specs.Params.{IsRead};
-ghost use Rattle.query_commands.specs.Names.{rank_of, member_name, member_names, names_room, name_lines, names_told, names_of, names_asked, names_query};
+ghost use Rattle.query_commands.specs.Names.{rank_of, member_name, member_names, names_room, name_lines, all_told, names_told, with_members, names_of, names_asked, names_query};
 
 use crate::Query;
 use crate::visible::{Listed, channel_for, members_for};
 use channel_state::ChannelState;
 use chronicle::SessionId;
-use command_params::{ReadFault, Texts, read_list_given};
+use command_params::{ReadFault, read_list_given};
 use drafts::{Draft, title_of};
-use line_grammar::{LineParameters, Octets};
-use numerics::{Numeric, Prefix, Words, prefixed, split_names};
+use line_grammar::{LineParameters, Octets, OctetsList};
+use numerics::{Numeric, Prefix, prefixed, split_names};
 use roster::Roster;
 use std::alloc::{AllocError, Global};
 
@@ -110,7 +111,7 @@ fn names_room(
     let server = draft.before().settings().server.as_slice();
     let secret = listed.state.modes().secret;
     let channel = listed.name.clone()?;
-    let names = Words::from_vec(Vec::new(alloc));
+    let names = OctetsList::from_vec(Vec::new(alloc));
     let numeric = Numeric::NamReply {
         secret,
         channel,
@@ -124,7 +125,7 @@ fn push_lines(
     numerics: &mut Vec<Numeric>,
     secret: bool,
     channel: &Octets,
-    lines: Vec<Words>,
+    lines: Vec<OctetsList>,
 ) -> Result<(), AllocError>
     ensures { OnOk result (numerics.new.items ≡ numerics.old.items ++ map (NamReply secret channel.now) lines.items) }
 {
@@ -153,6 +154,23 @@ fn push_names(
     push_lines(numerics, listed.state.modes().secret, listed.name, lines)
 }
 
+/// Adds the names of members of a channel, and that they are all.
+fn push_all(
+    draft: &Draft<'_>,
+    numerics: &mut Vec<Numeric>,
+    session: SessionId,
+    listed: &Listed<'_>,
+    names: Vec<Octets>,
+) -> Result<(), AllocError>
+    ensures { OnOk result (numerics.new.items ≡ numerics.old.items ++ all_told draft.now.settings draft.now.base session listed.now names.items) }
+{
+    let room = names_room(draft, session, listed)?;
+    push_names(draft.alloc(), numerics, listed, names, room)?;
+    let channel = listed.name.clone()?;
+    numerics.push(Numeric::EndOfNames(channel))?;
+    Ok(())
+}
+
 /// Adds who is on a channel that a session sees.
 fn push_listed(
     draft: &Draft<'_>,
@@ -162,25 +180,26 @@ fn push_listed(
 ) -> Result<(), AllocError>
     ensures { OnOk result (numerics.new.items ≡ numerics.old.items ++ names_told draft.now.settings draft.now.base session listed.now) }
 {
-    let room = names_room(draft, session, listed)?;
     let names = member_names(draft.alloc(), draft.before(), session, listed.state)?;
-    push_names(draft.alloc(), numerics, listed, names, room)?;
-    let channel = listed.name.clone()?;
-    numerics.push(Numeric::EndOfNames(channel))?;
-    Ok(())
+    push_all(draft, numerics, session, listed, names)
 }
 
-/// Adds who is on a channel, as a session is told: 353 in as few lines as fit, and 366. Nicknames are those before the record.
+/// Adds who is on a channel, as a session that is one of them is told: 353 in as few lines as fit, and 366. The channel is this
+/// one but for its members. Nicknames are those before the record.
+#[tactic(auto, using(crate::proofs::Members::told_to_member))]
 pub fn push_members(
     draft: &Draft<'_>,
     numerics: &mut Vec<Numeric>,
     session: SessionId,
     name: &Octets,
     state: &ChannelState,
+    members: &[SessionId],
 ) -> Result<(), AllocError>
-    ensures { OnOk result (numerics.new.items ≡ numerics.old.items ++ names_told draft.now.settings draft.now.base session (record { name = name.now; state = state.now.state })) }
+    requires { among session members.now ≡ true }
+    ensures { OnOk result (numerics.new.items ≡ numerics.old.items ++ names_told draft.now.settings draft.now.base session (with_members name.now state.now.state members.now)) }
 {
-    push_listed(draft, numerics, session, &Listed { name, state })
+    let names = names_in_order(draft.alloc(), draft.before(), state, members)?;
+    push_all(draft, numerics, session, &Listed { name, state }, names)
 }
 
 /// Adds what a session is told of one name.
@@ -221,7 +240,7 @@ fn push_channels(
 pub(crate) fn answer(
     draft: &Draft<'_>,
     session: SessionId,
-    channels: &Option<Texts>,
+    channels: &Option<OctetsList>,
 ) -> Result<Vec<Numeric>, AllocError>
     ensures { IfOk result (λ v. v.items ≡ names_asked draft.now.settings draft.now.base session channels.now) }
 {

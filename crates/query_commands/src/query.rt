@@ -1,14 +1,14 @@
 //! The commands that only ask: how each is named and read, and what each is told.
 ghost use Rattle.std.specs.Prelude.{◌≡◌, IfOk, OnOk};
-ghost use Rattle.drafts.specs.Drafted.{grown};
+ghost use Rattle.drafts.specs.Words.{grown};
 ghost use Rattle.command_params.specs.Params.{IsReadByName};
 ghost use Rattle.query_commands.specs.Query.{EachQueryIsNamed, NoQueryIsMisnamed, queries, query_of, told};
 
 use crate::{listing, motd, names, who, whois};
 use chronicle::SessionId;
-use command_params::{ReadFault, Texts, is_named};
+use command_params::{ReadFault, is_named};
 use drafts::{Draft, tell_all};
-use line_grammar::{LineParameters, Octets};
+use line_grammar::{LineParameters, Octets, OctetsList};
 use numerics::Numeric;
 use std::alloc::{AllocError, Global};
 
@@ -17,9 +17,9 @@ use std::alloc::{AllocError, Global};
 #[derive(Drop)]
 pub enum Query {
     /// Who is on channels (RFC 2812, section 3.2.5).
-    Names { channels: Option<Texts> },
+    Names { channels: Option<OctetsList> },
     /// Which channels there are (section 3.2.6).
-    List { channels: Option<Texts> },
+    List { channels: Option<OctetsList> },
     /// Who is on a channel (section 3.6.1).
     Who { name: Option<Octets> },
     /// Who has a nickname, which isn't empty (section 3.6.2).

@@ -3,7 +3,7 @@ ghost use Rattle.std.specs.Prelude.{◌≡◌, ◌∷◌, ◌++◌, [], map, opt
 ghost use Rattle.std.specs.List.{flat_map};
 ghost use Rattle.numerics.specs.declared.numeric.Numeric.TheVariants.{EndOfWhois, NoSuchNick, WhoisChannels, WhoisServer};
 ghost use Rattle.roster.specs.LookBack.{nick};
-ghost use Rattle.drafts.specs.Lines.{title};
+ghost use Rattle.drafts.specs.Words.{title};
 ghost use Rattle.command_params.specs.Params.{IsRead};
 ghost use Rattle.query_commands.specs.Visible.{channel_for};
 ghost use Rattle.query_commands.specs.Whois.{away_told, channel_titles, channels_room, channels_told, nick_asked, title_seen, user_line, user_told, whois_asked, whois_query};
@@ -15,8 +15,8 @@ use crate::who::real_of;
 use chronicle::SessionId;
 use command_params::ReadFault;
 use drafts::{Draft, title_of};
-use line_grammar::{LineParameters, Octets};
-use numerics::{Numeric, Words, prefixed, split_names};
+use line_grammar::{LineParameters, Octets, OctetsList};
+use numerics::{Numeric, prefixed, split_names};
 use roster::Roster;
 use std::alloc::{AllocError, Global};
 
@@ -103,7 +103,7 @@ fn channels_room(draft: &Draft<'_>, session: SessionId, nick: &Octets) -> Result
     let to = title_of(alloc, draft.before().nick_of(session))?;
     let server = draft.before().settings().server.as_slice();
     let nick = nick.clone()?;
-    let channels = Words::from_vec(Vec::new(alloc));
+    let channels = OctetsList::from_vec(Vec::new(alloc));
     let numeric = Numeric::WhoisChannels { nick, channels };
     room_of(alloc, server, to.as_slice(), &numeric)
 }
@@ -112,7 +112,7 @@ fn channels_room(draft: &Draft<'_>, session: SessionId, nick: &Octets) -> Result
 fn push_lines(
     numerics: &mut Vec<Numeric>,
     nick: &Octets,
-    lines: Vec<Words>,
+    lines: Vec<OctetsList>,
 ) -> Result<(), AllocError>
     ensures { OnOk result (numerics.new.items ≡ numerics.old.items ++ map (WhoisChannels nick.now) lines.items) }
 {

@@ -13,4 +13,4 @@ pub use accounts::{Account, AccountFault, Accounts};
 pub use caps::{Cap, Caps, each_cap_is_known, requested};
 pub use enrol::{CapAnswer, Enrol, NickAnswer, SaslAnswer, UserAnswer};
 pub use sasl::{Credentials, plain};
-pub use settings::{MAX_SESSIONS, Motd, Settings, is_well_set};
+pub use settings::{MAX_SESSIONS, Settings, is_well_set};

@@ -1,13 +1,13 @@
 //! What a server is told when it starts.
 ghost use Rattle.std.specs.Prelude.{◌≡◌, ◌↔◌, [], length, IsTrue};
 ghost use Rattle.std.specs.List.{list_all};
-ghost use Rattle.line_grammar.specs.Spelling.{is_text_octet, needs_colon};
+ghost use Rattle.line_grammar.specs.Spelling.{is_text_octet};
 ghost use Rattle.registration.specs.Settings.{IsWellSet, is_motd, is_text, is_version};
 
 use crate::Accounts;
 use casemapping::is_host;
 use chronicle::Moment;
-use line_grammar::Octets;
+use line_grammar::{Octets, OctetsList, needs_colon};
 use std::alloc::AllocError;
 use std::marker::Model;
 
@@ -21,46 +21,6 @@ const VERSIONLEN: usize = 30;
 
 const MOTDLEN: usize = 400;
 
-/// The lines of the message of the day (RFC 2812, section 3.4.1).
-#[derive(Drop)]
-pub struct Motd {
-    lines: Vec<Octets>,
-}
-
-impl Model for Motd {
-    ghost use Rattle.std.specs.Prelude.{ℕ, List};
-
-    ghost Value = { List (List ℕ) };
-
-    ghost view = { λ a. a.lines.items };
-}
-
-impl Motd {
-    /// The lines of a vector.
-    pub fn from_vec(lines: Vec<Octets>) -> Motd
-        ensures { result ≡ lines.items }
-    {
-        Motd { lines }
-    }
-
-    /// The lines as a slice.
-    pub fn as_slice(&self) -> &[Octets]
-        ensures { result.now ≡ self.now }
-    {
-        &self.lines
-    }
-}
-
-impl Clone for Motd {
-    ghost is_clone = { λ a b. b ≡ a };
-
-    fn clone(&self) -> Result<Motd, AllocError> {
-        Ok(Motd {
-            lines: self.lines.clone()?,
-        })
-    }
-}
-
 /// What a server is told when it starts. No text may hold NUL, CR or LF.
 #[derive(Clone, Drop)]
 pub struct Settings {
@@ -73,7 +33,7 @@ pub struct Settings {
     /// When the server was created: from 1970 to the end of the year 9998.
     pub created: Moment,
     /// The message of the day, whose lines have at most 400 octets. `None` where there is none.
-    pub motd: Option<Motd>,
+    pub motd: Option<OctetsList>,
     /// The accounts by which users log in.
     pub accounts: Accounts,
     /// How many sessions may be there at a time, 1 to 1,024.
@@ -98,20 +58,13 @@ fn is_text(text: &[u8], most: usize) -> bool
     text.len() <= most && are_text_octets(text)
 }
 
-/// Whether a text can only be spelled after a colon.
-fn needs_colon(text: &[u8]) -> bool
-    ensures { result ≡ needs_colon text.now }
-{
-    matches!(text, [] | [b':', ..]) || text.contains(&b' ')
-}
-
 fn is_version(version: &[u8]) -> bool
     ensures { result ≡ is_version version.now }
 {
     !needs_colon(version) && is_text(version, VERSIONLEN)
 }
 
-fn is_motd(motd: &Option<Motd>) -> bool
+fn is_motd(motd: &Option<OctetsList>) -> bool
     ensures { result ≡ is_motd motd.now }
 {
     match motd {

@@ -6,8 +6,8 @@ ghost use Rattle.registration.specs.declared.accounts.AccountFault.{AccountFault
 ghost use Rattle.serving_options.specs.declared.files.FileFault.TheVariants.{Account, Memory};
 ghost use Rattle.serving_options.specs.Files.{body_of, motd_in};
 
-use line_grammar::Octets;
-use registration::{AccountFault, Accounts, Motd};
+use line_grammar::{Octets, OctetsList};
+use registration::{AccountFault, Accounts};
 use std::alloc::{AllocError, Global};
 use std::fs;
 use std::fs::Files;
@@ -63,14 +63,14 @@ fn copies(alloc: Global, texts: &[&[u8]]) -> Result<Vec<Octets>, AllocError>
 }
 
 /// The lines of a file of the message of the day. Line feeds part them, and an empty last one counts for nothing.
-pub fn motd_of(alloc: Global, file: &[u8]) -> Result<Motd, AllocError>
+pub fn motd_of(alloc: Global, file: &[u8]) -> Result<OctetsList, AllocError>
     ensures { IfOk result (λ motd. motd ≡ motd_in file.now) }
 {
     if file.is_empty() {
-        return Ok(Motd::from_vec(Vec::new(alloc)));
+        return Ok(OctetsList::from_vec(Vec::new(alloc)));
     }
     let lines = lines_of(alloc, body_of(file))?;
-    Ok(Motd::from_vec(copies(alloc, &lines)?))
+    Ok(OctetsList::from_vec(copies(alloc, &lines)?))
 }
 
 /// The accounts of a file.

@@ -2,9 +2,7 @@
 ghost use Rattle.std.specs.Prelude.{◌≡◌, ◌∷◌, [], OnOk};
 ghost use Rattle.roster.specs.LookBack.{exchange};
 ghost use Rattle.roster.specs.Legal.{IsFree, IsOpened};
-ghost use Rattle.drafts.specs.Drafted.{grown};
-ghost use Rattle.drafts.specs.Lines.{prefix};
-ghost use Rattle.drafts.specs.Replies.{tells_all};
+ghost use Rattle.drafts.specs.Words.{grown, prefix, tells_all};
 ghost use Rattle.session_commands.specs.Welcome.{welcome_numerics};
 ghost use Rattle.session_commands.specs.Registration.{is_held, shows_nick, renames, takes_nick, introduces, passes, quits, aborts, enrolls, registers, completed};
 

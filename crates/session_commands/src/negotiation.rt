@@ -7,8 +7,7 @@ ghost use Rattle.roster.specs.LookBack.{caps, enrol};
 ghost use Rattle.roster.specs.Legal.{IsOpened};
 ghost use Rattle.roster.specs.declared.deed.Deed.TheVariants.{HoldSet};
 ghost use Rattle.drafts.specs.declared.effect.Effect.TheVariants.{Establish};
-ghost use Rattle.drafts.specs.Drafted.{grown};
-ghost use Rattle.drafts.specs.Replies.{tells};
+ghost use Rattle.drafts.specs.Words.{grown, tells};
 ghost use Rattle.session_commands.specs.Negotiation.{cap_text, cap_list, lists, requested, negotiates, closes, sasl_answered, authenticates};
 
 use crate::session::CapSubcommand;

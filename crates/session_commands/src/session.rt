@@ -4,8 +4,7 @@ ghost use Rattle.std.specs.Prelude.{◌≡◌, ◌∷◌, ◌≤◌, [], ℕ, Li
 ghost use Rattle.std.specs.List.{list_any};
 ghost use Rattle.roster.specs.Legal.{IsOpened};
 ghost use Rattle.drafts.specs.declared.effect.Effect.TheVariants.{Answer};
-ghost use Rattle.drafts.specs.Drafted.{grown};
-ghost use Rattle.drafts.specs.Lines.{pong_line};
+ghost use Rattle.drafts.specs.Words.{grown, pong_line};
 ghost use Rattle.line_grammar.specs.Parts.{is_present};
 ghost use Rattle.command_params.specs.Params.{IsRead};
 ghost use Rattle.session_commands.specs.Session.{EachSessionIsNamed, NoSessionIsMisnamed, session_named, session_of, session_text, cap_req, cap_subcommand, cap_command, authenticate_command, pass_command, pong_command, nick_command, is_user_octet, user_name, user_command, ping_command, quit_command, serves_session, shows_values, told};
@@ -13,9 +12,9 @@ ghost use Rattle.session_commands.specs.Session.{EachSessionIsNamed, NoSessionIs
 use crate::enrolling::{introduce, pass, quit, take_nick};
 use crate::negotiation::{authenticate, negotiate};
 use chronicle::SessionId;
-use command_params::{ReadFault, Texts, first, into_first, is_named, needs_more, read_words};
+use command_params::{ReadFault, first, into_first, is_named, needs_more, read_words};
 use drafts::{Draft, pong_line};
-use line_grammar::{LineMessage, LineParameters, Octets};
+use line_grammar::{LineMessage, LineParameters, Octets, OctetsList};
 use std::alloc::{AllocError, Global};
 
 /// What CAP asks for (IRCv3 Capability Negotiation).
@@ -26,7 +25,7 @@ pub enum CapSubcommand {
     /// The capabilities that are on.
     List,
     /// To turn capabilities on, or off those after `-`. The words are as given.
-    Req { words: Texts },
+    Req { words: OctetsList },
     /// To end the negotiation.
     End,
 }

@@ -5,8 +5,8 @@ ghost use Rattle.numerics.specs.CivilTime.{time_text};
 ghost use Rattle.registration.specs.Settings.{IsWellSet};
 ghost use Rattle.session_commands.specs.Welcome.{support_numerics, welcome_numerics};
 
-use line_grammar::Octets;
-use numerics::{Numeric, TimeFault, Words, split_tokens, time_text, tokens};
+use line_grammar::{Octets, OctetsList};
+use numerics::{Numeric, TimeFault, split_tokens, time_text, tokens};
 use query_commands::push_motd;
 use registration::Settings;
 use std::alloc::{AllocError, Global};
@@ -15,7 +15,7 @@ use std::alloc::{AllocError, Global};
 const SUPPORT_ROOM: usize = 370;
 
 /// Adds a numeric for each line of tokens.
-fn push_lines(numerics: &mut Vec<Numeric>, lines: Vec<Words>) -> Result<(), AllocError>
+fn push_lines(numerics: &mut Vec<Numeric>, lines: Vec<OctetsList>) -> Result<(), AllocError>
     ensures { OnOk result (numerics.new.items ≡ numerics.old.items ++ map ISupport lines.items) }
 {
     for words in lines {

@@ -3,10 +3,7 @@ ghost use Rattle.std.specs.Prelude.{◌≡◌, ◌∷◌, [], option_copied, IfO
 ghost use Rattle.roster.specs.declared.deed.Deed.TheVariants.{AwaySet};
 ghost use Rattle.roster.specs.Legal.{IsOpened};
 ghost use Rattle.drafts.specs.declared.effect.Effect.TheVariants.{Establish};
-ghost use Rattle.drafts.specs.Drafted.{grown};
-ghost use Rattle.drafts.specs.Hearers.{shown};
-ghost use Rattle.drafts.specs.Lines.{away_line, prefix};
-ghost use Rattle.drafts.specs.Replies.{tells};
+ghost use Rattle.drafts.specs.Words.{away_line, grown, prefix, shown, tells};
 ghost use Rattle.talk_commands.specs.Away.{away_answer, goes_as, goes_away, is_same_text, kept, notified};
 
 use chronicle::SessionId;

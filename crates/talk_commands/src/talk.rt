@@ -1,15 +1,15 @@
 //! The commands that send texts: how each is named and read, and what it does (RFC 2812, sections 3.3.1, 3.3.2 and 4.1; IRCv3 message-tags).
 ghost use Rattle.std.specs.Prelude.{◌≡◌, IfOk, OnOk};
 ghost use Rattle.roster.specs.Legal.{IsOpened};
-ghost use Rattle.drafts.specs.Drafted.{grown};
+ghost use Rattle.drafts.specs.Words.{grown};
 ghost use Rattle.command_params.specs.Params.{IsRead, IsReadByName};
 ghost use Rattle.talk_commands.specs.Talk.{EachTalkIsNamed, NoTalkIsMisnamed, is_unanswered, serves_talk, talk_of, privmsg_command, notice_command, tagmsg_command, away_command, relayed, second_or_empty};
 
 use crate::{Sending, Verb, go_away, send};
 use chronicle::SessionId;
-use command_params::{CommandName, ReadFault, Texts, first, is_named, read_names};
+use command_params::{CommandName, ReadFault, first, is_named, read_names};
 use drafts::Draft;
-use line_grammar::{LineParameters, Octets};
+use line_grammar::{LineParameters, Octets, OctetsList};
 use message_tags::{client_only, tags_of};
 use std::alloc::{AllocError, Global};
 
@@ -19,20 +19,20 @@ use std::alloc::{AllocError, Global};
 pub enum TalkCommand {
     /// A text, which isn't empty, for users and channels (section 3.3.1).
     Privmsg {
-        targets: Texts,
+        targets: OctetsList,
         text: Octets,
         tags: Octets,
     },
     /// The same, never answered with a numeric. For nobody, where the targets or the text were missing or
     /// empty (section 3.3.2).
     Notice {
-        targets: Texts,
+        targets: OctetsList,
         text: Octets,
         tags: Octets,
     },
     /// Tags alone, for users and channels (IRCv3 message-tags).
     Tagmsg {
-        targets: Texts,
+        targets: OctetsList,
         tags: Octets,
     },
     /// To be away with this text, or here again where it is empty (section 4.1).
@@ -97,7 +97,7 @@ fn read_notice(
     let text = second(params);
     if list.is_empty() || text.is_empty() {
         return Ok(TalkCommand::Notice {
-            targets: Texts::from_vec(Vec::new(alloc)),
+            targets: OctetsList::from_vec(Vec::new(alloc)),
             text: Octets::from_vec(Vec::new(alloc)),
             tags: Octets::from_vec(Vec::new(alloc)),
         });

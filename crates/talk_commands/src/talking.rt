@@ -4,9 +4,7 @@ ghost use Rattle.std.specs.Prelude.{◌≡◌, ◌==◌, ◌∷◌, [], cond, fi
 ghost use Rattle.std.specs.List.{flat_map};
 ghost use Rattle.roster.specs.LookBack.{away, found, name_of, state};
 ghost use Rattle.drafts.specs.declared.effect.Effect.TheVariants.{Show};
-ghost use Rattle.drafts.specs.Denials.{denied};
-ghost use Rattle.drafts.specs.Drafted.{grown};
-ghost use Rattle.drafts.specs.Lines.{prefix};
+ghost use Rattle.drafts.specs.Words.{denied, grown, prefix};
 ghost use Rattle.talk_commands.specs.Lines.{sent_line};
 ghost use Rattle.talk_commands.specs.Talking.{answers, delivers, echoes, is_barred, keeps, may_speak, names_channel, reaches, sends, shows, tells_away, to_channel, to_one, to_open, to_user};
 

@@ -1,6 +1,6 @@
 //! Messages in lines by the public standard's grammar, and what is held of a line that has no end yet.
 use line_grammar::{
-    LineFault, LineMessage, LineParameters, Message, Octets, Parameters, Piece, Splitter,
+    LineFault, LineMessage, LineParameters, Message, Octets, OctetsList, Piece, Splitter,
     WriteFault, is_writable, parse, split_all, write,
 };
 use numerics::copied_all;
@@ -540,7 +540,7 @@ fn privmsg(alloc: Global, params: &[&[u8]], colon: bool) -> Result<Message, Allo
         tags: Octets::copied(alloc, b"")?,
         source: None,
         command: Octets::copied(alloc, b"PRIVMSG")?,
-        params: Parameters::from_vec(copied_all(alloc, params)?),
+        params: OctetsList::from_vec(copied_all(alloc, params)?),
         colon,
     })
 }
