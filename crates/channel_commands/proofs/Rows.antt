@@ -1,5 +1,5 @@
 -- Facts of joins, and who is on a channel after one.
-use Rattle.std.proofs.Common.{◌≡◌, ℕ, Bool, true, false, ◌||◌, ◌==◌, cond, List, [], ◌∷◌, ◌++◌, filter, Option, Some, None, refl, sym, ap, eq-eqb}
+use Rattle.std.proofs.Common.{◌≡◌, ℕ, Bool, true, false, ◌||◌, ◌==◌, ◌∙◌, cond, List, [], ◌∷◌, ◌++◌, filter, Option, Some, None, refl, sym, ap, eq-eqb}
 use Rattle.numerics.specs.declared.numeric.Numeric.{Numeric}
 use Rattle.registration.specs.declared.settings.Settings.{Settings}
 use Rattle.channel_state.specs.declared.change.Change.TheVariants.{Joined}
@@ -13,9 +13,9 @@ use Rattle.drafts.specs.Hearers.{shown}
 use Rattle.drafts.specs.Lines.{extended_join_line, join_line}
 use Rattle.drafts.specs.Replies.{tells_all}
 use Rattle.drafts.proofs.Quiet.{both-quiet, shown-quiet}
-use Rattle.query_commands.specs.Names.{member_name, with_members}
-use Rattle.query_commands.specs.Visible.{members_for}
-use Rattle.channel_commands.specs.Joining.{absence_shown, entered, introduced, join_shown, takes_extended, takes_plain, welcomed}
+use Rattle.query_commands.specs.Names.{with_members}
+use Rattle.query_commands.proofs.Members.{told_uninvited}
+use Rattle.channel_commands.specs.Joining.{absence_shown, entered, introduced, join_shown, takes_extended, takes_plain, topic_told, welcomed}
 
 -- answers establish nothing
 pub no_deeds : (g : Settings) (fs : List Deed) (s : ℕ) (ns : List Numeric) → deeds_of (tells_all g fs s ns) ≡ []
@@ -60,10 +60,13 @@ pub last_on_it : (t : ℕ) (ts : List ℕ) → among t (ts ++ t ∷ []) ≡ true
 last_on_it t [] = on_it t
 last_on_it t (u ∷ us) = either_true (u == t) (among t (us ++ t ∷ [])) (last_on_it t us)
 
--- a channel that a session joined is the one before with one member more: of the rest its own invitation alone goes, which nobody is told
+-- a channel that a session joined is the one before with one member more: of the rest its own invitation alone goes, of which nobody is told
 pub entered_joined : (g : Settings) (fs0 fs : List Deed) (s : ℕ) (from name : List ℕ) (k : State) → among s k.members ≡ false → entered g fs0 fs s from (with_members name k (k.members ++ s ∷ [])) ≡ entered g fs0 fs s from (record { name = name; state = changed (Joined s) k })
-unfolding entered introduced member_name members_for
-entered_joined g fs0 fs s from name k e = ap (λ ts. entered g fs0 fs s from (with_members name k (ts ++ s ∷ []))) (sym (without-none s k.members e))
+unfolding entered introduced
+entered_joined g fs0 fs s from name k e =
+    let members = without s k.members ++ s ∷ [] in let j = with_members name k members in
+    ap (λ ts. entered g fs0 fs s from (with_members name k (ts ++ s ∷ []))) (sym (without-none s k.members e))
+    ∙ ap (λ ns. introduced fs0 s from j ++ tells_all g fs s (topic_told j k.topic ++ ns)) (told_uninvited g fs0 s name k members)
 
 none_is_false : {A : Type 0} (b : Bool) (x : A) → cond b (Some x) None ≡ None → b ≡ false
 none_is_false true x e = absurd (let f : Some x ≡ None = e in cc)
