@@ -186,7 +186,6 @@ fn push_listed(
 
 /// Adds who is on a channel, as a session that is one of them is told: 353 in as few lines as fit, and 366. The channel is this
 /// one but for its members. Nicknames are those before the record.
-#[tactic(auto, using(crate::proofs::Members::told_to_member))]
 pub fn push_members(
     draft: &Draft<'_>,
     numerics: &mut Vec<Numeric>,

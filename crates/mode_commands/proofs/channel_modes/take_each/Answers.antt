@@ -13,7 +13,7 @@ use Rattle.mode_commands.proofs.channel_modes.take_each.Goals as goal
 pub loop-change-preserved : goal.loop-change-preserved
 loop-change-preserved c =
     let g = c.args.draft.now.settings in let b = c.args.draft.now.base in let s = c.args.session in let n = c.args.seen.now.name in
-    let xs = c.others.now in let zs = c.last.now ∷ [] in let i = c.loop-change.change-index in let inv = c.loop-change.invariant in
+    let xs = c.in-Some.others.now in let zs = c.in-Some.last.now ∷ [] in let i = c.loop-change.change-index in let inv = c.loop-change.invariant in
     let d = c.loop-change.draft in let l = c.loop-change.seen in let k = l.state in let x = c.change-item.result in let y = step b k x in
     let same : step d.base k x ≡ y = ap (λ (fs : List Deed). step fs k x) inv.base in
     let grew : c.take_change.new.draft ≡ grown d (does g s n d.facts y) =
