@@ -12,7 +12,7 @@ use Rattle.drafts.specs.Lines.{title}
 use Rattle.mode_commands.specs.declared.letters.ModeChange.{ModeChange}
 use Rattle.mode_commands.specs.declared.steps.Step.{Step}
 use Rattle.mode_commands.specs.Parameters.{completed, is_key, limit_of}
-use Rattle.mode_commands.specs.Steps.{IsMild, agree, has_ban, has_key, has_limit, has_rank, flag_of, flag_step, member_step, user_step, rank_step, mask_step, ban_step, key_set, key_given, key_lifted, key_step, limit_set, limit_given, limit_lifted, limit_step, step}
+use Rattle.mode_commands.specs.Steps.{IsMild, agree, has_ban, has_key, has_limit, has_rank, flag_of, flag_step, member_step, user_step, rank_step, mask_step, ban_step, key_set, key_given, key_step, limit_set, limit_given, limit_step, step}
 
 -- of two steps, by a test
 either : (k : State) (b : Bool) (x y : Step) → IsMild k x → IsMild k y → IsMild k (if b then x else y)

@@ -1,5 +1,5 @@
 -- What is done of letters in turn: of one, and then of the rest.
-use Rattle.std.proofs.Common.{◌≡◌, ℕ, ◌+◌, ◌<◌, ◌≤◌, List, [], ◌∷◌, ◌++◌, length, get_or, drop, sym, ap, ◌∙◌, append_assoc, append-nil}
+use Rattle.std.proofs.Common.{◌≡◌, ℕ, ◌+◌, ◌<◌, List, ◌++◌, length, get_or, drop, sym, ap, ◌∙◌, append_assoc}
 use Rattle.registration.specs.declared.settings.Settings.{Settings}
 use Rattle.channel_state.specs.State.{State}
 use Rattle.roster.specs.declared.deed.Deed.{Deed}
@@ -7,7 +7,7 @@ use Rattle.roster.specs.LookBack.{after}
 use Rattle.drafts.specs.Effects.{deeds_of}
 use Rattle.drafts.specs.Drafted.{Drafted, grown}
 use Rattle.drafts.proofs.Replay.{grown_grown}
-use Rattle.drafts.proofs.Turns.{dropped, none_left}
+use Rattle.drafts.proofs.Turns.{dropped}
 use Rattle.mode_commands.specs.declared.letters.ModeChange.{ModeChange}
 use Rattle.mode_commands.specs.ChannelModes.{does, in_turn}
 use Rattle.mode_commands.specs.Steps.{step, stepped, steps, shown_by, all_shown}
@@ -17,12 +17,5 @@ module _ (b : List Deed) (k : State) (xs : List ModeChange) (i : ℕ) (zs : List
     pub turn_more : (x : ModeChange) → i < length xs → x ≡ get_or xs i x → let y = step b k x in let e = grown d (does g s c d.facts y) in grown e (in_turn g s c e.facts (steps b (stepped y k) (drop (i + 1) xs ++ zs))) ≡ grown d (in_turn g s c d.facts (steps b k (drop i xs ++ zs)))
     turn_more x l is = let y = step b k x in grown_grown d (does g s c d.facts y) (in_turn g s c (after d.facts (deeds_of (does g s c d.facts y))) (steps b (stepped y k) (drop (i + 1) xs ++ zs))) ∙ ap (λ ys. grown d (in_turn g s c d.facts (steps b k (ys ++ zs)))) (sym (dropped xs i x l is))
 
-    -- then the last alone is left
-    pub turn_last : (z : ModeChange) → zs ≡ z ∷ [] → length xs ≤ i → grown d (in_turn g s c d.facts (steps b k (drop i xs ++ zs))) ≡ grown d (does g s c d.facts (step b k z))
-    turn_last z one l = ap (λ ys. grown d (in_turn g s c d.facts (steps b k (ys ++ zs)))) (none_left xs i l) ∙ ap (λ ys. grown d (in_turn g s c d.facts (steps b k ys))) one ∙ ap (grown d) (append-nil (does g s c d.facts (step b k z)))
-
   pub shown_more : (before : List ModeChange) (x : ModeChange) → i < length xs → x ≡ get_or xs i x → let y = step b k x in (before ++ shown_by y) ++ all_shown (steps b (stepped y k) (drop (i + 1) xs ++ zs)) ≡ before ++ all_shown (steps b k (drop i xs ++ zs))
   shown_more before x l is = let y = step b k x in append_assoc before (shown_by y) (all_shown (steps b (stepped y k) (drop (i + 1) xs ++ zs))) ∙ ap (λ ys. before ++ all_shown (steps b k (ys ++ zs))) (sym (dropped xs i x l is))
-
-  pub shown_last : (before : List ModeChange) (z : ModeChange) → zs ≡ z ∷ [] → length xs ≤ i → before ++ all_shown (steps b k (drop i xs ++ zs)) ≡ before ++ shown_by (step b k z)
-  shown_last before z one l = ap (λ ys. before ++ all_shown (steps b k (ys ++ zs))) (none_left xs i l) ∙ ap (λ ys. before ++ all_shown (steps b k ys)) one ∙ ap (λ ys. before ++ ys) (append-nil (shown_by (step b k z)))

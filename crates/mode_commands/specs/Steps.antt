@@ -17,7 +17,6 @@ use Rattle.drafts.specs.Lines.{title}
 use Rattle.mode_commands.specs.declared.letters.ModeChange.{ModeChange}
 use Rattle.mode_commands.specs.declared.steps.Step.{Step}
 use Rattle.mode_commands.specs.declared.steps.Step.TheVariants.{Nothing, Refused, Changes}
-use Rattle.mode_commands.specs.declared.steps.Refusal.{Refusal}
 use Rattle.mode_commands.specs.declared.steps.Refusal.TheVariants.{LacksParameter, Nobody, NotMember, Unknown}
 use Rattle.mode_commands.specs.Parameters.{completed, is_key, limit_of}
 

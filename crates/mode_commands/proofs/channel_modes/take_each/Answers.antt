@@ -1,4 +1,4 @@
-use Rattle.std.proofs.Common.{◌≡◌, ◌+◌, ◌++◌, List, [], ◌∷◌, ℕ, drop, ap, sym, ◌∙◌}
+use Rattle.std.proofs.Common.{◌≡◌, ◌+◌, ◌++◌, List, [], ◌∷◌, ℕ, drop, ap, ◌∙◌}
 use Rattle.registration.specs.declared.settings.Settings.{Settings}
 use Rattle.channel_state.specs.State.{State}
 use Rattle.roster.specs.declared.deed.Deed.{Deed}
@@ -7,7 +7,7 @@ use Rattle.drafts.specs.Seen.{Seen}
 use Rattle.mode_commands.specs.declared.letters.ModeChange.{ModeChange}
 use Rattle.mode_commands.specs.ChannelModes.{does, in_turn}
 use Rattle.mode_commands.specs.Steps.{step, stepped, steps, shown_by, all_shown}
-use Rattle.mode_commands.proofs.Turns.{turn_more, turn_last, shown_more, shown_last}
+use Rattle.mode_commands.proofs.Turns.{turn_more, shown_more}
 use Rattle.mode_commands.proofs.channel_modes.take_each.Goals as goal
 
 pub loop-change-preserved : goal.loop-change-preserved
