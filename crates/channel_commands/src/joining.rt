@@ -91,7 +91,7 @@ fn make(
 }
 
 /// A session joins a channel that is there, whose members are looked up where it is kept.
-#[tactic(auto, using(drafts::proofs::Replay::grown_grown, crate::proofs::Rows::some_joined, crate::proofs::Rows::last_on_it, crate::proofs::Rows::entered_joined))]
+#[tactic(auto, using(crate::proofs::Rows::some_joined, crate::proofs::Rows::last_on_it))]
 fn come(draft: &mut Draft, session: SessionId, from: &[u8], seen: &Seen) -> Result<(), AllocError>
     requires seen { IsSeen draft.old.facts seen.now }
     requires away { among session seen.now.state.members ≡ false }
