@@ -8,25 +8,8 @@ use Rattle.batons.specs.Turn.{Turn}
 use Rattle.book.specs.declared.out.Done.{Done as Told}
 use Rattle.book.specs.Book.{newest_missed}
 use Rattle.crew.specs.Timing.{IsAt}
-use Rattle.crew.specs.declared.working.Outcome.{Outcome}
-use Rattle.crew.specs.declared.working.Outcome.TheVariants.{Done, Refused}
 use Rattle.crew.specs.declared.reading.Next.{Next}
 use Rattle.crew.specs.declared.reading.Next.TheVariants.{More, Short, Nothing, Left, Over}
-
--- a fact of a line that was done
-abbrev pub OnDone : Outcome → Type 0 → Type 0
-OnDone (Done done) P = P
-OnDone (Refused refusal) P = Unit {0}
-
--- a fact of a line that was refused
-abbrev pub OnRefused : Outcome → Type 0 → Type 0
-OnRefused (Done done) P = Unit {0}
-OnRefused (Refused refusal) P = P
-
--- a fact of what is told of a line that was done
-abbrev pub IfDone : Outcome → (Told → Type 0) → Type 0
-IfDone (Done done) P = P done
-IfDone (Refused refusal) P = Unit {0}
 
 -- what is told of a line is what its record says, which is the newest of this history: its number, who missed it, and whether its own
 -- session is shut

@@ -27,5 +27,5 @@ pub use reading::{Next, Took, read_on, read_some};
 pub use server::{Clock, Gate, Server, Sockets, moment_in};
 pub use shutting::{Ending, hang};
 pub use telling::tell;
-pub use working::{Back, Job, Outcome, Worked, work, work_one};
+pub use working::{Back, Job, Worked, work, work_one};
 pub use writing::{Standing, Written, write_on, write_some};

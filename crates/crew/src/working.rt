@@ -1,6 +1,6 @@
 //! Doing lines.
 ghost use Rattle.std.specs.Prelude.{◌≡◌, ◌≤◌, ◌++◌, ◌∷◌, [], length, take, true, false, IfOk, IfSome, OnOk, OnErr};
-ghost use Rattle.crew.specs.Doing.{OnDone, OnRefused, IfDone, TellsOf, IsSeenTo, IsNewestSeenTo, DoesFront};
+ghost use Rattle.crew.specs.Doing.{TellsOf, IsSeenTo, IsNewestSeenTo, DoesFront};
 ghost use Rattle.crew.specs.Taking.{IsFront};
 ghost use Rattle.crew.specs.Timing.{IsAt, IsNext};
 
@@ -24,20 +24,11 @@ pub struct Job<L: Naming, R: Wait + Drop> {
     pub piece: Piece,
 }
 
-/// What came of a line.
-#[derive(Drop)]
-pub enum Outcome {
-    /// It was done.
-    Done(Done),
-    /// It was refused.
-    Refused(LineRefusal),
-}
-
-/// What comes back of a line: its baton, and what came of it.
+/// What comes back of a line: its baton, and what is told of it where it was done, or why it was refused.
 #[derive(Drop)]
 pub struct Back<L: Naming, R: Wait + Drop> {
     pub baton: Baton<L, Sender<R>>,
-    pub outcome: Outcome,
+    pub outcome: Result<Done, LineRefusal>,
 }
 
 /// What comes back of many lines: their baton, and whether all were done.
@@ -231,27 +222,24 @@ pub fn work_one<L: Naming, R: Wait + Drop, G: Gate>(
     gate: &G,
     told: &mut Told,
 ) -> Back<L, R>
-    ensures done { OnDone result.outcome (result.baton.pieces ≡ job.baton.pieces ++ job.piece ∷ []) }
-    ensures refused { OnRefused result.outcome (result.baton ≡ job.baton) }
+    ensures done { OnOk result.outcome (result.baton.pieces ≡ job.baton.pieces ++ job.piece ∷ []) }
+    ensures refused { OnErr result.outcome (result.baton ≡ job.baton) }
     ensures session { result.baton.session ≡ job.baton.session }
-    ensures told { IfDone result.outcome (λ d. TellsOf d result.baton.front result.baton.session) }
-    ensures moment { OnDone result.outcome (IsAt moment result.baton.front) }
+    ensures told { IfOk result.outcome (λ d. TellsOf d result.baton.front result.baton.session) }
+    ensures moment { OnOk result.outcome (IsAt moment result.baton.front) }
 {
     let Job { mut baton, piece } = job;
     let session = baton.session();
     let line = read_now(told.allocator(), &piece);
     gate.enter(session);
-    let outcome = match line_in(
+    let outcome = line_in(
         &mut *lock_soon(rt, hall),
         &mut baton,
         &piece,
         line,
         moment,
         told,
-    ) {
-        Ok(done) => Outcome::Done(done),
-        Err(refusal) => Outcome::Refused(refusal),
-    };
+    );
     gate.leave(session);
     Back { baton, outcome }
 }

@@ -4,7 +4,7 @@ ghost use Rattle.std.specs.Prelude.{◌≡◌, []};
 use crate::fakes::{Open, Stuck};
 use crate::making::{Tokens, hall, line, open};
 use chronicle::Moment;
-use crew::{Job, Outcome, Outlet, Pumped, work_one};
+use crew::{Job, Outlet, Pumped, work_one};
 use hall::{Hall, Naming, Register, Told};
 use line_grammar::Octets;
 use outbox::{ChannelName, Sender};
@@ -37,7 +37,7 @@ fn waiting<L: Naming, R: Wait + Copy + Drop>(
         piece: line(alloc, b"PING x")?,
     };
     let back = work_one(rt, lock, job, Moment::new(0), &Open, &mut told);
-    if !matches!(back.outcome, Outcome::Done(_)) {
+    if back.outcome.is_err() {
         return Err("it isn't done".into());
     }
     let host = Octets::copied(alloc, b"h1")?;

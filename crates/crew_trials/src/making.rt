@@ -4,7 +4,7 @@ ghost use Rattle.std.specs.Prelude.{◌≡◌, [], Some, IfSome};
 use crate::fakes::{Noted, Open, Still, Turnstile};
 use casemapping::is_host;
 use chronicle::{Kind, Moment, RecordNumber, SessionId, Why};
-use crew::{Desk, Gate, Job, Outcome, Server, close_up, work, work_one};
+use crew::{Desk, Gate, Job, Server, close_up, work, work_one};
 use hall::{Baton, Hall, Naming, Register, Settings, Stub, Told};
 use line_grammar::{Octets, Piece};
 use outbox::{ChannelName, Sender, Writer, pair};
@@ -94,7 +94,7 @@ pub fn work_under_slot<L: Naming, R: Wait + Drop, G: Gate>(
     let job = Job { baton, piece };
     let back = work_one(rt, hall, job, Moment::new(0), gate, &mut told);
     desk.back(rt, slot);
-    (back.baton, matches!(back.outcome, Outcome::Done(_)))
+    (back.baton, back.outcome.is_ok())
 }
 
 /// Has two sessions do a line each, on two threads, and tells a gate when the second was answered. It answers whether both were

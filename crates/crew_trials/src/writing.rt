@@ -4,7 +4,7 @@ ghost use Rattle.std.specs.Prelude.{◌≡◌, []};
 use crate::fakes::{Broken, Noted, Open, Still, TURNS, Tally, rest};
 use crate::making::{Tokens, hall, hung_for, line, open};
 use chronicle::{Moment, RecordNumber, SessionId, Why};
-use crew::{Job, Outcome, Outlet, Server, Sockets, Standing, work_one, write_on, write_some};
+use crew::{Job, Outlet, Server, Sockets, Standing, work_one, write_on, write_some};
 use hall::{Baton, Hall, Naming, Register, Told};
 use line_grammar::{Octets, Piece};
 use outbox::{Bell, ChannelName, Sender};
@@ -114,7 +114,7 @@ fn work_once<L: Naming, R: Wait + Drop>(
         &Open,
         &mut told,
     );
-    (back.baton, matches!(back.outcome, Outcome::Done(_)))
+    (back.baton, back.outcome.is_ok())
 }
 
 /// A line is answered, and its answer is written by one thread while another has the hall.
