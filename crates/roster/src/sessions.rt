@@ -3,13 +3,14 @@ ghost use Rattle.std.specs.Prelude.{◌≡◌, ◌↔◌, ◌++◌, ◌∷◌, [
 ghost use Rattle.channel_state.specs.State.{without};
 
 use chronicle::SessionId;
+use smallvec::SmallVec;
 use std::alloc::{AllocError, Global};
 use std::marker::Model;
 
-/// Sessions, in order.
+/// Sessions, in order. The first few take no memory of their own.
 #[derive(Drop)]
 pub struct Sessions {
-    sessions: Vec<SessionId>,
+    sessions: SmallVec<SessionId, 2>,
 }
 
 impl Model for Sessions {
@@ -25,6 +26,15 @@ impl Sessions {
     pub fn from_vec(sessions: Vec<SessionId>) -> Sessions
         ensures { result ≡ sessions.items }
     {
+        Sessions {
+            sessions: SmallVec::from_vec(sessions),
+        }
+    }
+
+    /// The sessions of a small vector. It takes no memory.
+    pub fn from_small_vec(sessions: SmallVec<SessionId, 2>) -> Sessions
+        ensures { result ≡ sessions.items }
+    {
         Sessions { sessions }
     }
 
@@ -33,7 +43,7 @@ impl Sessions {
         ensures { IfOk result (λ s. s ≡ sessions.now) }
     {
         Ok(Sessions {
-            sessions: Vec::from_slice(alloc, sessions)?,
+            sessions: SmallVec::from_slice(alloc, sessions)?,
         })
     }
 
@@ -71,6 +81,6 @@ impl Sessions {
     pub fn as_slice(&self) -> &[SessionId]
         ensures { result.now ≡ self.now }
     {
-        &self.sessions
+        self.sessions.as_slice()
     }
 }
