@@ -14,7 +14,7 @@ use Rattle.labels_batches.specs.Answers.{tagged_as}
 use Rattle.labels_batches.specs.Rendered.{rendered}
 use Rattle.labels_batches.specs.Spellings.{spelled_for}
 use Rattle.drafts.specs.Effects.{heard}
-use Rattle.deeds.specs.declared.verdict.Shown.{Shown}
+use Rattle.drafts.specs.declared.verdict.Shown.{Shown}
 use Rattle.book.specs.declared.heard.Heard.{Heard}
 use Rattle.book.specs.declared.plan.Planned.{Planned}
 use Rattle.book.specs.declared.seat.Seat.{Seat}

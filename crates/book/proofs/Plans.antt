@@ -7,13 +7,13 @@ use Rattle.labels_batches.specs.Rendered.{rendered}
 use Rattle.labels_batches.specs.Spellings.{spelled_for}
 use Rattle.drafts.specs.declared.effect.Effect.{Effect}
 use Rattle.drafts.specs.declared.effect.Effect.TheVariants.{Establish, Answer, Show, Copy}
-use Rattle.deeds.specs.declared.verdict.Shown.{Shown}
-use Rattle.deeds.specs.declared.verdict.Verdict.{Verdict}
+use Rattle.drafts.specs.declared.verdict.Shown.{Shown}
+use Rattle.drafts.specs.declared.verdict.Verdict.{Verdict}
 use Rattle.drafts.specs.Effects.{heard, reply, copies, due}
 use Rattle.deeds.specs.Deeds.{spelled}
 use Rattle.roster.specs.declared.deed.Deed.{Deed}
 use Rattle.roster.specs.LookBack.{caps}
-use Rattle.deeds.specs.Verdicts.{shown, IsVerdict}
+use Rattle.drafts.specs.Verdicts.{shown, IsVerdict}
 use Rattle.registration.specs.declared.settings.Settings.{Settings}
 use Rattle.book.specs.declared.seat.Seat.{Seat}
 use Rattle.book.specs.Book.{puts}

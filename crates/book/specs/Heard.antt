@@ -5,7 +5,7 @@ use Rattle.numerics.specs.declared.outgoing.Out.{Out}
 use Rattle.roster.specs.declared.deed.Deed.{Deed}
 use Rattle.roster.specs.LookBack.{caps}
 use Rattle.labels_batches.specs.Spellings.{spelled_for}
-use Rattle.deeds.specs.declared.verdict.Shown.{Shown}
+use Rattle.drafts.specs.declared.verdict.Shown.{Shown}
 use Rattle.book.specs.declared.heard.Heard.{Heard}
 use Rattle.book.specs.declared.plan.Planned.{Planned}
 use Rattle.book.specs.declared.seat.Seat.{Seat}

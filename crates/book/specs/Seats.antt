@@ -17,7 +17,7 @@ use Rattle.labels_batches.specs.Answers.{tagged_as}
 use Rattle.labels_batches.specs.Rendered.{rendered}
 use Rattle.registration.specs.declared.settings.Settings.{Settings}
 use Rattle.deeds.specs.Ping.{ping_line}
-use Rattle.deeds.specs.declared.verdict.Shown.{Shown}
+use Rattle.drafts.specs.declared.verdict.Shown.{Shown}
 use Rattle.drafts.specs.Effects.{heard}
 use Rattle.deliveries.specs.Owed.{item}
 

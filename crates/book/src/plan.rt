@@ -11,7 +11,7 @@ ghost use Rattle.drafts.specs.Words.{deeds_of};
 ghost use Rattle.deeds.specs.Departure.{departs};
 ghost use Rattle.deeds.specs.Rows.{of_asked};
 ghost use Rattle.deeds.specs.Deeds.{spelled};
-ghost use Rattle.deeds.specs.Verdicts.{IsVerdict};
+ghost use Rattle.drafts.specs.Verdicts.{IsVerdict};
 ghost use Rattle.book.specs.Book.{puts};
 ghost use Rattle.book.specs.Seats.{hears, told_own, heard_text, pinged_text, planned_from, planned_with};
 ghost use Rattle.book.specs.Heard.{delivery_of, deliveries_of, joined};

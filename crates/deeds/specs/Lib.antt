@@ -2,4 +2,3 @@ pub mod Departure
 pub mod Ping
 pub mod Rows
 pub mod Deeds
-pub mod Verdicts

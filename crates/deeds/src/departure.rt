@@ -4,11 +4,10 @@ ghost use Rattle.roster.specs.LookBack.{after, opened};
 ghost use Rattle.roster.specs.Legal.{IsOpened, AreNext};
 ghost use Rattle.deeds.specs.Departure.{farewell, departs};
 ghost use Rattle.drafts.specs.Words.{grown};
-ghost use Rattle.deeds.specs.Verdicts.{IsVerdict};
+ghost use Rattle.drafts.specs.Verdicts.{IsVerdict};
 
-use crate::verdict::{Verdict, verdict_of};
 use chronicle::{SessionId, Why};
-use drafts::{Draft, prefix_of, quit_line};
+use drafts::{Draft, Verdict, prefix_of, quit_line};
 use roster::{Deed, Roster};
 use std::alloc::{AllocError, Global};
 
@@ -49,7 +48,7 @@ pub fn decide_gone(
     ensures next { IfOk result (λ v. AreNext roster.now.facts v.deeds.items) }
     ensures opened { IfOk result (λ v. opened (after roster.now.facts v.deeds.items) ≡ opened roster.now.facts) }
 {
-    let mut draft = Draft::new(alloc, roster);
+    let mut draft = Draft::new(alloc, roster, session);
     depart(&mut draft, session)?;
-    verdict_of(alloc, draft.finish(), session)
+    Ok(draft.finish())
 }

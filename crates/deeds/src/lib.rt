@@ -4,11 +4,9 @@
 mod departure;
 mod pings;
 mod rows;
-mod verdict;
 
 pub use departure::decide_gone;
-pub use drafts::Effect;
+pub use drafts::{Effect, Shown, Verdict};
 pub use pings::ping;
 pub use rows::decide;
 pub use session_commands::support_is_whole;
-pub use verdict::{Shown, Verdict};

@@ -4,14 +4,13 @@ ghost use Rattle.roster.specs.LookBack.{after, opened};
 ghost use Rattle.roster.specs.Legal.{IsOpened, AreNext};
 ghost use Rattle.drafts.specs.Words.{grown};
 ghost use Rattle.deeds.specs.Rows.{asked, fault_numeric, is_for_registered, is_silent, of_asked, of_command, refused, served, turned_away};
-ghost use Rattle.deeds.specs.Verdicts.{IsVerdict};
+ghost use Rattle.drafts.specs.Verdicts.{IsVerdict};
 
-use crate::verdict::{Verdict, verdict_of};
 use channel_commands::serve_channel;
 use chronicle::{Moment, SessionId};
 use command_params::ReadFault;
 use commands::{Asked, Command};
-use drafts::{Draft, tell};
+use drafts::{Draft, Verdict, tell};
 use line_grammar::Octets;
 use mode_commands::serve_mode;
 use numerics::Numeric;
@@ -148,7 +147,7 @@ pub fn decide(
     ensures next { IfOk result (λ v. AreNext roster.now.facts v.deeds.items) }
     ensures opened { IfOk result (λ v. opened (after roster.now.facts v.deeds.items) ≡ opened roster.now.facts) }
 {
-    let mut draft = Draft::new(alloc, roster);
+    let mut draft = Draft::new(alloc, roster, session);
     answer(&mut draft, session, asked)?;
-    verdict_of(alloc, draft.finish(), session)
+    Ok(draft.finish())
 }

@@ -9,12 +9,9 @@ use Rattle.casemapping.proofs.SameNames.{is_same-refl}
 use Rattle.channel_state.specs.declared.change.Change.{Change}
 use Rattle.channel_state.specs.State.{State, is_some_one, without, made_by, changed, departed, lasting, nothing}
 use Rattle.roster.proofs.OnChannels.{members-lasting}
-use Rattle.roster.specs.LookBack.{after, state, has_member, name}
-use Rattle.roster.specs.Legal.{IsNext, AreNext}
-use Rattle.drafts.specs.declared.effect.Effect.{Effect}
-use Rattle.drafts.specs.declared.effect.Effect.TheVariants.{Establish, Answer, Show, Copy}
-use Rattle.drafts.specs.Effects.{deeds_of}
-use Rattle.drafts.specs.Tells.{effect_name, effect_touches, touches}
+use Rattle.roster.specs.LookBack.{state, has_member, name, tells_name}
+use Rattle.roster.specs.Legal.{IsNext}
+use Rattle.drafts.specs.Tells.{touches}
 use Rattle.drafts.specs.Seen.{Seen, seen, IsSeen}
 
 -- a test is true or false
@@ -45,7 +42,7 @@ same_there : ChannelsHaveOneName → (fs : List Deed) (k c : List ℕ) → is_sa
 same_there law fs k c e h = ap (λ (st : State). is_some_one st.members) (sym (law fs k c e).0) ∙ h
 
 -- a channel that is there after a deed has the name that it tells, or was there before it
-told : ChannelsHaveOneName → (fs : List Deed) (d : Deed) (c : List ℕ) (o : Option (List ℕ)) → IsNext fs d → (has_member fs c ≡ true → o ≡ Some (name fs c)) → has_member (d ∷ fs) c ≡ true → option_or (effect_name c (Establish d)) o ≡ Some (name (d ∷ fs) c)
+pub told : ChannelsHaveOneName → (fs : List Deed) (d : Deed) (c : List ℕ) (o : Option (List ℕ)) → IsNext fs d → (has_member fs c ≡ true → o ≡ Some (name fs c)) → has_member (d ∷ fs) c ≡ true → option_or (tells_name c d) o ≡ Some (name (d ∷ fs) c)
 told law fs (Opened t x) c o may h e = h e
 told law fs (NickSet t n) c o may h e = h e
 told law fs (UserSet t u r) c o may h e = h e
@@ -67,12 +64,6 @@ told law fs (Changed k x) c o may h e = elim (either (is_same k c)) [
 ]
 told law fs (Gone t) c o may h e = h (left_some t (state fs c) e)
 
-pub named_step : ChannelsHaveOneName → (fs : List Deed) (x : Effect) (c : List ℕ) (o : Option (List ℕ)) → AreNext fs (deeds_of (x ∷ [])) → (has_member fs c ≡ true → o ≡ Some (name fs c)) → has_member (after fs (deeds_of (x ∷ []))) c ≡ true → option_or (effect_name c x) o ≡ Some (name (after fs (deeds_of (x ∷ []))) c)
-named_step law fs (Establish d) c o may h e = told law fs d c o may.0 h e
-named_step law fs (Answer l) c o may h e = h e
-named_step law fs (Show hs l) c o may h e = h e
-named_step law fs (Copy l) c o may h e = h e
-
 -- ---- a channel that is seen
 
 -- it is what its own name says
@@ -87,7 +78,7 @@ seen_alike fs gs c st named =
     ∙ ap (λ (k : State). cond (is_some_one k.members) (Some (record { name = name fs c; state = k })) None) st
 
 -- a fact that doesn't tell of it leaves it as it is
-untouched : (fs : List Deed) (d : Deed) (c : List ℕ) → touches c d ≡ false → seen (d ∷ fs) c ≡ seen fs c
+pub untouched : (fs : List Deed) (d : Deed) (c : List ℕ) → touches c d ≡ false → seen (d ∷ fs) c ≡ seen fs c
 untouched fs (Opened t x) c e = refl
 untouched fs (NickSet t n) c e = refl
 untouched fs (UserSet t u r) c e = refl
@@ -102,12 +93,6 @@ untouched fs (AwaySet t x) c e = refl
 untouched fs (InvisibleSet t x) c e = refl
 untouched fs (Changed k x) c e = seen_alike fs (Changed k x ∷ fs) c (ap (λ b. cond b (lasting (changed x (state fs c))) (state fs c)) e) refl
 untouched fs (Gone t) c e = absurd (let f : true ≡ false = e in cc)
-
-pub untouched_step : (fs : List Deed) (x : Effect) (c : List ℕ) → effect_touches c x ≡ false → seen (after fs (deeds_of (x ∷ []))) c ≡ seen fs c
-untouched_step fs (Establish d) c e = untouched fs d c e
-untouched_step fs (Answer l) c e = refl
-untouched_step fs (Show hs l) c e = refl
-untouched_step fs (Copy l) c e = refl
 
 -- a channel that is seen is known, and one whose name isn't known isn't there
 pub known : ChannelsHaveOneName → SpelledNamesAreNames → (fs : List Deed) (c : List ℕ) → IfSome (seen fs c) (IsSeen fs)

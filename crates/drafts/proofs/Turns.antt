@@ -11,7 +11,7 @@ pub none_left : {A : Type 0} (xs : List A) (i : ℕ) → length xs ≤ i → dro
 none_left xs i l = grind (arith, common_steps)
 
 pub grown_nothing : (d : Drafted) → grown d [] ≡ d
-grown_nothing d = ap (λ (es : List Effect). record { settings = d.settings; base = d.base; facts = d.facts; effects = es }) (append-nil d.effects)
+grown_nothing d = ap (λ (es : List Effect). record { settings = d.settings; base = d.base; facts = d.facts; effects = es; session = d.session }) (append-nil d.effects)
 
 filter_one : {A : Type 0} (p : A → Bool) (x : A) (xs : List A) → filter p (x ∷ xs) ≡ filter p (x ∷ []) ++ filter p xs
 filter_one p x xs = elim (p x) as (λ b. cond b (x ∷ filter p xs) (filter p xs) ≡ cond b (x ∷ []) [] ++ filter p xs) [

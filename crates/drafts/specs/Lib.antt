@@ -8,3 +8,4 @@ pub mod Seen
 pub mod Look
 pub mod Tells
 pub mod Words
+pub mod Verdicts

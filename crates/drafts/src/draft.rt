@@ -9,16 +9,22 @@ ghost use Rattle.roster.specs.Legal.{AreNext, IsFit, IsNext};
 ghost use Rattle.drafts.specs.declared.effect.Effect.TheVariants.{Establish, Answer, Show, Copy};
 ghost use Rattle.drafts.specs.Effects.{deeds_of};
 ghost use Rattle.drafts.specs.Seen.{seen};
+ghost use Rattle.drafts.specs.Tells.{touches};
+ghost use Rattle.drafts.specs.Verdicts.{IsVerdict};
 
 use crate::effect::Effect;
 use crate::seen::Seen;
+use crate::verdict::Verdict;
+use casemapping::is_same;
 use channel_state::{Change, ChannelState};
 use chronicle::SessionId;
+use ghosts::{Snapshot, append, blank};
 use line_grammar::Octets;
 use numerics::Line;
 use registration::{Caps, Enrol};
 use roster::{Deed, Roster, Sessions, channels_have_one_name, spelled_names_are_names};
 use std::alloc::{AllocError, Global};
+use std::collections::LinkedList;
 use std::marker::Model;
 
 /// The facts of a roster with those that a record established so far, and the record's effects.
@@ -26,19 +32,32 @@ use std::marker::Model;
 pub struct Draft<'a> {
     alloc: Global,
     roster: &'a Roster,
-    effects: Vec<Effect>,
+    session: SessionId,
+    verdict: Verdict,
+    effects: Snapshot<LinkedList<Effect>>,
 }
 
 impl<'a> Model for Draft<'a> {
     ghost use Rattle.roster.specs.LookBack.{after};
-    ghost use Rattle.drafts.specs.Effects.{deeds_of};
-    ghost use Rattle.drafts.specs.Drafted.{Drafted, IsDraft};
+    ghost use Rattle.drafts.specs.Drafted.{Drafted, IsKept};
 
     ghost Value = { Drafted };
 
-    ghost view = { λ a. record { settings = a.roster.now.settings; base = a.roster.now.facts; facts = after a.roster.now.facts (deeds_of a.effects.items); effects = a.effects.items } };
+    ghost view = { λ a. record { settings = a.roster.now.settings; base = a.roster.now.facts; facts = after a.roster.now.facts a.verdict.deeds.items; effects = a.effects.value; session = a.session } };
 
-    ghost invariant = { λ a. IsDraft a.roster.now.facts (deeds_of a.effects.items) };
+    ghost invariant = { λ a. IsKept a.roster.now.facts a.verdict a.session a.effects.value };
+}
+
+/// Whether a fact tells of a channel, or may: who is gone may have been on any.
+fn touches(deed: &Deed, channel: &[u8]) -> bool
+    ensures { result ≡ touches channel.now deed.now }
+{
+    match deed {
+        Deed::ChannelMade { channel: name, .. } => is_same(name.as_slice(), channel),
+        Deed::Changed { channel: name, .. } => is_same(name.as_slice(), channel),
+        Deed::Gone { .. } => true,
+        _ => false,
+    }
 }
 
 /// A copy of a channel by its name, where somebody is on it.
@@ -74,14 +93,16 @@ impl<'a> Draft<'a> {
     ghost use Rattle.drafts.specs.Drafted.{Drafted, IsDraft, grown};
     ghost use Rattle.drafts.specs.Seen.{IsSeen};
 
-    /// The draft of a record that does nothing yet.
-    pub fn new(alloc: Global, roster: &'a Roster) -> Draft<'a>
-        ensures { result ≡ record { settings = roster.now.settings; base = roster.now.facts; facts = roster.now.facts; effects = [] } }
+    /// The draft of a session's record that does nothing yet.
+    pub fn new(alloc: Global, roster: &'a Roster, session: SessionId) -> Draft<'a>
+        ensures { result ≡ record { settings = roster.now.settings; base = roster.now.facts; facts = roster.now.facts; effects = []; session = session } }
     {
         Draft {
             alloc,
             roster,
-            effects: Vec::new(alloc),
+            session,
+            verdict: Verdict::nothing(alloc),
+            effects: blank(alloc),
         }
     }
 
@@ -98,21 +119,29 @@ impl<'a> Draft<'a> {
         self.roster
     }
 
-    /// The effects so far, in order. Their facts may come next, and open no session.
-    pub fn finish(self) -> Vec<Effect>
-        ensures effects { result.items ≡ self.entry.effects }
-        ensures next { AreNext self.entry.base (deeds_of result.items) }
-        ensures opened { opened (after self.entry.base (deeds_of result.items)) ≡ opened self.entry.base }
+    /// What comes of the effects so far. Its facts may come next, and open no session.
+    pub fn finish(self) -> Verdict
+        ensures verdict { IsVerdict result self.entry.session self.entry.effects }
+        ensures next { AreNext self.entry.base result.deeds.items }
+        ensures opened { opened (after self.entry.base result.deeds.items) ≡ opened self.entry.base }
     {
-        self.effects
+        self.verdict
     }
 
+    /// Adds an effect. At an `Err` nothing comes of the record any more.
     fn add(&mut self, effect: Effect) -> Result<(), AllocError>
         requires { IsDraft self.old.facts (deeds_of (effect ∷ [])) }
         ensures { OnOk result (self.new ≡ grown self.old (effect ∷ [])) }
     {
-        self.effects.push(effect)?;
-        Ok(())
+        append(&mut self.effects, &effect);
+        match self.verdict.add(effect, self.session) {
+            Ok(()) => Ok(()),
+            Err(error) => {
+                self.effects = blank(self.alloc);
+                self.verdict = Verdict::nothing(self.alloc);
+                Err(error)
+            }
+        }
     }
 
     /// Establishes a fact that may come next and opens no session. Look-ups know it from here on.
@@ -150,8 +179,8 @@ impl<'a> Draft<'a> {
         ensures { result.now ≡ host self.now.facts session }
     {
         let mut host = self.roster.host_of(session);
-        for effect in &self.effects {
-            host = effect.tells_host(session).unwrap_or(host);
+        for deed in &self.verdict.deeds {
+            host = deed.tells_host(session).unwrap_or(host);
         }
         host
     }
@@ -161,8 +190,8 @@ impl<'a> Draft<'a> {
         ensures { enrolment result ≡ enrol self.now.facts session }
     {
         let mut enrol = self.roster.enrol_of(session);
-        for effect in &self.effects {
-            enrol = effect.enroll(session, enrol);
+        for deed in &self.verdict.deeds {
+            enrol = deed.enroll(session, enrol);
         }
         enrol
     }
@@ -204,8 +233,8 @@ impl<'a> Draft<'a> {
             Some(state) => state.copied()?,
             None => ChannelState::nothing(self.alloc),
         };
-        for effect in &self.effects {
-            effect.reshape(channel, &mut state)?;
+        for deed in &self.verdict.deeds {
+            deed.reshape(channel, &mut state)?;
         }
         Ok(state)
     }
@@ -216,8 +245,8 @@ impl<'a> Draft<'a> {
     {
         channels_have_one_name();
         let mut spelling = self.roster.name_of(channel);
-        for effect in &self.effects {
-            spelling = effect.tells_name(channel).or(spelling);
+        for deed in &self.verdict.deeds {
+            spelling = deed.tells_name(channel).or(spelling);
         }
         spelling
     }
@@ -226,8 +255,8 @@ impl<'a> Draft<'a> {
     fn touches(&self, channel: &[u8]) -> bool
         ensures { result ≡ false → seen self.now.facts channel.now ≡ seen self.now.base channel.now }
     {
-        for effect in &self.effects {
-            if effect.touches(channel) {
+        for deed in &self.verdict.deeds {
+            if touches(deed, channel) {
                 return true;
             }
         }

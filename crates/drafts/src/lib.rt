@@ -8,6 +8,7 @@ mod hearers;
 mod lines;
 mod replies;
 mod seen;
+mod verdict;
 
 pub use denials::{Denial, deny, deny_absent};
 pub use draft::Draft;
@@ -19,3 +20,4 @@ pub use lines::{
 };
 pub use replies::{tell, tell_all, title_of};
 pub use seen::Seen;
+pub use verdict::{Shown, Verdict};

@@ -8,7 +8,7 @@ use Rattle.commands.specs.Asked.{asked_of}
 use Rattle.chronicle.specs.History.{is_quit}
 use Rattle.drafts.specs.Effects.{deeds_of}
 use Rattle.deeds.specs.Rows.{of_asked}
-use Rattle.deeds.specs.Verdicts.{IsVerdict}
+use Rattle.drafts.specs.Verdicts.{IsVerdict}
 use Rattle.book.specs.Read.{counted}
 use Rattle.book.specs.Seats.{heard_text, planned_with}
 use Rattle.book.proofs.Plans.{planned_same}

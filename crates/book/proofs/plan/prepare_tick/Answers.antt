@@ -1,7 +1,7 @@
 use Rattle.std.proofs.Common.{◌≡◌, ℕ, List, [], ◌∷◌, ◌++◌, false, ap, sym, ◌∙◌}
 use Rattle.numerics.specs.declared.outgoing.Out.{Out}
 use Rattle.deeds.specs.Ping.{ping_line}
-use Rattle.deeds.specs.declared.verdict.Shown.{Shown}
+use Rattle.drafts.specs.declared.verdict.Shown.{Shown}
 use Rattle.book.specs.Seats.{heard_text, planned_with}
 use Rattle.book.proofs.plan.prepare_tick.Goals as goal
 

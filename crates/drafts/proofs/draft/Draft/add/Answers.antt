@@ -1,23 +1,37 @@
-use Rattle.std.proofs.Common.{arith, ◌≡◌, ◌++◌, ◌∷◌, [], List, sym, ap, ◌∙◌, subst}
-use Rattle.std.proofs.lemmas.Grind.{common_steps}
+use Rattle.std.proofs.Common.{◌++◌, ◌∷◌, [], List, refl, sym, ap, ◌∙◌, subst}
 use Rattle.roster.specs.declared.deed.Deed.{Deed}
 use Rattle.roster.specs.LookBack.{after}
 use Rattle.drafts.specs.declared.effect.Effect.{Effect}
 use Rattle.drafts.specs.Drafted.{Drafted, IsDraft, grown}
 use Rattle.drafts.specs.Effects.{deeds_of}
-use Rattle.drafts.proofs.Replay.{deeds_of-append, after-effects, draft-append}
+use Rattle.drafts.specs.Verdicts.{IsVerdict}
+use Rattle.drafts.proofs.Replay.{after-append, draft-append}
+use Rattle.drafts.proofs.Sorted.{one_more}
 use Rattle.drafts.proofs.draft.Draft.add.Goals as goal
 
-pub invariant_of-self-2 : goal.invariant_of-self-2
-invariant_of-self-2 c =
-    let fs = c.self.inside.roster.now.facts in let es = c.self.inside.effects.items in let e = c.args.effect in
-    let added : c.push.new.self.items ≡ es ++ e ∷ [] = grind (arith, common_steps) in
-    let may : IsDraft (after fs (deeds_of es)) (deeds_of (e ∷ [])) = subst (λ (d : Drafted). IsDraft d.facts (deeds_of (e ∷ []))) (sym c.self.view_is) c.requires in
-    subst (λ (xs : List Effect). IsDraft fs (deeds_of xs)) (sym added) (subst (IsDraft fs) (sym (deeds_of-append es (e ∷ []))) (draft-append fs (deeds_of es) (deeds_of (e ∷ [])) c.self.invariant may))
+pub invariant_of-self : goal.invariant_of-self
+invariant_of-self c =
+    let fs = c.self.inside.roster.now.facts in let v = c.self.inside.verdict in let s = c.self.inside.session in let es = c.self.inside.effects.value in let e = c.args.effect in
+    let may : IsDraft (after fs v.deeds.items) (deeds_of (e ∷ [])) = subst (λ (d : Drafted). IsDraft d.facts (deeds_of (e ∷ []))) (sym c.self.view_is) c.requires in
+    let more = c.in-Ok.ensures in
+    record {
+      draft = subst (IsDraft fs) (sym more.deeds) (draft-append fs v.deeds.items (deeds_of (e ∷ [])) c.self.invariant.draft may);
+      verdict = subst (IsVerdict c.add.new.self s) (sym c.append.ensures) (one_more v c.add.new.self s es e c.self.invariant.verdict more.deeds more.reply more.copies more.others);
+    }
 
-pub returns : goal.returns
-returns c =
-    let fs = c.self.inside.roster.now.facts in let es = c.self.inside.effects.items in let e = c.args.effect in
-    let added : c.push.new.self.items ≡ es ++ e ∷ [] = grind (arith, common_steps) in
-    let new : List Effect → Drafted = λ xs. record { settings = c.self.inside.roster.now.settings; base = fs; facts = after fs (deeds_of xs); effects = xs } in
-    ap new added ∙ ap (λ (gs : List Deed). record { settings = c.self.inside.roster.now.settings; base = fs; facts = gs; effects = es ++ e ∷ [] }) (after-effects fs es (e ∷ [])) ∙ ap (λ (d : Drafted). grown d (e ∷ [])) c.self.view_is
+pub invariant_of-self-in-Err : goal.invariant_of-self-in-Err
+invariant_of-self-in-Err c =
+    let fs = c.self.inside.roster.now.facts in let s = c.self.inside.session in let is = c.nothing.ensures s in
+    record {
+      draft = subst (IsDraft fs) (sym is.deeds) (record { next = tt; opened = refl });
+      verdict = subst (IsVerdict c.nothing.result s) (sym c.blank.ensures) is;
+    }
+
+pub returns-in-Ok : goal.returns-in-Ok
+returns-in-Ok c =
+    let g = c.self.inside.roster.now.settings in let fs = c.self.inside.roster.now.facts in let s = c.self.inside.session in
+    let before : List Deed = c.self.inside.verdict.deeds.items in let es = c.self.inside.effects.value in let e = c.args.effect in
+    ap (λ (ds : List Deed). record { settings = g; base = fs; facts = after fs ds; effects = c.append.new.list.value; session = s }) c.in-Ok.ensures.deeds
+    ∙ ap (λ (xs : List Effect). record { settings = g; base = fs; facts = after fs (before ++ deeds_of (e ∷ [])); effects = xs; session = s }) c.append.ensures
+    ∙ ap (λ (gs : List Deed). record { settings = g; base = fs; facts = gs; effects = es ++ e ∷ []; session = s }) (after-append fs before (deeds_of (e ∷ [])))
+    ∙ ap (λ (d : Drafted). grown d (e ∷ [])) c.self.view_is

@@ -1,11 +1,10 @@
 use Rattle.std.proofs.Common.{sym, ap, ◌∙◌}
-use Rattle.roster.specs.LookBack.{enrol}
-use Rattle.drafts.specs.Tells.{effect_enrolled}
+use Rattle.roster.specs.LookBack.{enrol, enrolled}
 use Rattle.drafts.proofs.Replay.{replay, enrol_step}
 use Rattle.drafts.proofs.draft.Draft.enrol_of.Goals as goal
 
-pub loop-effect-preserved : goal.loop-effect-preserved
-loop-effect-preserved c =
+pub loop-deed-preserved : goal.loop-deed-preserved
+loop-deed-preserved c =
     let s = c.args.session in
-    c.enroll-enrol.ensures ∙ ap (effect_enrolled s c.effect-item.result) c.loop-effect.invariant
-    ∙ sym (replay (λ fs. enrol fs s) (λ a e. effect_enrolled s e a) (enrol_step s) c.args.self.now.base c.deref-effect-items.result.now c.loop-effect.effect-index c.effect-item.result c.loop-effect-test.true c.effect-item.is)
+    c.enroll-enrol.ensures ∙ ap (enrolled s c.deed-item.result) c.loop-deed.invariant
+    ∙ sym (replay (λ fs. enrol fs s) (λ a e. enrolled s e a) (enrol_step s) c.args.self.now.base c.deref-deed-items.result.now c.loop-deed.deed-index c.deed-item.result c.loop-deed-test.true c.deed-item.is)

@@ -2,8 +2,8 @@
 use Rattle.std.specs.Prelude.{◌≡◌, ℕ, List, [], ◌∷◌}
 use Rattle.drafts.specs.declared.effect.Effect.{Effect}
 use Rattle.drafts.specs.declared.effect.Effect.TheVariants.{Show}
-use Rattle.deeds.specs.declared.verdict.Shown.{Shown}
-use Rattle.deeds.specs.declared.verdict.Verdict.{Verdict}
+use Rattle.drafts.specs.declared.verdict.Shown.{Shown}
+use Rattle.drafts.specs.declared.verdict.Verdict.{Verdict}
 use Rattle.drafts.specs.Effects.{deeds_of, reply, copies}
 
 -- the lines that effects show, with their hearers, in order

@@ -1,8 +1,8 @@
 use Rattle.std.proofs.Common.{◌+◌, ◌==◌, ◌++◌, ◌∷◌, [], cond, List, drop, ap, ◌∙◌, append_assoc}
 use Rattle.numerics.specs.declared.outgoing.Out.{Out}
 use Rattle.drafts.specs.Effects.{heard}
-use Rattle.deeds.proofs.Sorted.{heard_more}
-use Rattle.deeds.proofs.verdict.push_heard.Goals as goal
+use Rattle.drafts.proofs.Sorted.{heard_more}
+use Rattle.drafts.proofs.verdict.push_heard.Goals as goal
 
 pub loop-hearer-preserved : goal.loop-hearer-preserved
 loop-hearer-preserved c =
