@@ -3,6 +3,7 @@ ghost use Rattle.std.specs.Prelude.{◌≡◌, ◌∷◌, ◌+◌, ◌<◌, [], 
 ghost use Rattle.channel_state.specs.State.{among};
 ghost use Rattle.roster.specs.LookBack.{has_member};
 ghost use Rattle.drafts.specs.Words.{IsSeen, deeds_of, grown};
+ghost use Rattle.query_commands.specs.Telling.{telling_more};
 ghost use Rattle.channel_commands.specs.Each.{each_counted};
 ghost use Rattle.channel_commands.specs.Found.{channel_of};
 ghost use Rattle.channel_commands.specs.Joining.{welcomed, entered, makes, enters, enters_unless, joins_seen, joins_one, joins};
@@ -15,10 +16,10 @@ use casemapping::is_channel;
 use channel_state::Change;
 use chronicle::SessionId;
 use command_params::JoinTarget;
-use drafts::{Denial, Draft, Seen, deny, prefix_of, tell_all};
+use drafts::{Denial, Draft, Seen, deny, prefix_of};
 use line_grammar::Octets;
 use numerics::Numeric;
-use query_commands::push_members;
+use query_commands::{Telling, push_members};
 use std::alloc::AllocError;
 
 /// On how many channels a session may be.
@@ -26,34 +27,34 @@ const MAX_CHANNELS: usize = 20;
 
 // ---- a session on a channel that it joined just now
 
-/// What a session is told.
+/// Adds what a session is told.
+#[tactic(auto, using(query_commands::proofs::Told::more_more))]
 fn welcome(
     draft: &Draft<'_>,
+    telling: &mut Telling<'_>,
     session: SessionId,
     joined: &Joined<'_>,
-) -> Result<Vec<Numeric>, AllocError>
+) -> Result<(), AllocError>
     requires { among session joined.now.state.members ≡ true }
-    ensures { IfOk result (λ v. v.items ≡ welcomed draft.now.settings draft.now.base session joined.now) }
+    ensures { OnOk result (telling.new ≡ telling_more telling.old (welcomed draft.now.settings draft.now.base session joined.now)) }
 {
-    let mut numerics = Vec::new(draft.alloc());
     if let Some(topic) = joined.state.topic() {
         let channel = joined.name.clone()?;
         let topic = topic.clone()?;
-        numerics.push(Numeric::Topic { channel, topic })?;
+        telling.push(Numeric::Topic { channel, topic })?;
     }
     push_members(
         draft,
-        &mut numerics,
+        telling,
         session,
         joined.name,
         joined.state,
         joined.members,
-    )?;
-    Ok(numerics)
+    )
 }
 
-/// All members are shown that a session joined, which is told of the channel.
-#[tactic(auto, unfolding(crate::specs::Joining::entered), using(drafts::proofs::Replay::grown_grown, crate::proofs::Rows::introduced_quiet))]
+/// All members are shown that a session joined, which is told of the channel. What it is told is spelled before, since nobody's
+/// nickname changes.
 fn enter(
     draft: &mut Draft,
     session: SessionId,
@@ -63,9 +64,10 @@ fn enter(
     requires { among session joined.now.state.members ≡ true }
     ensures { OnOk result (draft.new ≡ grown draft.old (entered draft.old.settings draft.old.base draft.old.facts session from.now joined.now)) }
 {
-    let numerics = welcome(draft, session, joined)?;
+    let mut telling = Telling::new(draft, session)?;
+    welcome(draft, &mut telling, session, joined)?;
     introduce(draft, session, from, joined)?;
-    tell_all(draft, session, &numerics)
+    telling.finish(draft)
 }
 
 // ---- JOIN of one channel

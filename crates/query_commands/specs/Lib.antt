@@ -1,3 +1,4 @@
+pub mod Telling
 pub mod Visible
 pub mod Names
 pub mod Listing

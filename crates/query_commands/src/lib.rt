@@ -2,10 +2,12 @@
 //! and 3.6.2).
 #![tactic(auto)]
 
+mod each;
 mod listing;
 mod motd;
 mod names;
 mod query;
+mod telling;
 mod visible;
 mod who;
 mod whois;
@@ -13,3 +15,4 @@ mod whois;
 pub use motd::push_motd;
 pub use names::push_members;
 pub use query::{Query, ask, each_query_is_named, no_query_is_misnamed, read_query};
+pub use telling::Telling;

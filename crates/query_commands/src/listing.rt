@@ -1,12 +1,15 @@
 //! LIST (RFC 2812, section 3.2.6).
-ghost use Rattle.std.specs.Prelude.{◌≡◌, ◌++◌, [], slice_get, unwrap_or, option_copied, Some, IfOk, OnOk};
+ghost use Rattle.std.specs.Prelude.{◌≡◌, [], slice_get, unwrap_or, option_copied, Some, IfOk, OnOk};
 ghost use Rattle.std.specs.List.{flat_map};
 ghost use Rattle.roster.specs.LookBack.{channels as all_channels};
 ghost use Rattle.command_params.specs.Params.{IsRead};
 ghost use Rattle.query_commands.specs.Visible.{of_one, seen_by};
+ghost use Rattle.query_commands.specs.Telling.{telling_more};
 ghost use Rattle.query_commands.specs.Listing.{channels_asked, list_query, listed, listed_seen, lists_told};
 
 use crate::Query;
+use crate::each::{TellsOf, tell_of_each};
+use crate::telling::Telling;
 use crate::visible::sees;
 use channel_state::ChannelState;
 use chronicle::SessionId;
@@ -38,12 +41,12 @@ fn topic_of(alloc: Global, topic: Option<&Octets>) -> Result<Octets, AllocError>
 /// Adds a channel, where the session sees it.
 fn push_seen(
     alloc: Global,
-    numerics: &mut Vec<Numeric>,
+    telling: &mut Telling<'_>,
     session: SessionId,
     name: &Octets,
     state: &ChannelState,
 ) -> Result<(), AllocError>
-    ensures { OnOk result (numerics.new.items ≡ numerics.old.items ++ listed_seen (seen_by session (Some (record { name = name.now; state = state.now.state })))) }
+    ensures { OnOk result (telling.new ≡ telling_more telling.old (listed_seen (seen_by session (Some (record { name = name.now; state = state.now.state }))))) }
 {
     if !sees(session, state) {
         return Ok(());
@@ -51,61 +54,49 @@ fn push_seen(
     let topic = topic_of(alloc, state.topic())?;
     let channel = name.clone()?;
     let members = state.members().len();
-    numerics.push(Numeric::ListReply {
+    telling.push(Numeric::ListReply {
         channel,
         members,
         topic,
-    })?;
-    Ok(())
+    })
 }
 
-/// Adds the channel of a name, where the session sees it.
-#[tactic(auto, unfolding(crate::specs::Visible::channel_for))]
-fn push_channel(
+/// The channels of given names, as a session sees them.
+#[derive(Clone, Copy)]
+struct Given<'a> {
     alloc: Global,
-    roster: &Roster,
-    numerics: &mut Vec<Numeric>,
+    roster: &'a Roster,
     session: SessionId,
-    channel: &Octets,
-) -> Result<(), AllocError>
-    ensures { OnOk result (numerics.new.items ≡ numerics.old.items ++ listed roster.now.facts session channel.now) }
-{
-    match roster.channel(channel.as_slice()) {
-        Some((name, state)) => push_seen(alloc, numerics, session, name, state),
-        None => Ok(()),
-    }
 }
 
-/// Adds the channels of a list, in its order.
-fn push_given(
-    alloc: Global,
-    roster: &Roster,
-    numerics: &mut Vec<Numeric>,
-    session: SessionId,
-    channels: &[Octets],
-) -> Result<(), AllocError>
-    ensures { OnOk result (numerics.new.items ≡ numerics.old.items ++ flat_map (listed roster.now.facts session) channels.now) }
-{
-    for channel in channels {
-        push_channel(alloc, roster, numerics, session, channel)?;
+impl TellsOf<Octets> for Given<'_> {
+    ghost use Rattle.query_commands.specs.Listing.{listed};
+
+    ghost told_of = { λ given channel. listed given.roster.now.facts given.session channel };
+
+    #[tactic(auto, unfolding(crate::specs::Visible::channel_for))]
+    fn tell_of(&self, telling: &mut Telling<'_>, channel: &Octets) -> Result<(), AllocError> {
+        match self.roster.channel(channel.as_slice()) {
+            Some((name, state)) => push_seen(self.alloc, telling, self.session, name, state),
+            None => Ok(()),
+        }
     }
-    Ok(())
 }
 
 /// Adds the channel at a place, from 0, in the order of making.
 fn push_at(
     alloc: Global,
     roster: &Roster,
-    numerics: &mut Vec<Numeric>,
+    telling: &mut Telling<'_>,
     session: SessionId,
     place: usize,
 ) -> Result<(), AllocError>
-    ensures { OnOk result (numerics.new.items ≡ numerics.old.items ++ of_one (listed roster.now.facts session) (slice_get (all_channels roster.now.facts) place)) }
+    ensures { OnOk result (telling.new ≡ telling_more telling.old (of_one (listed roster.now.facts session) (slice_get (all_channels roster.now.facts) place))) }
 {
     let Some((name, state)) = roster.nth_channel(place) else {
         return Ok(());
     };
-    push_seen(alloc, numerics, session, name, state)?;
+    push_seen(alloc, telling, session, name, state)?;
     Ok(())
 }
 
@@ -113,31 +104,39 @@ fn push_at(
 fn push_all(
     alloc: Global,
     roster: &Roster,
-    numerics: &mut Vec<Numeric>,
+    telling: &mut Telling<'_>,
     session: SessionId,
 ) -> Result<(), AllocError>
-    ensures { OnOk result (numerics.new.items ≡ numerics.old.items ++ flat_map (listed roster.now.facts session) (all_channels roster.now.facts)) }
+    ensures { OnOk result (telling.new ≡ telling_more telling.old (flat_map (listed roster.now.facts session) (all_channels roster.now.facts))) }
 {
+    telling.reserve(roster.channel_count())?;
     for place in 0..roster.channel_count() {
-        push_at(alloc, roster, numerics, session, place)?;
+        push_at(alloc, roster, telling, session, place)?;
     }
     Ok(())
 }
 
 /// LIST: the channels of a list, or all, as far as the session is let see.
+#[tactic(auto, using(crate::proofs::Told::more_more))]
 pub(crate) fn answer(
     draft: &Draft<'_>,
+    telling: &mut Telling<'_>,
     session: SessionId,
     channels: &Option<OctetsList>,
-) -> Result<Vec<Numeric>, AllocError>
-    ensures { IfOk result (λ v. v.items ≡ lists_told draft.now.base session (channels_asked draft.now.base channels.now)) }
+) -> Result<(), AllocError>
+    ensures { OnOk result (telling.new ≡ telling_more telling.old (lists_told draft.now.base session (channels_asked draft.now.base channels.now))) }
 {
     let (alloc, roster) = (draft.alloc(), draft.before());
-    let mut numerics = Vec::new(alloc);
     match channels {
-        Some(channels) => push_given(alloc, roster, &mut numerics, session, channels.as_slice())?,
-        None => push_all(alloc, roster, &mut numerics, session)?,
+        Some(channels) => {
+            let given = Given {
+                alloc,
+                roster,
+                session,
+            };
+            tell_of_each(&given, telling, channels.as_slice())?
+        }
+        None => push_all(alloc, roster, telling, session)?,
     }
-    numerics.push(Numeric::ListEnd)?;
-    Ok(numerics)
+    telling.push(Numeric::ListEnd)
 }

@@ -1,10 +1,12 @@
 //! The message of the day (RFC 2812, sections 3.4.1 and 5.1).
-ghost use Rattle.std.specs.Prelude.{◌≡◌, ◌++◌, map, IfOk, OnOk};
+ghost use Rattle.std.specs.Prelude.{◌≡◌, map, OnOk};
 ghost use Rattle.numerics.specs.declared.numeric.Numeric.TheVariants.{Motd as MotdLine};
 ghost use Rattle.command_params.specs.Params.{IsRead};
+ghost use Rattle.query_commands.specs.Telling.{telling_more};
 ghost use Rattle.query_commands.specs.Motd.{motd_asked, motd_numerics, motd_query};
 
 use crate::Query;
+use crate::telling::Telling;
 use casemapping::is_same;
 use command_params::{ReadFault, copied_first};
 use drafts::Draft;
@@ -21,41 +23,45 @@ pub(crate) fn read(alloc: Global, params: &LineParameters<'_>) -> Result<Query, 
 }
 
 /// Adds lines of the message of the day.
-fn push_motd_lines(numerics: &mut Vec<Numeric>, lines: &[Octets]) -> Result<(), AllocError>
-    ensures { OnOk result (numerics.new.items ≡ numerics.old.items ++ map MotdLine lines.now) }
+#[tactic(auto, using(crate::proofs::Told::more_more))]
+fn push_motd_lines(telling: &mut Telling<'_>, lines: &[Octets]) -> Result<(), AllocError>
+    ensures { OnOk result (telling.new ≡ telling_more telling.old (map MotdLine lines.now)) }
 {
     for line in lines {
-        numerics.push(Numeric::Motd(line.clone()?))?;
+        telling.push(Numeric::Motd(line.clone()?))?;
     }
     Ok(())
 }
 
 /// Adds the message of the day.
-pub fn push_motd(numerics: &mut Vec<Numeric>, motd: &Option<OctetsList>) -> Result<(), AllocError>
-    ensures { OnOk result (numerics.new.items ≡ numerics.old.items ++ motd_numerics motd.now) }
+#[tactic(auto, using(crate::proofs::Told::more_more))]
+pub fn push_motd(telling: &mut Telling<'_>, motd: &Option<OctetsList>) -> Result<(), AllocError>
+    ensures { OnOk result (telling.new ≡ telling_more telling.old (motd_numerics motd.now)) }
 {
     match motd {
         Some(motd) => {
-            numerics.push(Numeric::MotdStart)?;
-            push_motd_lines(numerics, motd.as_slice())?;
-            numerics.push(Numeric::EndOfMotd)?;
+            telling.push(Numeric::MotdStart)?;
+            push_motd_lines(telling, motd.as_slice())?;
+            telling.push(Numeric::EndOfMotd)?;
         }
-        None => numerics.push(Numeric::NoMotd)?,
+        None => telling.push(Numeric::NoMotd)?,
     }
     Ok(())
 }
 
 /// MOTD: the message of the day of a server that was asked for, where it is this one.
-pub(crate) fn answer(draft: &Draft<'_>, server: &Option<Octets>) -> Result<Vec<Numeric>, AllocError>
-    ensures { IfOk result (λ v. v.items ≡ motd_asked draft.now.settings server.now) }
+pub(crate) fn answer(
+    draft: &Draft<'_>,
+    telling: &mut Telling<'_>,
+    server: &Option<Octets>,
+) -> Result<(), AllocError>
+    ensures { OnOk result (telling.new ≡ telling_more telling.old (motd_asked draft.now.settings server.now)) }
 {
     let settings = draft.before().settings();
-    let mut numerics = Vec::new(draft.alloc());
     match server {
         Some(server) if !is_same(server.as_slice(), settings.server.as_slice()) => {
-            numerics.push(Numeric::NoSuchServer(server.clone()?))?;
+            telling.push(Numeric::NoSuchServer(server.clone()?))
         }
-        _ => push_motd(&mut numerics, &settings.motd)?,
+        _ => push_motd(telling, &settings.motd),
     }
-    Ok(numerics)
 }

@@ -1,14 +1,17 @@
 //! NAMES, and who is on a channel as JOIN tells it (RFC 2812, section 3.2.5).
-ghost use Rattle.std.specs.Prelude.{◌≡◌, ◌++◌, true, map, IfOk, OnOk};
+ghost use Rattle.std.specs.Prelude.{◌≡◌, true, map, IfOk, OnOk};
 ghost use Rattle.std.specs.List.{flat_map};
 ghost use Rattle.numerics.specs.declared.numeric.Numeric.TheVariants.{NamReply};
 ghost use Rattle.numerics.specs.Numerics.{numeric as numeric_line};
 ghost use Rattle.numerics.specs.Outgoing.{room};
 ghost use Rattle.channel_state.specs.State.{among};
 ghost use Rattle.command_params.specs.Params.{IsRead};
+ghost use Rattle.query_commands.specs.Telling.{telling_more};
 ghost use Rattle.query_commands.specs.Names.{rank_of, member_name, member_names, names_room, name_lines, all_told, names_told, with_members, names_of, names_asked, names_query};
 
 use crate::Query;
+use crate::each::{TellsOf, tell_of_each};
+use crate::telling::Telling;
 use crate::visible::{Listed, channel_for, members_for};
 use channel_state::ChannelState;
 use chronicle::SessionId;
@@ -121,17 +124,18 @@ fn names_room(
 }
 
 /// Adds a numeric for each line of names.
+#[tactic(auto, using(crate::proofs::Told::more_more))]
 fn push_lines(
-    numerics: &mut Vec<Numeric>,
+    telling: &mut Telling<'_>,
     secret: bool,
     channel: &Octets,
     lines: Vec<OctetsList>,
 ) -> Result<(), AllocError>
-    ensures { OnOk result (numerics.new.items ≡ numerics.old.items ++ map (NamReply secret channel.now) lines.items) }
+    ensures { OnOk result (telling.new ≡ telling_more telling.old (map (NamReply secret channel.now) lines.items)) }
 {
     for names in lines {
         let channel = channel.clone()?;
-        numerics.push(Numeric::NamReply {
+        telling.push(Numeric::NamReply {
             secret,
             channel,
             names,
@@ -143,110 +147,98 @@ fn push_lines(
 /// Adds names in as few lines as their order allows.
 fn push_names(
     alloc: Global,
-    numerics: &mut Vec<Numeric>,
+    telling: &mut Telling<'_>,
     listed: &Listed<'_>,
     names: Vec<Octets>,
     room: usize,
 ) -> Result<(), AllocError>
-    ensures { OnOk result (numerics.new.items ≡ numerics.old.items ++ name_lines listed.now room names.items) }
+    ensures { OnOk result (telling.new ≡ telling_more telling.old (name_lines listed.now room names.items)) }
 {
     let lines = split_names(alloc, names, room)?;
-    push_lines(numerics, listed.state.modes().secret, listed.name, lines)
+    push_lines(telling, listed.state.modes().secret, listed.name, lines)
 }
 
 /// Adds the names of members of a channel, and that they are all.
+#[tactic(auto, using(crate::proofs::Told::more_more))]
 fn push_all(
     draft: &Draft<'_>,
-    numerics: &mut Vec<Numeric>,
+    telling: &mut Telling<'_>,
     session: SessionId,
     listed: &Listed<'_>,
     names: Vec<Octets>,
 ) -> Result<(), AllocError>
-    ensures { OnOk result (numerics.new.items ≡ numerics.old.items ++ all_told draft.now.settings draft.now.base session listed.now names.items) }
+    ensures { OnOk result (telling.new ≡ telling_more telling.old (all_told draft.now.settings draft.now.base session listed.now names.items)) }
 {
     let room = names_room(draft, session, listed)?;
-    push_names(draft.alloc(), numerics, listed, names, room)?;
+    push_names(draft.alloc(), telling, listed, names, room)?;
     let channel = listed.name.clone()?;
-    numerics.push(Numeric::EndOfNames(channel))?;
-    Ok(())
+    telling.push(Numeric::EndOfNames(channel))
 }
 
 /// Adds who is on a channel that a session sees.
 fn push_listed(
     draft: &Draft<'_>,
-    numerics: &mut Vec<Numeric>,
+    telling: &mut Telling<'_>,
     session: SessionId,
     listed: &Listed<'_>,
 ) -> Result<(), AllocError>
-    ensures { OnOk result (numerics.new.items ≡ numerics.old.items ++ names_told draft.now.settings draft.now.base session listed.now) }
+    ensures { OnOk result (telling.new ≡ telling_more telling.old (names_told draft.now.settings draft.now.base session listed.now)) }
 {
     let names = member_names(draft.alloc(), draft.before(), session, listed.state)?;
-    push_all(draft, numerics, session, listed, names)
+    push_all(draft, telling, session, listed, names)
 }
 
 /// Adds who is on a channel, as a session that is one of them is told: 353 in as few lines as fit, and 366. The channel is this
 /// one but for its members. Nicknames are those before the record.
 pub fn push_members(
     draft: &Draft<'_>,
-    numerics: &mut Vec<Numeric>,
+    telling: &mut Telling<'_>,
     session: SessionId,
     name: &Octets,
     state: &ChannelState,
     members: &[SessionId],
 ) -> Result<(), AllocError>
     requires { among session members.now ≡ true }
-    ensures { OnOk result (numerics.new.items ≡ numerics.old.items ++ names_told draft.now.settings draft.now.base session (with_members name.now state.now.state members.now)) }
+    ensures { OnOk result (telling.new ≡ telling_more telling.old (names_told draft.now.settings draft.now.base session (with_members name.now state.now.state members.now))) }
 {
     let names = names_in_order(draft.alloc(), draft.before(), state, members)?;
-    push_all(draft, numerics, session, &Listed { name, state }, names)
+    push_all(draft, telling, session, &Listed { name, state }, names)
 }
 
-/// Adds what a session is told of one name.
-fn push_channel(
-    draft: &Draft<'_>,
-    numerics: &mut Vec<Numeric>,
+/// Whom a session is told of, who asks for them by the names of channels.
+#[derive(Clone, Copy)]
+struct Asking<'a, 'b> {
+    draft: &'a Draft<'b>,
     session: SessionId,
-    channel: &Octets,
-) -> Result<(), AllocError>
-    ensures { OnOk result (numerics.new.items ≡ numerics.old.items ++ names_of draft.now.settings draft.now.base session channel.now) }
-{
-    match channel_for(draft.before(), session, channel.as_slice()) {
-        Some(listed) => push_listed(draft, numerics, session, &listed),
-        None => {
-            let channel = channel.clone()?;
-            numerics.push(Numeric::EndOfNames(channel))?;
-            Ok(())
+}
+
+impl TellsOf<Octets> for Asking<'_, '_> {
+    ghost use Rattle.query_commands.specs.Names.{names_of};
+
+    ghost told_of = { λ asking channel. names_of asking.draft.now.settings asking.draft.now.base asking.session channel };
+
+    fn tell_of(&self, telling: &mut Telling<'_>, channel: &Octets) -> Result<(), AllocError> {
+        match channel_for(self.draft.before(), self.session, channel.as_slice()) {
+            Some(listed) => push_listed(self.draft, telling, self.session, &listed),
+            None => {
+                let channel = channel.clone()?;
+                telling.push(Numeric::EndOfNames(channel))
+            }
         }
     }
-}
-
-/// Adds what a session is told of names, in order.
-fn push_channels(
-    draft: &Draft<'_>,
-    numerics: &mut Vec<Numeric>,
-    session: SessionId,
-    channels: &[Octets],
-) -> Result<(), AllocError>
-    ensures { OnOk result (numerics.new.items ≡ numerics.old.items ++ flat_map (names_of draft.now.settings draft.now.base session) channels.now) }
-{
-    for channel in channels {
-        push_channel(draft, numerics, session, channel)?;
-    }
-    Ok(())
 }
 
 /// NAMES: who is on each channel of a list, as far as the session is let see.
 pub(crate) fn answer(
     draft: &Draft<'_>,
+    telling: &mut Telling<'_>,
     session: SessionId,
     channels: &Option<OctetsList>,
-) -> Result<Vec<Numeric>, AllocError>
-    ensures { IfOk result (λ v. v.items ≡ names_asked draft.now.settings draft.now.base session channels.now) }
+) -> Result<(), AllocError>
+    ensures { OnOk result (telling.new ≡ telling_more telling.old (names_asked draft.now.settings draft.now.base session channels.now)) }
 {
-    let mut numerics = Vec::new(draft.alloc());
     match channels {
-        Some(channels) => push_channels(draft, &mut numerics, session, channels.as_slice())?,
-        None => numerics.push(Numeric::EndOfNames(Octets::copied(draft.alloc(), b"*")?))?,
+        Some(channels) => tell_of_each(&Asking { draft, session }, telling, channels.as_slice()),
+        None => telling.push(Numeric::EndOfNames(Octets::copied(draft.alloc(), b"*")?)),
     }
-    Ok(numerics)
 }

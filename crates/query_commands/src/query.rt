@@ -1,15 +1,16 @@
 //! The commands that only ask: how each is named and read, and what each is told.
-ghost use Rattle.std.specs.Prelude.{◌≡◌, IfOk, OnOk};
+ghost use Rattle.std.specs.Prelude.{◌≡◌, OnOk};
 ghost use Rattle.drafts.specs.Words.{grown};
 ghost use Rattle.command_params.specs.Params.{IsReadByName};
 ghost use Rattle.query_commands.specs.Query.{EachQueryIsNamed, NoQueryIsMisnamed, queries, query_of, told};
+ghost use Rattle.query_commands.specs.Telling.{telling_more};
 
+use crate::telling::Telling;
 use crate::{listing, motd, names, who, whois};
 use chronicle::SessionId;
 use command_params::{ReadFault, is_named};
-use drafts::{Draft, tell_all};
+use drafts::Draft;
 use line_grammar::{LineParameters, Octets, OctetsList};
-use numerics::Numeric;
 use std::alloc::{AllocError, Global};
 
 /// What is asked. Names are as given. A list of names has no empty one, and none that repeats another in either
@@ -57,16 +58,21 @@ pub fn no_query_is_misnamed()
     ensures { NoQueryIsMisnamed }
 {}
 
-/// What a session is told that asks.
-fn told(draft: &Draft<'_>, session: SessionId, query: &Query) -> Result<Vec<Numeric>, AllocError>
-    ensures { IfOk result (λ v. v.items ≡ told draft.now.settings draft.now.base session query.now) }
+/// Adds what a session is told that asks.
+fn answer(
+    draft: &Draft<'_>,
+    telling: &mut Telling<'_>,
+    session: SessionId,
+    query: &Query,
+) -> Result<(), AllocError>
+    ensures { OnOk result (telling.new ≡ telling_more telling.old (told draft.now.settings draft.now.base session query.now)) }
 {
     match query {
-        Query::Names { channels } => names::answer(draft, session, channels),
-        Query::List { channels } => listing::answer(draft, session, channels),
-        Query::Who { name } => who::answer(draft, session, name),
-        Query::Whois { nick } => whois::answer(draft, session, nick),
-        Query::Motd { server } => motd::answer(draft, server),
+        Query::Names { channels } => names::answer(draft, telling, session, channels),
+        Query::List { channels } => listing::answer(draft, telling, session, channels),
+        Query::Who { name } => who::answer(draft, telling, session, name),
+        Query::Whois { nick } => whois::answer(draft, telling, session, nick),
+        Query::Motd { server } => motd::answer(draft, telling, server),
     }
 }
 
@@ -75,6 +81,7 @@ pub fn ask(draft: &mut Draft, session: SessionId, query: &Query) -> Result<(), A
     requires { draft.old.facts ≡ draft.old.base }
     ensures { OnOk result (draft.new ≡ grown draft.old (queries draft.old.settings draft.old.facts session query.now)) }
 {
-    let numerics = told(draft, session, query)?;
-    tell_all(draft, session, &numerics)
+    let mut telling = Telling::new(draft, session)?;
+    answer(draft, &mut telling, session, query)?;
+    telling.finish(draft)
 }

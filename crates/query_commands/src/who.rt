@@ -1,11 +1,14 @@
 //! WHO (RFC 2812, section 3.6.1).
-ghost use Rattle.std.specs.Prelude.{◌≡◌, ◌∷◌, ◌++◌, [], map, unwrap_or, option_copied, Some, IfOk, OnOk};
+ghost use Rattle.std.specs.Prelude.{◌≡◌, ◌∷◌, [], map, unwrap_or, option_copied, Some, IfOk, OnOk};
 ghost use Rattle.numerics.specs.declared.numeric.Numeric.TheVariants.{WhoReply, EndOfWho};
 ghost use Rattle.command_params.specs.Params.{IsRead};
+ghost use Rattle.query_commands.specs.Telling.{telling_more};
 ghost use Rattle.query_commands.specs.Who.{who_asked, who_of, who_query, who_seen};
 
 use crate::Query;
+use crate::each::{TellsOf, tell_of_each};
 use crate::names::rank_of;
+use crate::telling::Telling;
 use crate::visible::{Listed, channel_for, members_for};
 use chronicle::SessionId;
 use command_params::{ReadFault, copied_first};
@@ -58,77 +61,86 @@ fn who_of(
     })
 }
 
-/// Adds a member of a channel.
-fn push_member(
+/// Members of a channel.
+#[derive(Clone, Copy)]
+struct Members<'a, 'b> {
     alloc: Global,
-    roster: &Roster,
-    numerics: &mut Vec<Numeric>,
-    listed: &Listed<'_>,
-    member: SessionId,
-) -> Result<(), AllocError>
-    ensures { OnOk result (numerics.new.items ≡ numerics.old.items ++ WhoReply (who_of roster.now.facts listed.now member) ∷ []) }
-{
-    let who = who_of(alloc, roster, listed, member)?;
-    numerics.push(Numeric::WhoReply(who))?;
-    Ok(())
+    roster: &'a Roster,
+    listed: &'a Listed<'b>,
+}
+
+impl TellsOf<SessionId> for Members<'_, '_> {
+    ghost use Rattle.std.specs.Prelude.{◌∷◌, []};
+    ghost use Rattle.numerics.specs.declared.numeric.Numeric.TheVariants.{WhoReply};
+    ghost use Rattle.query_commands.specs.Who.{who_of};
+
+    ghost told_of = { λ of member. WhoReply (who_of of.roster.now.facts of.listed.now member) ∷ [] };
+
+    fn tell_of(&self, telling: &mut Telling<'_>, member: &SessionId) -> Result<(), AllocError> {
+        let who = who_of(self.alloc, self.roster, self.listed, *member)?;
+        telling.push(Numeric::WhoReply(who))
+    }
 }
 
 /// Adds members of a channel, in order.
-fn push_each(
+#[tactic(auto, using(std::proofs::lemmas::List::Concat::flat_map_single))]
+fn push_members(
     alloc: Global,
     roster: &Roster,
-    numerics: &mut Vec<Numeric>,
+    telling: &mut Telling<'_>,
     listed: &Listed<'_>,
     members: &[SessionId],
 ) -> Result<(), AllocError>
-    ensures { OnOk result (numerics.new.items ≡ numerics.old.items ++ map (λ t. WhoReply (who_of roster.now.facts listed.now t)) members.now) }
+    ensures { OnOk result (telling.new ≡ telling_more telling.old (map (λ t. WhoReply (who_of roster.now.facts listed.now t)) members.now)) }
 {
-    for member in members {
-        push_member(alloc, roster, numerics, listed, *member)?;
-    }
-    Ok(())
+    telling.reserve(members.len())?;
+    let of = Members {
+        alloc,
+        roster,
+        listed,
+    };
+    tell_of_each(&of, telling, members)
 }
 
-/// What a session is told of a channel that it sees.
-fn who_listed(
+/// Adds what a session is told of a channel that it sees.
+#[tactic(auto, using(crate::proofs::Told::more_more))]
+fn push_listed(
     alloc: Global,
     roster: &Roster,
+    telling: &mut Telling<'_>,
     session: SessionId,
     listed: &Listed<'_>,
-) -> Result<Vec<Numeric>, AllocError>
-    ensures { IfOk result (λ v. v.items ≡ who_seen roster.now.facts session [] (Some listed.now)) }
+) -> Result<(), AllocError>
+    ensures { OnOk result (telling.new ≡ telling_more telling.old (who_seen roster.now.facts session [] (Some listed.now))) }
 {
-    let mut numerics = Vec::new(alloc);
     let members = members_for(alloc, roster, session, listed.state)?;
-    push_each(alloc, roster, &mut numerics, listed, members.as_slice())?;
-    numerics.push(Numeric::EndOfWho(listed.name.clone()?))?;
-    Ok(numerics)
+    push_members(alloc, roster, telling, listed, members.as_slice())?;
+    telling.push(Numeric::EndOfWho(listed.name.clone()?))
 }
 
-/// What a session is told of a name that is no channel it sees.
-fn who_ends(alloc: Global, name: &[u8]) -> Result<Vec<Numeric>, AllocError>
-    ensures { IfOk result (λ v. v.items ≡ EndOfWho name.now ∷ []) }
+/// Adds what a session is told of a name that is no channel it sees.
+fn push_end(alloc: Global, telling: &mut Telling<'_>, name: &[u8]) -> Result<(), AllocError>
+    ensures { OnOk result (telling.new ≡ telling_more telling.old (EndOfWho name.now ∷ [])) }
 {
-    let mut numerics = Vec::new(alloc);
     let name = Octets::copied(alloc, name)?;
-    numerics.push(Numeric::EndOfWho(name))?;
-    Ok(numerics)
+    telling.push(Numeric::EndOfWho(name))
 }
 
 /// WHO: who is on a channel, as far as the session is let see.
 pub(crate) fn answer(
     draft: &Draft<'_>,
+    telling: &mut Telling<'_>,
     session: SessionId,
     name: &Option<Octets>,
-) -> Result<Vec<Numeric>, AllocError>
-    ensures { IfOk result (λ v. v.items ≡ who_asked draft.now.base session name.now) }
+) -> Result<(), AllocError>
+    ensures { OnOk result (telling.new ≡ telling_more telling.old (who_asked draft.now.base session name.now)) }
 {
     let (alloc, roster) = (draft.alloc(), draft.before());
     let Some(name) = name else {
-        return who_ends(alloc, b"*");
+        return push_end(alloc, telling, b"*");
     };
     match channel_for(roster, session, name.as_slice()) {
-        Some(listed) => who_listed(alloc, roster, session, &listed),
-        None => who_ends(alloc, name.as_slice()),
+        Some(listed) => push_listed(alloc, roster, telling, session, &listed),
+        None => push_end(alloc, telling, name.as_slice()),
     }
 }

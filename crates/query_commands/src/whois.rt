@@ -6,10 +6,12 @@ ghost use Rattle.roster.specs.LookBack.{nick};
 ghost use Rattle.drafts.specs.Words.{title};
 ghost use Rattle.command_params.specs.Params.{IsRead};
 ghost use Rattle.query_commands.specs.Visible.{channel_for};
+ghost use Rattle.query_commands.specs.Telling.{telling_more};
 ghost use Rattle.query_commands.specs.Whois.{away_told, channel_titles, channels_room, channels_told, nick_asked, title_seen, user_line, user_told, whois_asked, whois_query};
 
 use crate::Query;
 use crate::names::{rank_of, room_of};
+use crate::telling::Telling;
 use crate::visible::channel_for;
 use crate::who::real_of;
 use chronicle::SessionId;
@@ -109,16 +111,17 @@ fn channels_room(draft: &Draft<'_>, session: SessionId, nick: &Octets) -> Result
 }
 
 /// Adds a numeric for each line of channels.
+#[tactic(auto, using(crate::proofs::Told::more_more))]
 fn push_lines(
-    numerics: &mut Vec<Numeric>,
+    telling: &mut Telling<'_>,
     nick: &Octets,
     lines: Vec<OctetsList>,
 ) -> Result<(), AllocError>
-    ensures { OnOk result (numerics.new.items ≡ numerics.old.items ++ map (WhoisChannels nick.now) lines.items) }
+    ensures { OnOk result (telling.new ≡ telling_more telling.old (map (WhoisChannels nick.now) lines.items)) }
 {
     for channels in lines {
         let nick = nick.clone()?;
-        numerics.push(Numeric::WhoisChannels { nick, channels })?;
+        telling.push(Numeric::WhoisChannels { nick, channels })?;
     }
     Ok(())
 }
@@ -126,116 +129,113 @@ fn push_lines(
 /// Adds the channels of a user that a session sees, in as few lines as their order allows.
 fn push_channels(
     draft: &Draft<'_>,
-    numerics: &mut Vec<Numeric>,
+    telling: &mut Telling<'_>,
     session: SessionId,
     user: SessionId,
     nick: &Octets,
 ) -> Result<(), AllocError>
-    ensures { OnOk result (numerics.new.items ≡ numerics.old.items ++ channels_told draft.now.settings draft.now.base session user nick.now) }
+    ensures { OnOk result (telling.new ≡ telling_more telling.old (channels_told draft.now.settings draft.now.base session user nick.now)) }
 {
     let room = channels_room(draft, session, nick)?;
     let titles = titles_of(draft.alloc(), draft.before(), session, user)?;
     let lines = split_names(draft.alloc(), titles, room)?;
-    push_lines(numerics, nick, lines)
+    push_lines(telling, nick, lines)
 }
 
 /// Adds who a user is.
 fn push_user(
     alloc: Global,
     roster: &Roster,
-    numerics: &mut Vec<Numeric>,
+    telling: &mut Telling<'_>,
     user: SessionId,
     nick: &Octets,
 ) -> Result<(), AllocError>
-    ensures { OnOk result (numerics.new.items ≡ numerics.old.items ++ user_line roster.now.facts user nick.now ∷ []) }
+    ensures { OnOk result (telling.new ≡ telling_more telling.old (user_line roster.now.facts user nick.now ∷ [])) }
 {
     let nick = nick.clone()?;
     let host = Octets::copied(alloc, roster.host_of(user))?;
     let real = real_of(alloc, roster.real_of(user))?;
     let user = title_of(alloc, roster.user_of(user))?;
-    numerics.push(Numeric::WhoisUser {
+    telling.push(Numeric::WhoisUser {
         nick,
         user,
         host,
         real,
-    })?;
-    Ok(())
+    })
 }
 
 /// Adds that a user is away, where it is.
 fn push_away(
-    numerics: &mut Vec<Numeric>,
+    telling: &mut Telling<'_>,
     nick: &Octets,
     away: Option<&Octets>,
 ) -> Result<(), AllocError>
-    ensures { OnOk result (numerics.new.items ≡ numerics.old.items ++ away_told nick.now (option_copied away.entry)) }
+    ensures { OnOk result (telling.new ≡ telling_more telling.old (away_told nick.now (option_copied away.entry))) }
 {
     if let Some(text) = away {
         let nick = nick.clone()?;
         let text = text.clone()?;
-        numerics.push(Numeric::Away { nick, text })?;
+        telling.push(Numeric::Away { nick, text })?;
     }
     Ok(())
 }
 
 /// Adds which server a user is on.
-fn push_server(numerics: &mut Vec<Numeric>, nick: &Octets, info: &Octets) -> Result<(), AllocError>
-    ensures { OnOk result (numerics.new.items ≡ numerics.old.items ++ WhoisServer nick.now info.now ∷ []) }
+fn push_server(telling: &mut Telling<'_>, nick: &Octets, info: &Octets) -> Result<(), AllocError>
+    ensures { OnOk result (telling.new ≡ telling_more telling.old (WhoisServer nick.now info.now ∷ [])) }
 {
     let nick = nick.clone()?;
     let info = info.clone()?;
-    numerics.push(Numeric::WhoisServer { nick, info })?;
-    Ok(())
+    telling.push(Numeric::WhoisServer { nick, info })
 }
 
 /// Adds that no more is told of a nickname.
-fn push_end(numerics: &mut Vec<Numeric>, nick: &Octets) -> Result<(), AllocError>
-    ensures { OnOk result (numerics.new.items ≡ numerics.old.items ++ EndOfWhois nick.now ∷ []) }
+fn push_end(telling: &mut Telling<'_>, nick: &Octets) -> Result<(), AllocError>
+    ensures { OnOk result (telling.new ≡ telling_more telling.old (EndOfWhois nick.now ∷ [])) }
 {
-    numerics.push(Numeric::EndOfWhois(nick.clone()?))?;
-    Ok(())
+    telling.push(Numeric::EndOfWhois(nick.clone()?))
 }
 
-/// What a session is told of a user.
-fn user_told(
+/// Adds what a session is told of a user.
+#[tactic(auto, using(crate::proofs::Told::more_more))]
+fn push_found(
     draft: &Draft<'_>,
+    telling: &mut Telling<'_>,
     session: SessionId,
     user: SessionId,
-) -> Result<Vec<Numeric>, AllocError>
-    ensures { IfOk result (λ v. v.items ≡ user_told draft.now.settings draft.now.base session user (title (nick draft.now.base user))) }
+) -> Result<(), AllocError>
+    ensures { OnOk result (telling.new ≡ telling_more telling.old (user_told draft.now.settings draft.now.base session user (title (nick draft.now.base user)))) }
 {
     let alloc = draft.alloc();
     let roster = draft.before();
     let nick = title_of(alloc, roster.nick_of(user))?;
-    let mut numerics = Vec::new(alloc);
-    push_user(alloc, roster, &mut numerics, user, &nick)?;
-    push_channels(draft, &mut numerics, session, user, &nick)?;
-    push_server(&mut numerics, &nick, &roster.settings().info)?;
-    push_away(&mut numerics, &nick, roster.away_of(user))?;
-    push_end(&mut numerics, &nick)?;
-    Ok(numerics)
+    push_user(alloc, roster, telling, user, &nick)?;
+    push_channels(draft, telling, session, user, &nick)?;
+    push_server(telling, &nick, &roster.settings().info)?;
+    push_away(telling, &nick, roster.away_of(user))?;
+    push_end(telling, &nick)
 }
 
-/// What a session is told of a nickname that no user has.
-fn nobody_told(alloc: Global, nick: &Octets) -> Result<Vec<Numeric>, AllocError>
-    ensures { IfOk result (λ v. v.items ≡ NoSuchNick nick.now ∷ EndOfWhois nick.now ∷ []) }
+/// Adds what a session is told of a nickname that no user has.
+#[tactic(auto, using(crate::proofs::Told::more_more))]
+fn push_nobody(telling: &mut Telling<'_>, nick: &Octets) -> Result<(), AllocError>
+    ensures { OnOk result (telling.new ≡ telling_more telling.old (NoSuchNick nick.now ∷ EndOfWhois nick.now ∷ [])) }
 {
-    let mut numerics = Vec::new(alloc);
-    numerics.push(Numeric::NoSuchNick(nick.clone()?))?;
-    push_end(&mut numerics, nick)?;
-    Ok(numerics)
+    telling.push(Numeric::NoSuchNick(nick.clone()?))?;
+    push_end(telling, nick)
 }
 
 /// WHOIS: who has a nickname, with the channels that the session is let see.
 pub(crate) fn answer(
     draft: &Draft<'_>,
+    telling: &mut Telling<'_>,
     session: SessionId,
     nick: &Octets,
-) -> Result<Vec<Numeric>, AllocError>
-    ensures { IfOk result (λ v. v.items ≡ whois_asked draft.now.settings draft.now.base session nick.now) }
+) -> Result<(), AllocError>
+    ensures { OnOk result (telling.new ≡ telling_more telling.old (whois_asked draft.now.settings draft.now.base session nick.now)) }
 {
     match draft.before().find(nick.as_slice()) {
-        Some(user) => user_told(draft, session, user),
-        None => nobody_told(draft.alloc(), nick),
+        Some(user) => push_found(draft, telling, session, user),
+        None => push_nobody(telling, nick),
     }
 }

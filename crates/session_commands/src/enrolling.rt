@@ -8,9 +8,10 @@ ghost use Rattle.session_commands.specs.Registration.{is_held, shows_nick, renam
 
 use crate::welcome::welcome;
 use chronicle::{SessionId, Why};
-use drafts::{Draft, nick_line, prefix_of, tell, tell_all};
+use drafts::{Draft, nick_line, prefix_of, tell};
 use line_grammar::Octets;
 use numerics::Numeric;
+use query_commands::Telling;
 use registration::{NickAnswer, UserAnswer};
 use roster::{Deed, Roster};
 use std::alloc::AllocError;
@@ -151,8 +152,10 @@ fn greet(draft: &mut Draft, session: SessionId) -> Result<(), AllocError>
     ensures { OnOk result (draft.new ≡ grown draft.old (tells_all draft.old.settings draft.old.facts session (welcome_numerics draft.old.settings (prefix draft.old.facts session)))) }
 {
     let source = prefix_of(draft, session)?;
-    let numerics = welcome(draft.alloc(), draft.before().settings(), source)?;
-    tell_all(draft, session, &numerics)
+    let mut telling = Telling::new(draft, session)?;
+    let settings = draft.before().settings();
+    welcome(draft.alloc(), &mut telling, settings, source)?;
+    telling.finish(draft)
 }
 
 /// A session is welcomed, and registered from then on.

@@ -1,13 +1,14 @@
 //! What a session is told when it is registered (RFC 2812, section 5.1).
-ghost use Rattle.std.specs.Prelude.{◌≡◌, ◌∷◌, ◌++◌, [], map, IfOk, OnOk};
+ghost use Rattle.std.specs.Prelude.{◌≡◌, map, IfOk, OnOk};
 ghost use Rattle.numerics.specs.declared.numeric.Numeric.TheVariants.{ISupport};
 ghost use Rattle.numerics.specs.CivilTime.{time_text};
 ghost use Rattle.registration.specs.Settings.{IsWellSet};
+ghost use Rattle.query_commands.specs.Telling.{telling_more};
 ghost use Rattle.session_commands.specs.Welcome.{support_numerics, welcome_numerics};
 
 use line_grammar::{Octets, OctetsList};
 use numerics::{Numeric, TimeFault, split_tokens, time_text, tokens};
-use query_commands::push_motd;
+use query_commands::{Telling, push_motd};
 use registration::Settings;
 use std::alloc::{AllocError, Global};
 
@@ -15,22 +16,23 @@ use std::alloc::{AllocError, Global};
 const SUPPORT_ROOM: usize = 370;
 
 /// Adds a numeric for each line of tokens.
-fn push_lines(numerics: &mut Vec<Numeric>, lines: Vec<OctetsList>) -> Result<(), AllocError>
-    ensures { OnOk result (numerics.new.items ≡ numerics.old.items ++ map ISupport lines.items) }
+#[tactic(auto, using(query_commands::proofs::Told::more_more))]
+fn push_lines(telling: &mut Telling<'_>, lines: Vec<OctetsList>) -> Result<(), AllocError>
+    ensures { OnOk result (telling.new ≡ telling_more telling.old (map ISupport lines.items)) }
 {
     for words in lines {
-        numerics.push(Numeric::ISupport(words))?;
+        telling.push(Numeric::ISupport(words))?;
     }
     Ok(())
 }
 
 /// Adds what the server supports.
-fn push_support(alloc: Global, numerics: &mut Vec<Numeric>) -> Result<(), AllocError>
-    ensures { OnOk result (numerics.new.items ≡ numerics.old.items ++ support_numerics) }
+fn push_support(alloc: Global, telling: &mut Telling<'_>) -> Result<(), AllocError>
+    ensures { OnOk result (telling.new ≡ telling_more telling.old support_numerics) }
 {
     let tokens = tokens(alloc)?;
     let lines = split_tokens(alloc, tokens, SUPPORT_ROOM)?;
-    push_lines(numerics, lines)
+    push_lines(telling, lines)
 }
 
 /// The text of the moment at which a server was created.
@@ -45,21 +47,21 @@ fn created_text(alloc: Global, settings: &Settings) -> Result<Octets, AllocError
     }
 }
 
-/// What whoever registers is told.
+/// Adds what whoever registers is told.
+#[tactic(auto, using(query_commands::proofs::Told::more_more))]
 pub(crate) fn welcome(
     alloc: Global,
+    telling: &mut Telling<'_>,
     settings: &Settings,
     source: Octets,
-) -> Result<Vec<Numeric>, AllocError>
+) -> Result<(), AllocError>
     requires { IsWellSet settings.now }
-    ensures { IfOk result (λ v. v.items ≡ welcome_numerics settings.now source) }
+    ensures { OnOk result (telling.new ≡ telling_more telling.old (welcome_numerics settings.now source)) }
 {
-    let mut numerics = Vec::new(alloc);
-    numerics.push(Numeric::Welcome(source))?;
-    numerics.push(Numeric::YourHost(settings.version.clone()?))?;
-    numerics.push(Numeric::Created(created_text(alloc, settings)?))?;
-    numerics.push(Numeric::MyInfo(settings.version.clone()?))?;
-    push_support(alloc, &mut numerics)?;
-    push_motd(&mut numerics, &settings.motd)?;
-    Ok(numerics)
+    telling.push(Numeric::Welcome(source))?;
+    telling.push(Numeric::YourHost(settings.version.clone()?))?;
+    telling.push(Numeric::Created(created_text(alloc, settings)?))?;
+    telling.push(Numeric::MyInfo(settings.version.clone()?))?;
+    push_support(alloc, telling)?;
+    push_motd(telling, &settings.motd)
 }

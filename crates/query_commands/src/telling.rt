@@ -1,0 +1,96 @@
+//! An answer of many lines, each spelled as soon as it is told (RFC 2812, section 2.4).
+ghost use Rattle.std.specs.Prelude.{◌≡◌, ◌∷◌, [], map, IfOk, OnOk};
+ghost use Rattle.drafts.specs.declared.effect.Effect.TheVariants.{Answer};
+ghost use Rattle.drafts.specs.Words.{grown};
+
+use chronicle::SessionId;
+use drafts::{Draft, title_of};
+use ghosts::{Snapshot, append, blank};
+use line_grammar::Octets;
+use numerics::{Line, Numeric};
+use std::alloc::{AllocError, Global};
+use std::collections::LinkedList;
+use std::marker::Model;
+
+/// The lines of an answer so far. Clauses see its numerics, of which none is kept.
+#[derive(Drop)]
+pub struct Telling<'a> {
+    alloc: Global,
+    server: &'a [u8],
+    to: Octets,
+    lines: Vec<Line>,
+    numerics: Snapshot<LinkedList<Numeric>>,
+}
+
+impl<'a> Model for Telling<'a> {
+    ghost use Rattle.std.specs.Prelude.{◌≡◌, map};
+    ghost use Rattle.numerics.specs.Numerics.{numeric};
+    ghost use Rattle.query_commands.specs.Telling.{Telling};
+
+    ghost Value = { Telling };
+
+    ghost view = { λ a. record { server = a.server.now; to = a.to; items = a.numerics.value } };
+
+    ghost invariant = { λ a. a.lines.items ≡ map (numeric a.server.now a.to) a.numerics.value };
+}
+
+/// Answers with lines, in order.
+fn answer_all(draft: &mut Draft, lines: Vec<Line>) -> Result<(), AllocError>
+    ensures { OnOk result (draft.new ≡ grown draft.old (map Answer lines.items)) }
+{
+    for line in lines {
+        draft.answer(line)?;
+    }
+    Ok(())
+}
+
+impl<'a> Telling<'a> {
+    ghost use Rattle.query_commands.specs.Telling.{answers, nothing_told, telling_more};
+
+    /// Tells a session nothing yet. Its nickname is looked up once, as it is now.
+    pub fn new(draft: &Draft<'a>, session: SessionId) -> Result<Telling<'a>, AllocError>
+        ensures { IfOk result (λ t. t ≡ nothing_told draft.now.settings draft.now.facts session) }
+    {
+        let alloc = draft.alloc();
+        let to = title_of(alloc, draft.nick_of(session))?;
+        Ok(Telling {
+            alloc,
+            server: draft.before().settings().server.as_slice(),
+            to,
+            lines: Vec::new(alloc),
+            numerics: blank(alloc),
+        })
+    }
+
+    /// Has room for as many lines more.
+    pub(crate) fn reserve(&mut self, count: usize) -> Result<(), AllocError>
+        ensures { self.new ≡ self.old }
+    {
+        self.lines.reserve(count)?;
+        Ok(())
+    }
+
+    /// Has a line more, which says this numeric.
+    fn say(&mut self, numeric: &Numeric) -> Result<(), AllocError>
+        ensures { OnOk result (self.new ≡ telling_more self.old (numeric.now ∷ [])) }
+    {
+        let line = numeric.line(self.alloc, self.server, self.to.as_slice())?;
+        self.lines.push(line)?;
+        append(&mut self.numerics, numeric);
+        Ok(())
+    }
+
+    /// Tells a numeric.
+    pub fn push(&mut self, numeric: Numeric) -> Result<(), AllocError>
+        ensures { OnOk result (self.new ≡ telling_more self.old (numeric ∷ [])) }
+    {
+        self.say(&numeric)
+    }
+
+    /// Answers with all that was told, in order.
+    pub fn finish(self, draft: &mut Draft<'_>) -> Result<(), AllocError>
+        ensures { OnOk result (draft.new ≡ grown draft.old (answers self.entry)) }
+    {
+        answer_all(draft, self.lines)
+    }
+}
