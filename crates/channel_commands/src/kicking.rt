@@ -2,10 +2,10 @@
 ghost use Rattle.std.specs.Prelude.{◌≡◌, [], Some, slice_get, IfOk, OnOk};
 ghost use Rattle.roster.specs.LookBack.{nick as nick_of};
 ghost use Rattle.drafts.specs.Words.{IsSeen, grown, title};
-ghost use Rattle.channel_commands.specs.Each.{each};
 ghost use Rattle.channel_commands.specs.Found.{channel_of};
-ghost use Rattle.channel_commands.specs.Leaving.{kick_text, kicks_user, kicks_one, kicks_each, kicks_seen, kicks};
+ghost use Rattle.channel_commands.specs.Leaving.{kick_text, kicks_user, kicks_each, kicks_seen, kicks};
 
+use crate::each::{DoesFor, do_for_each};
 use crate::finding::{channel_of, user_of};
 use crate::leaving::leave;
 use crate::lines::{first_octets, kick_line};
@@ -77,38 +77,32 @@ fn kick_user(
     }
 }
 
-/// Puts the user of one nickname out of a channel.
-fn kick_one(
-    draft: &mut Draft,
+/// A session puts users out of a channel, by their nicknames.
+#[derive(Clone, Copy)]
+struct Kicking<'a> {
     session: SessionId,
-    from: &[u8],
-    text: &Octets,
-    name: &Octets,
-    nick: &Octets,
-) -> Result<(), AllocError>
-    ensures { OnOk result (draft.new ≡ grown draft.old (kicks_one draft.old.settings draft.old.base session from.now text.now name.now draft.old.facts nick.now)) }
-{
-    match user_of(draft, nick) {
-        Some(user) => kick_user(draft, session, from, text, name, user),
-        None => deny(draft, session, Denial::NoSuchNick, nick),
-    }
+    from: &'a [u8],
+    text: &'a Octets,
+    name: &'a Octets,
 }
 
-/// Puts the users of nicknames out of a channel, one after another.
-fn kick_each(
-    draft: &mut Draft,
-    session: SessionId,
-    from: &[u8],
-    text: &Octets,
-    name: &Octets,
-    nicks: &[Octets],
-) -> Result<(), AllocError>
-    ensures { OnOk result (draft.new ≡ grown draft.old (each (kicks_one draft.old.settings draft.old.base session from.now text.now name.now) draft.old.facts nicks.now)) }
-{
-    for nick in nicks {
-        kick_one(draft, session, from, text, name, nick)?;
+impl DoesFor<Octets> for Kicking<'_> {
+    ghost use Rattle.channel_commands.specs.Leaving.{kicks_one};
+
+    ghost effects_of = { λ k g before facts nick. kicks_one g before k.session k.from.now k.text.now k.name.now facts nick };
+
+    fn do_for(&self, draft: &mut Draft, nick: &Octets) -> Result<(), AllocError> {
+        let Kicking {
+            session,
+            from,
+            text,
+            name,
+        } = *self;
+        match user_of(draft, nick) {
+            Some(user) => kick_user(draft, session, from, text, name, user),
+            None => deny(draft, session, Denial::NoSuchNick, nick),
+        }
     }
-    Ok(())
 }
 
 /// Puts the users of four nicknames, at most, out of a channel.
@@ -127,7 +121,13 @@ fn kick_few(
     }
     let from = prefix_of(draft, session)?;
     let text = kick_text(draft, session, text)?;
-    kick_each(draft, session, from.as_slice(), &text, name, nicks)
+    let kicking = Kicking {
+        session,
+        from: from.as_slice(),
+        text: &text,
+        name,
+    };
+    do_for_each(&kicking, draft, nicks)
 }
 
 /// Puts users out of a channel that is there.

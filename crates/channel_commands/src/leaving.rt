@@ -2,9 +2,9 @@
 ghost use Rattle.std.specs.Prelude.{◌≡◌, ◌∷◌, [], true, Some, IfSome, OnOk};
 ghost use Rattle.channel_state.specs.State.{among};
 ghost use Rattle.drafts.specs.Words.{IsSeen, grown};
-ghost use Rattle.channel_commands.specs.Each.{each};
-ghost use Rattle.channel_commands.specs.Leaving.{leaves, parts_seen, parts_one, parts};
+ghost use Rattle.channel_commands.specs.Leaving.{leaves, parts_seen, parts};
 
+use crate::each::{DoesFor, do_for_each};
 use crate::finding::channel_of;
 use crate::lines::part_line;
 use crate::members::show_members;
@@ -49,36 +49,25 @@ fn part_seen(
     leave(draft, seen, session, line)
 }
 
-/// Leaves one channel.
-fn part_one(
-    draft: &mut Draft,
+/// A session leaves channels, by their names.
+#[derive(Clone, Copy)]
+struct Parting<'a> {
     session: SessionId,
-    from: &[u8],
-    text: &Octets,
-    channel: &Octets,
-) -> Result<(), AllocError>
-    ensures { OnOk result (draft.new ≡ grown draft.old (parts_one draft.old.settings session from.now text.now draft.old.facts channel.now)) }
-{
-    match channel_of(draft, channel)? {
-        Some(seen) => part_seen(draft, session, from, text, &seen),
-        None => deny(draft, session, Denial::NoSuchChannel, channel),
-    }
+    from: &'a [u8],
+    text: &'a Octets,
 }
 
-/// Leaves channels, one after another.
-fn part_each(
-    draft: &mut Draft,
-    session: SessionId,
-    from: &[u8],
-    channels: &[Octets],
-    text: &Octets,
-) -> Result<(), AllocError>
-    ensures { OnOk result (draft.new ≡ grown draft.old (each (parts_one draft.old.settings session from.now text.now) draft.old.facts channels.now)) }
-{
-    for channel in channels {
-        part_one(draft, session, from, text, channel)?;
+impl DoesFor<Octets> for Parting<'_> {
+    ghost use Rattle.channel_commands.specs.Leaving.{parts_one};
+
+    ghost effects_of = { λ p g before facts channel. parts_one g p.session p.from.now p.text.now facts channel };
+
+    fn do_for(&self, draft: &mut Draft, channel: &Octets) -> Result<(), AllocError> {
+        match channel_of(draft, channel)? {
+            Some(seen) => part_seen(draft, self.session, self.from, self.text, &seen),
+            None => deny(draft, self.session, Denial::NoSuchChannel, channel),
+        }
     }
-    Ok(())
 }
 
 /// A session leaves channels, with a text that may be empty, which is none (RFC 2812, section 3.2.2).
@@ -91,5 +80,10 @@ pub fn part(
     ensures { OnOk result (draft.new ≡ grown draft.old (parts draft.old.settings draft.old.facts session channels.now text.now)) }
 {
     let from = prefix_of(draft, session)?;
-    part_each(draft, session, from.as_slice(), channels, text)
+    let parting = Parting {
+        session,
+        from: from.as_slice(),
+        text,
+    };
+    do_for_each(&parting, draft, channels)
 }

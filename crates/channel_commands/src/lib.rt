@@ -5,6 +5,7 @@
 mod arriving;
 mod bars;
 mod channel;
+mod each;
 mod finding;
 mod inviting;
 mod joined;

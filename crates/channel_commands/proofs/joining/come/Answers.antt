@@ -1,13 +1,12 @@
-use Rattle.std.proofs.Common.{◌≡◌, ℕ, List, [], ◌∷◌, ◌++◌, OnOk, sym, ap, subst, ◌∙◌}
+use Rattle.std.proofs.Common.{◌≡◌, [], ◌∷◌, ◌++◌, OnOk, ap, subst, ◌∙◌}
 use Rattle.channel_state.specs.declared.change.Change.TheVariants.{Joined}
 use Rattle.channel_state.specs.State.{State}
 use Rattle.roster.specs.declared.deed.Deed.TheVariants.{Changed}
-use Rattle.drafts.specs.declared.effect.Effect.{Effect}
 use Rattle.drafts.specs.declared.effect.Effect.TheVariants.{Establish}
 use Rattle.drafts.specs.Drafted.{Drafted, grown}
 use Rattle.drafts.proofs.Replay.{grown_grown}
 use Rattle.query_commands.specs.Names.{with_members}
-use Rattle.channel_commands.specs.Joining.{entered, enters}
+use Rattle.channel_commands.specs.Joining.{entered}
 use Rattle.channel_commands.proofs.Rows.{entered_joined}
 use Rattle.channel_commands.proofs.joining.come.Goals as goal
 

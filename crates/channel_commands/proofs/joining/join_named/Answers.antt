@@ -1,8 +1,7 @@
-use Rattle.std.proofs.Common.{◌≡◌, ◌+◌, ℕ, Option, Some, IfOk, OnOk, length, sym, ◌∙◌, subst}
+use Rattle.std.proofs.Common.{◌≡◌, ◌+◌, ℕ, Option, IfOk, OnOk, length, sym, ◌∙◌, subst}
 use Rattle.drafts.specs.declared.seen.Seen.{Seen}
 use Rattle.drafts.specs.Drafted.{grown}
 use Rattle.drafts.specs.Effects.{deeds_of}
-use Rattle.channel_commands.specs.Found.{channel_of}
 use Rattle.channel_commands.specs.Joining.{joins_seen}
 use Rattle.channel_commands.proofs.joining.join_named.Goals as goal
 
