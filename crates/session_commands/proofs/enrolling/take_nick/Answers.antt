@@ -1,13 +1,11 @@
-use Rattle.std.proofs.Common.{◌≡◌, inl, inr, ℕ, List, Bool, true, false, not, ◌==◌, Option, Some, None, refl, sym, ap, ◌∙◌, subst}
+use Rattle.std.proofs.Common.{◌≡◌, inl, inr, ℕ, List, Bool, true, false, not, Some, refl, sym, ap, ◌∙◌}
 use Rattle.std.proofs.lemmas.Bool.Decides.{eqb_tells}
 use Rattle.std.specs.Prelude.{if◌then◌else◌}
 use Rattle.casemapping.specs.Names.{nick_shape}
 use Rattle.registration.specs.Enrol.{Enrolment, enrolment, nick_answer, is_own}
-use Rattle.registration.specs.declared.enrol.NickAnswer.{NickAnswer}
 use Rattle.registration.specs.declared.enrol.NickAnswer.TheVariants.{Erroneous, InUse, Same, Taken}
 use Rattle.roster.specs.declared.deed.Deed.{Deed}
 use Rattle.roster.specs.Legal.{IsFree}
-use Rattle.roster.specs.LookBack.{holder}
 use Rattle.session_commands.specs.Registration.{is_another, is_held}
 use Rattle.session_commands.proofs.enrolling.take_nick.Goals as goal
 
