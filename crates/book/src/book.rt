@@ -1,5 +1,5 @@
 //! The book: the journal and, for each session, its outbox.
-ghost use Rattle.std.specs.Prelude.{◌≡◌, ◌≢◌, ◌<◌, ◌≤◌, ◌+◌, ◌-◌, ◌^◌, ◌++◌, ◌↔◌, ◌==◌, [], ℕ, cond, sum_by, Some, None, true, false, length, slice_get, slice_set, vec_len, vec_capacity, IsTrue, IfOk, IfErr, IfSome, OnOk, OnErr, option_copied};
+ghost use Rattle.std.specs.Prelude.{◌≡◌, ◌≢◌, ◌<◌, ◌≤◌, ◌+◌, ◌-◌, ◌^◌, ◌++◌, ◌↔◌, ◌==◌, [], ℕ, cond, sum_by, Some, None, true, false, length, slice_get, slice_set, IsTrue, IfOk, IfErr, IfSome, OnOk, OnErr, option_copied};
 ghost use Rattle.std.specs.List.{list_any};
 ghost use Rattle.casemapping.specs.Names.{host_shape};
 ghost use Rattle.chronicle.specs.declared.record.Kind.TheVariants as kind;
@@ -16,7 +16,7 @@ use crate::baton::Baton;
 use crate::last_heard::LastHeard;
 use crate::out::{Done, Hung, Left, Plan, Rolled, Step};
 use crate::outboxes::Outboxes;
-use crate::plan::{Planned, Planning, Prepared, commit, moment_of_record, prepare_gone};
+use crate::plan::{Planning, Prepared, commit, moment_of_record, prepare_gone};
 use crate::read_line::ReadLine;
 use crate::refusals::{
     BookFault, HangRefusal, LineRefusal, OpenRefusal, ReapRefusal, RollRefusal, SweepRefusal,
@@ -25,6 +25,7 @@ use crate::refusals::{
 use crate::seat::Seat;
 use crate::seats::Seats;
 use crate::settings::is_well_set;
+use crate::to_put::ToPut;
 use chronicle::{Journal, Kind, Moment, Record, RecordNumber, SessionId, Why};
 use deliveries::{Delivery, Item};
 use line_grammar::{Octets, Piece};
@@ -32,7 +33,6 @@ use outbox::{Outbox, Ring};
 use registration::Settings;
 use roster::{Deed, Roster, Sessions};
 use std::alloc::{AllocError, Global};
-use std::collections::VecDeque;
 use std::hash::RandomState;
 use std::marker::Model;
 use std::slice;
@@ -45,7 +45,7 @@ pub struct Book<O: Outbox> {
     pub(crate) roster: Roster,
     pub(crate) seats: Seats,
     pub(crate) outboxes: Outboxes<O>,
-    pub(crate) plan: VecDeque<Planned>,
+    pub(crate) plan: ToPut,
     pub(crate) busy: bool,
     /// What is known of the records that were dropped.
     pub(crate) base: Option<Base>,
@@ -58,9 +58,9 @@ impl<O: Outbox> Model for Book<O> {
 
     ghost Value = { Shown O };
 
-    ghost view = { λ a. record { history = a.journal.history; limit = a.journal.limit; settings = a.roster.settings; outboxes = a.outboxes.boxes; plan = a.plan.items; busy = a.busy } };
+    ghost view = { λ a. record { history = a.journal.history; limit = a.journal.limit; settings = a.roster.settings; outboxes = a.outboxes.boxes; plan = a.plan; busy = a.busy } };
 
-    ghost invariant = { λ a. Keeps O.sent a.journal a.roster.settings a.roster.facts a.seats a.outboxes.boxes a.plan.items a.busy a.base a.last_heard };
+    ghost invariant = { λ a. Keeps O.sent a.journal a.roster.settings a.roster.facts a.seats a.outboxes.boxes a.plan a.busy a.base a.last_heard };
 }
 
 /// Makes room for so many more records, which are within the journal's limit, and for so many sessions that miss the next.
@@ -128,7 +128,7 @@ impl<O: Outbox> Book<O> {
             roster,
             seats: Seats::new(alloc),
             outboxes: Outboxes::new(alloc),
-            plan: VecDeque::new(alloc),
+            plan: ToPut::nothing(alloc),
             busy: false,
             base: None,
             last_heard,
@@ -298,7 +298,7 @@ impl<O: Outbox> Book<O> {
         ensures session { plan.new.session ≡ plan.old.session }
         ensures next { plan.new.next ≡ plan.old.next }
     {
-        let put = self.plan.pop_front()?;
+        let put = self.plan.take_first()?;
         let hearer = put.session;
         let settings = self.roster.settings();
         let item = Item::new(put.delivery, hearer, &self.journal, settings);
@@ -374,7 +374,7 @@ impl<O: Outbox> Book<O> {
         self.busy = false;
         Done {
             number,
-            missed: Sessions::from_vec(missed),
+            missed: Sessions::from_small_vec(missed),
             shut,
         }
     }

@@ -20,6 +20,7 @@ mod seat;
 mod seats;
 mod settings;
 mod ticks;
+mod to_put;
 
 pub use base::Base;
 pub use baton::Baton;

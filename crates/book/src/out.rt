@@ -3,6 +3,7 @@ ghost use Rattle.std.specs.Prelude.{◌≡◌, ◌+◌, ◌<◌, ◌∷◌, ◌+
 
 use chronicle::{RecordNumber, SessionId};
 use roster::Sessions;
+use smallvec::SmallVec;
 use std::marker::Model;
 
 /// One delivery of a plan.
@@ -59,16 +60,17 @@ pub struct Plan {
     pub(crate) number: RecordNumber,
     pub(crate) session: SessionId,
     pub(crate) next: Option<u64>,
-    pub(crate) missed: Vec<SessionId>,
+    pub(crate) missed: SmallVec<SessionId, 2>,
 }
 
 impl Model for Plan {
-    ghost use Rattle.std.specs.Prelude.{◌-◌, vec_len, vec_capacity};
+    ghost use Rattle.std.specs.Prelude.{◌-◌};
+    ghost use Rattle.smallvec.specs.SmallVec.{small_vec_len};
     ghost use Rattle.book.specs.Book.{Out};
 
     ghost Value = { Out };
 
-    ghost view = { λ a. record { number = a.number; session = a.session; next = a.next; missed = a.missed.items; room = vec_capacity a.missed - vec_len a.missed } };
+    ghost view = { λ a. record { number = a.number; session = a.session; next = a.next; missed = a.missed.items; room = a.missed.capacity - small_vec_len a.missed } };
 }
 
 impl Plan {

@@ -1,5 +1,5 @@
 //! The deliveries of a record, before they are put.
-ghost use Rattle.std.specs.Prelude.{◌≡◌, ◌≤◌, ◌≤ℤ◌, ◌++◌, [], false, not, length, pos, vec_capacity, None, OnOk, IfOk};
+ghost use Rattle.std.specs.Prelude.{◌≡◌, ◌≤◌, ◌≤ℤ◌, ◌++◌, [], false, not, length, pos, None, OnOk, IfOk, option_to_list};
 ghost use Rattle.chronicle.specs.History.{is_quit};
 ghost use Rattle.roster.specs.LookBack.{after, caps, opened};
 ghost use Rattle.roster.specs.Legal.{IsOpened, AreNext};
@@ -20,6 +20,7 @@ ghost use Rattle.book.specs.Read.{counted};
 use crate::heard::{Heard, heard_in_order};
 use crate::read_line::ReadLine;
 use crate::seats::Seats;
+use crate::to_put::ToPut;
 use chronicle::{Moment, RecordMoment, RecordNumber, SessionId, Why};
 use commands::Asked;
 use deeds::{Shown, Verdict, decide, decide_gone, ping};
@@ -28,6 +29,7 @@ use labels_batches::{Receiver, Text, answer_text, takes_labels};
 use line_grammar::{Octets, Piece};
 use numerics::Line;
 use roster::{Deed, Roster, Sessions};
+use smallvec::SmallVec;
 use std::alloc::{AllocError, Global};
 use std::collections::VecDeque;
 use std::mem::replace;
@@ -43,8 +45,8 @@ pub(crate) struct Planned {
 #[derive(Drop)]
 pub(crate) struct Prepared {
     pub(crate) deeds: Vec<Deed>,
-    pub(crate) plan: VecDeque<Planned>,
-    pub(crate) missed: Vec<SessionId>,
+    pub(crate) plan: ToPut,
+    pub(crate) missed: SmallVec<SessionId, 2>,
 }
 
 /// What a record is planned by: whose it is, its number and moment, and what is known before it.
@@ -128,13 +130,11 @@ fn plan_others(
 ) -> Result<VecDeque<Planned>, AllocError>
     ensures { IfOk result (λ plan. plan.items ≡ deliveries_of seats.now actor number (joined heard.items)) }
 {
-    let mut plan = VecDeque::new(alloc);
-    let room = heard.len().saturating_add(1);
+    let mut plan = VecDeque::with_capacity(alloc, heard.len())?;
     let mut rest = heard.into_iter();
     let Some(mut current) = rest.next() else {
         return Ok(plan);
     };
-    plan.reserve(room)?;
     for next in rest {
         if next.session == current.session {
             current = joined_with(alloc, current, &next)?;
@@ -147,18 +147,13 @@ fn plan_others(
     Ok(plan)
 }
 
-/// Plans, before all others, what the actor is told: where it quits by the record, its last item.
-fn plan_own(
-    by: &Planning<'_>,
-    plan: &mut VecDeque<Planned>,
-    text: Octets,
-    quits: bool,
-) -> Result<(), AllocError>
-    ensures { OnOk result (plan.new.items ≡ puts by.now.actor (told_own (not (hears by.now.seats.now by.now.actor)) by.now.number text quits) ++ plan.old.items) }
+/// Plans what the actor is told: where it quits by the record, its last item.
+fn plan_own(by: &Planning<'_>, text: Octets, quits: bool) -> Result<Option<Planned>, AllocError>
+    ensures { IfOk result (λ own. option_to_list own ≡ puts by.now.actor (told_own (not (hears by.now.seats.now by.now.actor)) by.now.number text quits)) }
 {
     let (session, number) = (by.actor, by.number);
     if !by.seats.is_listening(session) || (!quits && text.is_empty()) {
-        return Ok(());
+        return Ok(None);
     }
     let delivery = if quits {
         Delivery::Last {
@@ -171,8 +166,7 @@ fn plan_own(
             text: Text::new(by.alloc, text)?,
         }
     };
-    plan.push_front(Planned { session, delivery })?;
-    Ok(())
+    Ok(Some(Planned { session, delivery }))
 }
 
 /// The deliveries of a record: the actor's text first, then what others hear, by session number.
@@ -181,13 +175,13 @@ fn plan_for(
     own: Octets,
     shown: Vec<Shown>,
     quits: bool,
-) -> Result<VecDeque<Planned>, AllocError>
-    ensures { IfOk result (λ plan. plan.items ≡ planned_with by.now.seats.now by.now.actor by.now.number own (heard_text by.now.roster.now.facts by.now.moment shown.items) quits) }
+) -> Result<ToPut, AllocError>
+    ensures { IfOk result (λ plan. plan ≡ planned_with by.now.seats.now by.now.actor by.now.number own (heard_text by.now.roster.now.facts by.now.moment shown.items) quits) }
 {
     let heard = heard_in_order(by.alloc, by.roster, shown, by.moment)?;
-    let mut plan = plan_others(by.alloc, by.seats, heard, by.actor, by.number)?;
-    plan_own(by, &mut plan, own, quits)?;
-    Ok(plan)
+    let others = plan_others(by.alloc, by.seats, heard, by.actor, by.number)?;
+    let first = plan_own(by, own, quits)?;
+    Ok(ToPut::new(first, others))
 }
 
 /// Plans what a verdict on a record tells, and makes room for those who miss it.
@@ -198,8 +192,8 @@ fn with_room(
     quits: bool,
 ) -> Result<Prepared, AllocError>
     ensures deeds { IfOk result (λ p. p.deeds.items ≡ verdict.deeds.items) }
-    ensures plan { IfOk result (λ p. p.plan.items ≡ planned_with by.now.seats.now by.now.actor by.now.number (rendered (caps by.now.roster.now.facts by.now.actor) by.now.moment (answered by.now.roster.now.settings.server label by.now.number verdict.reply.items verdict.copies.items)) (heard_text by.now.roster.now.facts by.now.moment verdict.others.items) quits) }
-    ensures missed { IfOk result (λ p. (p.missed.items ≡ []) × (length p.plan.items ≤ vec_capacity p.missed)) }
+    ensures plan { IfOk result (λ p. p.plan ≡ planned_with by.now.seats.now by.now.actor by.now.number (rendered (caps by.now.roster.now.facts by.now.actor) by.now.moment (answered by.now.roster.now.settings.server label by.now.number verdict.reply.items verdict.copies.items)) (heard_text by.now.roster.now.facts by.now.moment verdict.others.items) quits) }
+    ensures missed { IfOk result (λ p. (p.missed.items ≡ []) × (length p.plan ≤ p.missed.capacity)) }
 {
     let Verdict {
         deeds,
@@ -209,7 +203,7 @@ fn with_room(
     } = verdict;
     let own = own_text(by, label, reply, &copies)?;
     let plan = plan_for(by, own, others, quits)?;
-    let missed = Vec::with_capacity(by.alloc, plan.len())?;
+    let missed = SmallVec::with_capacity(by.alloc, plan.len())?;
     Ok(Prepared {
         deeds,
         plan,
@@ -251,8 +245,8 @@ pub(crate) fn prepare_line(
     ensures opened { IfOk result (λ p. opened (after by.now.roster.now.facts p.0.deeds.items) ≡ opened by.now.roster.now.facts) }
     ensures piece { IfOk result (λ p. p.1 ≡ line) }
     ensures quits { IfOk result (λ p. p.2 ≡ is_quit line) }
-    ensures plan { IfOk result (λ p. p.0.plan.items ≡ planned_from by.now.seats.now by.now.actor by.now.number (spelled by.now.roster.now.settings by.now.roster.now.facts by.now.actor (label_of (caps by.now.roster.now.facts by.now.actor) line) (of_asked by.now.roster.now.settings by.now.roster.now.facts by.now.actor (asked_of line)) by.now.moment by.now.number) p.2) }
-    ensures missed { IfOk result (λ p. (p.0.missed.items ≡ []) × (length p.0.plan.items ≤ vec_capacity p.0.missed)) }
+    ensures plan { IfOk result (λ p. p.0.plan ≡ planned_from by.now.seats.now by.now.actor by.now.number (spelled by.now.roster.now.settings by.now.roster.now.facts by.now.actor (label_of (caps by.now.roster.now.facts by.now.actor) line) (of_asked by.now.roster.now.settings by.now.roster.now.facts by.now.actor (asked_of line)) by.now.moment by.now.number) p.2) }
+    ensures missed { IfOk result (λ p. (p.0.missed.items ≡ []) × (length p.0.plan ≤ p.0.missed.capacity)) }
 {
     let ReadLine {
         piece,
@@ -270,8 +264,8 @@ pub(crate) fn prepare_gone(by: &Planning<'_>) -> Result<Prepared, AllocError>
     ensures deeds { IfOk result (λ p. p.deeds.items ≡ deeds_of (departs by.now.roster.now.facts by.now.actor)) }
     ensures next { IfOk result (λ p. AreNext by.now.roster.now.facts p.deeds.items) }
     ensures opened { IfOk result (λ p. opened (after by.now.roster.now.facts p.deeds.items) ≡ opened by.now.roster.now.facts) }
-    ensures plan { IfOk result (λ p. p.plan.items ≡ planned_from by.now.seats.now by.now.actor by.now.number (spelled by.now.roster.now.settings by.now.roster.now.facts by.now.actor None (departs by.now.roster.now.facts by.now.actor) by.now.moment by.now.number) false) }
-    ensures missed { IfOk result (λ p. (p.missed.items ≡ []) × (length p.plan.items ≤ vec_capacity p.missed)) }
+    ensures plan { IfOk result (λ p. p.plan ≡ planned_from by.now.seats.now by.now.actor by.now.number (spelled by.now.roster.now.settings by.now.roster.now.facts by.now.actor None (departs by.now.roster.now.facts by.now.actor) by.now.moment by.now.number) false) }
+    ensures missed { IfOk result (λ p. (p.missed.items ≡ []) × (length p.plan ≤ p.missed.capacity)) }
 {
     let verdict = decide_gone(by.alloc, by.roster, by.actor)?;
     with_room(by, None, verdict, false)
@@ -281,9 +275,9 @@ pub(crate) fn prepare_gone(by: &Planning<'_>) -> Result<Prepared, AllocError>
 pub(crate) fn prepare_tick(
     by: &Planning<'_>,
     sessions: &[SessionId],
-) -> Result<(VecDeque<Planned>, Vec<SessionId>), AllocError>
-    ensures plan { IfOk result (λ p. p.0.items ≡ planned_with by.now.seats.now by.now.actor by.now.number [] (pinged_text by.now.roster.now.settings by.now.roster.now.facts by.now.moment sessions.now) false) }
-    ensures missed { IfOk result (λ p. (p.1.items ≡ []) × (length p.0.items ≤ vec_capacity p.1)) }
+) -> Result<(ToPut, SmallVec<SessionId, 2>), AllocError>
+    ensures plan { IfOk result (λ p. p.0 ≡ planned_with by.now.seats.now by.now.actor by.now.number [] (pinged_text by.now.roster.now.settings by.now.roster.now.facts by.now.moment sessions.now) false) }
+    ensures missed { IfOk result (λ p. (p.1.items ≡ []) × (length p.0 ≤ p.1.capacity)) }
 {
     let line = ping(by.alloc, by.roster.settings().server.as_slice())?;
     let mut shown = Vec::new(by.alloc);
@@ -293,7 +287,7 @@ pub(crate) fn prepare_tick(
     })?;
     let nothing = Octets::from_vec(Vec::new(by.alloc));
     let plan = plan_for(by, nothing, shown, false)?;
-    let missed = Vec::with_capacity(by.alloc, plan.len())?;
+    let missed = SmallVec::with_capacity(by.alloc, plan.len())?;
     Ok((plan, missed))
 }
 

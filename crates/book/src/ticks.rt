@@ -97,7 +97,7 @@ impl<O: Outbox> Book<O> {
         self.busy = false;
         Done {
             number: plan.number,
-            missed: Sessions::from_vec(plan.missed),
+            missed: Sessions::from_small_vec(plan.missed),
             shut: false,
         }
     }

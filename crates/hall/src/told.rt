@@ -3,14 +3,15 @@ ghost use Rattle.std.specs.Prelude.{◌≡◌, ◌≤◌, ℕ, true, false, [], 
 ghost use Rattle.hall.specs.Telling.{is_told};
 
 use chronicle::SessionId;
+use smallvec::SmallVec;
 use std::alloc::Global;
 use std::marker::Model;
 
 /// Sessions into whose outboxes something was put, in the order of the puts; or all, where there was no memory for the list. A
-/// record that tells those whom one before it told adds nothing.
+/// record that tells those whom one before it told adds nothing. Two of them take no memory of their own.
 #[derive(Drop)]
 pub struct Told {
-    sessions: Vec<SessionId>,
+    sessions: SmallVec<SessionId, 2>,
     all: bool,
     records: usize,
     // How many of the list the newest record told again, in their order.
@@ -33,7 +34,7 @@ impl Told {
         ensures records { result.records ≡ 0 }
     {
         Told {
-            sessions: Vec::new(alloc),
+            sessions: SmallVec::new(alloc),
             all: false,
             records: 0,
             place: 0,
@@ -55,7 +56,7 @@ impl Told {
     fn is_next(&self, session: SessionId) -> bool
         ensures { IsTrue result → is_told self.now session ≡ true }
     {
-        self.place < self.sessions.len() && self.sessions[self.place] == session
+        self.place < self.sessions.len() && self.sessions.as_slice()[self.place] == session
     }
 
     /// Notes a session. Where there is no memory for it, all are told.
@@ -93,7 +94,7 @@ impl Told {
     pub fn sessions(&self) -> &[SessionId]
         ensures { result.now ≡ self.now.sessions }
     {
-        &self.sessions
+        self.sessions.as_slice()
     }
 
     /// Whether others may have got something, too.

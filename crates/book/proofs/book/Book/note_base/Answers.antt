@@ -8,13 +8,13 @@ use Rattle.book.proofs.book.Book.note_base.Goals as goal
 
 pub counts-requires : goal.counts-requires
 counts-requires over c =
-    let a = c.self.inside in record { seated = has_seat over.O.Outbox.sent a.journal a.roster.settings a.roster.facts a.seats a.outboxes.boxes a.plan.items a.busy c.self.invariant.kept; heard = c.self.invariant.since.all }
+    let a = c.self.inside in record { seated = has_seat over.O.Outbox.sent a.journal a.roster.settings a.roster.facts a.seats a.outboxes.boxes a.plan a.busy c.self.invariant.kept; heard = c.self.invariant.since.all }
 
 pub new-requires-clause-counts : goal.new-requires-clause-counts
 new-requires-clause-counts over c =
     let a = c.self.inside in let cs = c.in_ok-counts.counts.entries in let idle = ap (λ m. m.busy) c.self.view_is ∙ c.requires.idle in
     subst (λ (g : Settings). AreCounts g a.journal.history cs) (sym (ap (λ r. r.settings) c.in_ok-roster.ensures))
-    (are_counts over.O.Outbox.sent a.seats a.outboxes.boxes a.last_heard cs c.in_ok-counts.ensures a.journal a.roster.settings a.roster.facts a.plan.items a.busy c.self.invariant.kept idle c.self.invariant.since)
+    (are_counts over.O.Outbox.sent a.seats a.outboxes.boxes a.last_heard cs c.in_ok-counts.ensures a.journal a.roster.settings a.roster.facts a.plan a.busy c.self.invariant.kept idle c.self.invariant.since)
 
 pub returns-clause-noted : goal.returns-clause-noted
 returns-clause-noted over c =

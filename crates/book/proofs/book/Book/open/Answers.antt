@@ -18,7 +18,7 @@ use Rattle.book.proofs.book.Book.open.Goals as goal
 pub invariant_of-self-2 : goal.invariant_of-self-2
 invariant_of-self-2 over c =
     let a = c.self.inside in
-    let may : MayOpen (shown a.journal a.roster.settings a.outboxes.boxes a.plan.items a.busy) c.args.moment = subst (λ m. MayOpen m c.args.moment) (sym c.self.view_is) (c.in-Ok.ensures.ok) in
+    let may : MayOpen (shown a.journal a.roster.settings a.outboxes.boxes a.plan a.busy) c.args.moment = subst (λ m. MayOpen m c.args.moment) (sym c.self.view_is) (c.in-Ok.ensures.ok) in
     let session : c.new-session.result ≡ length a.seats + 1 = grind (arith, common_steps) in
     let told : c.in-Ok-clone.told ≡ c.args.host = grind (arith, common_steps) in
     let same = c.reserve.ensures.same in let app = c.append.ensures.appended in
@@ -34,9 +34,9 @@ invariant_of-self-2 over c =
     let seats : c.open-2.new.self ≡ a.seats ++ no_seat ∷ [] = let ok = c.open-2.ensures.ok in grind (arith, common_steps) in
     record {
       kept =
-          subst (λ (g : Settings). IsKept over.O.Outbox.sent c.append.new.self g c.apply.new.self.facts c.open-2.new.self c.open-3.new.self.boxes a.plan.items a.busy) (sym settings)
+          subst (λ (g : Settings). IsKept over.O.Outbox.sent c.append.new.self g c.apply.new.self.facts c.open-2.new.self c.open-3.new.self.boxes a.plan a.busy) (sym settings)
           (opened_kept over.O.Outbox.sent a.journal c.append.new.self a.roster.settings a.roster.facts c.apply.new.self.facts a.seats c.open-2.new.self
-          a.outboxes.boxes c.open-3.new.self.boxes a.plan.items a.busy c.args.host c.in-Ok-clone.told c.args.moment c.new-session.result c.args.outbox c.self.invariant.kept may c.requires.fresh session told history limit free known seats boxes);
+          a.outboxes.boxes c.open-3.new.self.boxes a.plan a.busy c.args.host c.in-Ok-clone.told c.args.moment c.new-session.result c.args.outbox c.self.invariant.kept may c.requires.fresh session told history limit free known seats boxes);
       based = (let h = a.journal.history in let r = fresh_record h c.args.moment (Opened c.new-session.result c.in-Ok-clone.told) in let n = a.journal.limit.dropped in let g = a.roster.settings in let was = a.outboxes.boxes in
           based_as a.base (r ∷ h) c.append.new.self.history n c.append.new.self.limit.dropped g c.apply.new.self.settings (was ++ Some c.args.outbox ∷ []) c.open-3.new.self.boxes
           (based_boxes a.base (r ∷ h) n g was (was ++ Some c.args.outbox ∷ []) (based_record a.base h r n g was c.self.invariant.based) (opened_many was c.args.outbox) (opened_came was c.args.outbox)) history (ap (λ l. l.dropped) limit) settings boxes);
@@ -49,7 +49,7 @@ pub overflow_add-opened : goal.overflow_add-opened
 overflow_add-opened over c =
     let a = c.self.inside in let limit : most a.journal.limit < 18446744073709551616 = subst (λ m. most m.limit < 18446744073709551616) (sym c.self.view_is) c.in-Ok.ensures.fits in
     let few = sessions_le a.journal.history in let room = c.self.invariant.kept.sound.room in let many = c.self.invariant.kept.sound.sessions in let places = c.self.invariant.kept.places in
-    let may : MayOpen (shown a.journal a.roster.settings a.outboxes.boxes a.plan.items a.busy) c.args.moment = subst (λ m. MayOpen m c.args.moment) (sym c.self.view_is) (c.in-Ok.ensures.ok) in
+    let may : MayOpen (shown a.journal a.roster.settings a.outboxes.boxes a.plan a.busy) c.args.moment = subst (λ m. MayOpen m c.args.moment) (sym c.self.view_is) (c.in-Ok.ensures.ok) in
     let more = may.room in let is = c.opened.ensures in omega arith
 
 pub open-requires-2-clause-next : goal.open-requires-2-clause-next
@@ -58,7 +58,7 @@ open-requires-2-clause-next over c = let session : c.new-session.result ≡ leng
 pub open-requires-2-clause-held : goal.open-requires-2-clause-held
 open-requires-2-clause-held over c =
     let a = c.self.inside in let i = c.self.invariant.kept in let limit : most a.journal.limit < 18446744073709551616 = subst (λ m. most m.limit < 18446744073709551616) (sym c.self.view_is) c.in-Ok.ensures.fits in
-    let may : MayOpen (shown a.journal a.roster.settings a.outboxes.boxes a.plan.items a.busy) c.args.moment = subst (λ m. MayOpen m c.args.moment) (sym c.self.view_is) (c.in-Ok.ensures.ok) in
+    let may : MayOpen (shown a.journal a.roster.settings a.outboxes.boxes a.plan a.busy) c.args.moment = subst (λ m. MayOpen m c.args.moment) (sym c.self.view_is) (c.in-Ok.ensures.ok) in
     let more = may.room in let all = seats_held a.journal.history a.seats a.outboxes.boxes i.each_seat (i.sound.sessions ∙ sym i.places) in omega arith
 
 pub open-requires-3-clause-next : goal.open-requires-3-clause-next

@@ -26,36 +26,36 @@ history over c = c.append.ensures.appended.history ∙ ap (λ h. fresh_record h 
 limit : (over : given.Over) (c : goal.After-drop-due-2 over) → c.append.new.self.limit ≡ c.self.inside.journal.limit
 limit over c = c.append.ensures.appended.limit ∙ c.in_ok-reserve.ensures.same.limit
 
-plan : (over : given.Over) (c : goal.After-drop-due-2 over) → c.in_ok-plan.plan.items ≡ plan_of c.self.inside.roster.settings c.self.inside.journal.history Ticked c.args.moment (length c.self.inside.outboxes.boxes)
+plan : (over : given.Over) (c : goal.After-drop-due-2 over) → c.in_ok-plan.plan ≡ plan_of c.self.inside.roster.settings c.self.inside.journal.history Ticked c.args.moment (length c.self.inside.outboxes.boxes)
 plan over c =
     let a = c.self.inside in let n = c.new-number.result in let g = a.roster.settings in let fs = a.roster.facts in let m = c.args.moment in
     let number : n ≡ length a.journal.history + 1 = grind (arith, common_steps) in
     c.in_ok-plan.ensures.plan ∙ ap (λ (k : ℤ). planned_with a.seats c.new-nobody.result n [] (pinged_text g fs k c.deref.result.now) false) c.moment_of_record.ensures
     ∙ ap (λ (s : ℕ). planned_with a.seats s n [] (pinged_text g fs m c.deref.result.now) false) c.new-nobody.ensures
     ∙ ap (λ (ts : List ℕ). planned_with a.seats 0 n [] (pinged_text g fs m ts) false) (c.deref.ensures.value ∙ c.in_ok-due.ensures.due)
-    ∙ tick_plan over.O.Outbox.sent a.journal g fs a.seats a.outboxes.boxes a.plan.items a.busy c.self.invariant.kept a.last_heard c.self.invariant.since c.in_ok-due.ensures.once m n number
+    ∙ tick_plan over.O.Outbox.sent a.journal g fs a.seats a.outboxes.boxes a.plan a.busy c.self.invariant.kept a.last_heard c.self.invariant.since c.in_ok-due.ensures.once m n number
 
 pub invariant_of-self-2 : goal.invariant_of-self-2
 invariant_of-self-2 over c =
     let a = c.self.inside in let g = a.roster.settings in let h = a.journal.history in let m = c.args.moment in let r = fresh_record h m Ticked in let was = a.outboxes.boxes in
-    let before = shown a.journal g was a.plan.items a.busy in
+    let before = shown a.journal g was a.plan a.busy in
     let may : MayTick before m = subst (λ k. MayTick k m) (sym c.self.view_is) c.requires.may in let has : HasRoom before = subst (λ k. HasRoom k) (sym c.self.view_is) c.requires.room in
-    let room : length c.in_ok-plan.plan.items ≤ c.append.new.self.left = grind (arith, common_steps) in
+    let room : length c.in_ok-plan.plan ≤ c.append.new.self.left = grind (arith, common_steps) in
     let kept : c.held-room.result ≡ held h = c.held-room.ensures.kept ∙ ap (λ k. held k.history) (sym c.self.view_is) in
     let ok = c.in_ok-reserve.ensures.ok in let more = c.append.ensures.appended.room in
     let free : held h ≤ c.append.new.self.room = grind (arith, common_steps) in
     record {
-      kept = tick_kept over.O.Outbox.sent a.journal g a.roster.facts a.seats was a.plan.items a.busy c.self.invariant.kept a.last_heard c.self.invariant.since c.in_ok-due.ensures.once c.append.new.self c.in_ok-plan.plan.items m
+      kept = tick_kept over.O.Outbox.sent a.journal g a.roster.facts a.seats was a.plan a.busy c.self.invariant.kept a.last_heard c.self.invariant.since c.in_ok-due.ensures.once c.append.new.self c.in_ok-plan.plan m
           may has (plan over c) (history over c) (limit over c) room free;
       based = (let n = a.journal.limit.dropped in
           based_as a.base (r ∷ h) c.append.new.self.history n c.append.new.self.limit.dropped g g was was (based_record a.base h r n g was c.self.invariant.based) (history over c) (ap (λ l. l.dropped) (limit over c)) refl refl);
       since = since_as (with_pings a.last_heard (picked (is_due a.seats m) a.last_heard)) c.ping_each.new.self c.append.new.self.history c.append.new.self.history was was
-          (since_after over.O.Outbox.sent a.journal g a.roster.facts a.seats was a.plan.items a.busy c.self.invariant.kept a.last_heard c.self.invariant.since c.in_ok-due.ensures.once c.append.new.self m may (history over c))
+          (since_after over.O.Outbox.sent a.journal g a.roster.facts a.seats was a.plan a.busy c.self.invariant.kept a.last_heard c.self.invariant.since c.in_ok-due.ensures.once c.append.new.self m may (history over c))
           (c.ping_each.ensures ∙ ap (λ (ts : List ℕ). with_pings a.last_heard ts) (c.deref-2.ensures.value ∙ c.in_ok-due.ensures.due)) refl refl;
     }
 
 pub returns-clause-ok : goal.returns-clause-ok
 returns-clause-ok over c =
     let a = c.self.inside in
-    begun_is a.journal c.append.new.self a.roster.settings a.outboxes.boxes a.plan.items c.in_ok-plan.plan.items a.busy Ticked c.args.moment (history over c) (limit over c) (plan over c)
+    begun_is a.journal c.append.new.self a.roster.settings a.outboxes.boxes a.plan c.in_ok-plan.plan a.busy Ticked c.args.moment (history over c) (limit over c) (plan over c)
     ∙ ap (λ m. begun m Ticked c.args.moment) c.self.view_is

@@ -16,7 +16,7 @@ invariant_of-self over c =
     let a = c.self.inside in let j = a.journal in let i = c.self.invariant.kept in let len = c.len-dropped.ensures in let few : j.limit.dropped ≤ length j.history = omega arith in
     let base = c.in_ok-base.ensures in
     record {
-      kept = cut_kept over.O.Outbox.sent j c.cut.new.self a.roster.settings a.roster.facts a.seats a.outboxes.boxes a.plan.items a.busy i c.if-self.false few c.cut.ensures;
+      kept = cut_kept over.O.Outbox.sent j c.cut.new.self a.roster.settings a.roster.facts a.seats a.outboxes.boxes a.plan a.busy i c.if-self.false few c.cut.ensures;
       based = cut_based j c.cut.new.self a.roster.settings a.outboxes.boxes c.in_ok-base.base c.cut.ensures (base.front.0 ∙ sym (ap (λ m. m.history) c.self.view_is)) (base.front.1 ∙ sym (ap (λ m. m.settings) c.self.view_is)) i.sound.sessions
           (subst (λ m. (t : ℕ) → 0 < t → t ≤ sessions m.history → is_noted c.in_ok-base.base t ≡ is_here m.outboxes t) (sym c.self.view_is) base.noted)
           (subst (λ m. (t : ℕ) → is_noted c.in_ok-base.base t ≡ true → (0 < t) × (t ≤ sessions m.history)) (sym c.self.view_is) base.opened);
@@ -26,4 +26,4 @@ invariant_of-self over c =
 pub returns-clause-ok : goal.returns-clause-ok
 returns-clause-ok over c =
     let a = c.self.inside in
-    shown_cut a.journal c.cut.new.self a.roster.settings a.outboxes.boxes a.plan.items a.busy c.cut.ensures ∙ ap (λ m. rolled m) c.self.view_is
+    shown_cut a.journal c.cut.new.self a.roster.settings a.outboxes.boxes a.plan a.busy c.cut.ensures ∙ ap (λ m. rolled m) c.self.view_is
