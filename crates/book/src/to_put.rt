@@ -52,8 +52,8 @@ impl ToPut {
         ensures items { self.old ≡ option_to_list result ++ self.new }
         ensures none { result ≡ None → self.old ≡ [] }
     {
-        match self.own.take() {
-            Some(own) => Some(own),
+        match self.own {
+            Some(_) => self.own.take(),
             None => self.others.pop_front(),
         }
     }
