@@ -31,12 +31,19 @@ fn answer_numeric(draft: &mut Draft, to: &[u8], numeric: &Numeric) -> Result<(),
     draft.answer(line)
 }
 
+/// Answers a session with a numeric, which is lent: a numeric is large, and each branch that drops one costs a proof.
+fn tell_borrowed(draft: &mut Draft, session: SessionId, numeric: &Numeric) -> Result<(), AllocError>
+    ensures { OnOk result (draft.new ≡ grown draft.old (tells draft.old.settings draft.old.facts session numeric.now ∷ [])) }
+{
+    let to = title_of(draft.alloc(), draft.nick_of(session))?;
+    answer_numeric(draft, to.as_slice(), numeric)
+}
+
 /// Answers a session with a numeric, from the server and to the session's nickname.
 pub fn tell(draft: &mut Draft, session: SessionId, numeric: Numeric) -> Result<(), AllocError>
     ensures { OnOk result (draft.new ≡ grown draft.old (tells draft.old.settings draft.old.facts session numeric ∷ [])) }
 {
-    let to = title_of(draft.alloc(), draft.nick_of(session))?;
-    answer_numeric(draft, to.as_slice(), &numeric)
+    tell_borrowed(draft, session, &numeric)
 }
 
 /// Answers a session with several numerics, in order. Its nickname is looked up once, since answers change no facts.
