@@ -140,16 +140,6 @@ impl Sockets for Noted {
     }
 }
 
-/// A clock that stands.
-#[derive(Drop)]
-pub struct Still;
-
-impl Clock for Still {
-    fn now(&self) -> Moment {
-        Moment::new(0)
-    }
-}
-
 /// A clock that is set by hand.
 #[derive(Drop)]
 pub struct Dial {

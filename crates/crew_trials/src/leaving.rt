@@ -1,19 +1,16 @@
 //! While much waits for a client, its own lines wait for it.
-ghost use Rattle.std.specs.Prelude.{◌≡◌, []};
-
-use crate::fakes::{Heap, Noted, Open, Still};
-use crate::making::{Tokens, hall, open};
+use crate::fakes::Heap;
+use crate::making::Tokens;
+use crate::trial::{Stage, Trial, try_out, wired};
 use chronicle::Why;
-use crew::{Intake, Next, Server, read_some};
-use hall::{Hall, Naming, Register, Told};
-use line_grammar::Octets;
-use outbox::{ChannelName, Sender};
+use crew::{Desk, Intake, Next, read_some};
+use hall::{Baton, Naming, Told};
+use outbox::Sender;
 use std::alloc::Global;
-use std::marker::Brand;
 use std::process::Abort;
-use std::sync::{Mutex, Wait};
+use std::sync::Wait;
 use std::test::Fail;
-use wire::{Flow, Wire};
+use wire::Flow;
 
 /// Five lines, which one read brings.
 const SAID: &[u8; 40] = b"PING a\r\nPING b\r\nPING c\r\nPING d\r\nPING e\r\n";
@@ -47,83 +44,63 @@ const LESS_AND_LESS: [Call; 3] = [
 ];
 
 /// Five lines come in one read, and the calls do them as they are to, in order.
-fn leaves<L: Naming, R: Wait + Abort + Copy + Drop>(
+fn reads<L: Naming, R: Wait + Abort + Copy + Drop>(
     rt: &R,
     alloc: Global,
-    lock: &Mutex<Hall<L, Sender<R>>>,
+    stage: &Stage<'_, L, R>,
+    baton: Baton<L, Sender<R>>,
     calls: &[Call],
 ) -> Result<(), Fail> {
-    let Tokens {
-        baton,
-        stub,
-        writer,
-    } = open(rt, alloc, lock).ok_or("a session")?;
-    let sockets = Noted::new();
-    let server = Server {
-        hall: lock,
-        gate: &Open,
-        sockets: &sockets,
-        clock: &Still,
-        burst: 4,
-    };
-    let host = Octets::copied(alloc, b"h1")?;
-    let Ok(mut wire) = Wire::new(alloc, writer, stub, Vec::new(alloc), host) else {
-        return Err("a wire".into());
-    };
     let mut intake = Intake::new(alloc)?;
-    let mut told = Told::new(alloc);
-    let mut baton = baton;
+    let (mut baton, mut told) = (baton, Told::new(alloc));
     let mut input: &[u8] = SAID;
     for (looks, unread, done, next) in calls {
         let heap = Heap::new(looks);
-        let took = read_some(
-            rt,
-            &server,
-            &mut intake,
-            baton,
-            &heap,
-            &mut input,
-            &mut told,
-        );
+        let took = read_some(rt, stage, &mut intake, baton, &heap, &mut input, &mut told);
         assert_eq!(rt; (took.all, took.next), (true, *next));
         assert_eq!(rt;
-            (input.len(), lock.lock(rt).len()),
+            (input.len(), stage.hall.lock(rt).len()),
             (*unread, done.saturating_add(1))
         );
         assert_eq!(rt; intake.has_lines(), *unread == 0 && *done < 5);
         assert!(rt; *next != Next::Left || told.records() == 0, "all are told");
         baton = took.baton;
     }
-    assert_eq!(rt; wire.pump(rt), Ok(Flow::Idle));
-    assert_eq!(rt; wire.stream().as_slice(), OUTPUT.as_slice());
     Ok(())
 }
 
-/// The same in a hall of its own, whose sessions this register has.
-fn leaves_in_one<L: Naming, R: Wait + Abort + Copy + Drop>(
-    rt: &R,
-    alloc: Global,
-    register: Register<ChannelName>,
-    calls: &[Call],
-) -> Result<(), Fail>
-    requires named { register.table ≡ L.table }
-    requires empty { register.rows ≡ [] }
-{
-    let made: Hall<L, Sender<R>> = hall(alloc, register).ok_or("a hall")?;
-    let lock = Mutex::new(made);
-    let told = leaves(rt, alloc, &lock, calls);
-    drop(lock);
-    told
+/// Five lines that are done by these calls, and what is told of them.
+#[derive(Drop)]
+struct Leaving {
+    calls: &'static [Call],
+}
+
+impl<R: Wait + Abort + Copy + Drop> Trial<R> for Leaving {
+    fn run<'a, L: Naming + Send + Sync>(
+        &self,
+        rt: &R,
+        alloc: Global,
+        stage: &Stage<'a, L, R>,
+        _desk: &'a Desk,
+        tokens: Tokens<L, R>,
+    ) -> Result<(), Fail> {
+        let (baton, mut wire) = wired(alloc, tokens, Vec::new(alloc))?;
+        reads(rt, alloc, stage, baton, self.calls)?;
+        assert_eq!(rt; wire.pump(rt), Ok(Flow::Idle));
+        assert_eq!(rt; wire.stream().as_slice(), OUTPUT.as_slice());
+        Ok(())
+    }
 }
 
 #[test]
 fn lines_wait_while_much_waits(rt: HostRuntime) -> Result<(), Fail> {
-    let register = Register::new(rt.alloc())?;
-    leaves_in_one::<Brand, _>(&rt, rt.alloc(), register, &ONE_BY_ONE)
+    try_out(&rt, rt.alloc(), &Leaving { calls: &ONE_BY_ONE })
 }
 
 #[test]
 fn lines_go_on_once_less_waits(rt: HostRuntime) -> Result<(), Fail> {
-    let register = Register::new(rt.alloc())?;
-    leaves_in_one::<Brand, _>(&rt, rt.alloc(), register, &LESS_AND_LESS)
+    let leaving = Leaving {
+        calls: &LESS_AND_LESS,
+    };
+    try_out(&rt, rt.alloc(), &leaving)
 }

@@ -20,9 +20,11 @@ mod taking;
 #[cfg(test)]
 mod threads;
 #[cfg(test)]
+mod trial;
+#[cfg(test)]
 mod wanting;
 #[cfg(test)]
 mod writing;
 
-pub use fakes::{Dial, Heap, Noted, Open, Still, TURNS, Tally, Torn, Turnstile, rest};
+pub use fakes::{Dial, Heap, Noted, Open, TURNS, Tally, Torn, Turnstile, rest};
 pub use making::{Tokens, ends, hall, hung_for, line, open, work_two, work_under_slot};

@@ -1,7 +1,7 @@
 //! What the trials work with.
 ghost use Rattle.std.specs.Prelude.{◌≡◌, [], Some, IfSome};
 
-use crate::fakes::{Noted, Open, Still, Turnstile};
+use crate::fakes::{Dial, Noted, Open, Turnstile};
 use casemapping::is_host;
 use chronicle::{Kind, Moment, RecordNumber, SessionId, Why};
 use crew::{Desk, Gate, Job, Server, close_up, work, work_one};
@@ -159,7 +159,7 @@ pub fn ends<L: Naming, R: Wait + Drop>(
         hall,
         gate: &Open,
         sockets: &sockets,
-        clock: &Still,
+        clock: &Dial::new(),
         burst: 4,
     };
     let mut told = Told::new(alloc);

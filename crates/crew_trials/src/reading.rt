@@ -1,21 +1,15 @@
 //! A session is read to the end of its input.
-ghost use Rattle.std.specs.Prelude.{◌≡◌, []};
-
-use crate::fakes::{Noted, Open, Still, Torn, Waits};
-use crate::making::{Tokens, hall, hung_for, open};
+use crate::fakes::{Torn, Waits};
+use crate::making::{Tokens, hung_for};
+use crate::trial::{Stage, Trial, assert_ended, assert_free, try_out, wired};
 use chronicle::{RecordNumber, Why};
-use crew::{
-    Desk, Intake, Next, NoBacklog, Server, Sockets, close_now, close_up, hang, read_on, read_some,
-    tell,
-};
-use hall::{Hall, Naming, Register, Told};
-use line_grammar::Octets;
-use outbox::{ChannelName, Sender};
+use crew::{Desk, Intake, Next, NoBacklog, close_now, close_up, hang, read_on, read_some, tell};
+use hall::{Baton, Naming, Told};
+use outbox::Sender;
 use std::alloc::{AllocError, Global};
-use std::marker::Brand;
 use std::process::Abort;
+use std::sync::Wait;
 use std::sync::atomic::Ordering;
-use std::sync::{Mutex, Wait};
 use std::test::Fail;
 use wire::{Flow, Wire};
 
@@ -26,243 +20,188 @@ const INPUT: &[u8; 24] = b"PING x\r\nPING y\r\nPING zzz";
 const OUTPUT: &[u8; 104] =
     b":irc.example PONG irc.example x\r\n:irc.example PONG irc.example y\r\nERROR :Closing Link: h1 (Read error)\r\n";
 
-/// An input fails: the lines before that are done and told so, the session is hung by the record of this number, and the hall
-/// and the only slot are there again.
-fn torn<L: Naming, R: Wait + Abort + Copy + Drop>(
+/// Two lines, and an end.
+const TWO_LINES: &[u8; 16] = b"PING x\r\nPING y\r\n";
+
+/// A session that is gone, and of which nothing is left, is given up.
+fn leaves<L: Naming, R: Wait + Abort + Copy + Drop>(
     rt: &R,
     alloc: Global,
-    lock: &Mutex<Hall<L, Sender<R>>>,
-    mut input: Torn<'_>,
-    output: &[u8],
-    records: u64,
+    stage: &Stage<'_, L, R>,
+    baton: Baton<L, Sender<R>>,
+    wire: Wire<L, Vec<u8>>,
 ) -> Result<(), Fail> {
-    let Tokens {
-        baton,
-        stub,
-        writer,
-    } = open(rt, alloc, lock).ok_or("a session")?;
     let session = baton.session();
-    let desk = Desk::new(rt, alloc, 1)?;
-    let sockets = Noted::new();
-    let server = Server {
-        hall: lock,
-        gate: &Open,
-        sockets: &sockets,
-        clock: &Still,
-        burst: 4,
-    };
-    let host = Octets::copied(alloc, b"h1")?;
-    let Ok(mut wire) = Wire::new(alloc, writer, stub, Vec::new(alloc), host) else {
-        return Err("a wire".into());
-    };
-    let worked = read_on(rt, alloc, &server, &desk, baton, &mut input);
-    assert!(rt; worked.all, "all lines are done");
-    assert!(rt; lock.try_lock().is_some(), "the hall is given back");
-    assert!(rt; desk.slot(rt).is_some(), "the slot is there");
-    assert_eq!(rt; wire.pump(rt), Ok(Flow::Ended));
-    assert_eq!(rt; wire.stream().as_slice(), output);
-    assert_eq!(rt; lock.lock(rt).len() as u64, records);
-    let hung = hung_for(&lock.lock(rt), RecordNumber::new(records));
-    assert_eq!(rt; hung, Some((session, Why::ReadFailed)));
-    assert!(rt; sockets.is_shut(session), "it is shut");
     if wire.session() != session {
         return Err("another's wire".into());
     }
     let (writer, stub) = wire.apart();
-    let left = close_up(rt, alloc, &server, worked.baton, stub, writer);
+    let left = close_up(rt, alloc, stage, baton, stub, writer);
     assert_eq!(rt; (left.session(), left.count()), (session, 0));
     Ok(())
 }
 
-/// The same in a hall of its own, whose sessions this register has.
-fn torn_in_one<L: Naming, R: Wait + Abort + Copy + Drop>(
+/// An input fails: the lines before that are done and told so, the session is hung by the record of this number, and the hall
+/// and the only slot are there again.
+fn fails<'a, L: Naming, R: Wait + Abort + Copy + Drop>(
     rt: &R,
     alloc: Global,
-    register: Register<ChannelName>,
-    input: Torn<'_>,
-    output: &[u8],
-    records: u64,
-) -> Result<(), Fail>
-    requires named { register.table ≡ L.table }
-    requires empty { register.rows ≡ [] }
-{
-    let made: Hall<L, Sender<R>> = hall(alloc, register).ok_or("a hall")?;
-    let lock = Mutex::new(made);
-    let told = torn(rt, alloc, &lock, input, output, records);
-    drop(lock);
-    told
+    stage: &Stage<'a, L, R>,
+    desk: &'a Desk,
+    tokens: Tokens<L, R>,
+    mut input: Torn<'_>,
+    end: (&[u8], u64),
+) -> Result<(), Fail> {
+    let session = tokens.baton.session();
+    let (output, number) = end;
+    let (baton, mut wire) = wired(alloc, tokens, Vec::new(alloc))?;
+    let worked = read_on(rt, alloc, stage, desk, baton, &mut input);
+    assert!(rt; worked.all, "all lines are done");
+    assert_free(rt, stage, desk);
+    assert_eq!(rt; wire.pump(rt), Ok(Flow::Ended));
+    assert_eq!(rt; wire.stream().as_slice(), output);
+    assert_ended(rt, stage, session, Why::ReadFailed, number);
+    leaves(rt, alloc, stage, worked.baton, wire)
+}
+
+/// An input that fails, what is told of its lines and its end, and the number of the record that hangs its session.
+#[derive(Drop)]
+struct Failing<'a> {
+    input: &'a [u8],
+    most: usize,
+    output: &'a [u8],
+    number: u64,
+}
+
+impl<R: Wait + Abort + Copy + Drop> Trial<R> for Failing<'_> {
+    fn run<'a, L: Naming + Send + Sync>(
+        &self,
+        rt: &R,
+        alloc: Global,
+        stage: &Stage<'a, L, R>,
+        desk: &'a Desk,
+        tokens: Tokens<L, R>,
+    ) -> Result<(), Fail> {
+        let input = Torn {
+            octets: self.input,
+            most: self.most,
+        };
+        let end = (self.output, self.number);
+        fails(rt, alloc, stage, desk, tokens, input, end)
+    }
+}
+
+/// How four reads of two lines go on, where each other finds nothing there, and how many records were told by then.
+const READS: [(Next, usize); 4] = [
+    (Next::Nothing, 0),
+    (Next::Short, 2),
+    (Next::Nothing, 2),
+    (Next::Over(Why::ReadEnded), 2),
+];
+
+/// Reads go on as they are to.
+fn reads<L: Naming, R: Wait + Abort + Copy + Drop>(
+    rt: &R,
+    alloc: Global,
+    stage: &Stage<'_, L, R>,
+    baton: Baton<L, Sender<R>>,
+    told: &mut Told,
+) -> Result<Baton<L, Sender<R>>, Fail> {
+    let mut input = Waits {
+        octets: TWO_LINES,
+        is_there: false,
+    };
+    let (mut baton, mut intake) = (baton, Intake::new(alloc)?);
+    for (next, records) in READS {
+        let took = read_some(rt, stage, &mut intake, baton, &NoBacklog, &mut input, told);
+        assert_eq!(rt; (took.all, took.next), (true, next));
+        assert_eq!(rt; told.records(), records);
+        baton = took.baton;
+    }
+    Ok(baton)
 }
 
 /// An input that has nothing for now between its lines: what comes is done, and reading goes on. While the session isn't ended it
 /// can't be given up.
-fn waits<L: Naming, R: Wait + Abort + Copy + Drop>(
-    rt: &R,
-    alloc: Global,
-    lock: &Mutex<Hall<L, Sender<R>>>,
-) -> Result<(), Fail> {
-    let Tokens {
-        baton,
-        stub,
-        writer,
-    } = open(rt, alloc, lock).ok_or("a session")?;
-    let sockets = Noted::new();
-    let server = Server {
-        hall: lock,
-        gate: &Open,
-        sockets: &sockets,
-        clock: &Still,
-        burst: 4,
-    };
-    let mut input = Waits {
-        octets: b"PING x\r\nPING y\r\n",
-        is_there: false,
-    };
-    let mut intake = Intake::new(alloc)?;
-    let mut told = Told::new(alloc);
-    let took = read_some(
-        rt,
-        &server,
-        &mut intake,
-        baton,
-        &NoBacklog,
-        &mut input,
-        &mut told,
-    );
-    assert_eq!(rt; (took.all, took.next), (true, Next::Nothing));
-    let took = read_some(
-        rt,
-        &server,
-        &mut intake,
-        took.baton,
-        &NoBacklog,
-        &mut input,
-        &mut told,
-    );
-    assert_eq!(rt; (took.all, took.next), (true, Next::Short));
-    assert_eq!(rt; told.records(), 2);
-    let took = read_some(
-        rt,
-        &server,
-        &mut intake,
-        took.baton,
-        &NoBacklog,
-        &mut input,
-        &mut told,
-    );
-    assert_eq!(rt; (took.all, took.next), (true, Next::Nothing));
-    let took = read_some(
-        rt,
-        &server,
-        &mut intake,
-        took.baton,
-        &NoBacklog,
-        &mut input,
-        &mut told,
-    );
-    assert_eq!(rt; (took.all, took.next), (true, Next::Over(Why::ReadEnded)));
-    assert_eq!(rt; lock.lock(rt).len(), 3);
-    let session = took.baton.session();
-    let Err((baton, stub, writer)) = close_now(rt, &server, took.baton, stub, writer, &mut told)
-    else {
-        return Err("it is gone".into());
-    };
-    tell(&server, &mut told);
-    let ending = hang(rt, &server, session, Why::ReadEnded, &mut told);
-    assert!(rt; ending.hung.is_ok(), "it is ended");
-    assert_eq!(rt; told.sessions(), [session].as_slice());
-    let Ok(left) = close_now(rt, &server, baton, stub, writer, &mut told) else {
-        return Err("it isn't gone".into());
-    };
-    assert_eq!(rt; (left.session(), left.count()), (session, 3));
-    Ok(())
-}
+struct Waiting;
 
-/// The same in a hall of its own, whose sessions this register has.
-fn waits_in_one<L: Naming, R: Wait + Abort + Copy + Drop>(
-    rt: &R,
-    alloc: Global,
-    register: Register<ChannelName>,
-) -> Result<(), Fail>
-    requires named { register.table ≡ L.table }
-    requires empty { register.rows ≡ [] }
-{
-    let made: Hall<L, Sender<R>> = hall(alloc, register).ok_or("a hall")?;
-    let lock = Mutex::new(made);
-    let told = waits(rt, alloc, &lock);
-    drop(lock);
-    told
+impl<R: Wait + Abort + Copy + Drop> Trial<R> for Waiting {
+    fn run<'a, L: Naming + Send + Sync>(
+        &self,
+        rt: &R,
+        alloc: Global,
+        stage: &Stage<'a, L, R>,
+        _desk: &'a Desk,
+        tokens: Tokens<L, R>,
+    ) -> Result<(), Fail> {
+        let Tokens {
+            baton,
+            stub,
+            writer,
+        } = tokens;
+        let (session, mut told) = (baton.session(), Told::new(alloc));
+        let baton = reads(rt, alloc, stage, baton, &mut told)?;
+        assert_eq!(rt; stage.hall.lock(rt).len(), 3);
+        let Err((baton, stub, writer)) = close_now(rt, stage, baton, stub, writer, &mut told) else {
+            return Err("it is gone".into());
+        };
+        tell(stage, &mut told);
+        let ending = hang(rt, stage, session, Why::ReadEnded, &mut told);
+        assert!(rt; ending.hung.is_ok(), "it is ended");
+        assert_eq!(rt; told.sessions(), [session].as_slice());
+        let Ok(left) = close_now(rt, stage, baton, stub, writer, &mut told) else {
+            return Err("it isn't gone".into());
+        };
+        assert_eq!(rt; (left.session(), left.count()), (session, 3));
+        Ok(())
+    }
 }
 
 /// The same input, read by a thread of the session's own: it pauses where nothing is there, and the session ends with its input.
-fn rests<L: Naming, R: Wait + Abort + Copy + Drop>(
-    rt: &R,
-    alloc: Global,
-    lock: &Mutex<Hall<L, Sender<R>>>,
-) -> Result<(), Fail> {
-    let Tokens {
-        baton,
-        stub,
-        writer,
-    } = open(rt, alloc, lock).ok_or("a session")?;
-    let session = baton.session();
-    let desk = Desk::new(rt, alloc, 1)?;
-    let sockets = Noted::new();
-    let server = Server {
-        hall: lock,
-        gate: &Open,
-        sockets: &sockets,
-        clock: &Still,
-        burst: 4,
-    };
-    let mut input = Waits {
-        octets: b"PING x\r\nPING y\r\n",
-        is_there: false,
-    };
-    let worked = read_on(rt, alloc, &server, &desk, baton, &mut input);
-    assert!(rt; worked.all, "all lines are done");
-    assert_eq!(rt; sockets.paused.load(Ordering::SeqCst), 2);
-    let hung = hung_for(&lock.lock(rt), RecordNumber::new(4));
-    assert_eq!(rt; hung, Some((session, Why::ReadEnded)));
-    drop((stub, writer));
-    Ok(())
-}
+struct Resting;
 
-/// The same in a hall of its own, whose sessions this register has.
-fn rests_in_one<L: Naming, R: Wait + Abort + Copy + Drop>(
-    rt: &R,
-    alloc: Global,
-    register: Register<ChannelName>,
-) -> Result<(), Fail>
-    requires named { register.table ≡ L.table }
-    requires empty { register.rows ≡ [] }
-{
-    let made: Hall<L, Sender<R>> = hall(alloc, register).ok_or("a hall")?;
-    let lock = Mutex::new(made);
-    let told = rests(rt, alloc, &lock);
-    drop(lock);
-    told
+impl<R: Wait + Abort + Copy + Drop> Trial<R> for Resting {
+    fn run<'a, L: Naming + Send + Sync>(
+        &self,
+        rt: &R,
+        alloc: Global,
+        stage: &Stage<'a, L, R>,
+        desk: &'a Desk,
+        tokens: Tokens<L, R>,
+    ) -> Result<(), Fail> {
+        let session = tokens.baton.session();
+        let mut input = Waits {
+            octets: TWO_LINES,
+            is_there: false,
+        };
+        let worked = read_on(rt, alloc, stage, desk, tokens.baton, &mut input);
+        assert!(rt; worked.all, "all lines are done");
+        assert_eq!(rt; stage.sockets.paused.load(Ordering::SeqCst), 2);
+        let hung = hung_for(&stage.hall.lock(rt), RecordNumber::new(4));
+        assert_eq!(rt; hung, Some((session, Why::ReadEnded)));
+        Ok(())
+    }
 }
 
 #[test]
 fn a_thread_of_its_own_rests_where_nothing_is_there(rt: HostRuntime) -> Result<(), Fail> {
-    let register = Register::new(rt.alloc())?;
-    rests_in_one::<Brand, _>(&rt, rt.alloc(), register)
+    try_out(&rt, rt.alloc(), &Resting)
 }
 
 #[test]
 fn a_client_that_says_nothing_now_is_read_on(rt: HostRuntime) -> Result<(), Fail> {
-    let register = Register::new(rt.alloc())?;
-    waits_in_one::<Brand, _>(&rt, rt.alloc(), register)
+    try_out(&rt, rt.alloc(), &Waiting)
 }
 
 #[test]
 fn a_session_is_hung_where_its_input_fails(rt: HostRuntime) -> Result<(), Fail> {
-    let register = Register::new(rt.alloc())?;
-    let input = Torn {
-        octets: INPUT,
+    let failing = Failing {
+        input: INPUT,
         most: 7,
+        output: OUTPUT,
+        number: 4,
     };
-    torn_in_one::<Brand, _>(&rt, rt.alloc(), register, input, OUTPUT, 4)
+    try_out(&rt, rt.alloc(), &failing)
 }
 
 /// How often the long line comes: more octets than are read at first.
@@ -290,12 +229,13 @@ fn a_client_that_sends_much_is_read_whole(rt: HostRuntime) -> Result<(), Fail> {
         b"ERROR :Closing Link: h1 (Read error)\r\n",
     )?;
     for most in [1, 511, 512, 513, 4096] {
-        let register = Register::new(alloc)?;
-        let input = Torn {
-            octets: &said,
+        let failing = Failing {
+            input: &said,
             most,
+            output: &told,
+            number: LONG_LINES + 2,
         };
-        torn_in_one::<Brand, _>(&rt, alloc, register, input, &told, LONG_LINES + 2)?;
+        try_out(&rt, alloc, &failing)?;
     }
     Ok(())
 }

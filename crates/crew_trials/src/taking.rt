@@ -1,15 +1,13 @@
 //! A writer takes while the hall is locked.
-ghost use Rattle.std.specs.Prelude.{◌≡◌, []};
-
 use crate::fakes::{Open, TURNS, rest};
-use crate::making::{Tokens, hall, line, open};
+use crate::making::{Tokens, line};
+use crate::trial::{Stage, Trial, try_out};
 use chronicle::Moment;
-use crew::{Job, work_one};
+use crew::{Desk, Job, work_one};
 use deliveries::{Delivery, Item};
-use hall::{Hall, Naming, Register, Told};
-use outbox::{ChannelName, Sender, Writer};
+use hall::{Hall, Naming, Told};
+use outbox::{Sender, Writer};
 use std::alloc::Global;
-use std::marker::Brand;
 use std::process::Abort;
 use std::sync::{Mutex, Wait};
 use std::test::Fail;
@@ -36,15 +34,20 @@ fn says(item: Option<Item>, lines: &[u8]) -> bool {
 }
 
 /// An outbox is empty, and what a line owes is taken by another thread while this one has the hall.
-fn taken_meanwhile<
+fn take_meanwhile<
     L: Naming + Send + Sync,
     R: Threads + Wait + Clock + Abort + Copy + Drop + Send + Sync,
->(rt: &R, alloc: Global, lock: &Mutex<Hall<L, Sender<R>>>) -> Result<(), Fail> {
+>(
+    rt: &R,
+    alloc: Global,
+    lock: &Mutex<Hall<L, Sender<R>>>,
+    tokens: Tokens<L, R>,
+) -> Result<(), Fail> {
     let Tokens {
         baton,
         mut writer,
         ..
-    } = open(rt, alloc, lock).ok_or("a session")?;
+    } = tokens;
     let session = baton.session();
     assert!(rt; writer.take_now(rt).is_err(), "nothing waits");
     let mut told = Told::new(alloc);
@@ -68,23 +71,22 @@ fn taken_meanwhile<
     Ok(())
 }
 
-/// The same in a hall of its own, whose sessions this register has.
-fn taken_meanwhile_in_one<
-    L: Naming + Send + Sync,
-    R: Threads + Wait + Clock + Abort + Copy + Drop + Send + Sync,
->(rt: &R, alloc: Global, register: Register<ChannelName>) -> Result<(), Fail>
-    requires named { register.table ≡ L.table }
-    requires empty { register.rows ≡ [] }
-{
-    let made: Hall<L, Sender<R>> = hall(alloc, register).ok_or("a hall")?;
-    let lock = Mutex::new(made);
-    let told = taken_meanwhile(rt, alloc, &lock);
-    drop(lock);
-    told
+struct Taking;
+
+impl<R: Threads + Wait + Clock + Abort + Copy + Drop + Send + Sync> Trial<R> for Taking {
+    fn run<'a, L: Naming + Send + Sync>(
+        &self,
+        rt: &R,
+        alloc: Global,
+        stage: &Stage<'a, L, R>,
+        _desk: &'a Desk,
+        tokens: Tokens<L, R>,
+    ) -> Result<(), Fail> {
+        take_meanwhile(rt, alloc, stage.hall, tokens)
+    }
 }
 
 #[test]
 fn an_item_is_taken_while_the_hall_is_locked(rt: HostRuntime) -> Result<(), Fail> {
-    let register = Register::new(rt.alloc())?;
-    taken_meanwhile_in_one::<Brand, _>(&rt, rt.alloc(), register)
+    try_out(&rt, rt.alloc(), &Taking)
 }

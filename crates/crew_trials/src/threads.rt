@@ -1,13 +1,11 @@
 //! Two sessions on two threads.
-ghost use Rattle.std.specs.Prelude.{◌≡◌, []};
-
 use crate::fakes::Turnstile;
-use crate::making::{ends, hall, line, open, work_two};
+use crate::making::{Tokens, ends, line, open, work_two};
+use crate::trial::{Stage, Trial, try_out};
 use crew::Desk;
-use hall::{Hall, Naming, Register};
-use outbox::{ChannelName, Sender};
+use hall::{Hall, Naming};
+use outbox::Sender;
 use std::alloc::Global;
-use std::marker::Brand;
 use std::process::Abort;
 use std::sync::atomic::Ordering;
 use std::sync::{Mutex, Wait};
@@ -17,11 +15,10 @@ use std::time::Clock;
 
 /// The second session enters the gate when the first is about to leave it, and the first leaves it when the second was answered: so
 /// nobody has the hall at the gate.
-fn two_sessions<
+fn work_at_once<
     L: Naming + Send + Sync,
     R: Threads + Wait + Clock + Abort + Copy + Drop + Send + Sync,
->(rt: &R, alloc: Global, lock: &Mutex<Hall<L, Sender<R>>>) -> Result<(), Fail> {
-    let al = open(rt, alloc, lock).ok_or("a session")?;
+>(rt: &R, alloc: Global, lock: &Mutex<Hall<L, Sender<R>>>, al: Tokens<L, R>) -> Result<(), Fail> {
     let bo = open(rt, alloc, lock).ok_or("another session")?;
     let desk = Desk::new(rt, alloc, 2)?;
     let gate = Turnstile::new(*rt, al.baton.session());
@@ -38,23 +35,22 @@ fn two_sessions<
     Ok(())
 }
 
-/// The same in a hall of its own, whose sessions this register has.
-fn two_sessions_in_one<
-    L: Naming + Send + Sync,
-    R: Threads + Wait + Clock + Abort + Copy + Drop + Send + Sync,
->(rt: &R, alloc: Global, register: Register<ChannelName>) -> Result<(), Fail>
-    requires named { register.table ≡ L.table }
-    requires empty { register.rows ≡ [] }
-{
-    let made: Hall<L, Sender<R>> = hall(alloc, register).ok_or("a hall")?;
-    let lock = Mutex::new(made);
-    let told = two_sessions(rt, alloc, &lock);
-    drop(lock);
-    told
+struct Two;
+
+impl<R: Threads + Wait + Clock + Abort + Copy + Drop + Send + Sync> Trial<R> for Two {
+    fn run<'a, L: Naming + Send + Sync>(
+        &self,
+        rt: &R,
+        alloc: Global,
+        stage: &Stage<'a, L, R>,
+        _desk: &'a Desk,
+        tokens: Tokens<L, R>,
+    ) -> Result<(), Fail> {
+        work_at_once(rt, alloc, stage.hall, tokens)
+    }
 }
 
 #[test]
 fn two_sessions_work_at_once(rt: HostRuntime) -> Result<(), Fail> {
-    let register = Register::new(rt.alloc())?;
-    two_sessions_in_one::<Brand, _>(&rt, rt.alloc(), register)
+    try_out(&rt, rt.alloc(), &Two)
 }

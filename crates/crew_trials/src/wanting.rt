@@ -1,22 +1,17 @@
 //! A session for one of whose lines memory is wanting is ended for that, and nobody else is. With all memory each line is done;
 //! `checks/growths --tests` refuses one allocation after another.
-ghost use Rattle.std.specs.Prelude.{◌≡◌, []};
-
-use crate::fakes::{Noted, Open, Still, Torn};
-use crate::making::{Tokens, hall, hung_for, open};
+use crate::fakes::Torn;
+use crate::making::{Tokens, hung_for, open};
+use crate::trial::{Stage, Trial, try_out};
 use chronicle::{RecordNumber, SessionId, Why};
-use crew::{Intake, Next, NoBacklog, Server, Sockets, hang, read_some};
-use hall::{Baton, Hall, Naming, Register, Told};
-use outbox::{ChannelName, Sender};
+use crew::{Desk, Intake, Next, NoBacklog, Sockets, hang, read_some};
+use hall::{Baton, Hall, Naming, Told};
+use outbox::Sender;
 use std::alloc::{AllocError, Global};
-use std::marker::Brand;
 use std::process::Abort;
 use std::sync::atomic::Ordering;
 use std::sync::{Mutex, Wait};
 use std::test::Fail;
-
-/// The server of a story.
-type Story<'a, L, R> = Server<'a, L, R, Open, Noted, Still>;
 
 /// What a person says, in one read.
 const SAID: &[u8; 70] =
@@ -35,10 +30,10 @@ fn opened<L: Naming, R: Wait + Copy + Drop>(
 }
 
 /// Reads all that is said, ends the session where its reading is over, and answers whether all lines were done.
-fn says<'a, L: Naming, R: Wait + Drop>(
+fn says<L: Naming, R: Wait + Drop>(
     rt: &R,
     alloc: Global,
-    server: &Story<'a, L, R>,
+    stage: &Stage<'_, L, R>,
     baton: Baton<L, Sender<R>>,
 ) -> Result<bool, AllocError> {
     let session = baton.session();
@@ -53,7 +48,7 @@ fn says<'a, L: Naming, R: Wait + Drop>(
     };
     let took = read_some(
         rt,
-        server,
+        stage,
         &mut intake,
         baton,
         &NoBacklog,
@@ -61,7 +56,7 @@ fn says<'a, L: Naming, R: Wait + Drop>(
         &mut told,
     );
     if let Next::Over(why) = took.next {
-        let _ = hang(rt, server, session, why, &mut told);
+        let _ = hang(rt, stage, session, why, &mut told);
     }
     Ok(took.all)
 }
@@ -78,64 +73,31 @@ fn is_ended<L: Naming, R: Wait + Drop>(
 }
 
 /// Somebody speaks; where a line isn't done they are ended, and nobody else is.
-fn wanting<L: Naming, R: Wait + Abort + Copy + Drop>(
-    rt: &R,
-    alloc: Global,
-    lock: &Mutex<Hall<L, Sender<R>>>,
-) -> Result<(), Fail> {
-    let al = opened(rt, alloc, lock).ok_or("a session")?;
-    let bo = opened(rt, alloc, lock).ok_or("another session")?;
-    let (speaker, other) = (al.baton.session(), bo.baton.session());
-    let sockets = Noted::new();
-    let server = Server {
-        hall: lock,
-        gate: &Open,
-        sockets: &sockets,
-        clock: &Still,
-        burst: 4,
-    };
-    let all = says(rt, alloc, &server, al.baton)?;
-    assert_eq!(rt; is_ended(rt, lock, speaker), !all);
-    assert_eq!(rt; sockets.is_shut(speaker), !all);
-    assert!(rt; !sockets.is_shut(other), "nobody else is shut");
-    assert!(rt;
-        !sockets.is_stopped.load(Ordering::SeqCst),
-        "the server goes on"
-    );
-    assert!(rt; lock.try_lock().is_some(), "the hall is given back");
-    Ok(())
-}
+struct Wanting;
 
-/// The same in a hall of its own, whose sessions this register has; or false where there was no memory for that hall.
-fn wanting_in_one<L: Naming, R: Wait + Abort + Copy + Drop>(
-    rt: &R,
-    alloc: Global,
-    register: Register<ChannelName>,
-) -> Result<bool, Fail>
-    requires named { register.table ≡ L.table }
-    requires empty { register.rows ≡ [] }
-{
-    let made: Option<Hall<L, Sender<R>>> = hall(alloc, register);
-    let Some(made) = made else {
-        return Ok(false);
-    };
-    let lock = Mutex::new(made);
-    let told = wanting(rt, alloc, &lock);
-    drop(lock);
-    told?;
-    Ok(true)
+impl<R: Wait + Abort + Copy + Drop> Trial<R> for Wanting {
+    fn run<'a, L: Naming + Send + Sync>(
+        &self,
+        rt: &R,
+        alloc: Global,
+        stage: &Stage<'a, L, R>,
+        _desk: &'a Desk,
+        tokens: Tokens<L, R>,
+    ) -> Result<(), Fail> {
+        let bo = opened(rt, alloc, stage.hall).ok_or("another session")?;
+        let (speaker, other) = (tokens.baton.session(), bo.baton.session());
+        let all = says(rt, alloc, stage, tokens.baton)?;
+        assert_eq!(rt; is_ended(rt, stage.hall, speaker), !all);
+        assert_eq!(rt; stage.sockets.is_shut(speaker), !all);
+        assert!(rt; !stage.sockets.is_shut(other), "nobody else is shut");
+        let is_stopped = stage.sockets.is_stopped.load(Ordering::SeqCst);
+        assert!(rt; !is_stopped, "the server goes on");
+        assert!(rt; stage.hall.try_lock().is_some(), "the hall is given back");
+        Ok(())
+    }
 }
 
 #[test]
 fn who_finds_no_memory_is_ended(rt: HostRuntime) -> Result<(), Fail> {
-    for _ in 0..2u32 {
-        let register = match Register::new(rt.alloc()) {
-            Ok(register) => register,
-            Err(_) => Register::new(rt.alloc())?,
-        };
-        if wanting_in_one::<Brand, _>(&rt, rt.alloc(), register)? {
-            return Ok(());
-        }
-    }
-    Err("a hall".into())
+    try_out(&rt, rt.alloc(), &Wanting)
 }

@@ -1,15 +1,14 @@
 //! What waits for a session is written while the hall is locked.
-ghost use Rattle.std.specs.Prelude.{◌≡◌, []};
-
-use crate::fakes::{Broken, Noted, Open, Still, TURNS, Tally, rest};
-use crate::making::{Tokens, hall, hung_for, line, open};
-use chronicle::{Moment, RecordNumber, SessionId, Why};
-use crew::{Job, Outlet, Server, Sockets, Standing, work_one, write_on, write_some};
-use hall::{Baton, Hall, Naming, Register, Told};
-use line_grammar::{Octets, Piece};
-use outbox::{Bell, ChannelName, Sender};
+use crate::fakes::{Broken, Open, TURNS, Tally, rest};
+use crate::making::{Tokens, line};
+use crate::trial::{Stage, Trial, assert_ended, try_out, wired};
+use chronicle::{Moment, SessionId, Why};
+use crew::{Desk, Job, Outlet, Sockets, Standing, work_one, write_on, write_some};
+use hall::{Baton, Hall, Naming, Told};
+use line_grammar::Piece;
+use outbox::{Bell, Sender};
 use std::alloc::Global;
-use std::marker::Brand;
+use std::io::Write;
 use std::process::Abort;
 use std::sync::atomic::{AtomicBool, AtomicU64, Ordering};
 use std::sync::{Arc, Mutex, Wait};
@@ -50,7 +49,7 @@ fn is_written_meanwhile<
 >(
     rt: &R,
     alloc: Global,
-    server: &Server<'_, L, R, Open, Noted, Still>,
+    stage: &Stage<'_, L, R>,
     wire: Wire<L, Tally>,
     bell: &Bell,
     written: &AtomicU64,
@@ -61,14 +60,14 @@ fn is_written_meanwhile<
         rt,
         || {
             wait_for(rt, &is_held);
-            write_on(rt, alloc, server, wire)
+            write_on(rt, alloc, stage, wire)
         },
         || {
-            let hall = server.hall.lock(rt);
+            let hall = stage.hall.lock(rt);
             is_held.store(true, Ordering::SeqCst);
             let is_written = are_written(rt, written, PONG.len() as u64);
             drop(hall);
-            server.sockets.shut(session);
+            stage.sockets.shut(session);
             bell.ring();
             is_written
         },
@@ -79,17 +78,17 @@ fn is_written_meanwhile<
 fn write_meanwhile<L: Naming + Send + Sync, R: Threads + Wait + Clock + Copy + Drop + Send + Sync>(
     rt: &R,
     alloc: Global,
-    server: &Server<'_, L, R, Open, Noted, Still>,
+    stage: &Stage<'_, L, R>,
     session: SessionId,
     outlet: &Outlet<L, Tally>,
     is_shut: bool,
 ) -> bool {
-    let hall = server.hall.lock(rt);
+    let hall = stage.hall.lock(rt);
     let (written, ()) = join(
         rt,
         || {
             let mut told = Told::new(alloc);
-            write_some(rt, server, session, outlet, is_shut, &mut told)
+            write_some(rt, stage, session, outlet, is_shut, &mut told)
         },
         || {},
     );
@@ -117,192 +116,160 @@ fn work_once<L: Naming, R: Wait + Drop>(
     (back.baton, back.outcome.is_ok())
 }
 
-/// A line is answered, and its answer is written by one thread while another has the hall.
-fn written_meanwhile<
-    L: Naming + Send + Sync,
-    R: Threads + Wait + Clock + Abort + Copy + Drop + Send + Sync,
->(rt: &R, alloc: Global, lock: &Mutex<Hall<L, Sender<R>>>) -> Result<(), Fail> {
-    let Tokens {
-        baton,
-        stub,
-        writer,
-    } = open(rt, alloc, lock).ok_or("a session")?;
-    let session = baton.session();
-    let sockets = Noted::new();
-    let server = Server {
-        hall: lock,
-        gate: &Open,
-        sockets: &sockets,
-        clock: &Still,
-        burst: 4,
-    };
+/// A session says a line, which is done, and whose answer waits for a wire to this stream.
+fn answered<L: Naming, R: Wait + Abort + Copy + Drop, W: Write + Drop>(
+    rt: &R,
+    alloc: Global,
+    lock: &Mutex<Hall<L, Sender<R>>>,
+    tokens: Tokens<L, R>,
+    stream: W,
+) -> Result<Wire<L, W>, Fail> {
+    let (baton, wire) = wired(alloc, tokens, stream)?;
     let (_, is_done) = work_once(rt, alloc, lock, baton, line(alloc, b"PING x")?);
     assert!(rt; is_done, "it is done");
-    let written = Arc::new(alloc, AtomicU64::new(0))?;
-    let outlet = Outlet::new();
-    let host = Octets::copied(alloc, b"h1")?;
-    let stream = Tally::new(written.clone()?);
-    let Ok(wire) = Wire::new(alloc, writer, stub, stream, host) else {
-        return Err("a wire".into());
-    };
-    outlet.open(rt, wire);
-    let is_over = write_meanwhile(rt, alloc, &server, session, &outlet, false);
-    assert!(rt; !is_over, "more may come");
-    assert_eq!(rt; written.load(Ordering::SeqCst), PONG.len() as u64);
-    let is_over = write_meanwhile(rt, alloc, &server, session, &outlet, true);
-    assert!(rt; is_over, "it is shut, and nothing waits");
+    Ok(wire)
+}
+
+/// An outlet's wire is given to its own session, once.
+fn has_wire_once<L: Naming, R: Wait + Abort>(
+    rt: &R,
+    outlet: &Outlet<L, Tally>,
+    session: SessionId,
+) {
     assert!(rt;
         outlet.end(rt, SessionId::new(2)).is_none(),
         "its wire isn't another's"
     );
     assert!(rt; outlet.end(rt, session).is_some(), "it still has its wire");
     assert!(rt; outlet.end(rt, session).is_none(), "now it has none");
+}
+
+/// A line is answered, and its answer is written by one thread while another has the hall.
+fn written_meanwhile<
+    L: Naming + Send + Sync,
+    R: Threads + Wait + Clock + Abort + Copy + Drop + Send + Sync,
+>(rt: &R, alloc: Global, stage: &Stage<'_, L, R>, tokens: Tokens<L, R>) -> Result<(), Fail> {
+    let session = tokens.baton.session();
+    let written = Arc::new(alloc, AtomicU64::new(0))?;
+    let stream = Tally::new(written.clone()?);
+    let wire = answered(rt, alloc, stage.hall, tokens, stream)?;
+    let outlet = Outlet::new();
+    outlet.open(rt, wire);
+    let is_over = write_meanwhile(rt, alloc, stage, session, &outlet, false);
+    assert!(rt; !is_over, "more may come");
+    assert_eq!(rt; written.load(Ordering::SeqCst), PONG.len() as u64);
+    let is_over = write_meanwhile(rt, alloc, stage, session, &outlet, true);
+    assert!(rt; is_over, "it is shut, and nothing waits");
+    has_wire_once(rt, &outlet, session);
     Ok(())
 }
 
-/// The same in a hall of its own, whose sessions this register has.
-fn written_meanwhile_in_one<
-    L: Naming + Send + Sync,
-    R: Threads + Wait + Clock + Abort + Copy + Drop + Send + Sync,
->(rt: &R, alloc: Global, register: Register<ChannelName>) -> Result<(), Fail>
-    requires named { register.table ≡ L.table }
-    requires empty { register.rows ≡ [] }
-{
-    let made: Hall<L, Sender<R>> = hall(alloc, register).ok_or("a hall")?;
-    let lock = Mutex::new(made);
-    let told = written_meanwhile(rt, alloc, &lock);
-    drop(lock);
-    told
+struct Meanwhile;
+
+impl<R: Threads + Wait + Clock + Abort + Copy + Drop + Send + Sync> Trial<R> for Meanwhile {
+    fn run<'a, L: Naming + Send + Sync>(
+        &self,
+        rt: &R,
+        alloc: Global,
+        stage: &Stage<'a, L, R>,
+        _desk: &'a Desk,
+        tokens: Tokens<L, R>,
+    ) -> Result<(), Fail> {
+        written_meanwhile(rt, alloc, stage, tokens)
+    }
 }
 
 /// A line is answered, and its answer is written by the session's own thread while another has the hall.
 fn written_by_its_own<
     L: Naming + Send + Sync,
     R: Threads + Wait + Clock + Abort + Copy + Drop + Send + Sync,
->(rt: &R, alloc: Global, lock: &Mutex<Hall<L, Sender<R>>>) -> Result<(), Fail> {
-    let Tokens {
-        baton,
-        stub,
-        writer,
-    } = open(rt, alloc, lock).ok_or("a session")?;
-    let session = baton.session();
-    let sockets = Noted::new();
-    let server = Server {
-        hall: lock,
-        gate: &Open,
-        sockets: &sockets,
-        clock: &Still,
-        burst: 4,
-    };
-    let (_, is_done) = work_once(rt, alloc, lock, baton, line(alloc, b"PING x")?);
-    assert!(rt; is_done, "it is done");
+>(rt: &R, alloc: Global, stage: &Stage<'_, L, R>, tokens: Tokens<L, R>) -> Result<(), Fail> {
+    let session = tokens.baton.session();
+    let bell = tokens.writer.bell().again()?;
     let written = Arc::new(alloc, AtomicU64::new(0))?;
-    let bell = writer.bell().again()?;
-    let host = Octets::copied(alloc, b"h1")?;
     let stream = Tally::new(written.clone()?);
-    let Ok(wire) = Wire::new(alloc, writer, stub, stream, host) else {
-        return Err("a wire".into());
-    };
-    let (wire, is_written) = is_written_meanwhile(rt, alloc, &server, wire, &bell, &written);
+    let wire = answered(rt, alloc, stage.hall, tokens, stream)?;
+    let (wire, is_written) = is_written_meanwhile(rt, alloc, stage, wire, &bell, &written);
     assert!(rt; is_written, "it is written");
     assert_eq!(rt; wire.session(), session);
     assert_eq!(rt; written.load(Ordering::SeqCst), PONG.len() as u64);
     Ok(())
 }
 
-/// The same in a hall of its own, whose sessions this register has.
-fn written_by_its_own_in_one<
-    L: Naming + Send + Sync,
-    R: Threads + Wait + Clock + Abort + Copy + Drop + Send + Sync,
->(rt: &R, alloc: Global, register: Register<ChannelName>) -> Result<(), Fail>
-    requires named { register.table ≡ L.table }
-    requires empty { register.rows ≡ [] }
-{
-    let made: Hall<L, Sender<R>> = hall(alloc, register).ok_or("a hall")?;
-    let lock = Mutex::new(made);
-    let told = written_by_its_own(rt, alloc, &lock);
-    drop(lock);
-    told
+struct ByItsOwn;
+
+impl<R: Threads + Wait + Clock + Abort + Copy + Drop + Send + Sync> Trial<R> for ByItsOwn {
+    fn run<'a, L: Naming + Send + Sync>(
+        &self,
+        rt: &R,
+        alloc: Global,
+        stage: &Stage<'a, L, R>,
+        _desk: &'a Desk,
+        tokens: Tokens<L, R>,
+    ) -> Result<(), Fail> {
+        written_by_its_own(rt, alloc, stage, tokens)
+    }
 }
 
-/// A stream fails: the session is ended for that, once, and its connection is shut; by a worker, or by the session's own thread.
-fn broken<L: Naming, R: Wait + Abort + Copy + Drop>(
+/// Writes to a stream that fails until the session's writing is over: by its own thread, or by a worker.
+fn write_all<L: Naming, R: Wait + Abort + Copy + Drop>(
     rt: &R,
     alloc: Global,
-    lock: &Mutex<Hall<L, Sender<R>>>,
+    stage: &Stage<'_, L, R>,
+    wire: Wire<L, Broken>,
     has_own_thread: bool,
-) -> Result<(), Fail> {
-    let Tokens {
-        baton,
-        stub,
-        writer,
-    } = open(rt, alloc, lock).ok_or("a session")?;
-    let session = baton.session();
-    let sockets = Noted::new();
-    let server = Server {
-        hall: lock,
-        gate: &Open,
-        sockets: &sockets,
-        clock: &Still,
-        burst: 4,
-    };
-    let (_, is_done) = work_once(rt, alloc, lock, baton, line(alloc, b"PING x")?);
-    assert!(rt; is_done, "it is done");
-    let host = Octets::copied(alloc, b"h1")?;
-    let Ok(wire) = Wire::new(alloc, writer, stub, Broken, host) else {
-        return Err("a wire".into());
-    };
+) {
+    let session = wire.session();
     if has_own_thread {
-        let wire = write_on(rt, alloc, &server, wire);
+        let wire = write_on(rt, alloc, stage, wire);
         assert_eq!(rt; wire.session(), session);
     } else {
         let outlet = Outlet::new();
         outlet.open(rt, wire);
         let mut told = Told::new(alloc);
-        let written = write_some(rt, &server, session, &outlet, false, &mut told);
+        let written = write_some(rt, stage, session, &outlet, false, &mut told);
         assert_eq!(rt; written.standing, Standing::Over);
     }
-    let hung = hung_for(&lock.lock(rt), RecordNumber::new(3));
-    assert_eq!(rt; hung, Some((session, Why::WriteFailed)));
-    assert_eq!(rt; lock.lock(rt).len(), 3);
-    assert!(rt; sockets.is_shut(session), "it is shut");
-    Ok(())
 }
 
-/// The same in a hall of its own, whose sessions this register has.
-fn broken_in_one<L: Naming, R: Wait + Abort + Copy + Drop>(
-    rt: &R,
-    alloc: Global,
-    register: Register<ChannelName>,
+/// A stream fails: the session is ended for that, once, and its connection is shut; by a worker, or by the session's own thread.
+#[derive(Drop)]
+struct Failing {
     has_own_thread: bool,
-) -> Result<(), Fail>
-    requires named { register.table ≡ L.table }
-    requires empty { register.rows ≡ [] }
-{
-    let made: Hall<L, Sender<R>> = hall(alloc, register).ok_or("a hall")?;
-    let lock = Mutex::new(made);
-    let told = broken(rt, alloc, &lock, has_own_thread);
-    drop(lock);
-    told
+}
+
+impl<R: Wait + Abort + Copy + Drop> Trial<R> for Failing {
+    fn run<'a, L: Naming + Send + Sync>(
+        &self,
+        rt: &R,
+        alloc: Global,
+        stage: &Stage<'a, L, R>,
+        _desk: &'a Desk,
+        tokens: Tokens<L, R>,
+    ) -> Result<(), Fail> {
+        let session = tokens.baton.session();
+        let wire = answered(rt, alloc, stage.hall, tokens, Broken)?;
+        assert_eq!(rt; wire.session(), session);
+        write_all(rt, alloc, stage, wire, self.has_own_thread);
+        assert_ended(rt, stage, session, Why::WriteFailed, 3);
+        Ok(())
+    }
 }
 
 #[test]
 fn a_session_is_hung_where_its_stream_fails(rt: HostRuntime) -> Result<(), Fail> {
     for has_own_thread in [false, true] {
-        let register = Register::new(rt.alloc())?;
-        broken_in_one::<Brand, _>(&rt, rt.alloc(), register, has_own_thread)?;
+        try_out(&rt, rt.alloc(), &Failing { has_own_thread })?;
     }
     Ok(())
 }
 
 #[test]
 fn what_waits_is_written_while_the_hall_is_locked(rt: HostRuntime) -> Result<(), Fail> {
-    let register = Register::new(rt.alloc())?;
-    written_meanwhile_in_one::<Brand, _>(&rt, rt.alloc(), register)
+    try_out(&rt, rt.alloc(), &Meanwhile)
 }
 
 #[test]
 fn what_waits_is_written_by_the_sessions_own_thread(rt: HostRuntime) -> Result<(), Fail> {
-    let register = Register::new(rt.alloc())?;
-    written_by_its_own_in_one::<Brand, _>(&rt, rt.alloc(), register)
+    try_out(&rt, rt.alloc(), &ByItsOwn)
 }

@@ -1,0 +1,143 @@
+//! A trial on a server in memory.
+ghost use Rattle.std.specs.Prelude.{◌≡◌, []};
+
+use crate::fakes::{Dial, Noted, Open};
+use crate::making::{Tokens, hall, hung_for, open};
+use chronicle::{RecordNumber, SessionId, Why};
+use crew::{Desk, Server, Sockets};
+use hall::{Baton, Hall, Naming, Register};
+use line_grammar::Octets;
+use outbox::{ChannelName, Sender};
+use std::alloc::Global;
+use std::io::Write;
+use std::marker::Brand;
+use std::process::Abort;
+use std::sync::{Mutex, Wait};
+use std::test::Fail;
+use wire::Wire;
+
+/// The server of a trial.
+pub(crate) type Stage<'a, L, R> = Server<'a, L, R, Open, Noted, Dial>;
+
+/// What is tried with a session that was just opened on a server with nobody else, whose clock shows 0, and a desk with one slot.
+pub(crate) trait Trial<R: Wait + Drop> {
+    fn run<'a, L: Naming + Send + Sync>(
+        &self,
+        rt: &R,
+        alloc: Global,
+        stage: &Stage<'a, L, R>,
+        desk: &'a Desk,
+        tokens: Tokens<L, R>,
+    ) -> Result<(), Fail>;
+}
+
+/// A trial over this hall. It answers whether there was memory to begin it.
+fn tried_over<L: Naming + Send + Sync, X: Trial<R>, R: Wait + Copy + Drop>(
+    rt: &R,
+    alloc: Global,
+    lock: &Mutex<Hall<L, Sender<R>>>,
+    trial: &X,
+) -> Result<bool, Fail> {
+    let Ok(desk) = Desk::new(rt, alloc, 1) else {
+        return Ok(false);
+    };
+    let Some(tokens) = open(rt, alloc, lock) else {
+        return Ok(false);
+    };
+    let (sockets, clock) = (Noted::new(), Dial::new());
+    let stage = Server {
+        hall: lock,
+        gate: &Open,
+        sockets: &sockets,
+        clock: &clock,
+        burst: 4,
+    };
+    trial.run(rt, alloc, &stage, &desk, tokens)?;
+    Ok(true)
+}
+
+/// A trial over a hall whose sessions this register has. It answers whether there was memory to begin it.
+fn tried_in<L: Naming + Send + Sync, X: Trial<R>, R: Wait + Copy + Drop>(
+    rt: &R,
+    alloc: Global,
+    register: Register<ChannelName>,
+    trial: &X,
+) -> Result<bool, Fail>
+    requires named { register.table ≡ L.table }
+    requires empty { register.rows ≡ [] }
+{
+    let made: Option<Hall<L, Sender<R>>> = hall(alloc, register);
+    let Some(made) = made else {
+        return Ok(false);
+    };
+    let lock = Mutex::new(made);
+    let tried = tried_over(rt, alloc, &lock, trial);
+    drop(lock);
+    tried
+}
+
+/// A trial with a register of its own. It answers whether there was memory to begin it.
+fn tried<X: Trial<R>, R: Wait + Copy + Drop>(
+    rt: &R,
+    alloc: Global,
+    trial: &X,
+) -> Result<bool, Fail> {
+    let Ok(register) = Register::new(alloc) else {
+        return Ok(false);
+    };
+    tried_in::<Brand, X, R>(rt, alloc, register, trial)
+}
+
+/// A trial, which is begun once more where there was no memory for its beginning.
+pub(crate) fn try_out<X: Trial<R>, R: Wait + Copy + Drop>(
+    rt: &R,
+    alloc: Global,
+    trial: &X,
+) -> Result<(), Fail> {
+    if tried(rt, alloc, trial)? || tried(rt, alloc, trial)? {
+        return Ok(());
+    }
+    Err("no trial could begin".into())
+}
+
+/// A session's baton, and a wire from its outbox to this stream.
+pub(crate) fn wired<L: Naming, R: Wait + Drop, W: Write + Drop>(
+    alloc: Global,
+    tokens: Tokens<L, R>,
+    stream: W,
+) -> Result<(Baton<L, Sender<R>>, Wire<L, W>), Fail> {
+    let Tokens {
+        baton,
+        stub,
+        writer,
+    } = tokens;
+    let host = Octets::copied(alloc, b"h1")?;
+    match Wire::new(alloc, writer, stub, stream, host) {
+        Ok(wire) => Ok((baton, wire)),
+        Err(_) => Err("a wire".into()),
+    }
+}
+
+/// The hall and the only slot are there.
+pub(crate) fn assert_free<L: Naming, R: Wait + Abort + Drop>(
+    rt: &R,
+    stage: &Stage<'_, L, R>,
+    desk: &Desk,
+) {
+    assert!(rt; desk.slot(rt).is_some(), "the slot is there");
+    assert!(rt; stage.hall.try_lock().is_some(), "the hall is given back");
+}
+
+/// The newest record has this number and ended this session for this reason, and the session is shut.
+pub(crate) fn assert_ended<L: Naming, R: Wait + Abort + Drop>(
+    rt: &R,
+    stage: &Stage<'_, L, R>,
+    session: SessionId,
+    why: Why,
+    number: u64,
+) {
+    assert_eq!(rt; stage.hall.lock(rt).len() as u64, number);
+    let hung = hung_for(&stage.hall.lock(rt), RecordNumber::new(number));
+    assert_eq!(rt; hung, Some((session, why)));
+    assert!(rt; stage.sockets.is_shut(session), "it is shut");
+}
