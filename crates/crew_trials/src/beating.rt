@@ -1,10 +1,9 @@
 //! A server pings who is silent and ends who is so for too long, in beats of a clock that is set by hand.
 use crate::making::{Tokens, hung_for, line, open};
-use crate::trial::{Stage, Trial, try_out};
+use crate::trial::{Stage, Surroundings, Trial, try_out};
 use chronicle::{RecordNumber, SessionId, Why};
 use crew::{Desk, Sockets, beat, work};
 use hall::{Baton, Hall, Naming, TickRefusal, Told};
-use line_grammar::Piece;
 use outbox::{Sender, Writer};
 use std::alloc::Global;
 use std::process::Abort;
@@ -150,14 +149,16 @@ fn is_rolled<'a, L: Naming, R: Wait + Abort + Copy + Drop>(
 struct Silent;
 
 impl<R: Wait + Abort + Copy + Drop> Trial<R> for Silent {
-    fn run<'a, L: Naming + Send + Sync>(
+    fn run<L: Naming + Send + Sync>(
         &self,
         rt: &R,
         alloc: Global,
-        stage: &Stage<'a, L, R>,
-        desk: &'a Desk,
+        lock: &Mutex<Hall<L, Sender<R>>>,
+        around: &Surroundings,
         tokens: Tokens<L, R>,
     ) -> Result<(), Fail> {
+        let stage = &around.stage(lock);
+        let desk = &around.desk;
         let mut al = tokens;
         let Tokens {
             baton,

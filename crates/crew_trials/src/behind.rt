@@ -1,14 +1,15 @@
 //! A stream that took nothing is left alone until it takes more.
 use crate::fakes::{Open, Stuck};
 use crate::making::{Tokens, line};
-use crate::trial::{Stage, Trial, try_out, wired};
+use crate::trial::{Stage, Surroundings, Trial, try_out, wired};
 use chronicle::Moment;
-use crew::{Desk, Job, Outlet, Pumped, work_one};
-use hall::{Naming, Told};
+use crew::{Job, Outlet, Pumped, work_one};
+use hall::{Hall, Naming, Told};
+use outbox::Sender;
 use std::alloc::Global;
 use std::process::Abort;
 use std::sync::atomic::{AtomicU64, Ordering};
-use std::sync::{Arc, Wait};
+use std::sync::{Arc, Mutex, Wait};
 use std::test::Fail;
 use wire::Flow;
 
@@ -45,14 +46,15 @@ fn flow_of<L: Naming>(pumped: Option<Pumped<L, Stuck>>) -> Option<Flow> {
 struct Behind;
 
 impl<R: Wait + Abort + Copy + Drop> Trial<R> for Behind {
-    fn run<'a, L: Naming + Send + Sync>(
+    fn run<L: Naming + Send + Sync>(
         &self,
         rt: &R,
         alloc: Global,
-        stage: &Stage<'a, L, R>,
-        _desk: &'a Desk,
+        lock: &Mutex<Hall<L, Sender<R>>>,
+        around: &Surroundings,
         tokens: Tokens<L, R>,
     ) -> Result<(), Fail> {
+        let stage = &around.stage(lock);
         let writes = Arc::new(alloc, AtomicU64::new(0))?;
         let outlet = waiting(rt, alloc, stage, tokens, writes.clone()?)?;
         assert_eq!(rt; flow_of(outlet.write_now(rt)), Some(Flow::Behind));

@@ -1,14 +1,14 @@
 //! While much waits for a client, its own lines wait for it.
 use crate::fakes::Heap;
 use crate::making::Tokens;
-use crate::trial::{Stage, Trial, try_out, wired};
+use crate::trial::{Stage, Surroundings, Trial, try_out, wired};
 use chronicle::Why;
-use crew::{Desk, Intake, Next, read_some};
-use hall::{Baton, Naming, Told};
+use crew::{Intake, Next, read_some};
+use hall::{Baton, Hall, Naming, Told};
 use outbox::Sender;
 use std::alloc::Global;
 use std::process::Abort;
-use std::sync::Wait;
+use std::sync::{Mutex, Wait};
 use std::test::Fail;
 use wire::Flow;
 
@@ -76,14 +76,15 @@ struct Leaving {
 }
 
 impl<R: Wait + Abort + Copy + Drop> Trial<R> for Leaving {
-    fn run<'a, L: Naming + Send + Sync>(
+    fn run<L: Naming + Send + Sync>(
         &self,
         rt: &R,
         alloc: Global,
-        stage: &Stage<'a, L, R>,
-        _desk: &'a Desk,
+        lock: &Mutex<Hall<L, Sender<R>>>,
+        around: &Surroundings,
         tokens: Tokens<L, R>,
     ) -> Result<(), Fail> {
+        let stage = &around.stage(lock);
         let (baton, mut wire) = wired(alloc, tokens, Vec::new(alloc))?;
         reads(rt, alloc, stage, baton, self.calls)?;
         assert_eq!(rt; wire.pump(rt), Ok(Flow::Idle));

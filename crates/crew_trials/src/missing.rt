@@ -1,13 +1,13 @@
 //! Who misses a delivery is shut, and a journal that is full is rolled.
 use crate::making::{Tokens, line, open};
-use crate::trial::{Stage, Trial, try_out};
+use crate::trial::{Stage, Surroundings, Trial, try_out};
 use crew::{Desk, Sockets, work};
-use hall::{Baton, Naming, Told};
+use hall::{Baton, Hall, Naming, Told};
 use outbox::{Sender, Writer};
 use std::alloc::Global;
 use std::process::Abort;
-use std::sync::Wait;
 use std::sync::atomic::Ordering;
+use std::sync::{Mutex, Wait};
 use std::test::Fail;
 
 /// What two people say to be on one channel.
@@ -43,17 +43,20 @@ fn says<'a, L: Naming, R: Wait + Drop>(
 struct Missing;
 
 impl<R: Wait + Abort + Copy + Drop> Trial<R> for Missing {
-    fn run<'a, L: Naming + Send + Sync>(
+    fn run<L: Naming + Send + Sync>(
         &self,
         rt: &R,
         alloc: Global,
-        stage: &Stage<'a, L, R>,
-        desk: &'a Desk,
+        lock: &Mutex<Hall<L, Sender<R>>>,
+        around: &Surroundings,
         tokens: Tokens<L, R>,
     ) -> Result<(), Fail> {
-        let bo = open(rt, alloc, stage.hall).ok_or("another session")?;
-        let (speaker, hearer) = (tokens.baton.session(), bo.baton.session());
+        let stage = &around.stage(lock);
+        let desk = &around.desk;
+        let speaker = tokens.baton.session();
         let baton = says(rt, alloc, stage, desk, tokens.baton, &AL)?;
+        let bo = open(rt, alloc, stage.hall).ok_or("another session")?;
+        let hearer = bo.baton.session();
         says(rt, alloc, stage, desk, bo.baton, &BO)?;
         let text: &[u8] = b"PRIVMSG #a :x";
         let baton = says(rt, alloc, stage, desk, baton, &[text; 14])?;
@@ -76,14 +79,16 @@ fn takes_ten<R: Wait + Abort>(rt: &R, writer: &mut Writer) {
 struct Rolled;
 
 impl<R: Wait + Abort + Copy + Drop> Trial<R> for Rolled {
-    fn run<'a, L: Naming + Send + Sync>(
+    fn run<L: Naming + Send + Sync>(
         &self,
         rt: &R,
         alloc: Global,
-        stage: &Stage<'a, L, R>,
-        desk: &'a Desk,
+        lock: &Mutex<Hall<L, Sender<R>>>,
+        around: &Surroundings,
         tokens: Tokens<L, R>,
     ) -> Result<(), Fail> {
+        let stage = &around.stage(lock);
+        let desk = &around.desk;
         let Tokens {
             mut baton,
             mut writer,

@@ -1,15 +1,15 @@
 //! A session is read to the end of its input.
 use crate::fakes::{Torn, Waits};
 use crate::making::{Tokens, hung_for};
-use crate::trial::{Stage, Trial, assert_ended, assert_free, try_out, wired};
+use crate::trial::{Stage, Surroundings, Trial, assert_ended, assert_free, try_out, wired};
 use chronicle::{RecordNumber, Why};
 use crew::{Desk, Intake, Next, NoBacklog, close_now, close_up, hang, read_on, read_some, tell};
-use hall::{Baton, Naming, Told};
+use hall::{Baton, Hall, Naming, Told};
 use outbox::Sender;
 use std::alloc::{AllocError, Global};
 use std::process::Abort;
-use std::sync::Wait;
 use std::sync::atomic::Ordering;
+use std::sync::{Mutex, Wait};
 use std::test::Fail;
 use wire::{Flow, Wire};
 
@@ -74,14 +74,16 @@ struct Failing<'a> {
 }
 
 impl<R: Wait + Abort + Copy + Drop> Trial<R> for Failing<'_> {
-    fn run<'a, L: Naming + Send + Sync>(
+    fn run<L: Naming + Send + Sync>(
         &self,
         rt: &R,
         alloc: Global,
-        stage: &Stage<'a, L, R>,
-        desk: &'a Desk,
+        lock: &Mutex<Hall<L, Sender<R>>>,
+        around: &Surroundings,
         tokens: Tokens<L, R>,
     ) -> Result<(), Fail> {
+        let stage = &around.stage(lock);
+        let desk = &around.desk;
         let input = Torn {
             octets: self.input,
             most: self.most,
@@ -126,14 +128,15 @@ fn reads<L: Naming, R: Wait + Abort + Copy + Drop>(
 struct Waiting;
 
 impl<R: Wait + Abort + Copy + Drop> Trial<R> for Waiting {
-    fn run<'a, L: Naming + Send + Sync>(
+    fn run<L: Naming + Send + Sync>(
         &self,
         rt: &R,
         alloc: Global,
-        stage: &Stage<'a, L, R>,
-        _desk: &'a Desk,
+        lock: &Mutex<Hall<L, Sender<R>>>,
+        around: &Surroundings,
         tokens: Tokens<L, R>,
     ) -> Result<(), Fail> {
+        let stage = &around.stage(lock);
         let Tokens {
             baton,
             stub,
@@ -161,14 +164,16 @@ impl<R: Wait + Abort + Copy + Drop> Trial<R> for Waiting {
 struct Resting;
 
 impl<R: Wait + Abort + Copy + Drop> Trial<R> for Resting {
-    fn run<'a, L: Naming + Send + Sync>(
+    fn run<L: Naming + Send + Sync>(
         &self,
         rt: &R,
         alloc: Global,
-        stage: &Stage<'a, L, R>,
-        desk: &'a Desk,
+        lock: &Mutex<Hall<L, Sender<R>>>,
+        around: &Surroundings,
         tokens: Tokens<L, R>,
     ) -> Result<(), Fail> {
+        let stage = &around.stage(lock);
+        let desk = &around.desk;
         let session = tokens.baton.session();
         let mut input = Waits {
             octets: TWO_LINES,

@@ -1,11 +1,12 @@
 //! A line is refused after one that was done.
 use crate::making::{Tokens, line};
-use crate::trial::{Stage, Trial, assert_free, try_out};
-use crew::{Desk, Sockets, work};
-use hall::{Naming, Told};
+use crate::trial::{Surroundings, Trial, assert_free, try_out};
+use crew::{Sockets, work};
+use hall::{Hall, Naming, Told};
+use outbox::Sender;
 use std::alloc::Global;
 use std::process::Abort;
-use std::sync::Wait;
+use std::sync::{Mutex, Wait};
 use std::test::Fail;
 
 /// A session quits, and its line after that is refused: that isn't all, the session is shut, and the hall and the only slot are there
@@ -13,14 +14,16 @@ use std::test::Fail;
 struct Refused;
 
 impl<R: Wait + Abort + Copy + Drop> Trial<R> for Refused {
-    fn run<'a, L: Naming + Send + Sync>(
+    fn run<L: Naming + Send + Sync>(
         &self,
         rt: &R,
         alloc: Global,
-        stage: &Stage<'a, L, R>,
-        desk: &'a Desk,
+        lock: &Mutex<Hall<L, Sender<R>>>,
+        around: &Surroundings,
         tokens: Tokens<L, R>,
     ) -> Result<(), Fail> {
+        let stage = &around.stage(lock);
+        let desk = &around.desk;
         let session = tokens.baton.session();
         let lines = [line(alloc, b"QUIT")?, line(alloc, b"PING x")?];
         let mut told = Told::new(alloc);

@@ -1,9 +1,9 @@
 //! A writer takes while the hall is locked.
 use crate::fakes::{Open, TURNS, rest};
 use crate::making::{Tokens, line};
-use crate::trial::{Stage, Trial, try_out};
+use crate::threads::{Threaded, try_with_threads};
 use chronicle::Moment;
-use crew::{Desk, Job, work_one};
+use crew::{Job, work_one};
 use deliveries::{Delivery, Item};
 use hall::{Hall, Naming, Told};
 use outbox::{Sender, Writer};
@@ -34,7 +34,7 @@ fn says(item: Option<Item>, lines: &[u8]) -> bool {
 }
 
 /// An outbox is empty, and what a line owes is taken by another thread while this one has the hall.
-fn take_meanwhile<
+pub(crate) fn take_meanwhile<
     L: Naming + Send + Sync,
     R: Threads + Wait + Clock + Abort + Copy + Drop + Send + Sync,
 >(
@@ -71,22 +71,7 @@ fn take_meanwhile<
     Ok(())
 }
 
-struct Taking;
-
-impl<R: Threads + Wait + Clock + Abort + Copy + Drop + Send + Sync> Trial<R> for Taking {
-    fn run<'a, L: Naming + Send + Sync>(
-        &self,
-        rt: &R,
-        alloc: Global,
-        stage: &Stage<'a, L, R>,
-        _desk: &'a Desk,
-        tokens: Tokens<L, R>,
-    ) -> Result<(), Fail> {
-        take_meanwhile(rt, alloc, stage.hall, tokens)
-    }
-}
-
 #[test]
 fn an_item_is_taken_while_the_hall_is_locked(rt: HostRuntime) -> Result<(), Fail> {
-    try_out(&rt, rt.alloc(), &Taking)
+    try_with_threads(&rt, rt.alloc(), Threaded::Take)
 }

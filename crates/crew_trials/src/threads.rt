@@ -1,11 +1,16 @@
-//! Two sessions on two threads.
+//! Trials with threads, and that of two sessions on two of them.
+ghost use Rattle.std.specs.Prelude.{◌≡◌, []};
+
 use crate::fakes::Turnstile;
-use crate::making::{Tokens, ends, line, open, work_two};
-use crate::trial::{Stage, Trial, try_out};
+use crate::making::{Tokens, ends, hall, line, open, work_two};
+use crate::taking::take_meanwhile;
+use crate::trial::Surroundings;
+use crate::writing::{written_by_its_own, written_meanwhile};
 use crew::Desk;
-use hall::{Hall, Naming};
-use outbox::Sender;
+use hall::{Hall, Naming, Register};
+use outbox::{ChannelName, Sender};
 use std::alloc::Global;
+use std::marker::Brand;
 use std::process::Abort;
 use std::sync::atomic::Ordering;
 use std::sync::{Mutex, Wait};
@@ -13,44 +18,95 @@ use std::test::Fail;
 use std::thread::Threads;
 use std::time::Clock;
 
+/// Both quit, are swept and reaped.
+fn end_both<L: Naming, R: Wait + Abort + Drop>(
+    rt: &R,
+    alloc: Global,
+    lock: &Mutex<Hall<L, Sender<R>>>,
+    desk: &Desk,
+    al: Tokens<L, R>,
+    bo: Tokens<L, R>,
+) -> Result<(), Fail> {
+    assert!(rt; ends(rt, alloc, lock, desk, al)?, "the first is reaped");
+    assert!(rt; ends(rt, alloc, lock, desk, bo)?, "the second is reaped");
+    Ok(())
+}
+
 /// The second session enters the gate when the first is about to leave it, and the first leaves it when the second was answered: so
 /// nobody has the hall at the gate.
 fn work_at_once<
     L: Naming + Send + Sync,
     R: Threads + Wait + Clock + Abort + Copy + Drop + Send + Sync,
 >(rt: &R, alloc: Global, lock: &Mutex<Hall<L, Sender<R>>>, al: Tokens<L, R>) -> Result<(), Fail> {
-    let bo = open(rt, alloc, lock).ok_or("another session")?;
     let desk = Desk::new(rt, alloc, 2)?;
+    let (ping, their_ping) = (line(alloc, b"PING x")?, line(alloc, b"PING y")?);
+    let bo = open(rt, alloc, lock).ok_or("another session")?;
     let gate = Turnstile::new(*rt, al.baton.session());
-    let first = (al, line(alloc, b"PING x")?);
-    let second = (bo, line(alloc, b"PING y")?);
+    let (first, second) = ((al, ping), (bo, their_ping));
     let (al, bo, are_done) = work_two(rt, alloc, lock, &desk, &gate, first, second);
     assert!(rt; are_done, "both are done");
-    assert!(rt;
-        !gate.has_given_up.load(Ordering::SeqCst),
-        "the second was answered"
-    );
-    assert!(rt; ends(rt, alloc, lock, &desk, al)?, "the first is reaped");
-    assert!(rt; ends(rt, alloc, lock, &desk, bo)?, "the second is reaped");
-    Ok(())
+    let has_given_up = gate.has_given_up.load(Ordering::SeqCst);
+    assert!(rt; !has_given_up, "the second was answered");
+    end_both(rt, alloc, lock, &desk, al, bo)
 }
 
-struct Two;
+/// What is tried with threads.
+#[derive(Clone, Copy)]
+pub(crate) enum Threaded {
+    /// Two sessions work at once.
+    Work,
+    /// An item is taken while the hall is locked.
+    Take,
+    /// What waits is written while the hall is locked.
+    WriteBeside,
+    /// The same by the session's own thread.
+    WriteAlone,
+}
 
-impl<R: Threads + Wait + Clock + Abort + Copy + Drop + Send + Sync> Trial<R> for Two {
-    fn run<'a, L: Naming + Send + Sync>(
-        &self,
-        rt: &R,
-        alloc: Global,
-        stage: &Stage<'a, L, R>,
-        _desk: &'a Desk,
-        tokens: Tokens<L, R>,
-    ) -> Result<(), Fail> {
-        work_at_once(rt, alloc, stage.hall, tokens)
+/// A trial with threads over this hall.
+fn tried_over<
+    L: Naming + Send + Sync,
+    R: Threads + Wait + Clock + Abort + Copy + Drop + Send + Sync,
+>(rt: &R, alloc: Global, lock: &Mutex<Hall<L, Sender<R>>>, trial: Threaded) -> Result<(), Fail> {
+    let around = Surroundings::new(rt, alloc)?;
+    let stage = around.stage(lock);
+    let tokens = open(rt, alloc, lock).ok_or("a session")?;
+    match trial {
+        Threaded::Work => work_at_once(rt, alloc, lock, tokens),
+        Threaded::Take => take_meanwhile(rt, alloc, lock, tokens),
+        Threaded::WriteBeside => written_meanwhile(rt, alloc, &stage, tokens),
+        Threaded::WriteAlone => written_by_its_own(rt, alloc, &stage, tokens),
     }
+}
+
+/// The same in a hall of its own, whose sessions this register has.
+fn tried_in<L: Naming + Send + Sync, R: Threads + Wait + Clock + Abort + Copy + Drop + Send + Sync>(
+    rt: &R,
+    alloc: Global,
+    register: Register<ChannelName>,
+    trial: Threaded,
+) -> Result<(), Fail>
+    requires named { register.table ≡ L.table }
+    requires empty { register.rows ≡ [] }
+{
+    let made: Hall<L, Sender<R>> = hall(alloc, register).ok_or("a hall")?;
+    let lock = Mutex::new(made);
+    let tried = tried_over(rt, alloc, &lock, trial);
+    drop(lock);
+    tried
+}
+
+/// A trial with threads. No trait says what is tried, as of those without, since no block of such a trait would be covered.
+pub(crate) fn try_with_threads<R: Threads + Wait + Clock + Abort + Copy + Drop + Send + Sync>(
+    rt: &R,
+    alloc: Global,
+    trial: Threaded,
+) -> Result<(), Fail> {
+    let register = Register::new(alloc)?;
+    tried_in::<Brand, R>(rt, alloc, register, trial)
 }
 
 #[test]
 fn two_sessions_work_at_once(rt: HostRuntime) -> Result<(), Fail> {
-    try_out(&rt, rt.alloc(), &Two)
+    try_with_threads(&rt, rt.alloc(), Threaded::Work)
 }

@@ -8,7 +8,7 @@ use crew::{Desk, Server, Sockets};
 use hall::{Baton, Hall, Naming, Register};
 use line_grammar::Octets;
 use outbox::{ChannelName, Sender};
-use std::alloc::Global;
+use std::alloc::{AllocError, Global};
 use std::io::Write;
 use std::marker::Brand;
 use std::process::Abort;
@@ -19,14 +19,47 @@ use wire::Wire;
 /// The server of a trial.
 pub(crate) type Stage<'a, L, R> = Server<'a, L, R, Open, Noted, Dial>;
 
-/// What is tried with a session that was just opened on a server with nobody else, whose clock shows 0, and a desk with one slot.
+/// What stands around a hall: a desk with one slot, connections, and a clock.
+#[derive(Drop)]
+pub(crate) struct Surroundings {
+    pub(crate) desk: Desk,
+    sockets: Noted,
+    clock: Dial,
+}
+
+impl Surroundings {
+    /// Nobody is shut or told, and the clock shows 0.
+    pub(crate) fn new<R: Wait>(rt: &R, alloc: Global) -> Result<Surroundings, AllocError> {
+        Ok(Surroundings {
+            desk: Desk::new(rt, alloc, 1)?,
+            sockets: Noted::new(),
+            clock: Dial::new(),
+        })
+    }
+
+    /// The server of this hall.
+    pub(crate) fn stage<'a, L: Naming, R: Wait + Drop>(
+        &'a self,
+        hall: &'a Mutex<Hall<L, Sender<R>>>,
+    ) -> Stage<'a, L, R> {
+        Server {
+            hall,
+            gate: &Open,
+            sockets: &self.sockets,
+            clock: &self.clock,
+            burst: 4,
+        }
+    }
+}
+
+/// What is tried with a session that was just opened in a hall with nobody else, while the clock shows 0.
 pub(crate) trait Trial<R: Wait + Drop> {
-    fn run<'a, L: Naming + Send + Sync>(
+    fn run<L: Naming + Send + Sync>(
         &self,
         rt: &R,
         alloc: Global,
-        stage: &Stage<'a, L, R>,
-        desk: &'a Desk,
+        lock: &Mutex<Hall<L, Sender<R>>>,
+        around: &Surroundings,
         tokens: Tokens<L, R>,
     ) -> Result<(), Fail>;
 }
@@ -38,21 +71,13 @@ fn tried_over<L: Naming + Send + Sync, X: Trial<R>, R: Wait + Copy + Drop>(
     lock: &Mutex<Hall<L, Sender<R>>>,
     trial: &X,
 ) -> Result<bool, Fail> {
-    let Ok(desk) = Desk::new(rt, alloc, 1) else {
+    let Ok(around) = Surroundings::new(rt, alloc) else {
         return Ok(false);
     };
     let Some(tokens) = open(rt, alloc, lock) else {
         return Ok(false);
     };
-    let (sockets, clock) = (Noted::new(), Dial::new());
-    let stage = Server {
-        hall: lock,
-        gate: &Open,
-        sockets: &sockets,
-        clock: &clock,
-        burst: 4,
-    };
-    trial.run(rt, alloc, &stage, &desk, tokens)?;
+    trial.run(rt, alloc, lock, &around, tokens)?;
     Ok(true)
 }
 

@@ -2,9 +2,9 @@
 //! `checks/growths --tests` refuses one allocation after another.
 use crate::fakes::Torn;
 use crate::making::{Tokens, hung_for, open};
-use crate::trial::{Stage, Trial, try_out};
+use crate::trial::{Stage, Surroundings, Trial, try_out};
 use chronicle::{RecordNumber, SessionId, Why};
-use crew::{Desk, Intake, Next, NoBacklog, Sockets, hang, read_some};
+use crew::{Intake, Next, NoBacklog, Sockets, hang, read_some};
 use hall::{Baton, Hall, Naming, Told};
 use outbox::Sender;
 use std::alloc::{AllocError, Global};
@@ -76,14 +76,15 @@ fn is_ended<L: Naming, R: Wait + Drop>(
 struct Wanting;
 
 impl<R: Wait + Abort + Copy + Drop> Trial<R> for Wanting {
-    fn run<'a, L: Naming + Send + Sync>(
+    fn run<L: Naming + Send + Sync>(
         &self,
         rt: &R,
         alloc: Global,
-        stage: &Stage<'a, L, R>,
-        _desk: &'a Desk,
+        lock: &Mutex<Hall<L, Sender<R>>>,
+        around: &Surroundings,
         tokens: Tokens<L, R>,
     ) -> Result<(), Fail> {
+        let stage = &around.stage(lock);
         let bo = opened(rt, alloc, stage.hall).ok_or("another session")?;
         let (speaker, other) = (tokens.baton.session(), bo.baton.session());
         let all = says(rt, alloc, stage, tokens.baton)?;

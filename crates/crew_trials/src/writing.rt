@@ -1,9 +1,10 @@
 //! What waits for a session is written while the hall is locked.
 use crate::fakes::{Broken, Open, TURNS, Tally, rest};
 use crate::making::{Tokens, line};
-use crate::trial::{Stage, Trial, assert_ended, try_out, wired};
+use crate::threads::{Threaded, try_with_threads};
+use crate::trial::{Stage, Surroundings, Trial, assert_ended, try_out, wired};
 use chronicle::{Moment, SessionId, Why};
-use crew::{Desk, Job, Outlet, Sockets, Standing, work_one, write_on, write_some};
+use crew::{Job, Outlet, Sockets, Standing, work_one, write_on, write_some};
 use hall::{Baton, Hall, Naming, Told};
 use line_grammar::Piece;
 use outbox::{Bell, Sender};
@@ -145,7 +146,7 @@ fn has_wire_once<L: Naming, R: Wait + Abort>(
 }
 
 /// A line is answered, and its answer is written by one thread while another has the hall.
-fn written_meanwhile<
+pub(crate) fn written_meanwhile<
     L: Naming + Send + Sync,
     R: Threads + Wait + Clock + Abort + Copy + Drop + Send + Sync,
 >(rt: &R, alloc: Global, stage: &Stage<'_, L, R>, tokens: Tokens<L, R>) -> Result<(), Fail> {
@@ -164,23 +165,8 @@ fn written_meanwhile<
     Ok(())
 }
 
-struct Meanwhile;
-
-impl<R: Threads + Wait + Clock + Abort + Copy + Drop + Send + Sync> Trial<R> for Meanwhile {
-    fn run<'a, L: Naming + Send + Sync>(
-        &self,
-        rt: &R,
-        alloc: Global,
-        stage: &Stage<'a, L, R>,
-        _desk: &'a Desk,
-        tokens: Tokens<L, R>,
-    ) -> Result<(), Fail> {
-        written_meanwhile(rt, alloc, stage, tokens)
-    }
-}
-
 /// A line is answered, and its answer is written by the session's own thread while another has the hall.
-fn written_by_its_own<
+pub(crate) fn written_by_its_own<
     L: Naming + Send + Sync,
     R: Threads + Wait + Clock + Abort + Copy + Drop + Send + Sync,
 >(rt: &R, alloc: Global, stage: &Stage<'_, L, R>, tokens: Tokens<L, R>) -> Result<(), Fail> {
@@ -194,21 +180,6 @@ fn written_by_its_own<
     assert_eq!(rt; wire.session(), session);
     assert_eq!(rt; written.load(Ordering::SeqCst), PONG.len() as u64);
     Ok(())
-}
-
-struct ByItsOwn;
-
-impl<R: Threads + Wait + Clock + Abort + Copy + Drop + Send + Sync> Trial<R> for ByItsOwn {
-    fn run<'a, L: Naming + Send + Sync>(
-        &self,
-        rt: &R,
-        alloc: Global,
-        stage: &Stage<'a, L, R>,
-        _desk: &'a Desk,
-        tokens: Tokens<L, R>,
-    ) -> Result<(), Fail> {
-        written_by_its_own(rt, alloc, stage, tokens)
-    }
 }
 
 /// Writes to a stream that fails until the session's writing is over: by its own thread, or by a worker.
@@ -239,14 +210,15 @@ struct Failing {
 }
 
 impl<R: Wait + Abort + Copy + Drop> Trial<R> for Failing {
-    fn run<'a, L: Naming + Send + Sync>(
+    fn run<L: Naming + Send + Sync>(
         &self,
         rt: &R,
         alloc: Global,
-        stage: &Stage<'a, L, R>,
-        _desk: &'a Desk,
+        lock: &Mutex<Hall<L, Sender<R>>>,
+        around: &Surroundings,
         tokens: Tokens<L, R>,
     ) -> Result<(), Fail> {
+        let stage = &around.stage(lock);
         let session = tokens.baton.session();
         let wire = answered(rt, alloc, stage.hall, tokens, Broken)?;
         assert_eq!(rt; wire.session(), session);
@@ -266,10 +238,10 @@ fn a_session_is_hung_where_its_stream_fails(rt: HostRuntime) -> Result<(), Fail>
 
 #[test]
 fn what_waits_is_written_while_the_hall_is_locked(rt: HostRuntime) -> Result<(), Fail> {
-    try_out(&rt, rt.alloc(), &Meanwhile)
+    try_with_threads(&rt, rt.alloc(), Threaded::WriteBeside)
 }
 
 #[test]
 fn what_waits_is_written_by_the_sessions_own_thread(rt: HostRuntime) -> Result<(), Fail> {
-    try_out(&rt, rt.alloc(), &ByItsOwn)
+    try_with_threads(&rt, rt.alloc(), Threaded::WriteAlone)
 }
