@@ -1,6 +1,6 @@
 //! A server pings who is silent and ends who is so for too long, in beats of a clock that is set by hand.
 use crate::making::{Tokens, hung_for, line, open};
-use crate::trial::{Stage, Surroundings, Trial, try_out};
+use crate::trial::{Stage, Trial, begun, try_out};
 use chronicle::{RecordNumber, SessionId, Why};
 use crew::{Desk, Sockets, beat, work};
 use hall::{Baton, Hall, Naming, TickRefusal, Told};
@@ -154,9 +154,8 @@ impl<R: Wait + Abort + Copy + Drop> Trial<R> for Silent {
         rt: &R,
         alloc: Global,
         lock: &Mutex<Hall<L, Sender<R>>>,
-        around: &Surroundings,
-        tokens: Tokens<L, R>,
     ) -> Result<(), Fail> {
+        let (around, tokens) = begun(rt, alloc, lock)?;
         let stage = &around.stage(lock);
         let desk = &around.desk;
         let mut al = tokens;

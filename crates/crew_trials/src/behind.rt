@@ -1,7 +1,7 @@
 //! A stream that took nothing is left alone until it takes more.
 use crate::fakes::{Open, Stuck};
 use crate::making::{Tokens, line};
-use crate::trial::{Stage, Surroundings, Trial, try_out, wired};
+use crate::trial::{Stage, Trial, begun, try_out, wired};
 use chronicle::Moment;
 use crew::{Job, Outlet, Pumped, work_one};
 use hall::{Hall, Naming, Told};
@@ -51,9 +51,8 @@ impl<R: Wait + Abort + Copy + Drop> Trial<R> for Behind {
         rt: &R,
         alloc: Global,
         lock: &Mutex<Hall<L, Sender<R>>>,
-        around: &Surroundings,
-        tokens: Tokens<L, R>,
     ) -> Result<(), Fail> {
+        let (around, tokens) = begun(rt, alloc, lock)?;
         let stage = &around.stage(lock);
         let writes = Arc::new(alloc, AtomicU64::new(0))?;
         let outlet = waiting(rt, alloc, stage, tokens, writes.clone()?)?;

@@ -1,7 +1,7 @@
 //! While much waits for a client, its own lines wait for it.
 use crate::fakes::Heap;
 use crate::making::Tokens;
-use crate::trial::{Stage, Surroundings, Trial, try_out, wired};
+use crate::trial::{Stage, Trial, begun, try_out, wired};
 use chronicle::Why;
 use crew::{Intake, Next, read_some};
 use hall::{Baton, Hall, Naming, Told};
@@ -81,9 +81,8 @@ impl<R: Wait + Abort + Copy + Drop> Trial<R> for Leaving {
         rt: &R,
         alloc: Global,
         lock: &Mutex<Hall<L, Sender<R>>>,
-        around: &Surroundings,
-        tokens: Tokens<L, R>,
     ) -> Result<(), Fail> {
+        let (around, tokens) = begun(rt, alloc, lock)?;
         let stage = &around.stage(lock);
         let (baton, mut wire) = wired(alloc, tokens, Vec::new(alloc))?;
         reads(rt, alloc, stage, baton, self.calls)?;

@@ -1,6 +1,6 @@
 //! Who misses a delivery is shut, and a journal that is full is rolled.
 use crate::making::{Tokens, line, open};
-use crate::trial::{Stage, Surroundings, Trial, try_out};
+use crate::trial::{Stage, Trial, begun, try_out};
 use crew::{Desk, Sockets, work};
 use hall::{Baton, Hall, Naming, Told};
 use outbox::{Sender, Writer};
@@ -48,9 +48,8 @@ impl<R: Wait + Abort + Copy + Drop> Trial<R> for Missing {
         rt: &R,
         alloc: Global,
         lock: &Mutex<Hall<L, Sender<R>>>,
-        around: &Surroundings,
-        tokens: Tokens<L, R>,
     ) -> Result<(), Fail> {
+        let (around, tokens) = begun(rt, alloc, lock)?;
         let stage = &around.stage(lock);
         let desk = &around.desk;
         let speaker = tokens.baton.session();
@@ -84,9 +83,8 @@ impl<R: Wait + Abort + Copy + Drop> Trial<R> for Rolled {
         rt: &R,
         alloc: Global,
         lock: &Mutex<Hall<L, Sender<R>>>,
-        around: &Surroundings,
-        tokens: Tokens<L, R>,
     ) -> Result<(), Fail> {
+        let (around, tokens) = begun(rt, alloc, lock)?;
         let stage = &around.stage(lock);
         let desk = &around.desk;
         let Tokens {

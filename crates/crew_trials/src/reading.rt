@@ -1,7 +1,7 @@
 //! A session is read to the end of its input.
 use crate::fakes::{Torn, Waits};
 use crate::making::{Tokens, hung_for};
-use crate::trial::{Stage, Surroundings, Trial, assert_ended, assert_free, try_out, wired};
+use crate::trial::{Stage, Trial, assert_ended, assert_free, begun, try_out, wired};
 use chronicle::{RecordNumber, Why};
 use crew::{Desk, Intake, Next, NoBacklog, close_now, close_up, hang, read_on, read_some, tell};
 use hall::{Baton, Hall, Naming, Told};
@@ -79,9 +79,8 @@ impl<R: Wait + Abort + Copy + Drop> Trial<R> for Failing<'_> {
         rt: &R,
         alloc: Global,
         lock: &Mutex<Hall<L, Sender<R>>>,
-        around: &Surroundings,
-        tokens: Tokens<L, R>,
     ) -> Result<(), Fail> {
+        let (around, tokens) = begun(rt, alloc, lock)?;
         let stage = &around.stage(lock);
         let desk = &around.desk;
         let input = Torn {
@@ -133,9 +132,8 @@ impl<R: Wait + Abort + Copy + Drop> Trial<R> for Waiting {
         rt: &R,
         alloc: Global,
         lock: &Mutex<Hall<L, Sender<R>>>,
-        around: &Surroundings,
-        tokens: Tokens<L, R>,
     ) -> Result<(), Fail> {
+        let (around, tokens) = begun(rt, alloc, lock)?;
         let stage = &around.stage(lock);
         let Tokens {
             baton,
@@ -169,9 +167,8 @@ impl<R: Wait + Abort + Copy + Drop> Trial<R> for Resting {
         rt: &R,
         alloc: Global,
         lock: &Mutex<Hall<L, Sender<R>>>,
-        around: &Surroundings,
-        tokens: Tokens<L, R>,
     ) -> Result<(), Fail> {
+        let (around, tokens) = begun(rt, alloc, lock)?;
         let stage = &around.stage(lock);
         let desk = &around.desk;
         let session = tokens.baton.session();

@@ -1,6 +1,6 @@
 //! A line is refused after one that was done.
 use crate::making::{Tokens, line};
-use crate::trial::{Surroundings, Trial, assert_free, try_out};
+use crate::trial::{Trial, assert_free, begun, try_out};
 use crew::{Sockets, work};
 use hall::{Hall, Naming, Told};
 use outbox::Sender;
@@ -19,9 +19,8 @@ impl<R: Wait + Abort + Copy + Drop> Trial<R> for Refused {
         rt: &R,
         alloc: Global,
         lock: &Mutex<Hall<L, Sender<R>>>,
-        around: &Surroundings,
-        tokens: Tokens<L, R>,
     ) -> Result<(), Fail> {
+        let (around, tokens) = begun(rt, alloc, lock)?;
         let stage = &around.stage(lock);
         let desk = &around.desk;
         let session = tokens.baton.session();

@@ -4,7 +4,7 @@ ghost use Rattle.std.specs.Prelude.{◌≡◌, []};
 use crate::fakes::Turnstile;
 use crate::making::{Tokens, ends, hall, line, open, work_two};
 use crate::taking::take_meanwhile;
-use crate::trial::Surroundings;
+use crate::trial::begun;
 use crate::writing::{written_by_its_own, written_meanwhile};
 use crew::Desk;
 use hall::{Hall, Naming, Register};
@@ -68,9 +68,8 @@ fn tried_over<
     L: Naming + Send + Sync,
     R: Threads + Wait + Clock + Abort + Copy + Drop + Send + Sync,
 >(rt: &R, alloc: Global, lock: &Mutex<Hall<L, Sender<R>>>, trial: Threaded) -> Result<(), Fail> {
-    let around = Surroundings::new(rt, alloc)?;
+    let (around, tokens) = begun(rt, alloc, lock)?;
     let stage = around.stage(lock);
-    let tokens = open(rt, alloc, lock).ok_or("a session")?;
     match trial {
         Threaded::Work => work_at_once(rt, alloc, lock, tokens),
         Threaded::Take => take_meanwhile(rt, alloc, lock, tokens),
@@ -96,7 +95,7 @@ fn tried_in<L: Naming + Send + Sync, R: Threads + Wait + Clock + Abort + Copy + 
     tried
 }
 
-/// A trial with threads. No trait says what is tried, as of those without, since no block of such a trait would be covered.
+/// A trial with threads.
 pub(crate) fn try_with_threads<R: Threads + Wait + Clock + Abort + Copy + Drop + Send + Sync>(
     rt: &R,
     alloc: Global,

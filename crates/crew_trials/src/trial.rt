@@ -52,37 +52,43 @@ impl Surroundings {
     }
 }
 
-/// What is tried with a session that was just opened in a hall with nobody else, while the clock shows 0.
+/// What is tried in a hall that was just made.
 pub(crate) trait Trial<R: Wait + Drop> {
     fn run<L: Naming + Send + Sync>(
         &self,
         rt: &R,
         alloc: Global,
         lock: &Mutex<Hall<L, Sender<R>>>,
-        around: &Surroundings,
-        tokens: Tokens<L, R>,
     ) -> Result<(), Fail>;
 }
 
-/// A trial over this hall. It answers whether there was memory to begin it.
-fn tried_over<L: Naming + Send + Sync, X: Trial<R>, R: Wait + Copy + Drop>(
+/// What stands around a hall, and a session that is opened.
+fn begin<L: Naming, R: Wait + Copy + Drop>(
     rt: &R,
     alloc: Global,
     lock: &Mutex<Hall<L, Sender<R>>>,
-    trial: &X,
-) -> Result<bool, Fail> {
-    let Ok(around) = Surroundings::new(rt, alloc) else {
-        return Ok(false);
-    };
-    let Some(tokens) = open(rt, alloc, lock) else {
-        return Ok(false);
-    };
-    trial.run(rt, alloc, lock, &around, tokens)?;
-    Ok(true)
+) -> Option<(Surroundings, Tokens<L, R>)> {
+    let around = Surroundings::new(rt, alloc).ok()?;
+    Some((around, open(rt, alloc, lock)?))
 }
 
-/// A trial over a hall whose sessions this register has. It answers whether there was memory to begin it.
-fn tried_in<L: Naming + Send + Sync, X: Trial<R>, R: Wait + Copy + Drop>(
+/// What stands around a hall, and a session that is opened. It begins once more where there was no memory.
+pub(crate) fn begun<L: Naming, R: Wait + Copy + Drop>(
+    rt: &R,
+    alloc: Global,
+    lock: &Mutex<Hall<L, Sender<R>>>,
+) -> Result<(Surroundings, Tokens<L, R>), Fail> {
+    match begin(rt, alloc, lock) {
+        Some(begun) => Ok(begun),
+        None => match begin(rt, alloc, lock) {
+            Some(begun) => Ok(begun),
+            None => Err("a session".into()),
+        },
+    }
+}
+
+/// A trial in a hall whose sessions this register has. It answers whether there was memory for the hall.
+fn tried_in<L: Naming + Send + Sync, X: Trial<R>, R: Wait + Drop>(
     rt: &R,
     alloc: Global,
     register: Register<ChannelName>,
@@ -96,25 +102,22 @@ fn tried_in<L: Naming + Send + Sync, X: Trial<R>, R: Wait + Copy + Drop>(
         return Ok(false);
     };
     let lock = Mutex::new(made);
-    let tried = tried_over(rt, alloc, &lock, trial);
+    let tried = trial.run(rt, alloc, &lock);
     drop(lock);
-    tried
+    tried?;
+    Ok(true)
 }
 
-/// A trial with a register of its own. It answers whether there was memory to begin it.
-fn tried<X: Trial<R>, R: Wait + Copy + Drop>(
-    rt: &R,
-    alloc: Global,
-    trial: &X,
-) -> Result<bool, Fail> {
+/// A trial in a hall with a register of its own. It answers whether there was memory for both.
+fn tried<X: Trial<R>, R: Wait + Drop>(rt: &R, alloc: Global, trial: &X) -> Result<bool, Fail> {
     let Ok(register) = Register::new(alloc) else {
         return Ok(false);
     };
     tried_in::<Brand, X, R>(rt, alloc, register, trial)
 }
 
-/// A trial, which is begun once more where there was no memory for its beginning.
-pub(crate) fn try_out<X: Trial<R>, R: Wait + Copy + Drop>(
+/// A trial in a hall, which is made once more where there was no memory for it.
+pub(crate) fn try_out<X: Trial<R>, R: Wait + Drop>(
     rt: &R,
     alloc: Global,
     trial: &X,
@@ -122,7 +125,7 @@ pub(crate) fn try_out<X: Trial<R>, R: Wait + Copy + Drop>(
     if tried(rt, alloc, trial)? || tried(rt, alloc, trial)? {
         return Ok(());
     }
-    Err("no trial could begin".into())
+    Err("a hall".into())
 }
 
 /// A session's baton, and a wire from its outbox to this stream.

@@ -2,7 +2,7 @@
 //! `checks/growths --tests` refuses one allocation after another.
 use crate::fakes::Torn;
 use crate::making::{Tokens, hung_for, open};
-use crate::trial::{Stage, Surroundings, Trial, try_out};
+use crate::trial::{Stage, Trial, begun, try_out};
 use chronicle::{RecordNumber, SessionId, Why};
 use crew::{Intake, Next, NoBacklog, Sockets, hang, read_some};
 use hall::{Baton, Hall, Naming, Told};
@@ -81,9 +81,8 @@ impl<R: Wait + Abort + Copy + Drop> Trial<R> for Wanting {
         rt: &R,
         alloc: Global,
         lock: &Mutex<Hall<L, Sender<R>>>,
-        around: &Surroundings,
-        tokens: Tokens<L, R>,
     ) -> Result<(), Fail> {
+        let (around, tokens) = begun(rt, alloc, lock)?;
         let stage = &around.stage(lock);
         let bo = opened(rt, alloc, stage.hall).ok_or("another session")?;
         let (speaker, other) = (tokens.baton.session(), bo.baton.session());

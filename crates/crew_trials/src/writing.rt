@@ -2,7 +2,7 @@
 use crate::fakes::{Broken, Open, TURNS, Tally, rest};
 use crate::making::{Tokens, line};
 use crate::threads::{Threaded, try_with_threads};
-use crate::trial::{Stage, Surroundings, Trial, assert_ended, try_out, wired};
+use crate::trial::{Stage, Trial, assert_ended, begun, try_out, wired};
 use chronicle::{Moment, SessionId, Why};
 use crew::{Job, Outlet, Sockets, Standing, work_one, write_on, write_some};
 use hall::{Baton, Hall, Naming, Told};
@@ -215,9 +215,8 @@ impl<R: Wait + Abort + Copy + Drop> Trial<R> for Failing {
         rt: &R,
         alloc: Global,
         lock: &Mutex<Hall<L, Sender<R>>>,
-        around: &Surroundings,
-        tokens: Tokens<L, R>,
     ) -> Result<(), Fail> {
+        let (around, tokens) = begun(rt, alloc, lock)?;
         let stage = &around.stage(lock);
         let session = tokens.baton.session();
         let wire = answered(rt, alloc, stage.hall, tokens, Broken)?;
