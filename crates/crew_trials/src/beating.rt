@@ -49,7 +49,8 @@ fn beats<L: Naming, R: Wait + Drop>(
     }
 }
 
-/// How many more lines the journal for sixty-four records has room for, where two records are kept free for one and one for another.
+/// How many more lines the journal for sixty-four records has room for, where two records are kept
+/// free for one and one for another.
 fn room<L: Naming, R: Wait + Drop>(rt: &R, lock: &Mutex<Hall<L, Sender<R>>>) -> usize {
     usize::saturating_sub(61, lock.lock(rt).len())
 }
@@ -65,7 +66,8 @@ fn is_ended_at<L: Naming, R: Wait + Drop>(
     hung_for(&*hall, RecordNumber::new(number)) == Some((session, Why::PingTimeout))
 }
 
-/// A session says a line again and again until the journal is full, each of which is answered; an error, where that isn't so.
+/// A session says a line again and again until the journal is full, each of which is answered; an
+/// error, where that isn't so.
 fn fills<'a, L: Naming, R: Wait + Drop>(
     rt: &R,
     alloc: Global,
@@ -145,7 +147,8 @@ fn is_rolled<'a, L: Naming, R: Wait + Abort + Copy + Drop>(
     Ok(())
 }
 
-/// Both are pinged, and bo answers; al doesn't, and is ended. Then bo speaks until the journal is full, and a beat rolls it.
+/// Both are pinged, and bo answers; al doesn't, and is ended. Then bo speaks until the journal is
+/// full, and a beat rolls it.
 struct Silent;
 
 impl<R: Wait + Abort + Copy + Drop> Trial<R> for Silent {

@@ -41,8 +41,8 @@ fn flow_of<L: Naming>(pumped: Option<Pumped<L, Stuck>>) -> Option<Flow> {
     pumped?.flow.ok()
 }
 
-/// The first write finds the stream behind; then it isn't written to before it takes more, and is once, and has nothing more to go on
-/// with.
+/// The first write finds the stream behind; then it isn't written to before it takes more, and is
+/// once, and has nothing more to go on with.
 struct Behind;
 
 impl<R: Wait + Abort + Copy + Drop> Trial<R> for Behind {

@@ -26,8 +26,8 @@ impl Gate for Open {
     fn leave(&self, _session: SessionId) {}
 }
 
-/// A gate by which the first session leaves when another was answered, which enters when the first is about to leave; or each gives
-/// up.
+/// A gate by which the first session leaves when another was answered, which enters when the first
+/// is about to leave; or each gives up.
 #[derive(Drop)]
 pub struct Turnstile<R: time::Clock + Drop> {
     rt: R,
@@ -76,8 +76,8 @@ impl<R: time::Clock + Drop> Gate for Turnstile<R> {
     }
 }
 
-/// Connections of which is noted who was shut, who was told, how often a thread paused, how many records were dropped, and whether the
-/// server is to stop.
+/// Connections of which is noted who was shut, who was told, how often a thread paused, how many
+/// records were dropped, and whether the server is to stop.
 #[derive(Drop)]
 pub struct Noted {
     shut: AtomicU64,

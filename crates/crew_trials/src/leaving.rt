@@ -16,11 +16,14 @@ use wire::Flow;
 const SAID: &[u8; 40] = b"PING a\r\nPING b\r\nPING c\r\nPING d\r\nPING e\r\n";
 
 /// What is told of them.
-const OUTPUT: &[u8; 165] =
-    b":irc.example PONG irc.example a\r\n:irc.example PONG irc.example b\r\n:irc.example PONG irc.example c\r\n:irc.example PONG irc.example d\r\n:irc.example PONG irc.example e\r\n";
+const OUTPUT: &[u8; 165] = b":irc.example PONG irc.example a\r\n\
+    :irc.example PONG irc.example b\r\n\
+    :irc.example PONG irc.example c\r\n\
+    :irc.example PONG irc.example d\r\n\
+    :irc.example PONG irc.example e\r\n";
 
-/// A call of `read_some`: whether much waits, at each of its looks; how many octets aren't read after it, how many lines are done, and
-/// how the reading goes on.
+/// A call of `read_some`: whether much waits, at each of its looks; how many octets aren't read
+/// after it, how many lines are done, and how the reading goes on.
 type Call = (&'static [bool], usize, usize, Next);
 
 /// One line is done in each call, whether lines are left after it or not, and nothing while much waits at once.
@@ -35,8 +38,8 @@ const ONE_BY_ONE: [Call; 8] = [
     (&[], 0, 5, Next::Over(Why::ReadEnded)),
 ];
 
-/// What waits is written after the second line, so the third is done; after that one it isn't, until the next call, by which the rest
-/// is done.
+/// What waits is written after the second line, so the third is done; after that one it isn't,
+/// until the next call, by which the rest is done.
 const LESS_AND_LESS: [Call; 3] = [
     (&[false, false, true, false, true, true], 0, 3, Next::Left),
     (&[], 0, 5, Next::More),

@@ -97,8 +97,8 @@ pub fn work_under_slot<L: Naming, R: Wait + Drop, G: Gate>(
     (back.baton, back.outcome.is_ok())
 }
 
-/// Has two sessions do a line each, on two threads, and tells a gate when the second was answered. It answers whether both were
-/// done.
+/// Has two sessions do a line each, on two threads, and tells a gate when the second was answered.
+/// It answers whether both were done.
 pub fn work_two<L: Naming + Send + Sync, R: Threads + Wait + Clock + Copy + Drop + Send + Sync>(
     rt: &R,
     alloc: Global,

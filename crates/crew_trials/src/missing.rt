@@ -39,7 +39,8 @@ fn says<'a, L: Naming, R: Wait + Drop>(
     }
 }
 
-/// One of two has an outbox for sixteen and takes nothing: the fifteenth text that it is shown is missed, and it is shut.
+/// One of two has an outbox for sixteen and takes nothing: the fifteenth text that it is shown is
+/// missed, and it is shut.
 struct Missing;
 
 impl<R: Wait + Abort + Copy + Drop> Trial<R> for Missing {

@@ -41,8 +41,8 @@ fn leaves<L: Naming, R: Wait + Abort + Copy + Drop>(
     Ok(())
 }
 
-/// An input fails: the lines before that are done and told so, the session is hung by the record of this number, and the hall
-/// and the only slot are there again.
+/// An input fails: the lines before that are done and told so, the session is hung by the record of
+/// this number, and the hall and the only slot are there again.
 fn fails<'a, L: Naming, R: Wait + Abort + Copy + Drop>(
     rt: &R,
     alloc: Global,
@@ -122,8 +122,8 @@ fn reads<L: Naming, R: Wait + Abort + Copy + Drop>(
     Ok(baton)
 }
 
-/// An input that has nothing for now between its lines: what comes is done, and reading goes on. While the session isn't ended it
-/// can't be given up.
+/// An input that has nothing for now between its lines: what comes is done, and reading goes on.
+/// While the session isn't ended it can't be given up.
 struct Waiting;
 
 impl<R: Wait + Abort + Copy + Drop> Trial<R> for Waiting {
@@ -158,7 +158,8 @@ impl<R: Wait + Abort + Copy + Drop> Trial<R> for Waiting {
     }
 }
 
-/// The same input, read by a thread of the session's own: it pauses where nothing is there, and the session ends with its input.
+/// The same input, read by a thread of the session's own: it pauses where nothing is there, and the
+/// session ends with its input.
 struct Resting;
 
 impl<R: Wait + Abort + Copy + Drop> Trial<R> for Resting {

@@ -9,8 +9,8 @@ use std::process::Abort;
 use std::sync::{Mutex, Wait};
 use std::test::Fail;
 
-/// A session quits, and its line after that is refused: that isn't all, the session is shut, and the hall and the only slot are there
-/// again.
+/// A session quits, and its line after that is refused: that isn't all, the session is shut, and
+/// the hall and the only slot are there again.
 struct Refused;
 
 impl<R: Wait + Abort + Copy + Drop> Trial<R> for Refused {

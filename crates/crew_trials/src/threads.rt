@@ -32,8 +32,8 @@ fn end_both<L: Naming, R: Wait + Abort + Drop>(
     Ok(())
 }
 
-/// The second session enters the gate when the first is about to leave it, and the first leaves it when the second was answered: so
-/// nobody has the hall at the gate.
+/// The second session enters the gate when the first is about to leave it, and the first leaves it
+/// when the second was answered: so nobody has the hall at the gate.
 fn work_at_once<
     L: Naming + Send + Sync,
     R: Threads + Wait + Clock + Abort + Copy + Drop + Send + Sync,

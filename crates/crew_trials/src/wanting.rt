@@ -1,5 +1,5 @@
-//! A session for one of whose lines memory is wanting is ended for that, and nobody else is. With all memory each line is done;
-//! `checks/growths --tests` refuses one allocation after another.
+//! A session for one of whose lines memory is wanting is ended for that, and nobody else is. With
+//! all memory each line is done; `checks/growths --tests` refuses one allocation after another.
 use crate::fakes::Torn;
 use crate::making::{Tokens, hung_for, open};
 use crate::trial::{Stage, Trial, begun, try_out};

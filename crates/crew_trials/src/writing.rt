@@ -42,8 +42,8 @@ fn are_written<R: Clock>(rt: &R, written: &AtomicU64, count: u64) -> bool {
     false
 }
 
-/// Whether what waits is written by the session's own thread while this thread has the hall. Then that thread ends, for the session
-/// is shut. It answers with the wire that comes back.
+/// Whether what waits is written by the session's own thread while this thread has the hall. Then
+/// that thread ends, for the session is shut. It answers with the wire that comes back.
 fn is_written_meanwhile<
     L: Naming + Send + Sync,
     R: Threads + Wait + Clock + Copy + Drop + Send + Sync,
@@ -203,7 +203,8 @@ fn write_all<L: Naming, R: Wait + Abort + Copy + Drop>(
     }
 }
 
-/// A stream fails: the session is ended for that, once, and its connection is shut; by a worker, or by the session's own thread.
+/// A stream fails: the session is ended for that, once, and its connection is shut; by a worker, or
+/// by the session's own thread.
 #[derive(Drop)]
 struct Failing {
     has_own_thread: bool,
