@@ -61,11 +61,18 @@ impl<L: Naming> Model for Play<L> {
     ghost invariant = { λ a. IsKept a.book a.sendq a.inboxes.items a.jobs.items a.holder };
 }
 
+/// Whether a number is within its limits.
+fn is_within(least: usize, number: usize, most: usize) -> bool
+    ensures { IsTrue result ↔ ((least ≤ number) × (number ≤ most)) }
+{
+    least <= number && number <= most
+}
+
 /// Whether so many workers and items are within their limits.
 fn are_well_set(workers: usize, sendq: usize) -> bool
     ensures { IsTrue result ↔ ((1 ≤ workers) × (workers ≤ 64) × (1 ≤ sendq) × (sendq ≤ 4096)) }
 {
-    1 <= workers && workers <= MAX_WORKERS && 1 <= sendq && sendq <= MAX_SENDQ
+    is_within(1, workers, MAX_WORKERS) && is_within(1, sendq, MAX_SENDQ)
 }
 
 /// A book with no sessions, of which names are hashed by the keys of a state, where one is given.
