@@ -1,4 +1,6 @@
 //! A session is read to the end of its input.
+ghost use Rattle.std.specs.Prelude.{◌≡◌, IfOk};
+
 use crate::fakes::{Torn, Waits};
 use crate::making::{Tokens, hung_for};
 use crate::trial::{Stage, Trial, assert_ended, assert_free, begun, try_out, wired};
@@ -105,14 +107,16 @@ fn reads<L: Naming, R: Wait + Abort + Copy + Drop>(
     rt: &R,
     alloc: Global,
     stage: &Stage<'_, L, R>,
-    baton: Baton<L, Sender<R>>,
+    mut baton: Baton<L, Sender<R>>,
     told: &mut Told,
-) -> Result<Baton<L, Sender<R>>, Fail> {
+) -> Result<Baton<L, Sender<R>>, Fail>
+    ensures { IfOk result (λ b. b.session ≡ baton.session) }
+{
     let mut input = Waits {
         octets: TWO_LINES,
         is_there: false,
     };
-    let (mut baton, mut intake) = (baton, Intake::new(alloc)?);
+    let mut intake = Intake::new(alloc)?;
     for (next, records) in READS {
         let took = read_some(rt, stage, &mut intake, baton, &NoBacklog, &mut input, told);
         assert_eq!(rt; (took.all, took.next), (true, next));
