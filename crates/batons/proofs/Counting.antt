@@ -1,5 +1,6 @@
 -- A session has no more pieces than there are records.
-use Rattle.std.proofs.Common.{◌≡◌, ℕ, ◌+◌, ◌≤◌, Bool, true, false, ◌==◌, cond, List, [], ◌∷◌, ◌++◌, length, length-append, arith}
+use Rattle.std.proofs.Common.{◌≡◌, ℕ, ◌+◌, ◌≤◌, Bool, true, false, ◌==◌, cond, List, []}
+use Rattle.std.proofs.Common.{◌∷◌, ◌++◌, length, length-append, arith}
 use Rattle.line_grammar.specs.declared.splitter.Piece.{Piece}
 use Rattle.chronicle.specs.declared.record.Kind.{Kind}
 use Rattle.chronicle.specs.declared.record.Kind.TheVariants.{Opened, Said, Hung, Gone, Ticked}
@@ -18,4 +19,5 @@ said_one Ticked t = omega arith
 
 pub accepted_few : (h : List Rec) (t : ℕ) → length (accepted h t) ≤ length h
 accepted_few [] t = omega arith
-accepted_few (r ∷ h) t = let a = accepted_few h t in let b = said_one r.kind t in omega (arith, length-append (accepted h t) (said_by r.kind t))
+accepted_few (r ∷ h) t = let a = accepted_few h t in let b = said_one r.kind t in
+    omega (arith, length-append (accepted h t) (said_by r.kind t))

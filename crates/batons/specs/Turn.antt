@@ -3,8 +3,8 @@ use Rattle.std.specs.Prelude.{◌≡◌, ℕ, ◌+◌, List, [], ◌∷◌, ◌+
 use Rattle.line_grammar.specs.declared.splitter.Piece.{Piece}
 use Rattle.chronicle.specs.History.{Rec, accepted}
 
--- whose line is next and which, the pieces done with the baton, and the history when the newest of them was done, or when the
--- session was opened
+-- whose line is next and which, the pieces done with the baton, and the history when the newest of them was done, or
+-- when the session was opened
 pub record Turn : Type 0 where
   pub session : ℕ
   pub next : ℕ

@@ -8,8 +8,8 @@ use ghosts::Snapshot;
 use register::{Mark, Naming};
 use std::marker::Model;
 
-/// Whose line is next: a session has one baton, made by `Roll::open` alone. A clause sees which of its lines that is, the pieces
-/// done with it, and the history when the newest of them was done, or when the session was opened.
+/// Whose line is next: a session has one baton, made by `Roll::open` alone. A clause sees which of its lines that
+/// is, the pieces done with it, and the history when the newest of them was done, or when the session was opened.
 #[derive(Drop)]
 pub struct Baton<L: Naming, N> {
     pub(crate) mark: Mark<L, N>,
@@ -22,9 +22,19 @@ impl<L: Naming, N> Model for Baton<L, N> {
 
     ghost Value = { Turn };
 
-    ghost view = { λ b. record { session = b.mark.session; next = b.next; pieces = b.mark.pieces; front = b.front.value.history } };
+    ghost view = { λ b. record {
+      session = b.mark.session;
+      next = b.next;
+      pieces = b.mark.pieces;
+      front = b.front.value.history;
+    } };
 
-    ghost invariant = { λ b. IsInTurn (record { session = b.mark.session; next = b.next; pieces = b.mark.pieces; front = b.front.value.history }) };
+    ghost invariant = { λ b. IsInTurn (record {
+      session = b.mark.session;
+      next = b.next;
+      pieces = b.mark.pieces;
+      front = b.front.value.history;
+    }) };
 }
 
 impl<L: Naming, N> Baton<L, N> {

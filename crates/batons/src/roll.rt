@@ -67,7 +67,8 @@ impl<L: Naming, N> Roll<L, N> {
 
     /// The baton's line is done: this journal accepts it, after those that the roll has. It takes no memory.
     pub fn finish(&mut self, baton: &mut Baton<L, N>, piece: &Piece, journal: &Journal)
-        requires accepted { IfSome (pieces_at self.old baton.old.session) (λ ps. accepted journal.now.history baton.old.session ≡ ps ++ piece.now ∷ []) }
+        requires accepted { IfSome (pieces_at self.old baton.old.session)
+            (λ ps. accepted journal.now.history baton.old.session ≡ ps ++ piece.now ∷ []) }
         ensures knew { pieces_at self.old baton.old.session ≡ Some baton.old.pieces }
         ensures rows { self.new ≡ with_piece self.old baton.old.session piece.now }
         ensures baton { baton.new ≡ next_turn baton.old piece.now journal.now.history }

@@ -1,5 +1,7 @@
 -- What is kept of when sessions were last heard of stays what the history says over each step.
-use Rattle.std.proofs.Common.{arith, ◌≡◌, ◌≢◌, inl, inr, ℕ, ℤ, ◌+◌, ◌-◌, ◌<◌, ◌≤◌, ◌≤ℤ◌, Bool, true, false, not, ◌&&◌, ◌||◌, ◌==◌, cond, nat_eq, List, [], ◌∷◌, ◌++◌, length, slice_set, fold, Option, Some, None, is_some, option_map, refl, sym, ap, ◌∙◌, subst, ne_eqb, eq-eqb}
+use Rattle.std.proofs.Common.{arith, ◌≡◌, ◌≢◌, inl, inr, ℕ, ℤ, ◌+◌, ◌-◌, ◌<◌, ◌≤◌, ◌≤ℤ◌, Bool, true, false, not, ◌&&◌}
+use Rattle.std.proofs.Common.{◌||◌, ◌==◌, cond, nat_eq, List, [], ◌∷◌, ◌++◌, length, slice_set, fold, Option, Some}
+use Rattle.std.proofs.Common.{None, is_some, option_map, refl, sym, ap, ◌∙◌, subst, ne_eqb, eq-eqb}
 use Rattle.std.proofs.lemmas.Bool.Decides.{eqb_tells}
 use Rattle.std.proofs.lemmas.List.{get_or_push, get_or_append_left, length-append, length-set}
 use Rattle.std.proofs.lemmas.Map.{lookup-remove_entry}
@@ -33,15 +35,18 @@ abbrev pub pinged_if : Bool → Since → Since
 pinged_if true x = record { moment = x.moment; pinged = true }
 pinged_if false x = x
 
-at_ping : (s : ℕ) (xs : List (ℕ × Since)) (t : ℕ) → since_at (with_ping s xs) t ≡ option_map (pinged_if (s == t)) (since_at xs t)
+at_ping : (s : ℕ) (xs : List (ℕ × Since)) (t : ℕ) → since_at (with_ping s xs) t
+    ≡ option_map (pinged_if (s == t)) (since_at xs t)
 at_ping s [] t = refl
 at_ping s (e ∷ xs) t = elim (eqb_tells t e.0) [
   | inl here ↦ elim (eqb_tells s e.0) [
     | inl same ↦ rw same.0 (rw here.0 (ap (λ b. Some (pinged_if b e.1)) (sym (eq-eqb s t (same.1 ∙ sym here.1)))))
-    | inr other ↦ rw other.0 (rw here.0 (ap (λ b. Some (pinged_if b e.1)) (sym (ne_eqb s t (λ is. other.1 (is ∙ here.1))))))
+    | inr other ↦ rw other.0
+        (rw here.0 (ap (λ b. Some (pinged_if b e.1)) (sym (ne_eqb s t (λ is. other.1 (is ∙ here.1))))))
   ]
   | inr away ↦ elim (eqb_tells s e.0) [
-    | inl same ↦ rw same.0 (rw away.0 (unpinged (s == t) (since_at xs t) (ne_eqb s t (λ is. away.1 (sym is ∙ same.1)))))
+    | inl same ↦ rw same.0
+        (rw away.0 (unpinged (s == t) (since_at xs t) (ne_eqb s t (λ is. away.1 (sym is ∙ same.1)))))
     | inr other ↦ rw other.0 (rw away.0 (at_ping s xs t))
   ]
 ]
@@ -56,19 +61,22 @@ pub falls_more : (latest later : ℤ) (xs : List (ℕ × Since)) → latest ≤�
 falls_more latest later [] l i = tt
 falls_more latest later (x ∷ xs) l i = (le_trans x.1.moment latest later i.0 l, i.1)
 
-falls_removed : (latest : ℤ) (s : ℕ) (xs : List (ℕ × Since)) → Falls latest xs → Falls latest (remove_entry (nat_eq s) xs)
+falls_removed : (latest : ℤ) (s : ℕ) (xs : List (ℕ × Since)) → Falls latest xs
+    → Falls latest (remove_entry (nat_eq s) xs)
 falls_removed latest s [] i = tt
-falls_removed latest s (x ∷ xs) i = elim (nat_eq s x.0) as (λ b. Falls latest (cond b xs (x ∷ remove_entry (nat_eq s) xs))) [
-  | true ↦ falls_more x.1.moment latest xs i.0 i.1
-  | false ↦ (i.0, falls_removed x.1.moment s xs i.1)
-]
+falls_removed latest s (x ∷ xs) i = elim (nat_eq s x.0) as
+    (λ b. Falls latest (cond b xs (x ∷ remove_entry (nat_eq s) xs))) [
+      | true ↦ falls_more x.1.moment latest xs i.0 i.1
+      | false ↦ (i.0, falls_removed x.1.moment s xs i.1)
+    ]
 
 falls_ping : (latest : ℤ) (s : ℕ) (xs : List (ℕ × Since)) → Falls latest xs → Falls latest (with_ping s xs)
 falls_ping latest s [] i = tt
-falls_ping latest s (x ∷ xs) i = elim (nat_eq s x.0) as (λ b. Falls latest (cond b ((x.0, record { moment = x.1.moment; pinged = true }) ∷ xs) (x ∷ with_ping s xs))) [
-  | true ↦ i
-  | false ↦ (i.0, falls_ping x.1.moment s xs i.1)
-]
+falls_ping latest s (x ∷ xs) i = elim (nat_eq s x.0) as
+    (λ b. Falls latest (cond b ((x.0, record { moment = x.1.moment; pinged = true }) ∷ xs) (x ∷ with_ping s xs))) [
+      | true ↦ i
+      | false ↦ (i.0, falls_ping x.1.moment s xs i.1)
+    ]
 
 -- ---- sessions that are pinged
 
@@ -77,10 +85,12 @@ kept_some : (b : Bool) (o : Option Since) → is_some (option_map (pinged_if b) 
 kept_some b None = refl
 kept_some b (Some x) = refl
 
-pub still_kept : (s : ℕ) (xs : List (ℕ × Since)) (t : ℕ) → is_some (since_at (with_ping s xs) t) ≡ is_some (since_at xs t)
+pub still_kept : (s : ℕ) (xs : List (ℕ × Since)) (t : ℕ) → is_some (since_at (with_ping s xs) t)
+    ≡ is_some (since_at xs t)
 still_kept s xs t = ap is_some (at_ping s xs t) ∙ kept_some (s == t) (since_at xs t)
 
-pinged_twice : (a b : Bool) (o : Option Since) → option_map (pinged_if b) (option_map (pinged_if a) o) ≡ option_map (pinged_if (a || b)) o
+pinged_twice : (a b : Bool) (o : Option Since) → option_map (pinged_if b) (option_map (pinged_if a) o)
+    ≡ option_map (pinged_if (a || b)) o
 pinged_twice a b None = refl
 pinged_twice true true (Some x) = refl
 pinged_twice true false (Some x) = refl
@@ -90,10 +100,12 @@ unpinged_same : (o : Option Since) → o ≡ option_map (pinged_if false) o
 unpinged_same None = refl
 unpinged_same (Some x) = refl
 
-pub at_pings : (xs : List (ℕ × Since)) (ts : List ℕ) (t : ℕ) → since_at (with_pings xs ts) t ≡ option_map (pinged_if (list_any (λ u. u == t) ts)) (since_at xs t)
+pub at_pings : (xs : List (ℕ × Since)) (ts : List ℕ) (t : ℕ) → since_at (with_pings xs ts) t
+    ≡ option_map (pinged_if (list_any (λ u. u == t) ts)) (since_at xs t)
 at_pings xs [] t = unpinged_same (since_at xs t)
 at_pings xs (s ∷ ts) t =
-    at_pings (with_ping s xs) ts t ∙ ap (option_map (pinged_if (list_any (λ u. u == t) ts))) (at_ping s xs t) ∙ pinged_twice (s == t) (list_any (λ u. u == t) ts) (since_at xs t)
+    at_pings (with_ping s xs) ts t ∙ ap (option_map (pinged_if (list_any (λ u. u == t) ts))) (at_ping s xs t)
+    ∙ pinged_twice (s == t) (list_any (λ u. u == t) ts) (since_at xs t)
 
 falls_pings : (latest : ℤ) (xs : List (ℕ × Since)) (ts : List ℕ) → Falls latest xs → Falls latest (with_pings xs ts)
 falls_pings latest xs [] i = i
@@ -120,7 +132,8 @@ or-false true = refl
 or-false false = refl
 
 -- of whom a record doesn't tell that is no tick
-untold : (h : List Rec) (k : Kind) (moment : ℤ) (x : Since) (t : ℕ) → hears_of k t ≡ false → is_tick k ≡ false → IsSince x h t → IsSince x (fresh_record h moment k ∷ h) t
+untold : (h : List Rec) (k : Kind) (moment : ℤ) (x : Since) (t : ℕ) → hears_of k t ≡ false → is_tick k ≡ false
+    → IsSince x h t → IsSince x (fresh_record h moment k ∷ h) t
 untold h k moment x t unheard_ no_tick_ i =
     record {
       moment = ap (λ b. cond b (Some moment) (quiet_since h t)) unheard_ ∙ i.moment;
@@ -130,7 +143,8 @@ untold h k moment x t unheard_ no_tick_ i =
     }
 
 -- whom a record tells of
-told_of : (h : List Rec) (k : Kind) (moment : ℤ) (t : ℕ) → hears_of k t ≡ true → IsSince (record { moment = moment; pinged = false }) (fresh_record h moment k ∷ h) t
+told_of : (h : List Rec) (k : Kind) (moment : ℤ) (t : ℕ) → hears_of k t ≡ true
+    → IsSince (record { moment = moment; pinged = false }) (fresh_record h moment k ∷ h) t
 told_of h k moment t heard_ =
     record {
       moment = ap (λ b. cond b (Some moment) (quiet_since h t)) heard_;
@@ -142,59 +156,98 @@ module _ {O : Type 0} where
   abbrev pub IsRight : List Rec → List (Option O) → ℕ → Option Since → Type 0
   IsRight h boxes t o = IfSome o (λ x. IsThere boxes t × IsSince x h t)
 
-  right_by : (h k : List Rec) (boxes more : List (Option O)) (t : ℕ) (o : Option Since) → (IsThere boxes t → IsThere more t) → ((x : Since) → IsSince x h t → IsSince x k t) → IsRight h boxes t o → IsRight k more t o
+  right_by : (h k : List Rec) (boxes more : List (Option O)) (t : ℕ) (o : Option Since)
+      → (IsThere boxes t → IsThere more t) → ((x : Since) → IsSince x h t → IsSince x k t) → IsRight h boxes t o
+      → IsRight k more t o
   right_by h k boxes more t None there says i = tt
   right_by h k boxes more t (Some x) there says i = (there i.0, says x i.1)
 
   -- ---- the same by equal values
 
-  pub since_as : (xs ys : List (ℕ × Since)) (h k : List Rec) (boxes more : List (Option O)) → AreSince xs h boxes → ys ≡ xs → k ≡ h → more ≡ boxes → AreSince ys k more
+  pub since_as : (xs ys : List (ℕ × Since)) (h k : List Rec) (boxes more : List (Option O)) → AreSince xs h boxes
+      → ys ≡ xs → k ≡ h → more ≡ boxes → AreSince ys k more
   since_as xs ys h k boxes more i ex eh eb =
-      subst (λ (zs : List (ℕ × Since)). AreSince zs k more) (sym ex) (subst (λ (l : List Rec). AreSince xs l more) (sym eh) (subst (λ (bs : List (Option O)). AreSince xs h bs) (sym eb) i))
+      subst (λ (zs : List (ℕ × Since)). AreSince zs k more) (sym ex) (subst (λ (l : List Rec). AreSince xs l more)
+      (sym eh) (subst (λ (bs : List (Option O)). AreSince xs h bs) (sym eb) i))
 
-  pub since_none : (xs : List (ℕ × Since)) (h : List Rec) (boxes : List (Option O)) → xs ≡ [] → boxes ≡ [] → AreSince xs h boxes
+  pub since_none : (xs : List (ℕ × Since)) (h : List Rec) (boxes : List (Option O)) → xs ≡ [] → boxes ≡ []
+      → AreSince xs h boxes
   since_none xs h boxes ex eb =
       subst (λ (zs : List (ℕ × Since)). AreSince zs h boxes) (sym ex)
-      (record { each = λ t. tt; all = λ t there. absurd (let a = there.from_1 in let b = there.opened in let none : length boxes ≡ 0 = ap length eb in omega arith); order = tt })
+      (record {
+        each = λ t. tt;
+        all = λ t there. absurd (let a = there.from_1 in let b = there.opened in
+            let none : length boxes ≡ 0 = ap length eb in omega arith);
+        order = tt;
+      })
 
   -- ---- a record that tells of nobody
 
-  pub since_record : (xs : List (ℕ × Since)) (h : List Rec) (k : Kind) (moment : ℤ) (boxes : List (Option O)) → AreSince xs h boxes → ((t : ℕ) → hears_of k t ≡ false) → is_tick k ≡ false → last_moment h ≤ℤ moment → AreSince xs (fresh_record h moment k ∷ h) boxes
+  pub since_record : (xs : List (ℕ × Since)) (h : List Rec) (k : Kind) (moment : ℤ) (boxes : List (Option O))
+      → AreSince xs h boxes → ((t : ℕ) → hears_of k t ≡ false) → is_tick k ≡ false → last_moment h ≤ℤ moment
+      → AreSince xs (fresh_record h moment k ∷ h) boxes
   since_record xs h k moment boxes i unheard_ no_tick_ later =
       record {
-        each = λ t. right_by h (fresh_record h moment k ∷ h) boxes boxes t (since_at xs t) (λ there. there) (λ x says. untold h k moment x t (unheard_ t) no_tick_ says) (i.each t);
+        each = λ t. right_by h (fresh_record h moment k ∷ h) boxes boxes t (since_at xs t) (λ there. there)
+            (λ x says. untold h k moment x t (unheard_ t) no_tick_ says) (i.each t);
         all = i.all;
         order = falls_more (last_moment h) moment xs later i.order;
       }
 
   -- a session missed the newest record
-  pub since_missed : (xs : List (ℕ × Since)) (h : List Rec) (s : ℕ) (boxes : List (Option O)) → AreSince xs h boxes → AreSince xs (miss h s) boxes
+  pub since_missed : (xs : List (ℕ × Since)) (h : List Rec) (s : ℕ) (boxes : List (Option O)) → AreSince xs h boxes
+      → AreSince xs (miss h s) boxes
   since_missed xs [] s boxes i = i
-  since_missed xs (r ∷ h) s boxes i = record { each = λ t. right_by (r ∷ h) (miss (r ∷ h) s) boxes boxes t (since_at xs t) (λ there. there) (λ x says. record { moment = says.moment; pinged = says.pinged }) (i.each t); all = i.all; order = i.order }
+  since_missed xs (r ∷ h) s boxes i = record {
+    each = λ t. right_by (r ∷ h) (miss (r ∷ h) s) boxes boxes t
+        (since_at xs t) (λ there. there) (λ x says. record { moment = says.moment; pinged = says.pinged })
+        (i.each t);
+    all = i.all;
+    order = i.order;
+  }
 
   -- ---- outboxes changed, of those that were there
 
-  pub since_put : (xs : List (ℕ × Since)) (h : List Rec) (boxes : List (Option O)) (s : ℕ) (v : O) → AreSince xs h boxes → is_here boxes s ≡ true → 0 < s → s ≤ length boxes → AreSince xs h (slice_set boxes (s - 1) (Some v))
+  pub since_put : (xs : List (ℕ × Since)) (h : List Rec) (boxes : List (Option O)) (s : ℕ) (v : O)
+      → AreSince xs h boxes → is_here boxes s ≡ true → 0 < s → s ≤ length boxes
+      → AreSince xs h (slice_set boxes (s - 1) (Some v))
   since_put xs h boxes s v i here from to =
       let new = slice_set boxes (s - 1) (Some v) in let len : length new ≡ length boxes = simp length-set in
       record {
-        each = λ t. right_by h h boxes new t (since_at xs t) (λ there. record { from_1 = there.from_1; opened = (let l = there.opened in omega arith); here = sym (here_same boxes s t v here from to there.from_1) ∙ there.here }) (λ x says. says) (i.each t);
-        all = λ t there. i.all t (record { from_1 = there.from_1; opened = (let l = there.opened in omega arith); here = here_same boxes s t v here from to there.from_1 ∙ there.here });
+        each = λ t. right_by h h boxes new t (since_at xs t)
+            (λ there. record {
+              from_1 = there.from_1;
+              opened = (let l = there.opened in omega arith);
+              here = sym
+                  (here_same boxes s t v here from to there.from_1) ∙ there.here;
+            }) (λ x says. says) (i.each t);
+        all = λ t there. i.all t (record {
+          from_1 = there.from_1;
+          opened = (let l = there.opened in omega arith);
+          here = here_same boxes s t v here from to there.from_1 ∙ there.here;
+        });
         order = i.order;
       }
 
   -- ---- a line is said
 
-  pub since_said : (xs : List (ℕ × Since)) (h : List Rec) (s n : ℕ) (piece : Piece) (moment : ℤ) (boxes : List (Option O)) → AreSince xs h boxes → IsThere boxes s → last_moment h ≤ℤ moment
-      → AreSince ((s, record { moment = moment; pinged = false }) ∷ remove_entry (nat_eq s) xs) (fresh_record h moment (Said s n piece) ∷ h) boxes
+  pub since_said : (xs : List (ℕ × Since)) (h : List Rec) (s n : ℕ) (piece : Piece) (moment : ℤ)
+      (boxes : List (Option O)) → AreSince xs h boxes → IsThere boxes s → last_moment h ≤ℤ moment
+      → AreSince ((s, record { moment = moment; pinged = false }) ∷ remove_entry (nat_eq s) xs)
+      (fresh_record h moment (Said s n piece) ∷ h) boxes
   since_said xs h s n piece moment boxes i there later =
-      let k = Said s n piece in let new : Since = record { moment = moment; pinged = false } in let ys = (s, new) ∷ remove_entry (nat_eq s) xs in
+      let k = Said s n piece in
+      let new : Since = record { moment = moment; pinged = false } in let ys = (s, new) ∷ remove_entry (nat_eq s) xs in
       record {
         each = λ t. elim (eqb_tells s t) [
-          | inl same ↦ subst (λ (u : ℕ). IsRight (fresh_record h moment k ∷ h) boxes u (since_at ys u)) same.1 (rw (eq-eqb s s refl) (there, told_of h k moment s (eq-eqb s s refl)))
+          | inl same ↦ subst (λ (u : ℕ). IsRight (fresh_record h moment k ∷ h) boxes u (since_at ys u)) same.1
+              (rw (eq-eqb s s refl) (there, told_of h k moment s (eq-eqb s s refl)))
           | inr other ↦
-              subst (IsRight (fresh_record h moment k ∷ h) boxes t) (sym (ap (λ b. cond b (Some new) (since_at (remove_entry (nat_eq s) xs) t)) (ne_eqb t s (λ e. other.1 (sym e))) ∙ at_removed s xs t other.1))
-              (right_by h (fresh_record h moment k ∷ h) boxes boxes t (since_at xs t) (λ b. b) (λ x says. untold h k moment x t other.0 refl says) (i.each t))
+              subst (IsRight (fresh_record h moment k ∷ h) boxes t)
+              (sym (ap (λ b. cond b (Some new) (since_at (remove_entry (nat_eq s) xs) t))
+              (ne_eqb t s (λ e. other.1 (sym e))) ∙ at_removed s xs t other.1))
+              (right_by h (fresh_record h moment k ∷ h) boxes boxes t (since_at xs t) (λ b. b)
+              (λ x says. untold h k moment x t other.0 refl says) (i.each t))
         ];
         all = λ t is. elim (eqb_tells t s) [
           | inl same ↦ rw same.0 refl
@@ -205,31 +258,51 @@ module _ {O : Type 0} where
 
   -- ---- a session is opened
 
-  pub since_opened : (xs : List (ℕ × Since)) (h : List Rec) (s : ℕ) (host : List ℕ) (moment : ℤ) (boxes : List (Option O)) (box : O) → AreSince xs h boxes → s ≡ length boxes + 1 → last_moment h ≤ℤ moment
-      → AreSince ((s, record { moment = moment; pinged = false }) ∷ xs) (fresh_record h moment (Opened s host) ∷ h) (boxes ++ Some box ∷ [])
+  pub since_opened : (xs : List (ℕ × Since)) (h : List Rec) (s : ℕ) (host : List ℕ) (moment : ℤ)
+      (boxes : List (Option O)) (box : O) → AreSince xs h boxes → s ≡ length boxes + 1 → last_moment h ≤ℤ moment
+      → AreSince ((s, record { moment = moment; pinged = false }) ∷ xs) (fresh_record h moment (Opened s host) ∷ h)
+      (boxes ++ Some box ∷ [])
   since_opened xs h s host moment boxes box i next later =
-      let k = Opened s host in let new : Since = record { moment = moment; pinged = false } in let ys = (s, new) ∷ xs in let all = boxes ++ Some box ∷ [] in
+      let k = Opened s host in
+      let new : Since = record { moment = moment; pinged = false } in
+      let ys = (s, new) ∷ xs in let all = boxes ++ Some box ∷ [] in
       let more : length all ≡ length boxes + 1 = length-append boxes (Some box ∷ []) in
-      let here : is_here all s ≡ true = ap is_some (get_or_push boxes (Some box) None (s - 1) (let e : length boxes ≡ s - 1 = omega arith in e)) in
-      let same : (t : ℕ) → 0 < t → t ≤ length boxes → is_here all t ≡ is_here boxes t = λ t from to. ap is_some (get_or_append_left boxes (Some box ∷ []) None (t - 1) (let l : t - 1 < length boxes = omega arith in l)) in
+      let here : is_here all s ≡ true = ap is_some
+      (get_or_push boxes (Some box) None (s - 1) (let e : length boxes ≡ s - 1 = omega arith in e)) in
+      let same : (t : ℕ) → 0 < t → t ≤ length boxes → is_here all t
+      ≡ is_here boxes t = λ t from to. ap is_some (get_or_append_left boxes (Some box ∷ []) None (t - 1)
+      (let l : t - 1 < length boxes = omega arith in l)) in
       record {
         each = λ t. elim (eqb_tells s t) [
-          | inl equal ↦ subst (λ (u : ℕ). IsRight (fresh_record h moment k ∷ h) all u (since_at ys u)) equal.1 (rw (eq-eqb s s refl) (record { from_1 = omega arith; opened = omega arith; here = here }, told_of h k moment s (eq-eqb s s refl)))
+          | inl equal ↦ subst (λ (u : ℕ). IsRight (fresh_record h moment k ∷ h) all u (since_at ys u)) equal.1
+              (rw (eq-eqb s s refl) (
+                record { from_1 = omega arith; opened = omega arith; here = here },
+                told_of h k moment s (eq-eqb s s refl),
+              ))
           | inr other ↦
-              subst (IsRight (fresh_record h moment k ∷ h) all t) (sym (ap (λ b. cond b (Some new) (since_at xs t)) (ne_eqb t s (λ e. other.1 (sym e)))))
-              (right_by h (fresh_record h moment k ∷ h) boxes all t (since_at xs t) (λ there. record { from_1 = there.from_1; opened = (let l = there.opened in omega arith); here = same t there.from_1 there.opened ∙ there.here }) (λ x says. untold h k moment x t other.0 refl says) (i.each t))
+              subst (IsRight (fresh_record h moment k ∷ h) all t)
+              (sym (ap (λ b. cond b (Some new) (since_at xs t)) (ne_eqb t s (λ e. other.1 (sym e)))))
+              (right_by h (fresh_record h moment k ∷ h) boxes all t (since_at xs t)
+              (λ there. record {
+                from_1 = there.from_1;
+                opened = (let l = there.opened in omega arith);
+                here = same t there.from_1 there.opened ∙ there.here;
+              })
+              (λ x says. untold h k moment x t other.0 refl says) (i.each t))
         ];
         all = λ t is. elim (eqb_tells t s) [
           | inl equal ↦ rw equal.0 refl
           | inr other ↦
               let to : t ≤ length boxes = let l = is.opened in let ne = other.1 in omega arith in
-              rw other.0 (i.all t (record { from_1 = is.from_1; opened = to; here = sym (same t is.from_1 to) ∙ is.here }))
+              rw other.0
+              (i.all t (record { from_1 = is.from_1; opened = to; here = sym (same t is.from_1 to) ∙ is.here }))
         ];
         order = (le_refl moment, falls_more (last_moment h) moment xs later i.order);
       }
 
   -- nobody of the next number is kept yet
-  pub since_next : (xs : List (ℕ × Since)) (h : List Rec) (boxes : List (Option O)) (t : ℕ) → AreSince xs h boxes → length boxes < t → since_at xs t ≡ None
+  pub since_next : (xs : List (ℕ × Since)) (h : List Rec) (boxes : List (Option O)) (t : ℕ) → AreSince xs h boxes
+      → length boxes < t → since_at xs t ≡ None
   since_next xs h boxes t i past = by (since_at xs t) (i.each t)
     where
       by : (o : Option Since) → IsRight h boxes t o → o ≡ None
@@ -238,37 +311,59 @@ module _ {O : Type 0} where
 
   -- ---- a session is given up
 
-  pub since_reaped : (xs : List (ℕ × Since)) (h : List Rec) (boxes : List (Option O)) (s : ℕ) → AreSince xs h boxes → IsDistinct nat_eq (keys_of xs) → 0 < s → s ≤ length boxes → AreSince (remove_entry (nat_eq s) xs) h (slice_set boxes (s - 1) None)
+  pub since_reaped : (xs : List (ℕ × Since)) (h : List Rec) (boxes : List (Option O)) (s : ℕ)
+      → AreSince xs h boxes → IsDistinct nat_eq (keys_of xs) → 0 < s → s ≤ length boxes
+      → AreSince (remove_entry (nat_eq s) xs) h (slice_set boxes (s - 1) None)
   since_reaped xs h boxes s i once from to =
       let new = slice_set boxes (s - 1) None in let len : length new ≡ length boxes = simp length-set in
-      let gone_ : since_at (remove_entry (nat_eq s) xs) s ≡ None = lookup-remove_entry nat_eq_equiv (nat_eq s) (λ x y e. ap (λ (n : ℕ). nat_eq n y) (same_number s x e)) s xs once ∙ rw (eq-eqb s s refl) refl in
+      let gone_ : since_at (remove_entry (nat_eq s) xs) s ≡ None = lookup-remove_entry nat_eq_equiv (nat_eq s)
+      (λ x y e. ap (λ (n : ℕ). nat_eq n y) (same_number s x e)) s xs once ∙ rw (eq-eqb s s refl) refl in
       record {
         each = λ t. elim (eqb_tells s t) [
-          | inl same ↦ subst (λ (u : ℕ). IsRight h new u (since_at (remove_entry (nat_eq s) xs) u)) same.1 (subst (IsRight h new s) (sym gone_) tt)
+          | inl same ↦ subst (λ (u : ℕ). IsRight h new u (since_at (remove_entry (nat_eq s) xs) u)) same.1
+              (subst (IsRight h new s) (sym gone_) tt)
           | inr other ↦
               subst (IsRight h new t) (sym (at_removed s xs t other.1))
-              (right_by h h boxes new t (since_at xs t) (λ there. record { from_1 = there.from_1; opened = (let l = there.opened in omega arith); here = ap is_some (box_other boxes s t None from there.from_1 other.1) ∙ there.here }) (λ x says. says) (i.each t))
+              (right_by h h boxes new t (since_at xs t)
+              (λ there. record {
+                from_1 = there.from_1;
+                opened = (let l = there.opened in omega arith);
+                here = ap is_some (box_other boxes s t None from there.from_1 other.1) ∙ there.here;
+              })
+              (λ x says. says) (i.each t))
         ];
         all = λ t is. elim (eqb_tells s t) [
-          | inl same ↦ absurd (let f : false ≡ true = ap is_some (sym (box_same boxes s None from to)) ∙ ap (is_here new) same.1 ∙ is.here in cc)
+          | inl same ↦ absurd (let f : false ≡ true = ap is_some (sym (box_same boxes s None from to))
+              ∙ ap (is_here new) same.1 ∙ is.here in cc)
           | inr other ↦
               ap is_some (at_removed s xs t other.1)
-              ∙ i.all t (record { from_1 = is.from_1; opened = (let l = is.opened in omega arith); here = ap is_some (sym (box_other boxes s t None from is.from_1 other.1)) ∙ is.here })
+              ∙ i.all t (record {
+                from_1 = is.from_1;
+                opened = (let l = is.opened in omega arith);
+                here = ap is_some (sym (box_other boxes s t None from is.from_1 other.1)) ∙ is.here;
+              })
         ];
         order = falls_removed (last_moment h) s xs i.order;
       }
     where
       same_number : (s x : ℕ) → nat_eq s x ≡ true → s ≡ x
-      same_number s x e = elim (eqb_tells s x) [ inl same ↦ same.1 | inr other ↦ absurd (let f : false ≡ true = sym other.0 ∙ e in cc) ]
+      same_number s x e = elim (eqb_tells s x) [
+        | inl same ↦ same.1
+        | inr other ↦ absurd (let f : false ≡ true = sym other.0 ∙ e in cc)
+      ]
 
   -- ---- sessions are pinged
 
-  pub since_ticked : (xs : List (ℕ × Since)) (h : List Rec) (moment : ℤ) (boxes : List (Option O)) (ts : List ℕ) → AreSince xs h boxes → last_moment h ≤ℤ moment → ((t : ℕ) → IsThere boxes t → list_any (λ u. u == t) ts ≡ is_pinged h t moment)
+  pub since_ticked : (xs : List (ℕ × Since)) (h : List Rec) (moment : ℤ) (boxes : List (Option O)) (ts : List ℕ)
+      → AreSince xs h boxes → last_moment h ≤ℤ moment
+      → ((t : ℕ) → IsThere boxes t → list_any (λ u. u == t) ts ≡ is_pinged h t moment)
       → AreSince (with_pings xs ts) (fresh_record h moment Ticked ∷ h) boxes
   since_ticked xs h moment boxes ts i later whom =
       record {
-        each = λ t. subst (IsRight (fresh_record h moment Ticked ∷ h) boxes t) (sym (at_pings xs ts t)) (by t (since_at xs t) (i.each t));
-        all = λ t there. ap is_some (at_pings xs ts t) ∙ still (list_any (λ u. u == t) ts) (since_at xs t) (i.all t there);
+        each = λ t. subst (IsRight (fresh_record h moment Ticked ∷ h) boxes t) (sym (at_pings xs ts t))
+            (by t (since_at xs t) (i.each t));
+        all = λ t there. ap is_some (at_pings xs ts t) ∙ still (list_any (λ u. u == t) ts) (since_at xs t)
+            (i.all t there);
         order = falls_more (last_moment h) moment (with_pings xs ts) later (falls_pings (last_moment h) xs ts i.order);
       }
     where
@@ -276,13 +371,15 @@ module _ {O : Type 0} where
       still b None e = e
       still b (Some x) e = refl
 
-      by : (t : ℕ) (o : Option Since) → IsRight h boxes t o → IsRight (fresh_record h moment Ticked ∷ h) boxes t (option_map (pinged_if (list_any (λ u. u == t) ts)) o)
+      by : (t : ℕ) (o : Option Since) → IsRight h boxes t o → IsRight (fresh_record h moment Ticked ∷ h) boxes t
+          (option_map (pinged_if (list_any (λ u. u == t) ts)) o)
       by t None r = tt
       by t (Some x) r =
           let b = list_any (λ u. u == t) ts in (
             r.0,
             record {
               moment = r.1.moment ∙ ap (λ m. Some m) (pinged_moment b x);
-              pinged = pinged_now (was_pinged h t) (is_silent h t moment) b (whom t r.0) ∙ ap (λ w. b || w) r.1.pinged ∙ pinged_says b x;
+              pinged = pinged_now (was_pinged h t) (is_silent h t moment) b (whom t r.0) ∙ ap
+                  (λ w. b || w) r.1.pinged ∙ pinged_says b x;
             },
           )

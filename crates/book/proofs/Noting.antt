@@ -1,6 +1,7 @@
 -- What is counted of each session that is there, by the places of their outboxes in the map.
 use Rattle.std.proofs.lemmas.Bool.Decides.{eqb_tells}
-use Rattle.std.proofs.Common.{arith, ◌≡◌, inl, inr, ℕ, suc, ◌+◌, ◌<◌, ◌≤◌, Bool, true, false, cond, nat_eq, List, [], ◌∷◌, length, slice_get, Option, Some, None, refl, sym, ap, ◌∙◌, subst}
+use Rattle.std.proofs.Common.{arith, ◌≡◌, inl, inr, ℕ, suc, ◌+◌, ◌<◌, ◌≤◌, Bool, true, false, cond, nat_eq, List, []}
+use Rattle.std.proofs.Common.{◌∷◌, length, slice_get, Option, Some, None, refl, sym, ap, ◌∙◌, subst}
 use Rattle.std.specs.Prelude.{IfSome}
 use Rattle.std.specs.Option.{is_some}
 use Rattle.std.specs.Map.{lookup}
@@ -22,7 +23,8 @@ use Rattle.book.proofs.Mapped.{IsChanged, box_stands}
 use Rattle.book.proofs.Owes.{sent_owed}
 
 -- what stands at a number stands at a place
-found : {X : Type 0} (es : List (ℕ × X)) (t : ℕ) → is_some (lookup (nat_eq t) es) ≡ true → (i : ℕ) × (e : ℕ × X) × (i < length es) × (slice_get es i ≡ Some e) × (e.0 ≡ t)
+found : {X : Type 0} (es : List (ℕ × X)) (t : ℕ) → is_some (lookup (nat_eq t) es) ≡ true → (i : ℕ) × (e : ℕ × X)
+    × (i < length es) × (slice_get es i ≡ Some e) × (e.0 ≡ t)
 found [] t here = absurd (let f : false ≡ true = here in cc)
 found (e ∷ es) t here =
     elim (eqb_tells t e.0) [
@@ -50,17 +52,22 @@ if_some_by P Q (Some x) f p = f x p
 -- ---- the loop
 
 -- those at the first n places are counted, and nobody who isn't there
-pub record AreCountedTo {O : Type 0} (sent : O → List Item) (seats : List Seat) (boxes : List (Option O)) (heard : List (ℕ × Since)) (kept : List (ℕ × O)) (n : ℕ) (cs : List (ℕ × Counts)) : Type 0 where
+pub record AreCountedTo {O : Type 0} (sent : O → List Item) (seats : List Seat) (boxes : List (Option O))
+    (heard : List (ℕ × Since)) (kept : List (ℕ × O)) (n : ℕ) (cs : List (ℕ × Counts)) : Type 0 where
   pub each : (t : ℕ) → IfSome (counts_at cs t) (λ c. IsThere boxes t × IsCountBy c sent seats boxes heard t)
   pub first : (i : ℕ) (e : ℕ × O) → i < n → slice_get kept i ≡ Some e → is_some (counts_at cs e.0) ≡ true
 
-module _ {O : Type 0} (sent : O → List Item) (seats : List Seat) (boxes : List (Option O)) (heard : List (ℕ × Since)) (kept : List (ℕ × O)) where
+module _ {O : Type 0} (sent : O → List Item) (seats : List Seat) (boxes : List (Option O))
+    (heard : List (ℕ × Since)) (kept : List (ℕ × O)) where
   pub counted_none : (cs : List (ℕ × Counts)) → cs ≡ [] → AreCountedTo sent seats boxes heard kept 0 cs
   counted_none cs e =
-      subst (AreCountedTo sent seats boxes heard kept 0) (sym e) (record { each = λ t. tt; first = λ i e l at. absurd (omega arith) })
+      subst (AreCountedTo sent seats boxes heard kept 0) (sym e)
+      (record { each = λ t. tt; first = λ i e l at. absurd (omega arith) })
 
   -- the session at the next place is
-  pub counted_more : (n : ℕ) (cs now : List (ℕ × Counts)) (k : ℕ) (o : O) (c : Counts) → AreCountedTo sent seats boxes heard kept n cs → slice_get kept n ≡ Some (k, o) → IsThere boxes k → IsCountBy c sent seats boxes heard k
+  pub counted_more : (n : ℕ) (cs now : List (ℕ × Counts)) (k : ℕ) (o : O) (c : Counts)
+      → AreCountedTo sent seats boxes heard kept n cs → slice_get kept n ≡ Some (k, o) → IsThere boxes k
+      → IsCountBy c sent seats boxes heard k
       → IsChanged cs now k (Some c) → AreCountedTo sent seats boxes heard kept (n + 1) now
   counted_more n cs now k o c was place there is changed =
       record {
@@ -72,7 +79,8 @@ module _ {O : Type 0} (sent : O → List Item) (seats : List Seat) (boxes : List
           | inl same ↦
               let key : e.0 ≡ k = same_key e (k, o) (sym at ∙ ap (slice_get kept) same.1 ∙ place) in
               ap (λ (q : ℕ). is_some (counts_at now q)) key ∙ ap is_some at_k
-          | inr other ↦ let ne = other.1 in ap is_some (changed e.0) ∙ some_still (nat_eq k e.0) c (counts_at cs e.0) (was.first i e (omega arith) at)
+          | inr other ↦ let ne = other.1 in ap is_some (changed e.0) ∙ some_still (nat_eq k e.0) c
+              (counts_at cs e.0) (was.first i e (omega arith) at)
         ];
       }
     where
@@ -86,7 +94,8 @@ module _ {O : Type 0} (sent : O → List Item) (seats : List Seat) (boxes : List
       ]
 
   -- each is
-  pub counted_all : (opened n : ℕ) (cs : List (ℕ × Counts)) → boxes_of kept opened ≡ boxes → length kept ≤ n → AreCountedTo sent seats boxes heard kept n cs → AreCountsOf sent seats boxes heard cs
+  pub counted_all : (opened n : ℕ) (cs : List (ℕ × Counts)) → boxes_of kept opened ≡ boxes → length kept ≤ n
+      → AreCountedTo sent seats boxes heard kept n cs → AreCountsOf sent seats boxes heard cs
   counted_all opened n cs view all was =
       record {
         each = was.each;
@@ -97,11 +106,13 @@ module _ {O : Type 0} (sent : O → List Item) (seats : List Seat) (boxes : List
 
 -- ---- by the history
 
-module _ {O : Type 0} (sent : O → List Item) (seats : List Seat) (boxes : List (Option O)) (heard : List (ℕ × Since)) (cs : List (ℕ × Counts)) (counts : AreCountsOf sent seats boxes heard cs) where
+module _ {O : Type 0} (sent : O → List Item) (seats : List Seat) (boxes : List (Option O))
+    (heard : List (ℕ × Since)) (cs : List (ℕ × Counts)) (counts : AreCountsOf sent seats boxes heard cs) where
   pub counted_there : (t : ℕ) → is_some (counts_at cs t) ≡ true → IsThere boxes t
   counted_there t here = by (counts_at cs t) here (counts.each t)
     where
-      by : (o : Option Counts) → is_some o ≡ true → IfSome o (λ c. IsThere boxes t × IsCountBy c sent seats boxes heard t) → IsThere boxes t
+      by : (o : Option Counts) → is_some o ≡ true
+          → IfSome o (λ c. IsThere boxes t × IsCountBy c sent seats boxes heard t) → IsThere boxes t
       by None e p = absurd (let f : false ≡ true = e in cc)
       by (Some c) e p = p.0
 
@@ -114,11 +125,15 @@ module _ {O : Type 0} (sent : O → List Item) (seats : List Seat) (boxes : List
       by false true is here = sym is ∙ counts.all t (record { from_1 = from; opened = to; here = here })
       by false false is here = refl
 
-  pub are_counts : (j : journal.Shown) (g : Settings) (known : List Deed) (plan : List Planned) (busy : Bool) → IsKept sent j g known seats boxes plan busy → busy ≡ false → AreSince heard j.history boxes → AreCounts g j.history cs
+  pub are_counts : (j : journal.Shown) (g : Settings) (known : List Deed) (plan : List Planned) (busy : Bool)
+      → IsKept sent j g known seats boxes plan busy → busy ≡ false → AreSince heard j.history boxes
+      → AreCounts g j.history cs
   are_counts j g known plan busy i idle since_ t =
-      if_some_by (λ c. IsThere boxes t × IsCountBy c sent seats boxes heard t) (λ c. IsCountOf c g j.history t) (counts_at cs t) (λ c p. of_history c p.0 p.1) (counts.each t)
+      if_some_by (λ c. IsThere boxes t × IsCountBy c sent seats boxes heard t)
+      (λ c. IsCountOf c g j.history t) (counts_at cs t) (λ c p. of_history c p.0 p.1) (counts.each t)
     where
-      says : (o : Option Since) (x : Since) → IfSome o (λ y. IsThere boxes t × IsSince y j.history t) → o ≡ Some x → IsSince x j.history t
+      says : (o : Option Since) (x : Since) → IfSome o (λ y. IsThere boxes t × IsSince y j.history t) → o ≡ Some x
+          → IsSince x j.history t
       says o x r e = (subst (λ p. IfSome p (λ y. IsThere boxes t × IsSince y j.history t)) e r).1
 
       of_history : (c : Counts) → IsThere boxes t → IsCountBy c sent seats boxes heard t → IsCountOf c g j.history t
@@ -126,13 +141,17 @@ module _ {O : Type 0} (sent : O → List Item) (seats : List Seat) (boxes : List
           let from = there.from_1 in let to = there.opened in let places = i.places in
           record {
             accepted = is.accepted ∙ (i.each_seat t from (omega arith)).accepted there.here;
-            owed = is.owed ∙ sent_owed sent (shown j g boxes plan busy) t i.sound (i.sound.idle idle) from to there.here;
+            owed = is.owed ∙ sent_owed sent (shown j g boxes plan busy) t i.sound
+                (i.sound.idle idle) from to there.here;
             since = says (since_at heard t) c.since (since_.each t) is.since;
           }
 
 -- each that is there has a seat
-pub has_seat : {O : Type 0} (sent : O → List Item) (j : journal.Shown) (g : Settings) (known : List Deed) (seats : List Seat) (boxes : List (Option O)) (plan : List Planned) (busy : Bool) → IsKept sent j g known seats boxes plan busy
+pub has_seat : {O : Type 0} (sent : O → List Item) (j : journal.Shown) (g : Settings) (known : List Deed)
+    (seats : List Seat) (boxes : List (Option O)) (plan : List Planned) (busy : Bool)
+    → IsKept sent j g known seats boxes plan busy
     → (t : ℕ) → IsThere boxes t → IsSeated seats t × (stands (seat_at seats t) ≡ true)
 has_seat sent j g known seats boxes plan busy i t there =
-    let from = there.from_1 in let to = there.opened in let places = i.places in let below : t ≤ length seats = omega arith in
+    let from = there.from_1 in
+    let to = there.opened in let places = i.places in let below : t ≤ length seats = omega arith in
     (record { from_1 = from; opened = below }, (i.each_seat t from below).kept ∙ there.here)

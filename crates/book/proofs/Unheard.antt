@@ -1,5 +1,6 @@
 -- Who was never opened was never heard of, and is pinged by no tick.
-use Rattle.std.proofs.Common.{◌≡◌, ◌≢◌, ℕ, ℤ, ◌+◌, ◌<◌, Bool, true, false, not, ◌&&◌, ◌==◌, cond, List, [], ◌∷◌, Option, Some, None, arith, refl, sym, ap, ◌∙◌, ne_eqb, lit<}
+use Rattle.std.proofs.Common.{◌≡◌, ◌≢◌, ℕ, ℤ, ◌+◌, ◌<◌, Bool, true, false, not, ◌&&◌, ◌==◌, cond, List, []}
+use Rattle.std.proofs.Common.{◌∷◌, Option, Some, None, arith, refl, sym, ap, ◌∙◌, ne_eqb, lit<}
 use Rattle.chronicle.specs.declared.record.Kind.{Kind}
 use Rattle.chronicle.specs.declared.record.Kind.TheVariants as kind
 use Rattle.chronicle.specs.History.{Rec, opened_by, sessions, shut}
@@ -22,7 +23,8 @@ not_heard h kind.Ticked t i l = refl
 
 pub unheard : (g : Settings) (h : List Rec) (t : ℕ) → IsLegal g h → sessions h < t → quiet_since h t ≡ None
 unheard g [] t i l = refl
-unheard g (r ∷ h) t i l = ap (λ b. cond b (Some r.moment) (quiet_since h t)) (not_heard h r.kind t i.2 l) ∙ unheard g h t i.4 (omega arith)
+unheard g (r ∷ h) t i l = ap (λ b. cond b (Some r.moment) (quiet_since h t)) (not_heard h r.kind t i.2 l)
+    ∙ unheard g h t i.4 (omega arith)
 
 -- sessions are numbered from 1
 not_nobody : (h : List Rec) (k : Kind) → IsKind h k → hears_of k 0 ≡ false
@@ -42,13 +44,15 @@ never true b = refl
 never false b = refl
 
 pub unheard_not_due : (h : List Rec) (t : ℕ) (moment : ℤ) → quiet_since h t ≡ None → is_pinged h t moment ≡ false
-unheard_not_due h t moment e = ap (λ (since : Option ℤ). (not (shut h t) && was_before since PING_AFTER moment) && not (was_pinged h t)) e ∙ never (not (shut h t)) (not (was_pinged h t))
+unheard_not_due h t moment e = ap (λ (since : Option ℤ). (not (shut h t) && was_before since PING_AFTER moment)
+    && not (was_pinged h t)) e ∙ never (not (shut h t)) (not (was_pinged h t))
 
 nothing_at : (a : Bool) (xs : List ℕ) → cond (a && false) xs [] ≡ []
 nothing_at true xs = refl
 nothing_at false xs = refl
 
-pub unheard_not_pinged : (g : Settings) (h : List Rec) (k : Kind) (moment : ℤ) (t : ℕ) → quiet_since h t ≡ None → ticked g h k moment t ≡ []
+pub unheard_not_pinged : (g : Settings) (h : List Rec) (k : Kind) (moment : ℤ) (t : ℕ) → quiet_since h t ≡ None
+    → ticked g h k moment t ≡ []
 unheard_not_pinged g h k moment t e =
     let line = spelled_for (caps (facts g h) t) moment (ping_line g.server) in
     ap (λ b. cond (is_tick k && b) line []) (unheard_not_due h t moment e) ∙ nothing_at (is_tick k) line

@@ -1,5 +1,7 @@
 -- What clauses see of a book, and its steps: this project's own promise of how deliveries reach outboxes.
-use Rattle.std.specs.Prelude.{◌≡◌, ℕ, ℤ, zero, suc, ◌+◌, ◌-◌, ◌<◌, ◌≤◌, Bool, true, false, not, ◌&&◌, ◌==◌, cond, List, [], ◌∷◌, ◌++◌, length, map, filter, sum_by, if◌then◌else◌, slice_index_or, slice_set, Option, Some, None, IsSome, All}
+use Rattle.std.specs.Prelude.{◌≡◌, ℕ, ℤ, zero, suc, ◌+◌, ◌-◌, ◌<◌, ◌≤◌, Bool, true, false, not, ◌&&◌, ◌==◌}
+use Rattle.std.specs.Prelude.{cond, List, [], ◌∷◌, ◌++◌, length, map, filter, sum_by, if◌then◌else◌}
+use Rattle.std.specs.Prelude.{slice_index_or, slice_set, Option, Some, None, IsSome, All}
 use Rattle.std.specs.Option.{is_some}
 use Rattle.chronicle.specs.declared.record.Kind.{Kind}
 use Rattle.chronicle.specs.declared.record.Kind.TheVariants.{Opened, Said, Hung, Gone, Ticked}
@@ -35,8 +37,9 @@ use Rattle.deliveries.specs.Base.{Base, base, dropped_part, kept_part}
 use Rattle.book.specs.Legal.{IsLegal}
 use Rattle.roster.specs.LookBack.{numbers}
 
--- the history, how many records may be kept of it and how many were dropped, the settings of the server, each session's outbox until it is reaped, the deliveries
--- of the newest record that aren't put yet, and whether a plan is out
+-- the history, how many records may be kept of it and how many were dropped, the settings of the server, each
+-- session's outbox until it is reaped, the deliveries of the newest record that aren't put yet, and whether a plan
+-- is out
 pub record Shown (O : Type 0) : Type 0 where
   pub history : List Rec
   pub limit : Limit
@@ -81,7 +84,8 @@ kept_for h t = cond (gone h t) 0 (cond (shut h t) 1 2)
 abbrev pub held : List Rec → ℕ
 held h = sum_by (kept_for h) (numbers 1 (sessions h))
 
--- ---- the plan of a record: its deliveries, the actor's first, then by session number, to sessions that weren't shut before it
+-- ---- the plan of a record: its deliveries, the actor's first, then by session number, to sessions that weren't
+-- shut before it
 
 abbrev pub due : Settings → List Rec → Kind → ℤ → ℕ → List Delivery
 due g h k moment t = cond (shut h t) [] (delivery g h k moment t)
@@ -108,7 +112,14 @@ planned (p ∷ ps) t = cond (p.session == t) (p.delivery ∷ planned ps t) (plan
 -- ---- steps
 
 abbrev pub empty_book : {O : Type 0} → ℕ → Settings → Shown O
-empty_book limit settings = record { history = []; limit = record { records = limit; dropped = 0 }; settings = settings; outboxes = []; plan = []; busy = false }
+empty_book limit settings = record {
+  history = [];
+  limit = record { records = limit; dropped = 0 };
+  settings = settings;
+  outboxes = [];
+  plan = [];
+  busy = false;
+}
 
 -- one more session
 abbrev pub opened : {O : Type 0} → Shown O → List ℕ → ℤ → O → Shown O
@@ -125,7 +136,14 @@ opened m host moment box =
 -- a record was appended, and its deliveries are planned
 abbrev pub begun : {O : Type 0} → Shown O → Kind → ℤ → Shown O
 begun m k moment =
-    record { history = fresh_record m.history moment k ∷ m.history; limit = m.limit; settings = m.settings; outboxes = m.outboxes; plan = plan_of m.settings m.history k moment (length m.outboxes); busy = true }
+    record {
+      history = fresh_record m.history moment k ∷ m.history;
+      limit = m.limit;
+      settings = m.settings;
+      outboxes = m.outboxes;
+      plan = plan_of m.settings m.history k moment (length m.outboxes);
+      busy = true;
+    }
 
 -- what is put for a planned delivery: it knows the history in which it is put, and the settings of the server
 abbrev pub item_of : {O : Type 0} → Shown O → Planned → Item
@@ -133,14 +151,29 @@ item_of m p = record { delivery = p.delivery; session = p.session; front = m.his
 
 -- a planned delivery was put, and this is its outbox then
 abbrev pub delivered_to : {O : Type 0} → Shown O → Planned → List Planned → O → Shown O
-delivered_to m p ps box = record { history = m.history; limit = m.limit; settings = m.settings; outboxes = slice_set m.outboxes (p.session - 1) (Some box); plan = ps; busy = m.busy }
+delivered_to m p ps box = record {
+  history = m.history;
+  limit = m.limit;
+  settings = m.settings;
+  outboxes = slice_set m.outboxes (p.session - 1) (Some box);
+  plan = ps;
+  busy = m.busy;
+}
 
 -- a planned delivery wasn't put: the newest record misses the session
 abbrev pub dropped : {O : Type 0} → Shown O → Planned → List Planned → Shown O
-dropped m p ps = record { history = miss m.history p.session; limit = m.limit; settings = m.settings; outboxes = m.outboxes; plan = ps; busy = m.busy }
+dropped m p ps = record {
+  history = miss m.history p.session;
+  limit = m.limit;
+  settings = m.settings;
+  outboxes = m.outboxes;
+  plan = ps;
+  busy = m.busy;
+}
 
 -- the outbox of a planned delivery took it
-pub record IsDelivered {O : Type 0} (accepts : O → Item → O → Type 0) (m : Shown O) (p : Planned) (ps : List Planned) (k : Shown O) : Type 0 where
+pub record IsDelivered {O : Type 0} (accepts : O → Item → O → Type 0) (m : Shown O) (p : Planned)
+    (ps : List Planned) (k : Shown O) : Type 0 where
   pub before : O
   pub after : O
   pub here : box_at m.outboxes p.session ≡ Some before
@@ -148,7 +181,8 @@ pub record IsDelivered {O : Type 0} (accepts : O → Item → O → Type 0) (m :
   pub book : k ≡ delivered_to m p ps after
 
 -- the outbox of a planned delivery didn't take it, for a cause
-pub record IsMissed {O : Type 0} (refuses : O → PutFault → Type 0) (m : Shown O) (p : Planned) (ps : List Planned) (k : Shown O) : Type 0 where
+pub record IsMissed {O : Type 0} (refuses : O → PutFault → Type 0) (m : Shown O) (p : Planned) (ps : List Planned)
+    (k : Shown O) : Type 0 where
   pub before : O
   pub cause : PutFault
   pub here : box_at m.outboxes p.session ≡ Some before
@@ -156,7 +190,8 @@ pub record IsMissed {O : Type 0} (refuses : O → PutFault → Type 0) (m : Show
   pub book : k ≡ dropped m p ps
 
 -- what became of the plan's first delivery: it was put, or missed where its outbox didn't take it
-abbrev pub IsPutNext : {O : Type 0} → (O → Item → O → Type 0) → (O → PutFault → Type 0) → Shown O → List Planned → Option Step → Shown O → Type 0
+abbrev pub IsPutNext : {O : Type 0} → (O → Item → O → Type 0) → (O → PutFault → Type 0) → Shown O → List Planned
+    → Option Step → Shown O → Type 0
 IsPutNext accepts refuses m [] None k = k ≡ m
 IsPutNext accepts refuses m [] (Some step) k = ⊥
 IsPutNext accepts refuses m (p ∷ ps) None k = ⊥
@@ -164,21 +199,39 @@ IsPutNext accepts refuses m (p ∷ ps) (Some (Put t)) k = (t ≡ p.session) × I
 IsPutNext accepts refuses m (p ∷ ps) (Some (Missed t)) k = (t ≡ p.session) × IsMissed refuses m p ps k
 
 -- until nothing is left in the plan
-abbrev pub IsPutAll : {O : Type 0} → (O → Item → O → Type 0) → (O → PutFault → Type 0) → Shown O → List Planned → Shown O → Type 0
+abbrev pub IsPutAll : {O : Type 0} → (O → Item → O → Type 0) → (O → PutFault → Type 0) → Shown O → List Planned
+    → Shown O → Type 0
 IsPutAll accepts refuses m [] k = k ≡ m
-IsPutAll {O} accepts refuses m (p ∷ ps) k = (n : Shown O) × (step : Step) × IsPutNext accepts refuses m (p ∷ ps) (Some step) n × IsPutAll accepts refuses n ps k
+IsPutAll {O} accepts refuses m (p ∷ ps) k = (n : Shown O) × (step : Step)
+    × IsPutNext accepts refuses m (p ∷ ps) (Some step) n × IsPutAll accepts refuses n ps k
 
 -- the plan is given back
 abbrev pub finished : {O : Type 0} → Shown O → Shown O
-finished m = record { history = m.history; limit = m.limit; settings = m.settings; outboxes = m.outboxes; plan = m.plan; busy = false }
+finished m = record {
+  history = m.history;
+  limit = m.limit;
+  settings = m.settings;
+  outboxes = m.outboxes;
+  plan = m.plan;
+  busy = false;
+}
 
 -- a record was appended, and all its deliveries were put or missed
-abbrev pub IsDone : {O : Type 0} → (O → Item → O → Type 0) → (O → PutFault → Type 0) → Shown O → Kind → ℤ → Shown O → Type 0
-IsDone {O} accepts refuses m kind moment k = (n : Shown O) × IsPutAll accepts refuses (begun m kind moment) (plan_of m.settings m.history kind moment (length m.outboxes)) n × (k ≡ finished n)
+abbrev pub IsDone : {O : Type 0} → (O → Item → O → Type 0) → (O → PutFault → Type 0) → Shown O → Kind → ℤ
+    → Shown O → Type 0
+IsDone {O} accepts refuses m kind moment k = (n : Shown O) × IsPutAll accepts refuses (begun m kind moment)
+    (plan_of m.settings m.history kind moment (length m.outboxes)) n × (k ≡ finished n)
 
 -- all records were dropped, and still count
 abbrev pub rolled : {O : Type 0} → Shown O → Shown O
-rolled m = record { history = m.history; limit = record { records = m.limit.records; dropped = length m.history }; settings = m.settings; outboxes = m.outboxes; plan = m.plan; busy = m.busy }
+rolled m = record {
+  history = m.history;
+  limit = record { records = m.limit.records; dropped = length m.history };
+  settings = m.settings;
+  outboxes = m.outboxes;
+  plan = m.plan;
+  busy = m.busy;
+}
 
 -- the base of the records that were dropped
 abbrev pub base_of : {O : Type 0} → Shown O → Base
@@ -190,10 +243,18 @@ kept_of m = kept_part m.limit.dropped m.history
 
 -- a session and its outbox were given up
 abbrev pub reaped : {O : Type 0} → Shown O → ℕ → Shown O
-reaped m t = record { history = m.history; limit = m.limit; settings = m.settings; outboxes = slice_set m.outboxes (t - 1) None; plan = m.plan; busy = m.busy }
+reaped m t = record {
+  history = m.history;
+  limit = m.limit;
+  settings = m.settings;
+  outboxes = slice_set m.outboxes (t - 1) None;
+  plan = m.plan;
+  busy = m.busy;
+}
 
 -- so many items were put into an outbox that its taker didn't take
-pub record IsLeft {O W : Type 0} (sent : O → List Item) (taken : O → W → List Item) (box : Option O) (taker : W) (count : ℕ) : Type 0 where
+pub record IsLeft {O W : Type 0} (sent : O → List Item) (taken : O → W → List Item) (box : Option O) (taker : W)
+    (count : ℕ) : Type 0 where
   pub outbox : O
   pub here : box ≡ Some outbox
   pub left : List Item
@@ -223,7 +284,15 @@ done m k moment = finished (put_all (begun m k moment) (plan_of m.settings m.his
 -- the front of a session's ring was taken
 abbrev pub taken : Shown Waiting → ℕ → Shown Waiting
 taken m t =
-    record { history = m.history; limit = m.limit; settings = m.settings; outboxes = slice_set m.outboxes (t - 1) (Some (with_taken (outbox_at m.outboxes t))); plan = m.plan; busy = m.busy }
+    record {
+      history = m.history;
+      limit = m.limit;
+      settings = m.settings;
+      outboxes = slice_set m.outboxes (t - 1)
+          (Some (with_taken (outbox_at m.outboxes t)));
+      plan = m.plan;
+      busy = m.busy;
+    }
 
 -- ---- who is to be swept
 
@@ -255,14 +324,17 @@ late h moment = first (λ t. is_late h t moment) (numbers 1 (sessions h))
 -- p is what the newest record owes its session, which isn't shut and didn't miss it
 abbrev pub IsOwed : Settings → List Rec → Planned → Type 0
 IsOwed g [] p = ⊥
-IsOwed g (r ∷ h) p = (delivery g h r.kind r.moment p.session ≡ p.delivery ∷ []) × (shut h p.session ≡ false) × (misses r p.session ≡ false)
+IsOwed g (r ∷ h) p = (delivery g h r.kind r.moment p.session ≡ p.delivery ∷ []) × (shut h p.session ≡ false)
+    × (misses r p.session ≡ false)
 
 -- each delivery of a plan is owed by the newest record, to one of n sessions, and no session has two
 abbrev pub IsPlan : Settings → List Rec → ℕ → List Planned → Type 0
 IsPlan g h n [] = Unit {0}
-IsPlan g h n (p ∷ ps) = (0 < p.session) × (p.session ≤ n) × (planned ps p.session ≡ []) × IsOwed g h p × IsPlan g h n ps
+IsPlan g h n (p ∷ ps) = (0 < p.session) × (p.session ≤ n) × (planned ps p.session ≡ []) × IsOwed g h p
+    × IsPlan g h n ps
 
--- what was put into the outbox of session t: it is of that session and of this server, and this history has grown from that of each
+-- what was put into the outbox of session t: it is of that session and of this server, and this history has grown
+-- from that of each
 pub record IsSent (g : Settings) (h : List Rec) (t : ℕ) (items : List Item) : Type 0 where
   pub whose : All (λ (y : Item). y.session ≡ t) items
   pub settings : All (λ (y : Item). y.settings ≡ g) items
@@ -270,8 +342,10 @@ pub record IsSent (g : Settings) (h : List Rec) (t : ℕ) (items : List Item) : 
 
 -- the promise: what was put and what is still in the plan is what the history owes
 pub record IsSound {O : Type 0} (sent : O → List Item) (m : Shown O) : Type 0 where
-  pub owed : (t : ℕ) → 0 < t → t ≤ length m.outboxes → is_here m.outboxes t ≡ true → deliveries (sent_by sent (box_at m.outboxes t)) ++ planned m.plan t ≡ owed m.settings m.history t
-  pub items : (t : ℕ) → 0 < t → t ≤ length m.outboxes → IsSent m.settings m.history t (sent_by sent (box_at m.outboxes t))
+  pub owed : (t : ℕ) → 0 < t → t ≤ length m.outboxes → is_here m.outboxes t ≡ true
+      → deliveries (sent_by sent (box_at m.outboxes t)) ++ planned m.plan t ≡ owed m.settings m.history t
+  pub items : (t : ℕ) → 0 < t → t ≤ length m.outboxes
+      → IsSent m.settings m.history t (sent_by sent (box_at m.outboxes t))
   pub reaped : (t : ℕ) → 0 < t → t ≤ length m.outboxes → is_here m.outboxes t ≡ false → gone m.history t ≡ true
   pub plan : IsPlan m.settings m.history (length m.outboxes) m.plan
   pub idle : m.busy ≡ false → m.plan ≡ []
@@ -303,8 +377,10 @@ pub record MayOpen {O : Type 0} (m : Shown O) (moment : ℤ) : Type 0 where
 abbrev pub IsOpenRefusal : {O : Type 0} → Shown O → ℤ → OpenRefusal → Type 0
 IsOpenRefusal m moment opening.Busy = m.busy ≡ true
 IsOpenRefusal m moment opening.TooManySessions = (m.busy ≡ false) × (m.settings.sessions ≤ count_here m.outboxes)
-IsOpenRefusal m moment opening.JournalFull = (m.busy ≡ false) × (count_here m.outboxes < m.settings.sessions) × (most m.limit < length m.history + held m.history + 3)
-IsOpenRefusal m moment opening.BadMoment = (m.busy ≡ false) × (count_here m.outboxes < m.settings.sessions) × (length m.history + held m.history + 3 ≤ most m.limit) × (IsMomentAfter (last_moment m.history) moment → ⊥)
+IsOpenRefusal m moment opening.JournalFull = (m.busy ≡ false) × (count_here m.outboxes < m.settings.sessions)
+    × (most m.limit < length m.history + held m.history + 3)
+IsOpenRefusal m moment opening.BadMoment = (m.busy ≡ false) × (count_here m.outboxes < m.settings.sessions)
+    × (length m.history + held m.history + 3 ≤ most m.limit) × (IsMomentAfter (last_moment m.history) moment → ⊥)
 IsOpenRefusal m moment opening.Memory = MayOpen m moment
 
 pub record MayBegin {O : Type 0} (m : Shown O) (b : Turn) (moment : ℤ) : Type 0 where
@@ -318,8 +394,10 @@ abbrev pub IsLineRefusal : {O : Type 0} → Shown O → Turn → ℤ → LineRef
 IsLineRefusal m b moment accepting.Busy = m.busy ≡ true
 IsLineRefusal m b moment accepting.WrongTurn = (m.busy ≡ false) × (IsTurn m b → ⊥)
 IsLineRefusal m b moment accepting.Shut = (m.busy ≡ false) × IsTurn m b × (shut m.history b.session ≡ true)
-IsLineRefusal m b moment accepting.JournalFull = (m.busy ≡ false) × IsTurn m b × (shut m.history b.session ≡ false) × (most m.limit < length m.history + held m.history + 1)
-IsLineRefusal m b moment accepting.BadMoment = (m.busy ≡ false) × IsTurn m b × (shut m.history b.session ≡ false) × (length m.history + held m.history + 1 ≤ most m.limit) × (IsMomentAfter (last_moment m.history) moment → ⊥)
+IsLineRefusal m b moment accepting.JournalFull = (m.busy ≡ false) × IsTurn m b × (shut m.history b.session ≡ false)
+    × (most m.limit < length m.history + held m.history + 1)
+IsLineRefusal m b moment accepting.BadMoment = (m.busy ≡ false) × IsTurn m b × (shut m.history b.session ≡ false)
+    × (length m.history + held m.history + 1 ≤ most m.limit) × (IsMomentAfter (last_moment m.history) moment → ⊥)
 IsLineRefusal m b moment accepting.Memory = MayBegin m b moment
 
 -- a session that was opened and isn't reaped
@@ -338,7 +416,8 @@ abbrev pub IsHangRefusal : {O : Type 0} → Shown O → ℕ → ℤ → HangRefu
 IsHangRefusal m s moment hanging.Busy = m.busy ≡ true
 IsHangRefusal m s moment hanging.NoSession = (m.busy ≡ false) × (IsKnown m s → ⊥)
 IsHangRefusal m s moment hanging.Shut = (m.busy ≡ false) × IsKnown m s × (shut m.history s ≡ true)
-IsHangRefusal m s moment hanging.BadMoment = (m.busy ≡ false) × IsKnown m s × (shut m.history s ≡ false) × (IsMomentAfter (last_moment m.history) moment → ⊥)
+IsHangRefusal m s moment hanging.BadMoment = (m.busy ≡ false) × IsKnown m s × (shut m.history s ≡ false)
+    × (IsMomentAfter (last_moment m.history) moment → ⊥)
 
 pub record MaySweep {O : Type 0} (m : Shown O) (moment : ℤ) : Type 0 where
   pub idle : m.busy ≡ false
@@ -409,8 +488,8 @@ newest_next (r ∷ h) = next_of r.kind
 
 -- ---- a plan that is handed out
 
--- the number and the session of its record, which is 0 for a tick, which of the session's lines is next, where the record is a line,
--- who missed the record so far, and how many more it has room to note
+-- the number and the session of its record, which is 0 for a tick, which of the session's lines is next, where the
+-- record is a line, who missed the record so far, and how many more it has room to note
 pub record Out : Type 0 where
   pub number : ℕ
   pub session : ℕ

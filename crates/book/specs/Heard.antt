@@ -32,7 +32,8 @@ rises k (x ∷ xs) = (k ≤ x.session) × rises x.session xs
 -- a text and those after it, where those of one session that stand side by side are made one
 abbrev pub joined_to : Heard → List Heard → List Heard
 joined_to x [] = x ∷ []
-joined_to x (y ∷ ys) = cond (y.session == x.session) (joined_to (record { session = x.session; text = x.text ++ y.text }) ys) (x ∷ joined_to y ys)
+joined_to x (y ∷ ys) = cond (y.session == x.session)
+    (joined_to (record { session = x.session; text = x.text ++ y.text }) ys) (x ∷ joined_to y ys)
 
 abbrev pub joined : List Heard → List Heard
 joined [] = []

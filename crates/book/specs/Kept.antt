@@ -14,10 +14,12 @@ use Rattle.book.specs.declared.last_heard.Since.{Since}
 use Rattle.book.specs.LastHeard.{AreSince}
 use Rattle.book.specs.Noted.{Noted, IsBased}
 
--- all that a book keeps stands for its history, the facts that its roster knows are those of the history, and there is room
--- for the records that are kept free
-pub record IsKept {O : Type 0} (sent : O → List Item) (j : journal.Shown) (g : Settings) (known : List Deed) (seats : List Seat) (boxes : List (Option O)) (plan : List Planned) (busy : Bool) : Type 0 where
-  pub sound : IsSound sent (record { history = j.history; limit = j.limit; settings = g; outboxes = boxes; plan = plan; busy = busy })
+-- all that a book keeps stands for its history, the facts that its roster knows are those of the history, and there
+-- is room for the records that are kept free
+pub record IsKept {O : Type 0} (sent : O → List Item) (j : journal.Shown) (g : Settings) (known : List Deed)
+    (seats : List Seat) (boxes : List (Option O)) (plan : List Planned) (busy : Bool) : Type 0 where
+  pub sound : IsSound sent
+      (record { history = j.history; limit = j.limit; settings = g; outboxes = boxes; plan = plan; busy = busy })
   pub facts : known ≡ facts g j.history
   pub each_seat : (t : ℕ) → 0 < t → t ≤ length seats → IsSeat (seat_at seats t) (is_here boxes t) j.history t
   pub opened : length (opened known) ≡ length boxes
@@ -26,7 +28,9 @@ pub record IsKept {O : Type 0} (sent : O → List Item) (j : journal.Shown) (g :
   pub room : held j.history ≤ j.room
 
 -- and so does what it keeps of the records that were dropped, and of when sessions were last heard of
-pub record Keeps {O : Type 0} (sent : O → List Item) (j : journal.Shown) (g : Settings) (known : List Deed) (seats : List Seat) (boxes : List (Option O)) (plan : List Planned) (busy : Bool) (b : Option Noted) (heard : List (ℕ × Since)) : Type 0 where
+pub record Keeps {O : Type 0} (sent : O → List Item) (j : journal.Shown) (g : Settings) (known : List Deed)
+    (seats : List Seat) (boxes : List (Option O)) (plan : List Planned) (busy : Bool) (b : Option Noted)
+    (heard : List (ℕ × Since)) : Type 0 where
   pub kept : IsKept sent j g known seats boxes plan busy
   pub based : IsBased b j.history j.limit.dropped g boxes
   pub since : AreSince heard j.history boxes

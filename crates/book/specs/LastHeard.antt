@@ -1,5 +1,6 @@
 -- What a book keeps of when its sessions were last heard of, and how that stands for the history.
-use Rattle.std.specs.Prelude.{◌≡◌, ℕ, ℤ, ◌≤ℤ◌, ◌+ℤ◌, int_le, Bool, true, not, ◌&&◌, nat_eq, min, cond, List, [], ◌∷◌, ◌++◌, Option, Some, None, IfSome}
+use Rattle.std.specs.Prelude.{◌≡◌, ℕ, ℤ, ◌≤ℤ◌, ◌+ℤ◌, int_le, Bool, true, not, ◌&&◌, nat_eq, min}
+use Rattle.std.specs.Prelude.{cond, List, [], ◌∷◌, ◌++◌, Option, Some, None, IfSome}
 use Rattle.std.specs.Option.{is_some}
 use Rattle.std.specs.List.{fold}
 use Rattle.std.specs.Map.{lookup}
@@ -52,7 +53,8 @@ lowest (n ∷ ns) = Some (lower_of n (lowest ns))
 -- session t was pinged since
 abbrev pub with_ping : ℕ → List (ℕ × Since) → List (ℕ × Since)
 with_ping t [] = []
-with_ping t (e ∷ es) = cond (nat_eq t e.0) ((e.0, record { moment = e.1.moment; pinged = true }) ∷ es) (e ∷ with_ping t es)
+with_ping t (e ∷ es) = cond (nat_eq t e.0) ((e.0, record { moment = e.1.moment; pinged = true }) ∷ es)
+    (e ∷ with_ping t es)
 
 -- these sessions were pinged since
 abbrev pub with_pings : List (ℕ × Since) → List ℕ → List (ℕ × Since)

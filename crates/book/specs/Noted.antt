@@ -14,8 +14,8 @@ use Rattle.book.specs.declared.seat.Seat.{Seat}
 use Rattle.book.specs.Book.{box_at, sent_by, is_here}
 use Rattle.book.specs.Seats.{seat_at, IsThere}
 
--- the history up to which it goes, which the program doesn't keep, the settings of the server, and the counts of those sessions
--- that weren't reaped, by their numbers
+-- the history up to which it goes, which the program doesn't keep, the settings of the server, and the counts of
+-- those sessions that weren't reaped, by their numbers
 pub record Noted : Type 0 where
   pub front : List Rec
   pub settings : Settings
@@ -44,19 +44,22 @@ abbrev pub AreCounts : Settings → List Rec → List (ℕ × Counts) → Type 0
 AreCounts g h cs = (t : ℕ) → IfSome (counts_at cs t) (λ c. IsCountOf c g h t)
 
 -- what is noted of a session is what its seat and its outbox say, and since when it is quiet
-pub record IsCountBy {O : Type 0} (c : Counts) (sent : O → List Item) (seats : List Seat) (boxes : List (Option O)) (heard : List (ℕ × Since)) (t : ℕ) : Type 0 where
+pub record IsCountBy {O : Type 0} (c : Counts) (sent : O → List Item) (seats : List Seat) (boxes : List (Option O))
+    (heard : List (ℕ × Since)) (t : ℕ) : Type 0 where
   pub accepted : c.accepted ≡ (seat_at seats t).accepted
   pub owed : c.owed ≡ length (sent_by sent (box_at boxes t))
   pub since : since_at heard t ≡ Some c.since
 
 -- counts are those of each session that is there, and of no other
-pub record AreCountsOf {O : Type 0} (sent : O → List Item) (seats : List Seat) (boxes : List (Option O)) (heard : List (ℕ × Since)) (cs : List (ℕ × Counts)) : Type 0 where
+pub record AreCountsOf {O : Type 0} (sent : O → List Item) (seats : List Seat) (boxes : List (Option O))
+    (heard : List (ℕ × Since)) (cs : List (ℕ × Counts)) : Type 0 where
   pub each : (t : ℕ) → IfSome (counts_at cs t) (λ c. IsThere boxes t × IsCountBy c sent seats boxes heard t)
   pub all : (t : ℕ) → IsThere boxes t → is_some (counts_at cs t) ≡ true
 
--- it goes up to the first n records, and has the counts of each session that was opened by these and isn't reaped, and of none that
--- was opened later
-pub record IsOfDropped {O : Type 0} (b : Noted) (h : List Rec) (n : ℕ) (g : Settings) (boxes : List (Option O)) : Type 0 where
+-- it goes up to the first n records, and has the counts of each session that was opened by these and isn't reaped,
+-- and of none that was opened later
+pub record IsOfDropped {O : Type 0} (b : Noted) (h : List Rec) (n : ℕ) (g : Settings)
+    (boxes : List (Option O)) : Type 0 where
   pub few : n ≤ length h
   pub front : b.front ≡ dropped_part n h
   pub settings : b.settings ≡ g

@@ -1,5 +1,7 @@
 -- What a book keeps for its sessions, and how that stands for the history.
-use Rattle.std.specs.Prelude.{◌≡◌, ℕ, ℤ, ◌+◌, ◌-◌, ◌^◌, ◌<◌, ◌≤◌, Bool, true, false, not, ◌&&◌, nat_eq, nat_lt, nat_le, cond, if◌then◌else◌, List, [], ◌∷◌, ◌++◌, filter, map, length, sum_by, slice_index_or, slice_get, slice_set, Option, Some, None, IsSome, IfSome}
+use Rattle.std.specs.Prelude.{◌≡◌, ℕ, ℤ, ◌+◌, ◌-◌, ◌^◌, ◌<◌, ◌≤◌, Bool, true, false, not, ◌&&◌, nat_eq, nat_lt}
+use Rattle.std.specs.Prelude.{nat_le, cond, if◌then◌else◌, List, [], ◌∷◌, ◌++◌, filter, map, length, sum_by}
+use Rattle.std.specs.Prelude.{slice_index_or, slice_get, slice_set, Option, Some, None, IsSome, IfSome}
 use Rattle.std.specs.Map.{lookup}
 use Rattle.chronicle.specs.History.{Rec, accepted, shut, gone}
 use Rattle.deliveries.specs.declared.delivery.Delivery.{Delivery}
@@ -123,7 +125,8 @@ pinged_text g fs moment ts t = heard_text fs moment (record { hearers = ts; line
 
 -- the deliveries of a record of s, which perhaps quits by it: its own text, and that of each other session
 abbrev pub planned_with : List Seat → ℕ → ℕ → List ℕ → (ℕ → List ℕ) → Bool → List Planned
-planned_with seats s number own text quits = puts s (told_own (not (hears seats s)) number own quits) ++ others (told_to seats number text) s 1 (length seats)
+planned_with seats s number own text quits = puts s (told_own (not (hears seats s)) number own quits)
+    ++ others (told_to seats number text) s 1 (length seats)
 
 abbrev pub planned_from : List Seat → ℕ → ℕ → (ℕ → List ℕ) → Bool → List Planned
 planned_from seats s number text quits = planned_with seats s number (text s) text quits
@@ -137,7 +140,8 @@ pub record IsSeat (seat : Seat) (here : Bool) (h : List Rec) (t : ℕ) : Type 0 
 
 -- ---- the outboxes
 
--- the outboxes of all sessions by their numbers, but for those that were reaped, and how many may come before more memory is taken
+-- the outboxes of all sessions by their numbers, but for those that were reaped, and how many may come before more
+-- memory is taken
 pub record Boxes (O : Type 0) : Type 0 where
   pub boxes : List (Option O)
   pub room : ℕ
@@ -162,7 +166,8 @@ abbrev pub MayFollow : {O : Type 0} → (O → List Item) → Option O → Item 
 MayFollow sent box x = IfSome box (λ o. Continues (sent o) x)
 
 -- it was put there, which changed no other
-pub record IsTaken {O : Type 0} (sent : O → List Item) (accepts : O → Item → O → Type 0) (boxes : List (Option O)) (x : Item) (more : List (Option O)) : Type 0 where
+pub record IsTaken {O : Type 0} (sent : O → List Item) (accepts : O → Item → O → Type 0) (boxes : List (Option O))
+    (x : Item) (more : List (Option O)) : Type 0 where
   pub before : O
   pub after : O
   pub here : box_at boxes x.session ≡ Some before
@@ -171,7 +176,8 @@ pub record IsTaken {O : Type 0} (sent : O → List Item) (accepts : O → Item �
   pub now : more ≡ slice_set boxes (x.session - 1) (Some after)
 
 -- it wasn't, for a cause
-pub record IsNotTaken {O : Type 0} (refuses : O → PutFault → Type 0) (boxes : List (Option O)) (x : Item) : Type 0 where
+pub record IsNotTaken {O : Type 0} (refuses : O → PutFault → Type 0) (boxes : List (Option O))
+    (x : Item) : Type 0 where
   pub before : O
   pub cause : PutFault
   pub here : box_at boxes x.session ≡ Some before

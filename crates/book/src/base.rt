@@ -34,9 +34,14 @@ impl Model for Base {
 
     ghost Value = { Noted };
 
-    ghost view = { λ a. record { front = a.history.value.history; settings = a.roster.settings; counts = a.counts.entries } };
+    ghost view = { λ a. record {
+      front = a.history.value.history;
+      settings = a.roster.settings;
+      counts = a.counts.entries;
+    } };
 
-    ghost invariant = { λ a. (a.roster.facts ≡ facts a.roster.settings a.history.value.history) × AreCounts a.roster.settings a.history.value.history a.counts.entries };
+    ghost invariant = { λ a. (a.roster.facts ≡ facts a.roster.settings a.history.value.history)
+        × AreCounts a.roster.settings a.history.value.history a.counts.entries };
 }
 
 /// The counts of a session.
@@ -56,7 +61,11 @@ impl Base {
     pub(crate) fn new(roster: Roster, counts: IndexMap<u64, Counts>, journal: &Journal) -> Base
         requires facts { roster.facts ≡ facts roster.settings journal.now.history }
         requires counts { AreCounts roster.settings journal.now.history counts.entries }
-        ensures { result ≡ record { front = journal.now.history; settings = roster.settings; counts = counts.entries } }
+        ensures { result ≡ record {
+          front = journal.now.history;
+          settings = roster.settings;
+          counts = counts.entries;
+        } }
     {
         Base {
             roster,
@@ -106,7 +115,8 @@ impl Base {
         }
     }
 
-    /// Whether a session was pinged since it was heard of. `None` where the session was opened later, or reaped before.
+    /// Whether a session was pinged since it was heard of. `None` where the session was opened later, or reaped
+    /// before.
     pub fn was_pinged(&self, session: SessionId) -> Option<bool>
         ensures pinged { IfSome result (λ b. (base_by self.now).was_pinged session ≡ b) }
         ensures noted { is_some result ≡ is_noted self.now session }

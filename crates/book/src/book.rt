@@ -1,5 +1,7 @@
 //! The book: the journal and, for each session, its outbox.
-ghost use Rattle.std.specs.Prelude.{◌≡◌, ◌≢◌, ◌<◌, ◌≤◌, ◌+◌, ◌-◌, ◌^◌, ◌++◌, ◌↔◌, ◌==◌, [], ℕ, cond, sum_by, Some, None, true, false, length, slice_get, slice_set, IsTrue, IfOk, IfErr, IfSome, OnOk, OnErr, option_copied};
+ghost use Rattle.std.specs.Prelude.{◌≡◌, ◌≢◌, ◌<◌, ◌≤◌, ◌+◌, ◌-◌, ◌^◌, ◌++◌, ◌↔◌, ◌==◌, [], ℕ, cond};
+ghost use Rattle.std.specs.Prelude.{sum_by, Some, None, true, false, length, slice_get, slice_set, IsTrue};
+ghost use Rattle.std.specs.Prelude.{IfOk, IfErr, IfSome, OnOk, OnErr, option_copied};
 ghost use Rattle.std.specs.List.{list_any};
 ghost use Rattle.casemapping.specs.Names.{host_shape};
 ghost use Rattle.chronicle.specs.declared.record.Kind.TheVariants as kind;
@@ -58,12 +60,21 @@ impl<O: Outbox> Model for Book<O> {
 
     ghost Value = { Shown O };
 
-    ghost view = { λ a. record { history = a.journal.history; limit = a.journal.limit; settings = a.roster.settings; outboxes = a.outboxes.boxes; plan = a.plan; busy = a.busy } };
+    ghost view = { λ a. record {
+      history = a.journal.history;
+      limit = a.journal.limit;
+      settings = a.roster.settings;
+      outboxes = a.outboxes.boxes;
+      plan = a.plan;
+      busy = a.busy;
+    } };
 
-    ghost invariant = { λ a. Keeps O.sent a.journal a.roster.settings a.roster.facts a.seats a.outboxes.boxes a.plan a.busy a.base a.last_heard };
+    ghost invariant = { λ a. Keeps O.sent a.journal a.roster.settings a.roster.facts a.seats
+        a.outboxes.boxes a.plan a.busy a.base a.last_heard };
 }
 
-/// Makes room for so many more records, which are within the journal's limit, and for so many sessions that miss the next.
+/// Makes room for so many more records, which are within the journal's limit, and for so many sessions that miss the
+/// next.
 pub(crate) fn reserve(
     journal: &mut Journal,
     records: usize,
@@ -77,7 +88,11 @@ pub(crate) fn reserve(
 }
 
 impl<O: Outbox> Book<O> {
-    ghost use Rattle.book.specs.Book.{empty_book, opened, begun, finished, reaped, IsPutNext, IsPutAll, IsDone, IsLeft, to_sweep, IsKnown, IsTurn, MayOpen, MayBegin, MayHang, MaySweep, MayReap, IsOpenRefusal, IsLineRefusal, IsHangRefusal, IsSweepRefusal, IsReapRefusal, IsSound, IsOut, newest_missed, held, is_here, rolled, base_of, IsRollRefusal};
+    ghost use Rattle.book.specs.Book.{empty_book, opened, begun, finished, reaped, IsPutNext, IsPutAll};
+    ghost use Rattle.book.specs.Book.{IsDone, IsLeft, to_sweep, IsKnown, IsTurn, MayOpen, MayBegin, MayHang};
+    ghost use Rattle.book.specs.Book.{MaySweep, MayReap, IsOpenRefusal, IsLineRefusal, IsHangRefusal};
+    ghost use Rattle.book.specs.Book.{IsSweepRefusal, IsReapRefusal, IsSound, IsOut, newest_missed, held};
+    ghost use Rattle.book.specs.Book.{is_here, rolled, base_of, IsRollRefusal};
     ghost use Rattle.book.specs.Noted.{base_by, is_noted};
 
     /// An empty book for at most `limit` records. Names are hashed by keys that everybody knows.
@@ -137,7 +152,8 @@ impl<O: Outbox> Book<O> {
 
     /// How many more records there may be beside those that are kept free.
     pub(crate) fn free(&self) -> usize
-        ensures room { result + length self.now.history + held self.now.history ≡ most self.now.limit }
+        ensures room { result + length self.now.history + held self.now.history
+            ≡ most self.now.limit }
         ensures fits { most self.now.limit < 2 ^ 64 }
     {
         self.journal.most() - self.journal.newest() - self.seats.held()
@@ -153,7 +169,8 @@ impl<O: Outbox> Book<O> {
 
     /// The seat of a session that was opened and isn't reaped.
     fn seat(&self, session: SessionId) -> Option<Seat>
-        ensures known { IfSome result (λ seat. IsKnown self.now session × IsSeat seat true self.now.history session) }
+        ensures known { IfSome result
+            (λ seat. IsKnown self.now session × IsSeat seat true self.now.history session) }
         ensures unknown { result ≡ None → IsKnown self.now session → ⊥ }
     {
         let seat = self.seats.seat(session)?;
@@ -183,7 +200,8 @@ impl<O: Outbox> Book<O> {
         Ok(())
     }
 
-    /// Whether a session may be opened at a moment: what `open` would answer, want of memory apart. It takes no memory.
+    /// Whether a session may be opened at a moment: what `open` would answer, want of memory apart. It takes no
+    /// memory.
     pub fn may_open(&self, moment: Moment) -> Result<(), OpenRefusal>
         ensures ok { OnOk result (MayOpen self.now moment) }
         ensures refusal { IfErr result (λ e. IsOpenRefusal self.now moment e) }
@@ -203,7 +221,8 @@ impl<O: Outbox> Book<O> {
         requires fresh { O.sent outbox ≡ [] }
         ensures ok { OnOk result (self.new ≡ opened self.old host moment outbox) }
         ensures may { OnOk result (MayOpen self.old moment) }
-        ensures session { IfOk result (λ r. (r.0 ≡ sessions self.old.history + 1) × (r.1 ≡ record { session = sessions self.old.history + 1; next = 0 })) }
+        ensures session { IfOk result (λ r. (r.0 ≡ sessions self.old.history + 1)
+            × (r.1 ≡ record { session = sessions self.old.history + 1; next = 0 })) }
         ensures refusal { IfErr result (λ e. IsOpenRefusal self.old moment e.0) }
         ensures err { IfErr result (λ e. (self.new ≡ self.old) × (e.1 ≡ outbox)) }
     {
@@ -267,17 +286,19 @@ impl<O: Outbox> Book<O> {
         Ok(())
     }
 
-    /// Begins the next line of a session: its piece is read, its record is appended, and a plan of its deliveries is handed out.
-    /// All memory is taken here; a refusal changes nothing.
+    /// Begins the next line of a session: its piece is read, its record is appended, and a plan of its deliveries is
+    /// handed out. All memory is taken here; a refusal changes nothing.
     pub fn begin(
         &mut self,
         baton: &Baton,
         piece: &Piece,
         moment: Moment,
     ) -> Result<Plan, LineRefusal>
-        ensures ok { OnOk result (self.new ≡ begun self.old (kind.Said baton.now.session baton.now.next piece.now) moment) }
+        ensures ok { OnOk result (self.new
+            ≡ begun self.old (kind.Said baton.now.session baton.now.next piece.now) moment) }
         ensures out { IfOk result (λ p. IsOut self.new p) }
-        ensures line { IfOk result (λ p. (p.session ≡ baton.now.session) × (p.next ≡ Some (baton.now.next + 1))) }
+        ensures line { IfOk result
+            (λ p. (p.session ≡ baton.now.session) × (p.next ≡ Some (baton.now.next + 1))) }
         ensures may { OnOk result (MayBegin self.old baton.now moment) }
         ensures refusal { IfErr result (λ e. IsLineRefusal self.old baton.now moment e) }
         ensures err { OnErr result (self.new ≡ self.old) }
@@ -287,8 +308,8 @@ impl<O: Outbox> Book<O> {
         Ok(self.begin_checked(baton, line, moment)?)
     }
 
-    /// Puts the first delivery of the plan that is out into its session's outbox, or notes that the session missed the record
-    /// where the outbox doesn't take it. It answers `None` where nothing is left, and takes no memory.
+    /// Puts the first delivery of the plan that is out into its session's outbox, or notes that the session missed
+    /// the record where the outbox doesn't take it. It answers `None` where nothing is left, and takes no memory.
     pub fn put_next(&mut self, plan: &mut Plan) -> Option<Step>
         requires out { IsOut self.old plan.old }
         ensures put { IsPutNext O.accepts O.refuses self.old self.old.plan result self.new }
@@ -328,9 +349,11 @@ impl<O: Outbox> Book<O> {
     pub fn finish(&mut self, plan: Plan, baton: &mut Baton) -> Done
         requires out { IsOut self.old plan }
         requires none { self.old.plan ≡ [] }
-        requires line { (plan.session ≡ baton.old.session) × (plan.next ≡ Some (baton.old.next + 1)) }
+        requires line { (plan.session ≡ baton.old.session)
+            × (plan.next ≡ Some (baton.old.next + 1)) }
         ensures book { self.new ≡ finished self.old }
-        ensures baton { baton.new ≡ record { session = baton.old.session; next = baton.old.next + 1 } }
+        ensures baton { baton.new
+            ≡ record { session = baton.old.session; next = baton.old.next + 1 } }
         ensures number { result.number ≡ length self.old.history }
         ensures missed { result.missed ≡ newest_missed self.old.history }
         ensures shut { result.shut ≡ shut self.old.history baton.old.session }
@@ -379,16 +402,18 @@ impl<O: Outbox> Book<O> {
         }
     }
 
-    /// Accepts the next line of a session: begins it, puts or misses all that it owes, and finishes it. A refusal changes
-    /// nothing.
+    /// Accepts the next line of a session: begins it, puts or misses all that it owes, and finishes it. A refusal
+    /// changes nothing.
     pub fn line(
         &mut self,
         baton: &mut Baton,
         piece: &Piece,
         moment: Moment,
     ) -> Result<Done, LineRefusal>
-        ensures ok { OnOk result (IsDone O.accepts O.refuses self.old (kind.Said baton.old.session baton.old.next piece.now) moment self.new) }
-        ensures baton { OnOk result (baton.new ≡ record { session = baton.old.session; next = baton.old.next + 1 }) }
+        ensures ok { OnOk result (IsDone O.accepts O.refuses self.old
+            (kind.Said baton.old.session baton.old.next piece.now) moment self.new) }
+        ensures baton { OnOk result
+            (baton.new ≡ record { session = baton.old.session; next = baton.old.next + 1 }) }
         ensures may { OnOk result (MayBegin self.old baton.old moment) }
         ensures number { IfOk result (λ d. d.number ≡ length self.old.history + 1) }
         ensures missed { IfOk result (λ d. d.missed ≡ newest_missed self.new.history) }
@@ -421,18 +446,20 @@ impl<O: Outbox> Book<O> {
         Ok(())
     }
 
-    /// Ends a session: one record is appended, and its last item is put, or missed where its outbox doesn't take it. It takes no
-    /// memory; a refusal changes nothing.
+    /// Ends a session: one record is appended, and its last item is put, or missed where its outbox doesn't take it.
+    /// It takes no memory; a refusal changes nothing.
     pub fn hang(
         &mut self,
         session: SessionId,
         why: Why,
         moment: Moment,
     ) -> Result<Hung, HangRefusal>
-        ensures ok { OnOk result (IsDone O.accepts O.refuses self.old (kind.Hung session why) moment self.new) }
+        ensures ok { OnOk result
+            (IsDone O.accepts O.refuses self.old (kind.Hung session why) moment self.new) }
         ensures may { OnOk result (MayHang self.old session moment) }
         ensures number { IfOk result (λ d. d.number ≡ length self.old.history + 1) }
-        ensures missed { IfOk result (λ d. d.missed ≡ list_any (λ u. u == session) (newest_missed self.new.history)) }
+        ensures missed { IfOk result
+            (λ d. d.missed ≡ list_any (λ u. u == session) (newest_missed self.new.history)) }
         ensures refusal { IfErr result (λ e. IsHangRefusal self.old session moment e) }
         ensures err { OnErr result (self.new ≡ self.old) }
     {
@@ -462,12 +489,15 @@ impl<O: Outbox> Book<O> {
         self.seats.next_to_sweep()
     }
 
-    /// Begins to sweep the shut session of the lowest number that isn't gone: its record is appended, and a plan is handed out
-    /// of what others are told. It answers `None` where there is no such session. All memory is taken here; a refusal changes
-    /// nothing.
+    /// Begins to sweep the shut session of the lowest number that isn't gone: its record is appended, and a plan is
+    /// handed out of what others are told. It answers `None` where there is no such session. All memory is taken
+    /// here; a refusal changes nothing.
     pub fn begin_sweep(&mut self, moment: Moment) -> Result<Option<Plan>, SweepRefusal>
-        ensures some { IfOk result (λ o. IfSome o (λ p. (to_sweep self.old.history ≡ Some p.session) × (self.new ≡ begun self.old (kind.Gone p.session) moment) × IsOut self.new p × (p.next ≡ None))) }
-        ensures none { IfOk result (λ o. o ≡ None → (to_sweep self.old.history ≡ None) × (self.new ≡ self.old)) }
+        ensures some { IfOk result (λ o. IfSome o (λ p. (to_sweep self.old.history ≡ Some p.session)
+            × (self.new ≡ begun self.old (kind.Gone p.session) moment) × IsOut self.new p
+            × (p.next ≡ None))) }
+        ensures none { IfOk result
+            (λ o. o ≡ None → (to_sweep self.old.history ≡ None) × (self.new ≡ self.old)) }
         ensures may { OnOk result (MaySweep self.old moment) }
         ensures refusal { IfErr result (λ e. IsSweepRefusal self.old moment e) }
         ensures err { OnErr result (self.new ≡ self.old) }
@@ -527,8 +557,12 @@ impl<O: Outbox> Book<O> {
     /// Sweeps up to one session: begins, puts or misses all that it owes, and finishes. A refusal changes nothing.
     #[tactic(auto, using(crate::proofs::Sweeps::swept_is))]
     pub fn sweep(&mut self, moment: Moment) -> Result<Option<Done>, SweepRefusal>
-        ensures some { IfOk result (λ o. IfSome o (λ d. (s : ℕ) × (to_sweep self.old.history ≡ Some s) × IsDone O.accepts O.refuses self.old (kind.Gone s) moment self.new × (d.number ≡ length self.old.history + 1) × (d.missed ≡ newest_missed self.new.history) × (d.shut ≡ shut self.new.history s))) }
-        ensures none { IfOk result (λ o. o ≡ None → (to_sweep self.old.history ≡ None) × (self.new ≡ self.old)) }
+        ensures some { IfOk result (λ o. IfSome o (λ d. (s : ℕ)
+            × (to_sweep self.old.history ≡ Some s) × IsDone O.accepts O.refuses self.old
+            (kind.Gone s) moment self.new × (d.number ≡ length self.old.history + 1)
+            × (d.missed ≡ newest_missed self.new.history) × (d.shut ≡ shut self.new.history s))) }
+        ensures none { IfOk result
+            (λ o. o ≡ None → (to_sweep self.old.history ≡ None) × (self.new ≡ self.old)) }
         ensures may { OnOk result (MaySweep self.old moment) }
         ensures refusal { IfErr result (λ e. IsSweepRefusal self.old moment e) }
         ensures err { OnErr result (self.new ≡ self.old) }
@@ -557,17 +591,19 @@ impl<O: Outbox> Book<O> {
         Ok(())
     }
 
-    /// Gives up a session that is gone, with what is left in its outbox, whose taker is given up with it. It takes no memory; a
-    /// refusal gives the baton and the taker back, and changes nothing.
+    /// Gives up a session that is gone, with what is left in its outbox, whose taker is given up with it. It takes
+    /// no memory; a refusal gives the baton and the taker back, and changes nothing.
     pub fn reap(
         &mut self,
         baton: Baton,
         taker: O::Taker,
     ) -> Result<Left, (ReapRefusal, Baton, O::Taker)>
-        requires own { IfSome (box_at self.old.outboxes baton.session) (λ o. O.name o ≡ O.taker_of taker) }
+        requires own { IfSome (box_at self.old.outboxes baton.session)
+            (λ o. O.name o ≡ O.taker_of taker) }
         ensures ok { OnOk result (self.new ≡ reaped self.old baton.session) }
         ensures session { IfOk result (λ l. l.session ≡ baton.session) }
-        ensures left { IfOk result (λ l. IsLeft O.sent O.taken (box_at self.old.outboxes baton.session) taker l.count) }
+        ensures left { IfOk result
+            (λ l. IsLeft O.sent O.taken (box_at self.old.outboxes baton.session) taker l.count) }
         ensures may { OnOk result (MayReap self.old baton.session) }
         ensures refusal { IfErr result (λ e. IsReapRefusal self.old baton.session e.0) }
         ensures err { IfErr result (λ e. (self.new ≡ self.old) × (e.1 ≡ baton) × (e.2 ≡ taker)) }
@@ -589,9 +625,12 @@ impl<O: Outbox> Book<O> {
     /// The base of all records. No plan is out.
     fn note_base(&self) -> Result<Base, AllocError>
         requires idle { self.now.busy ≡ false }
-        ensures front { IfOk result (λ b. (b.front ≡ self.now.history) × (b.settings ≡ self.now.settings)) }
-        ensures noted { IfOk result (λ b. (t : ℕ) → 0 < t → t ≤ sessions self.now.history → is_noted b t ≡ is_here self.now.outboxes t) }
-        ensures opened { IfOk result (λ b. (t : ℕ) → is_noted b t ≡ true → (0 < t) × (t ≤ sessions self.now.history)) }
+        ensures front { IfOk result
+            (λ b. (b.front ≡ self.now.history) × (b.settings ≡ self.now.settings)) }
+        ensures noted { IfOk result (λ b. (t : ℕ) → 0 < t → t ≤ sessions self.now.history
+            → is_noted b t ≡ is_here self.now.outboxes t) }
+        ensures opened { IfOk result
+            (λ b. (t : ℕ) → is_noted b t ≡ true → (0 < t) × (t ≤ sessions self.now.history)) }
     {
         let roster = self.roster.copy()?;
         let counts = self
@@ -600,11 +639,12 @@ impl<O: Outbox> Book<O> {
         Ok(Base::new(roster, counts, &self.journal))
     }
 
-    /// Drops all records, and keeps what has to be known of them. Numbers go on, and there is room for as many records as at the
-    /// start. A refusal changes nothing.
+    /// Drops all records, and keeps what has to be known of them. Numbers go on, and there is room for as many
+    /// records as at the start. A refusal changes nothing.
     pub fn roll(&mut self) -> Result<Rolled, RollRefusal>
         ensures ok { OnOk result (self.new ≡ rolled self.old) }
-        ensures dropped { IfOk result (λ r. r.dropped + self.old.limit.dropped ≡ length self.old.history) }
+        ensures dropped { IfOk result
+            (λ r. r.dropped + self.old.limit.dropped ≡ length self.old.history) }
         ensures next { IfOk result (λ r. r.next ≡ length self.old.history + 1) }
         ensures idle { OnOk result (self.old.busy ≡ false) }
         ensures refusal { IfErr result (λ e. IsRollRefusal self.old e) }
@@ -624,8 +664,10 @@ impl<O: Outbox> Book<O> {
     /// What is known of the records that were dropped. `None` where none was.
     pub fn base(&self) -> Option<&Base>
         ensures base { IfSome result (λ b. base_by b.now ≡ base_of self.now) }
-        ensures noted { IfSome result (λ b. (t : ℕ) → 0 < t → t ≤ (base_of self.now).sessions → is_here self.now.outboxes t ≡ true → is_noted b.now t ≡ true) }
-        ensures opened { IfSome result (λ b. (t : ℕ) → is_noted b.now t ≡ true → (0 < t) × (t ≤ (base_of self.now).sessions)) }
+        ensures noted { IfSome result (λ b. (t : ℕ) → 0 < t → t ≤ (base_of self.now).sessions
+            → is_here self.now.outboxes t ≡ true → is_noted b.now t ≡ true) }
+        ensures opened { IfSome result
+            (λ b. (t : ℕ) → is_noted b.now t ≡ true → (0 < t) × (t ≤ (base_of self.now).sessions)) }
         ensures none { result ≡ None → self.now.limit.dropped ≡ 0 }
         ensures some { IfSome result (λ b. 0 < self.now.limit.dropped) }
     {
@@ -658,7 +700,8 @@ impl<O: Outbox> Book<O> {
 
     /// Whether a session was opened and isn't shut.
     pub fn is_open(&self, session: SessionId) -> bool
-        ensures { IsTrue result ↔ ((0 < session) × (session ≤ sessions self.now.history) × (shut self.now.history session ≡ false)) }
+        ensures { IsTrue result ↔ ((0 < session) × (session ≤ sessions self.now.history)
+            × (shut self.now.history session ≡ false)) }
     {
         self.seats.is_listening(session)
     }
@@ -672,7 +715,8 @@ impl<O: Outbox> Book<O> {
 
     /// The nickname that a session has by the history.
     pub fn nick_of(&self, session: SessionId) -> Option<&Octets>
-        ensures opened { 0 < session → session ≤ sessions self.now.history → option_copied result ≡ nick (facts self.now.settings self.now.history) session }
+        ensures opened { 0 < session → session ≤ sessions self.now.history
+            → option_copied result ≡ nick (facts self.now.settings self.now.history) session }
         ensures none { (0 < session → session ≤ sessions self.now.history → ⊥) → result ≡ None }
     {
         self.roster.nick_of(session)
@@ -693,8 +737,8 @@ impl<O: Outbox> Book<O> {
         !self.seats.is_listening(session)
     }
 
-    /// What holds of every book: its history is legal, and what was put into each session's outbox, with what is still in
-    /// the plan, is what the history owes it.
+    /// What holds of every book: its history is legal, and what was put into each session's outbox, with what is
+    /// still in the plan, is what the history owes it.
     pub fn sound(&self)
         ensures { IsSound O.sent self.now }
     {
@@ -708,7 +752,8 @@ impl Book<Ring> {
 
     /// Takes the item that waits longest for a session. It takes no memory.
     pub fn take(&mut self, session: SessionId) -> Result<Item, TakeRefusal>
-        ensures ok { IfOk result (λ x. slice_get (outbox_at self.old.outboxes session).queue 0 ≡ Some x) }
+        ensures ok { IfOk result
+            (λ x. slice_get (outbox_at self.old.outboxes session).queue 0 ≡ Some x) }
         ensures taken { OnOk result (self.new ≡ taken self.old session) }
         ensures known { OnOk result (IsKnown self.old session) }
         ensures refusal { IfErr result (λ e. IsTakeRefusal self.old session e) }

@@ -63,7 +63,8 @@ impl<O: Outbox> Counting<O> {
     /// Ends the outbox, and answers how many items are left in it.
     pub(crate) fn close(self, taker: O::Taker) -> u64
         requires { O.name self ≡ O.taker_of taker }
-        ensures { (left : List Item) × (O.sent self ≡ O.taken self taker ++ left) × (result ≡ length left) }
+        ensures { (left : List Item) × (O.sent self ≡ O.taken self taker ++ left)
+            × (result ≡ length left) }
     {
         self.outbox.close(taker)
     }

@@ -19,7 +19,8 @@ pub(crate) struct Heard {
 /// A line as a session takes it.
 fn hear_one(roster: &Roster, session: SessionId, line: &mut Spellings) -> Result<Heard, AllocError>
     ensures same { line.new ≡ line.old }
-    ensures heard { IfOk result (λ x. x ≡ heard_by roster.now.facts line.old.moment line.old.line session) }
+    ensures heard { IfOk result
+        (λ x. x ≡ heard_by roster.now.facts line.old.moment line.old.line session) }
 {
     let caps = roster.caps_of(session);
     let text = line.text_for(caps)?;
@@ -33,7 +34,8 @@ fn hear_each(
     hearers: &[SessionId],
     line: &mut Spellings,
 ) -> Result<(), AllocError>
-    ensures { OnOk result (heard.new.items ≡ heard.old.items ++ map (heard_by roster.now.facts line.old.moment line.old.line) hearers.now) }
+    ensures { OnOk result (heard.new.items ≡ heard.old.items
+        ++ map (heard_by roster.now.facts line.old.moment line.old.line) hearers.now) }
 {
     heard.reserve(hearers.len())?;
     for hearer in hearers {
@@ -50,7 +52,8 @@ fn hear_line(
     shown: Shown,
     moment: RecordMoment,
 ) -> Result<(), AllocError>
-    ensures { OnOk result (heard.new.items ≡ heard.old.items ++ map (heard_by roster.now.facts moment shown.line) shown.hearers) }
+    ensures { OnOk result (heard.new.items
+        ≡ heard.old.items ++ map (heard_by roster.now.facts moment shown.line) shown.hearers) }
 {
     let Shown { hearers, line } = shown;
     let mut line = Spellings::new(alloc, line, moment)?;
@@ -93,7 +96,8 @@ pub(crate) fn heard_in_order(
     shown: Vec<Shown>,
     moment: RecordMoment,
 ) -> Result<Vec<Heard>, AllocError>
-    ensures texts { IfOk result (λ v. (t : ℕ) → text_for v.items t ≡ heard_text roster.now.facts moment shown.items t) }
+    ensures texts { IfOk result
+        (λ v. (t : ℕ) → text_for v.items t ≡ heard_text roster.now.facts moment shown.items t) }
     ensures order { IfOk result (λ v. rises 0 v.items) }
 {
     let mut heard = hear_all(alloc, roster, shown, moment)?;

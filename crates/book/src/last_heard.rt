@@ -1,8 +1,10 @@
 //! When sessions were last heard of.
-ghost use Rattle.std.specs.Prelude.{◌≡◌, ◌≢◌, ℕ, ℤ, ◌<◌, pos, ◌+ℤ◌, int_le, ◌∷◌, [], length, slice_index_or, nat_eq, true, false, is_some, Some, None, IfOk, OnOk, OnErr};
+ghost use Rattle.std.specs.Prelude.{◌≡◌, ◌≢◌, ℕ, ℤ, ◌<◌, pos, ◌+ℤ◌, int_le, ◌∷◌, [], length, slice_index_or};
+ghost use Rattle.std.specs.Prelude.{nat_eq, true, false, is_some, Some, None, IfOk, OnOk, OnErr};
 ghost use Rattle.std.specs.List.{IsDistinct};
 ghost use Rattle.std.specs.Map.{keys_of, remove_entry};
-ghost use Rattle.book.specs.LastHeard.{since_at, Falls, is_before, is_due, is_overdue, picked, with_ping, with_pings, lower, lowest};
+ghost use Rattle.book.specs.LastHeard.{since_at, Falls, is_before, is_due, is_overdue, picked};
+ghost use Rattle.book.specs.LastHeard.{with_ping, with_pings, lower, lowest};
 
 use crate::seats::Seats;
 use chronicle::{Moment, SessionId};
@@ -82,7 +84,8 @@ impl LastHeard {
     /// Notes that a session was opened, which none was before of that number. A refusal changes nothing.
     pub(crate) fn open(&mut self, session: SessionId, moment: Moment) -> Result<(), AllocError>
         requires { since_at self.old session ≡ None }
-        ensures ok { OnOk result (self.new ≡ (session, record { moment = moment; pinged = false }) ∷ self.old) }
+        ensures ok { OnOk result
+            (self.new ≡ (session, record { moment = moment; pinged = false }) ∷ self.old) }
         ensures err { OnErr result (self.new ≡ self.old) }
     {
         prove!(self.sessions.len() < usize::MAX);
@@ -99,7 +102,8 @@ impl LastHeard {
     /// Notes that a session was heard of that isn't reaped. It takes no memory.
     pub(crate) fn hear(&mut self, session: SessionId, moment: Moment)
         requires { is_some (since_at self.old session) ≡ true }
-        ensures { self.new ≡ (session, record { moment = moment; pinged = false }) ∷ remove_entry (nat_eq session) self.old }
+        ensures { self.new ≡ (session, record { moment = moment; pinged = false })
+            ∷ remove_entry (nat_eq session) self.old }
     {
         let since = Since {
             moment,
@@ -123,7 +127,8 @@ impl LastHeard {
 
     /// Notes that sessions were pinged that aren't reaped.
     pub(crate) fn ping_each(&mut self, sessions: &[SessionId])
-        requires { (i : ℕ) → i < length sessions.now → is_some (since_at self.old (slice_index_or sessions.now i 0)) ≡ true }
+        requires { (i : ℕ) → i < length sessions.now
+            → is_some (since_at self.old (slice_index_or sessions.now i 0)) ≡ true }
         ensures { self.new ≡ with_pings self.old sessions.now }
     {
         for session in sessions {

@@ -8,10 +8,13 @@ ghost use Rattle.book.specs.Told.{told_of};
 
 /// A delivery is put where its ring has room, and missed where it has none.
 pub fn rings_take_what_fits()
-    ensures { (m k : Shown Waiting) → (step : Option Step) → IsPutNext accepts refuses m m.plan step k → (step ≡ told_of m m.plan) × (k ≡ put_next m m.plan) }
+    ensures { (m k : Shown Waiting) → (step : Option Step)
+        → IsPutNext accepts refuses m m.plan step k → (step ≡ told_of m m.plan)
+        × (k ≡ put_next m m.plan) }
 {}
 
 /// What a record does to a book of rings is known beforehand.
 pub fn rings_take_each_record()
-    ensures { (m k : Shown Waiting) → (kind : Kind) → (moment : ℤ) → IsDone accepts refuses m kind moment k → k ≡ done m kind moment }
+    ensures { (m k : Shown Waiting) → (kind : Kind) → (moment : ℤ)
+        → IsDone accepts refuses m kind moment k → k ≡ done m kind moment }
 {}

@@ -16,17 +16,20 @@ use std::alloc::AllocError;
 impl<O: Outbox> Book<O> {
     ghost use Rattle.book.specs.Book.{begun, MayBegin, IsLineRefusal, IsOut};
 
-    /// Begins the next line of a session, which was read before: its record is appended, and a plan of its deliveries is handed out.
-    /// Whether its label counts is decided here, by the capabilities that the session has before the line. A refusal changes nothing.
+    /// Begins the next line of a session, which was read before: its record is appended, and a plan of its
+    /// deliveries is handed out. Whether its label counts is decided here, by the capabilities that the session has
+    /// before the line. A refusal changes nothing.
     pub fn begin_read(
         &mut self,
         baton: &Baton,
         line: ReadLine,
         moment: Moment,
     ) -> Result<Plan, LineRefusal>
-        ensures ok { OnOk result (self.new ≡ begun self.old (kind.Said baton.now.session baton.now.next line) moment) }
+        ensures ok { OnOk result
+            (self.new ≡ begun self.old (kind.Said baton.now.session baton.now.next line) moment) }
         ensures out { IfOk result (λ p. IsOut self.new p) }
-        ensures line { IfOk result (λ p. (p.session ≡ baton.now.session) × (p.next ≡ Some (baton.now.next + 1))) }
+        ensures line { IfOk result
+            (λ p. (p.session ≡ baton.now.session) × (p.next ≡ Some (baton.now.next + 1))) }
         ensures may { OnOk result (MayBegin self.old baton.now moment) }
         ensures refusal { IfErr result (λ e. IsLineRefusal self.old baton.now moment e) }
         ensures err { OnErr result (self.new ≡ self.old) }
@@ -44,9 +47,11 @@ impl<O: Outbox> Book<O> {
     ) -> Result<Plan, AllocError>
         requires may { MayBegin self.old baton.now moment }
         requires fits { most self.old.limit < 2 ^ 64 }
-        ensures ok { OnOk result (self.new ≡ begun self.old (kind.Said baton.now.session baton.now.next line) moment) }
+        ensures ok { OnOk result
+            (self.new ≡ begun self.old (kind.Said baton.now.session baton.now.next line) moment) }
         ensures out { IfOk result (λ p. IsOut self.new p) }
-        ensures line { IfOk result (λ p. (p.session ≡ baton.now.session) × (p.next ≡ Some (baton.now.next + 1))) }
+        ensures line { IfOk result
+            (λ p. (p.session ≡ baton.now.session) × (p.next ≡ Some (baton.now.next + 1))) }
         ensures err { OnErr result (self.new ≡ self.old) }
     {
         let number = RecordNumber::new(self.journal.newest() as u64 + 1);

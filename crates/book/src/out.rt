@@ -53,8 +53,8 @@ pub struct Left {
     pub count: u64,
 }
 
-/// The deliveries of a record that are still to be put. One plan is out at a time; it is made where a record is appended, and
-/// given back when nothing is left in it. A plan that is dropped leaves its book busy for good.
+/// The deliveries of a record that are still to be put. One plan is out at a time; it is made where a record is
+/// appended, and given back when nothing is left in it. A plan that is dropped leaves its book busy for good.
 #[derive(Drop)]
 pub struct Plan {
     pub(crate) number: RecordNumber,
@@ -70,7 +70,13 @@ impl Model for Plan {
 
     ghost Value = { Out };
 
-    ghost view = { λ a. record { number = a.number; session = a.session; next = a.next; missed = a.missed.items; room = a.missed.capacity - small_vec_len a.missed } };
+    ghost view = { λ a. record {
+      number = a.number;
+      session = a.session;
+      next = a.next;
+      missed = a.missed.items;
+      room = a.missed.capacity - small_vec_len a.missed;
+    } };
 }
 
 impl Plan {
@@ -91,7 +97,8 @@ impl Plan {
     /// Notes a session that missed the record, in room that was made before.
     pub(crate) fn note(&mut self, session: SessionId)
         requires { 0 < self.old.room }
-        ensures same { (self.new.number ≡ self.old.number) × (self.new.session ≡ self.old.session) × (self.new.next ≡ self.old.next) }
+        ensures same { (self.new.number ≡ self.old.number) × (self.new.session ≡ self.old.session)
+            × (self.new.next ≡ self.old.next) }
         ensures missed { self.new.missed ≡ self.old.missed ++ session ∷ [] }
         ensures room { self.new.room + 1 ≡ self.old.room }
     {

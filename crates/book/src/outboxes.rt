@@ -1,5 +1,6 @@
 //! The outboxes of all sessions, and how many there are.
-ghost use Rattle.std.specs.Prelude.{◌≡◌, ℕ, ◌<◌, ◌+◌, ◌-◌, ◌^◌, ◌++◌, ◌∷◌, [], true, false, length, slice_get, slice_set, Some, None, is_some, IfSome, IfOk, OnOk};
+ghost use Rattle.std.specs.Prelude.{◌≡◌, ℕ, ◌<◌, ◌+◌, ◌-◌, ◌^◌, ◌++◌, ◌∷◌, [], true, false, length};
+ghost use Rattle.std.specs.Prelude.{slice_get, slice_set, Some, None, is_some, IfSome, IfOk, OnOk};
 ghost use Rattle.outbox.specs.Ring.{with_taken};
 ghost use Rattle.book.specs.Book.{box_at, outbox_at, count_here, IsLeft};
 ghost use Rattle.book.specs.Seats.{stands, seat_at, IsSeated, IsThere, MayFollow, IsTaken, IsNotTaken};
@@ -34,7 +35,10 @@ impl<O: Outbox> Model for Outboxes<O> {
 
     ghost Value = { Boxes O };
 
-    ghost view = { λ a. record { boxes = boxes_of a.outboxes.entries a.opened; room = min (spare a.outboxes) a.places } };
+    ghost view = { λ a. record {
+      boxes = boxes_of a.outboxes.entries a.opened;
+      room = min (spare a.outboxes) a.places;
+    } };
 
     ghost invariant = { λ a. AreBoxes a.outboxes.entries a.opened };
 }
@@ -92,7 +96,8 @@ impl<O: Outbox> Outboxes<O> {
     pub(crate) fn offer(&mut self, item: Item) -> bool
         requires there { IsThere self.old.boxes item.session }
         requires next { MayFollow O.sent (box_at self.old.boxes item.session) item }
-        requires few { IfSome (box_at self.old.boxes item.session) (λ o. length (O.sent o) + 1 < 2 ^ 64) }
+        requires few { IfSome (box_at self.old.boxes item.session)
+            (λ o. length (O.sent o) + 1 < 2 ^ 64) }
         ensures put { result ≡ true → IsTaken O.sent O.accepts self.old.boxes item self.new.boxes }
         ensures fault { result ≡ false → IsNotTaken O.refuses self.old.boxes item }
         ensures same { result ≡ false → self.new.boxes ≡ self.old.boxes }
@@ -113,9 +118,12 @@ impl<O: Outbox> Outboxes<O> {
         seats: &Seats,
         last_heard: &LastHeard,
     ) -> Result<IndexMap<u64, Counts>, AllocError>
-        requires seated { (t : ℕ) → IsThere self.now.boxes t → IsSeated seats.now t × (stands (seat_at seats.now t) ≡ true) }
-        requires heard { (t : ℕ) → IsThere self.now.boxes t → is_some (since_at last_heard.now t) ≡ true }
-        ensures { IfOk result (λ m. AreCountsOf O.sent seats.now self.now.boxes last_heard.now m.entries) }
+        requires seated { (t : ℕ) → IsThere self.now.boxes t → IsSeated seats.now t
+            × (stands (seat_at seats.now t) ≡ true) }
+        requires heard { (t : ℕ) → IsThere self.now.boxes t
+            → is_some (since_at last_heard.now t) ≡ true }
+        ensures { IfOk result
+            (λ m. AreCountsOf O.sent seats.now self.now.boxes last_heard.now m.entries) }
     {
         let mut counts = IndexMap::new(alloc);
         counts.reserve(self.outboxes.len())?;
@@ -160,7 +168,8 @@ impl Outboxes<Ring> {
         requires there { IsThere self.old.boxes session }
         ensures value { result ≡ slice_get (outbox_at self.old.boxes session).queue 0 }
         ensures none { result ≡ None → self.new.boxes ≡ self.old.boxes }
-        ensures taken { self.new.boxes ≡ slice_set self.old.boxes (session - 1) (Some (with_taken (outbox_at self.old.boxes session))) }
+        ensures taken { self.new.boxes ≡ slice_set self.old.boxes (session - 1)
+            (Some (with_taken (outbox_at self.old.boxes session))) }
     {
         let Some(place) = place_in(&self.outboxes, &self.places, session) else {
             unreachable!();

@@ -1,5 +1,6 @@
 //! Where the entry of each session is in a map, so that a look-up needs no hash.
-ghost use Rattle.std.specs.Prelude.{◌≡◌, ◌+◌, ◌<◌, ℕ, cond, nat_eq, length, slice_get, is_some, if◌then◌else◌, None, Some, IfSome, OnOk, option_copied};
+ghost use Rattle.std.specs.Prelude.{◌≡◌, ◌+◌, ◌<◌, ℕ, cond, nat_eq, length, slice_get, is_some};
+ghost use Rattle.std.specs.Prelude.{if◌then◌else◌, None, Some, IfSome, OnOk, option_copied};
 ghost use Rattle.std.specs.Map.{lookup};
 ghost use Rattle.book.specs.Seats.{IsPlace};
 
@@ -8,8 +9,9 @@ use indexmap::IndexMap;
 use std::alloc::{AllocError, Global};
 use std::marker::Model;
 
-/// Where the entry of each session that was opened was put last, by their numbers. Each takes two octets, which is enough for all
-/// that may be there at a time. Clauses see no place, since it may be another's by now, but for how many more there is room.
+/// Where the entry of each session that was opened was put last, by their numbers. Each takes two octets, which is
+/// enough for all that may be there at a time. Clauses see no place, since it may be another's by now, but for how
+/// many more there is room.
 #[derive(Drop)]
 pub(crate) struct Places {
     places: Vec<u16>,
@@ -46,7 +48,8 @@ impl Places {
         self.put(session, place);
     }
 
-    /// The entry of a session was put at a place, which is kept if the session was opened and the place is below 2 ^ 16.
+    /// The entry of a session was put at a place, which is kept if the session was opened and the place is below 2 ^
+    /// 16.
     fn put(&mut self, session: SessionId, place: usize) {
         let number = session.number();
         if number == 0 || place > u16::MAX as usize {
@@ -128,8 +131,10 @@ pub(crate) fn take_out<V>(
     session: SessionId,
 ) -> Option<V>
     ensures value { result ≡ lookup (nat_eq session) map.old.entries }
-    ensures others { (q : ℕ) → lookup (nat_eq q) map.new.entries ≡ cond (nat_eq session q) None (lookup (nat_eq q) map.old.entries) }
-    ensures count { length map.new.entries + (if is_some result then 1 else 0) ≡ length map.old.entries }
+    ensures others { (q : ℕ) → lookup (nat_eq q) map.new.entries
+        ≡ cond (nat_eq session q) None (lookup (nat_eq q) map.old.entries) }
+    ensures count { length map.new.entries + (if is_some result then 1 else 0)
+        ≡ length map.old.entries }
 {
     let (place, _, value) = map.swap_remove_full(&session.number())?;
     if let Some((number, _)) = map.get_index(place) {

@@ -1,5 +1,6 @@
 //! The deliveries of a record, before they are put.
-ghost use Rattle.std.specs.Prelude.{◌≡◌, ◌≤◌, ◌≤ℤ◌, ◌++◌, [], false, not, length, pos, None, OnOk, IfOk, option_to_list};
+ghost use Rattle.std.specs.Prelude.{◌≡◌, ◌≤◌, ◌≤ℤ◌, ◌++◌, [], false, not, length, pos};
+ghost use Rattle.std.specs.Prelude.{None, OnOk, IfOk, option_to_list};
 ghost use Rattle.chronicle.specs.History.{is_quit};
 ghost use Rattle.roster.specs.LookBack.{after, caps, opened};
 ghost use Rattle.roster.specs.Legal.{IsOpened, AreNext};
@@ -79,7 +80,9 @@ fn own_text(
     reply: Vec<Line>,
     copies: &[Line],
 ) -> Result<Octets, AllocError>
-    ensures { IfOk result (λ t. t ≡ rendered (caps by.now.roster.now.facts by.now.actor) by.now.moment (answered by.now.roster.now.settings.server label by.now.number reply.items copies.now)) }
+    ensures { IfOk result
+        (λ t. t ≡ rendered (caps by.now.roster.now.facts by.now.actor) by.now.moment (answered
+        by.now.roster.now.settings.server label by.now.number reply.items copies.now)) }
 {
     let server = by.roster.settings().server.as_slice();
     let caps = by.roster.caps_of(by.actor);
@@ -98,7 +101,8 @@ fn plan_one(
     number: RecordNumber,
     heard: Heard,
 ) -> Result<(), AllocError>
-    ensures { OnOk result (plan.new.items ≡ plan.old.items ++ delivery_of seats.now actor number heard) }
+    ensures { OnOk result
+        (plan.new.items ≡ plan.old.items ++ delivery_of seats.now actor number heard) }
 {
     let Heard { session, text } = heard;
     if session == actor || !seats.is_listening(session) || text.is_empty() {
@@ -113,7 +117,8 @@ fn plan_one(
 
 /// What a session hears, and what it hears next.
 fn joined_with(alloc: Global, heard: Heard, next: &Heard) -> Result<Heard, AllocError>
-    ensures { IfOk result (λ x. x ≡ record { session = heard.session; text = heard.text ++ next.now.text }) }
+    ensures { IfOk result
+        (λ x. x ≡ record { session = heard.session; text = heard.text ++ next.now.text }) }
 {
     let Heard { session, text } = heard;
     let text = text.followed(alloc, &next.text)?;
@@ -128,7 +133,8 @@ fn plan_others(
     actor: SessionId,
     number: RecordNumber,
 ) -> Result<VecDeque<Planned>, AllocError>
-    ensures { IfOk result (λ plan. plan.items ≡ deliveries_of seats.now actor number (joined heard.items)) }
+    ensures { IfOk result
+        (λ plan. plan.items ≡ deliveries_of seats.now actor number (joined heard.items)) }
 {
     let mut plan = VecDeque::with_capacity(alloc, heard.len())?;
     let mut rest = heard.into_iter();
@@ -149,7 +155,8 @@ fn plan_others(
 
 /// Plans what the actor is told: where it quits by the record, its last item.
 fn plan_own(by: &Planning<'_>, text: Octets, quits: bool) -> Result<Option<Planned>, AllocError>
-    ensures { IfOk result (λ own. option_to_list own ≡ puts by.now.actor (told_own (not (hears by.now.seats.now by.now.actor)) by.now.number text quits)) }
+    ensures { IfOk result (λ own. option_to_list own ≡ puts by.now.actor
+        (told_own (not (hears by.now.seats.now by.now.actor)) by.now.number text quits)) }
 {
     let (session, number) = (by.actor, by.number);
     if !by.seats.is_listening(session) || (!quits && text.is_empty()) {
@@ -176,7 +183,8 @@ fn plan_for(
     shown: Vec<Shown>,
     quits: bool,
 ) -> Result<ToPut, AllocError>
-    ensures { IfOk result (λ plan. plan ≡ planned_with by.now.seats.now by.now.actor by.now.number own (heard_text by.now.roster.now.facts by.now.moment shown.items) quits) }
+    ensures { IfOk result (λ plan. plan ≡ planned_with by.now.seats.now by.now.actor by.now.number
+        own (heard_text by.now.roster.now.facts by.now.moment shown.items) quits) }
 {
     let heard = heard_in_order(by.alloc, by.roster, shown, by.moment)?;
     let others = plan_others(by.alloc, by.seats, heard, by.actor, by.number)?;
@@ -192,8 +200,13 @@ fn with_room(
     quits: bool,
 ) -> Result<Prepared, AllocError>
     ensures deeds { IfOk result (λ p. p.deeds.items ≡ verdict.deeds.items) }
-    ensures plan { IfOk result (λ p. p.plan ≡ planned_with by.now.seats.now by.now.actor by.now.number (rendered (caps by.now.roster.now.facts by.now.actor) by.now.moment (answered by.now.roster.now.settings.server label by.now.number verdict.reply.items verdict.copies.items)) (heard_text by.now.roster.now.facts by.now.moment verdict.others.items) quits) }
-    ensures missed { IfOk result (λ p. (p.missed.items ≡ []) × (length p.plan ≤ p.missed.capacity)) }
+    ensures plan { IfOk result (λ p. p.plan ≡ planned_with by.now.seats.now by.now.actor
+        by.now.number (rendered (caps by.now.roster.now.facts by.now.actor) by.now.moment
+        (answered by.now.roster.now.settings.server label
+        by.now.number verdict.reply.items verdict.copies.items))
+        (heard_text by.now.roster.now.facts by.now.moment verdict.others.items) quits) }
+    ensures missed { IfOk result
+        (λ p. (p.missed.items ≡ []) × (length p.plan ≤ p.missed.capacity)) }
 {
     let Verdict {
         deeds,
@@ -214,9 +227,11 @@ fn with_room(
 /// Decides what a session does that asks for this, and whether it quits by it.
 fn decide_asked(by: &Planning<'_>, asked: Asked) -> Result<(Verdict, bool), AllocError>
     requires known { IsOpened by.now.roster.now.facts by.now.actor }
-    ensures verdict { IfOk result (λ v. IsVerdict v.0 by.now.actor (of_asked by.now.roster.now.settings by.now.roster.now.facts by.now.actor asked)) }
+    ensures verdict { IfOk result (λ v. IsVerdict v.0 by.now.actor
+        (of_asked by.now.roster.now.settings by.now.roster.now.facts by.now.actor asked)) }
     ensures next { IfOk result (λ v. AreNext by.now.roster.now.facts v.0.deeds.items) }
-    ensures opened { IfOk result (λ v. opened (after by.now.roster.now.facts v.0.deeds.items) ≡ opened by.now.roster.now.facts) }
+    ensures opened { IfOk result (λ v. opened (after by.now.roster.now.facts v.0.deeds.items)
+        ≡ opened by.now.roster.now.facts) }
     ensures quits { IfOk result (λ v. v.1 ≡ asks_for_quit asked) }
 {
     let verdict = decide(by.alloc, by.roster, by.actor, &asked, by.moment.moment())?;
@@ -240,13 +255,20 @@ pub(crate) fn prepare_line(
     line: ReadLine,
 ) -> Result<(Prepared, Piece, bool), AllocError>
     requires known { IsOpened by.now.roster.now.facts by.now.actor }
-    ensures deeds { IfOk result (λ p. p.0.deeds.items ≡ deeds_of (of_asked by.now.roster.now.settings by.now.roster.now.facts by.now.actor (asked_of line))) }
+    ensures deeds { IfOk result (λ p. p.0.deeds.items ≡ deeds_of (of_asked
+        by.now.roster.now.settings by.now.roster.now.facts by.now.actor (asked_of line))) }
     ensures next { IfOk result (λ p. AreNext by.now.roster.now.facts p.0.deeds.items) }
-    ensures opened { IfOk result (λ p. opened (after by.now.roster.now.facts p.0.deeds.items) ≡ opened by.now.roster.now.facts) }
+    ensures opened { IfOk result (λ p. opened (after by.now.roster.now.facts p.0.deeds.items)
+        ≡ opened by.now.roster.now.facts) }
     ensures piece { IfOk result (λ p. p.1 ≡ line) }
     ensures quits { IfOk result (λ p. p.2 ≡ is_quit line) }
-    ensures plan { IfOk result (λ p. p.0.plan ≡ planned_from by.now.seats.now by.now.actor by.now.number (spelled by.now.roster.now.settings by.now.roster.now.facts by.now.actor (label_of (caps by.now.roster.now.facts by.now.actor) line) (of_asked by.now.roster.now.settings by.now.roster.now.facts by.now.actor (asked_of line)) by.now.moment by.now.number) p.2) }
-    ensures missed { IfOk result (λ p. (p.0.missed.items ≡ []) × (length p.0.plan ≤ p.0.missed.capacity)) }
+    ensures plan { IfOk result (λ p. p.0.plan ≡ planned_from by.now.seats.now by.now.actor
+        by.now.number (spelled by.now.roster.now.settings by.now.roster.now.facts by.now.actor
+        (label_of (caps by.now.roster.now.facts by.now.actor) line)
+        (of_asked by.now.roster.now.settings by.now.roster.now.facts by.now.actor
+        (asked_of line)) by.now.moment by.now.number) p.2) }
+    ensures missed { IfOk result
+        (λ p. (p.0.missed.items ≡ []) × (length p.0.plan ≤ p.0.missed.capacity)) }
 {
     let ReadLine {
         piece,
@@ -261,11 +283,16 @@ pub(crate) fn prepare_line(
 /// Decides what it does that a session is gone, and plans who is told.
 pub(crate) fn prepare_gone(by: &Planning<'_>) -> Result<Prepared, AllocError>
     requires known { IsOpened by.now.roster.now.facts by.now.actor }
-    ensures deeds { IfOk result (λ p. p.deeds.items ≡ deeds_of (departs by.now.roster.now.facts by.now.actor)) }
+    ensures deeds { IfOk result
+        (λ p. p.deeds.items ≡ deeds_of (departs by.now.roster.now.facts by.now.actor)) }
     ensures next { IfOk result (λ p. AreNext by.now.roster.now.facts p.deeds.items) }
-    ensures opened { IfOk result (λ p. opened (after by.now.roster.now.facts p.deeds.items) ≡ opened by.now.roster.now.facts) }
-    ensures plan { IfOk result (λ p. p.plan ≡ planned_from by.now.seats.now by.now.actor by.now.number (spelled by.now.roster.now.settings by.now.roster.now.facts by.now.actor None (departs by.now.roster.now.facts by.now.actor) by.now.moment by.now.number) false) }
-    ensures missed { IfOk result (λ p. (p.missed.items ≡ []) × (length p.plan ≤ p.missed.capacity)) }
+    ensures opened { IfOk result (λ p. opened (after by.now.roster.now.facts p.deeds.items)
+        ≡ opened by.now.roster.now.facts) }
+    ensures plan { IfOk result (λ p. p.plan ≡ planned_from by.now.seats.now by.now.actor
+        by.now.number (spelled by.now.roster.now.settings by.now.roster.now.facts by.now.actor None
+        (departs by.now.roster.now.facts by.now.actor) by.now.moment by.now.number) false) }
+    ensures missed { IfOk result
+        (λ p. (p.missed.items ≡ []) × (length p.plan ≤ p.missed.capacity)) }
 {
     let verdict = decide_gone(by.alloc, by.roster, by.actor)?;
     with_room(by, None, verdict, false)
@@ -276,7 +303,9 @@ pub(crate) fn prepare_tick(
     by: &Planning<'_>,
     sessions: &[SessionId],
 ) -> Result<(ToPut, SmallVec<SessionId, 2>), AllocError>
-    ensures plan { IfOk result (λ p. p.0 ≡ planned_with by.now.seats.now by.now.actor by.now.number [] (pinged_text by.now.roster.now.settings by.now.roster.now.facts by.now.moment sessions.now) false) }
+    ensures plan { IfOk result (λ p. p.0 ≡ planned_with by.now.seats.now by.now.actor
+        by.now.number [] (pinged_text by.now.roster.now.settings by.now.roster.now.facts
+        by.now.moment sessions.now) false) }
     ensures missed { IfOk result (λ p. (p.1.items ≡ []) × (length p.0 ≤ p.1.capacity)) }
 {
     let line = ping(by.alloc, by.roster.settings().server.as_slice())?;

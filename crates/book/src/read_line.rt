@@ -7,8 +7,8 @@ use line_grammar::{Octets, Piece};
 use std::alloc::{AllocError, Global};
 use std::marker::Model;
 
-/// An accepted piece with what it asks for and its label, so that nothing is left to be read when its line is begun. Whether the label
-/// counts is decided then. A clause sees the piece.
+/// An accepted piece with what it asks for and its label, so that nothing is left to be read when its line is begun.
+/// Whether the label counts is decided then. A clause sees the piece.
 #[derive(Drop)]
 pub struct ReadLine {
     pub(crate) piece: Piece,

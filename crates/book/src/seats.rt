@@ -1,5 +1,6 @@
 //! The seats of all sessions, and what is counted over them.
-ghost use Rattle.std.specs.Prelude.{◌≡◌, ◌≢◌, ℕ, ◌<◌, ◌≤◌, ◌+◌, ◌-◌, ◌^◌, ◌++◌, ◌∷◌, [], ◌&&◌, true, false, not, sum_by, length, slice_index_or, slice_set, Some, None, IfSome, OnOk, OnErr};
+ghost use Rattle.std.specs.Prelude.{◌≡◌, ◌≢◌, ℕ, ◌<◌, ◌≤◌, ◌+◌, ◌-◌, ◌^◌, ◌++◌, ◌∷◌, [], ◌&&◌, true, false, not};
+ghost use Rattle.std.specs.Prelude.{sum_by, length, slice_index_or, slice_set, Some, None, IfSome, OnOk, OnErr};
 ghost use Rattle.std.specs.VecDeque.{deque_capacity};
 ghost use Rattle.roster.specs.LookBack.{numbers};
 ghost use Rattle.book.specs.Book.{first};
@@ -13,8 +14,8 @@ use std::alloc::{AllocError, Global};
 use std::collections::VecDeque;
 use std::marker::Model;
 
-/// What a book keeps for its sessions beside their outboxes, until they are reaped. How many records are kept free for them and
-/// who is to be swept stand ready.
+/// What a book keeps for its sessions beside their outboxes, until they are reaped. How many records are kept free
+/// for them and who is to be swept stand ready.
 #[derive(Drop)]
 pub(crate) struct Seats {
     /// By the numbers of their sessions.
@@ -36,13 +37,16 @@ impl Model for Seats {
 
     ghost view = { λ a. seats_of a.seats.entries a.opened };
 
-    ghost invariant = { λ a. AreSeats a.seats.entries a.opened a.held a.to_sweep.items (deque_capacity a.to_sweep) };
+    ghost invariant = { λ a. AreSeats a.seats.entries a.opened a.held a.to_sweep.items
+        (deque_capacity a.to_sweep) };
 }
 
 /// Puts a number at its place among numbers in their order, of which it isn't one yet. There has to be room for it.
 fn add_in_order(numbers: &mut VecDeque<u64>, number: u64)
-    requires order { (i j : ℕ) → i ≤ j → j < length numbers.old.items → slice_index_or numbers.old.items i 0 ≤ slice_index_or numbers.old.items j 0 }
-    requires absent { (i : ℕ) → i < length numbers.old.items → slice_index_or numbers.old.items i 0 ≢ number }
+    requires order { (i j : ℕ) → i ≤ j → j < length numbers.old.items
+        → slice_index_or numbers.old.items i 0 ≤ slice_index_or numbers.old.items j 0 }
+    requires absent { (i : ℕ) → i < length numbers.old.items
+        → slice_index_or numbers.old.items i 0 ≢ number }
     requires room { length numbers.old.items < deque_capacity numbers.old }
     ensures added { numbers.new.items ≡ placed number numbers.old.items }
     ensures room { deque_capacity numbers.old ≤ deque_capacity numbers.new }
@@ -101,7 +105,8 @@ impl Seats {
 
     /// The seat of a session that was opened and isn't reaped.
     pub(crate) fn seat(&self, session: SessionId) -> Option<Seat>
-        ensures some { IfSome result (λ seat. IsSeated self.now session × (seat ≡ seat_at self.now session)) }
+        ensures some { IfSome result
+            (λ seat. IsSeated self.now session × (seat ≡ seat_at self.now session)) }
         ensures stands { IfSome result (λ seat. stands seat ≡ true) }
         ensures none { result ≡ None → IsSeated self.now session → seat_at self.now session ≡ away }
     {
@@ -147,7 +152,8 @@ impl Seats {
         requires seated { IsSeated self.old session }
         requires stands { stands (seat_at self.old session) ≡ true }
         requires stays { (seat_at self.old session).shut ≡ true → shut ≡ true }
-        ensures { self.new ≡ slice_set self.old (session - 1) (record { shut = shut; gone = (seat_at self.old session).gone; accepted = accepted }) }
+        ensures { self.new ≡ slice_set self.old (session - 1)
+            (record { shut = shut; gone = (seat_at self.old session).gone; accepted = accepted }) }
     {
         let number = session.number();
         let Some(place) = place_in(&self.seats, &self.places, session) else {
@@ -171,7 +177,12 @@ impl Seats {
         requires seated { IsSeated self.old session }
         requires few { (seat_at self.old session).accepted + 1 < 2 ^ 64 }
         requires not_shut { (seat_at self.old session).shut ≡ false }
-        ensures { self.new ≡ slice_set self.old (session - 1) (record { shut = quits; gone = (seat_at self.old session).gone; accepted = (seat_at self.old session).accepted + 1 }) }
+        ensures { self.new ≡ slice_set self.old (session - 1) (record {
+          shut = quits;
+          gone =
+              (seat_at self.old session).gone;
+          accepted = (seat_at self.old session).accepted + 1;
+        }) }
     {
         let Some(was) = self.seat(session) else {
             unreachable!();
@@ -183,7 +194,12 @@ impl Seats {
     pub(crate) fn shut(&mut self, session: SessionId)
         requires from_1 { 0 < session }
         requires opened { session ≤ length self.old }
-        ensures { self.new ≡ slice_set self.old (session - 1) (record { shut = true; gone = (seat_at self.old session).gone; accepted = (seat_at self.old session).accepted }) }
+        ensures { self.new ≡ slice_set self.old (session - 1) (record {
+          shut = true;
+          gone =
+              (seat_at self.old session).gone;
+          accepted = (seat_at self.old session).accepted;
+        }) }
     {
         let Some(was) = self.seat(session) else {
             return;
@@ -194,7 +210,12 @@ impl Seats {
     /// Notes that the session that is next to be swept is gone.
     pub(crate) fn leave(&mut self, session: SessionId)
         requires next { first (sweeps self.old) (numbers 1 (length self.old)) ≡ Some session }
-        ensures { self.new ≡ slice_set self.old (session - 1) (record { shut = (seat_at self.old session).shut; gone = true; accepted = (seat_at self.old session).accepted }) }
+        ensures { self.new
+            ≡ slice_set self.old (session - 1) (record {
+              shut = (seat_at self.old session).shut;
+              gone = true;
+              accepted = (seat_at self.old session).accepted;
+            }) }
     {
         let Some(place) = place_in(&self.seats, &self.places, session) else {
             unreachable!();

@@ -1,5 +1,6 @@
 //! Ticks: sessions that are quiet are pinged, and those that are late are found.
-ghost use Rattle.std.specs.Prelude.{◌≡◌, ◌<◌, ◌≤◌, ◌+◌, [], Some, None, true, false, length, IfOk, IfErr, IfSome, OnOk, OnErr};
+ghost use Rattle.std.specs.Prelude.{◌≡◌, ◌<◌, ◌≤◌, ◌+◌, [], Some, None, true, false};
+ghost use Rattle.std.specs.Prelude.{length, IfOk, IfErr, IfSome, OnOk, OnErr};
 ghost use Rattle.chronicle.specs.declared.record.Kind.TheVariants as kind;
 
 use crate::book::{Book, reserve};
@@ -12,15 +13,20 @@ use roster::Sessions;
 use std::alloc::AllocError;
 
 impl<O: Outbox> Book<O> {
-    ghost use Rattle.book.specs.Book.{begun, finished, IsDone, IsOut, newest_missed, MayTick, IsTickRefusal, IsSomebodyQuiet, HasRoom, to_ping, late};
+    ghost use Rattle.book.specs.Book.{begun, finished, IsDone, IsOut, newest_missed, MayTick};
+    ghost use Rattle.book.specs.Book.{IsTickRefusal, IsSomebodyQuiet, HasRoom, to_ping, late};
 
-    /// Begins a tick: each session that isn't shut, was quiet for at least 120,000 milliseconds at the moment, and wasn't pinged
-    /// since it was heard of, is sent a PING. Its record is appended, and a plan is handed out. It answers `None` where there is no
-    /// such session. All memory is taken here; a refusal changes nothing.
+    /// Begins a tick: each session that isn't shut, was quiet for at least 120,000 milliseconds at the moment, and
+    /// wasn't pinged since it was heard of, is sent a PING. Its record is appended, and a plan is handed out. It
+    /// answers `None` where there is no such session. All memory is taken here; a refusal changes nothing.
     pub fn begin_tick(&mut self, moment: Moment) -> Result<Option<Plan>, TickRefusal>
-        ensures some { IfOk result (λ o. IfSome o (λ p. (self.new ≡ begun self.old kind.Ticked moment) × IsOut self.new p × (p.session ≡ 0) × (p.next ≡ None))) }
-        ensures quiet { IfOk result (λ o. IfSome o (λ p. IsSomebodyQuiet self.old moment × HasRoom self.old)) }
-        ensures none { IfOk result (λ o. o ≡ None → (to_ping self.old.history moment ≡ []) × (self.new ≡ self.old)) }
+        ensures some { IfOk result
+            (λ o. IfSome o (λ p. (self.new ≡ begun self.old kind.Ticked moment) × IsOut self.new p
+            × (p.session ≡ 0) × (p.next ≡ None))) }
+        ensures quiet { IfOk result
+            (λ o. IfSome o (λ p. IsSomebodyQuiet self.old moment × HasRoom self.old)) }
+        ensures none { IfOk result
+            (λ o. o ≡ None → (to_ping self.old.history moment ≡ []) × (self.new ≡ self.old)) }
         ensures may { OnOk result (MayTick self.old moment) }
         ensures refusal { IfErr result (λ e. IsTickRefusal self.old moment e) }
         ensures err { OnErr result (self.new ≡ self.old) }
@@ -102,12 +108,17 @@ impl<O: Outbox> Book<O> {
         }
     }
 
-    /// Pings all that are quiet for at least 120,000 milliseconds and weren't pinged since they were heard of: begins, puts or
-    /// misses all that it owes, and finishes. It answers `None` where there is nobody. A refusal changes nothing.
+    /// Pings all that are quiet for at least 120,000 milliseconds and weren't pinged since they were heard of:
+    /// begins, puts or misses all that it owes, and finishes. It answers `None` where there is nobody. A refusal
+    /// changes nothing.
     pub fn tick(&mut self, moment: Moment) -> Result<Option<Done>, TickRefusal>
-        ensures some { IfOk result (λ o. IfSome o (λ d. IsDone O.accepts O.refuses self.old kind.Ticked moment self.new × (d.number ≡ length self.old.history + 1) × (d.missed ≡ newest_missed self.new.history) × (d.shut ≡ false))) }
-        ensures quiet { IfOk result (λ o. IfSome o (λ d. IsSomebodyQuiet self.old moment × HasRoom self.old)) }
-        ensures none { IfOk result (λ o. o ≡ None → (to_ping self.old.history moment ≡ []) × (self.new ≡ self.old)) }
+        ensures some { IfOk result (λ o. IfSome o (λ d. IsDone O.accepts O.refuses
+            self.old kind.Ticked moment self.new × (d.number ≡ length self.old.history + 1)
+            × (d.missed ≡ newest_missed self.new.history) × (d.shut ≡ false))) }
+        ensures quiet { IfOk result
+            (λ o. IfSome o (λ d. IsSomebodyQuiet self.old moment × HasRoom self.old)) }
+        ensures none { IfOk result
+            (λ o. o ≡ None → (to_ping self.old.history moment ≡ []) × (self.new ≡ self.old)) }
         ensures may { OnOk result (MayTick self.old moment) }
         ensures refusal { IfErr result (λ e. IsTickRefusal self.old moment e) }
         ensures err { OnErr result (self.new ≡ self.old) }
@@ -119,8 +130,8 @@ impl<O: Outbox> Book<O> {
         Ok(Some(self.finish_tick(plan)))
     }
 
-    /// The session of the lowest number that isn't shut and was quiet for at least 240,000 milliseconds at a moment. It takes no
-    /// memory.
+    /// The session of the lowest number that isn't shut and was quiet for at least 240,000 milliseconds at a moment.
+    /// It takes no memory.
     pub fn late(&self, moment: Moment) -> Option<SessionId>
         ensures { result ≡ late self.now.history moment }
     {

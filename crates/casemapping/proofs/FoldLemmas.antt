@@ -22,7 +22,8 @@ folded_same_from_places a b long each =
 pub folded_same_lengths : (a b : List ℕ) → folded a ≡ folded b → length a ≡ length b
 folded_same_lengths a b same = sym (length-map a fold_of) ∙ ap length same ∙ length-map b fold_of
 
-pub folded_same_places : (a b : List ℕ) → folded a ≡ folded b → (k : ℕ) → k < length a → fold_of (get_or a k 0) ≡ fold_of (get_or b k 0)
+pub folded_same_places : (a b : List ℕ) → folded a ≡ folded b → (k : ℕ) → k < length a
+    → fold_of (get_or a k 0) ≡ fold_of (get_or b k 0)
 folded_same_places a b same k inside =
     let long : length a ≡ length b = folded_same_lengths a b same in
     sym (get_or-map fold_of a k 0 0 inside) ∙ ap (λ xs. get_or xs k 0) same ∙ get_or-map fold_of b k 0 0 (omega arith)

@@ -24,14 +24,17 @@ is_same-refl a = is_same-folded a a refl
 pub is_same-left : (a b c : List ℕ) → is_same a b ≡ true → is_same a c ≡ is_same b c
 is_same-left a b c e =
     let f = is_same-true a b e in
-    by_fact (is_same a c) (is_same b c) (folded b ≡ folded c) (λ h. sym f ∙ is_same-true a c h) (λ h. is_same-folded a c (f ∙ h)) (is_same-true b c) (is_same-folded b c)
+    by_fact (is_same a c) (is_same b c) (folded b ≡ folded c) (λ h. sym f ∙ is_same-true a c h)
+    (λ h. is_same-folded a c (f ∙ h)) (is_same-true b c) (is_same-folded b c)
 
 pub is_same-sym : (a b : List ℕ) → is_same a b ≡ is_same b a
-is_same-sym a b = by_fact (is_same a b) (is_same b a) (folded a ≡ folded b) (is_same-true a b) (is_same-folded a b) (λ h. sym (is_same-true b a h)) (λ h. is_same-folded b a (sym h))
+is_same-sym a b = by_fact (is_same a b) (is_same b a) (folded a ≡ folded b) (is_same-true a b) (is_same-folded a b)
+    (λ h. sym (is_same-true b a h)) (λ h. is_same-folded b a (sym h))
 
 pub is_same-right : (a b c : List ℕ) → is_same a b ≡ true → is_same c a ≡ is_same c b
 is_same-right a b c e = is_same-sym c a ∙ is_same-left a b c e ∙ is_same-sym b c
 
 -- the code's test
-pub is_same-test : (a b : List ℕ) (r : Bool) → (IsTrue r → folded a ≡ folded b) → (folded a ≡ folded b → IsTrue r) → r ≡ is_same a b
+pub is_same-test : (a b : List ℕ) (r : Bool) → (IsTrue r → folded a ≡ folded b) → (folded a ≡ folded b → IsTrue r)
+    → r ≡ is_same a b
 is_same-test a b r f g = by_fact r (is_same a b) (folded a ≡ folded b) f g (is_same-true a b) (is_same-folded a b)

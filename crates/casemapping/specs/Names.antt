@@ -1,4 +1,5 @@
--- The shapes of names (RFC 2812, sections 1.3 and 2.3.1; the 30 octets of a nickname and the colon in a channel name are this project's own choice).
+-- The shapes of names (RFC 2812, sections 1.3 and 2.3.1; the 30 octets of a nickname and the colon in a channel name
+-- are this project's own choice).
 use Rattle.std.specs.Prelude.{ℕ, ◌==◌, nat_le, Bool, false, not, ◌&&◌, ◌||◌, List, [], ◌∷◌, length}
 use Rattle.std.specs.List.{list_all}
 

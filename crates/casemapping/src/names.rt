@@ -1,7 +1,8 @@
 //! The shapes of names (RFC 2812, sections 1.3 and 2.3.1).
 ghost use Rattle.std.specs.Prelude.{◌≡◌};
 ghost use Rattle.std.specs.List.{list_all};
-ghost use Rattle.casemapping.specs.Names.{nick_start, nick_octet, channel_octet, host_octet, nick_shape, channel_shape, host_shape};
+ghost use Rattle.casemapping.specs.Names.{nick_start, nick_octet, channel_octet, host_octet};
+ghost use Rattle.casemapping.specs.Names.{nick_shape, channel_shape, host_shape};
 
 /// The most octets of a nickname: this project's own limit, above the nine of RFC 2812, section 1.2.1.
 pub const NICKLEN: usize = 30;

@@ -8,7 +8,8 @@ use Rattle.registration.specs.declared.settings.Settings.{Settings}
 use Rattle.registration.specs.declared.caps.Cap.TheVariants.{AwayNotify, ExtendedJoin}
 use Rattle.registration.specs.Caps.{none_on, turned}
 use Rattle.roster.specs.declared.deed.Deed.{Deed}
-use Rattle.roster.specs.declared.deed.Deed.TheVariants.{Opened, NickSet, UserSet, CapsSet, LoggedIn, AwaySet, Enrolled, ChannelMade, Changed}
+use Rattle.roster.specs.declared.deed.Deed.TheVariants.{Opened, NickSet, UserSet, CapsSet, LoggedIn}
+use Rattle.roster.specs.declared.deed.Deed.TheVariants.{AwaySet, Enrolled, ChannelMade, Changed}
 use Rattle.roster.specs.LookBack.{after}
 use Rattle.drafts.specs.declared.effect.Effect.TheVariants.{Show}
 use Rattle.drafts.specs.Effects.{deeds_of}
@@ -39,9 +40,12 @@ three = after [] (user 1 (codes "al") ++ user 2 (codes "bo") ++ user 3 (codes "c
 
 -- al joins three channels, of which one is for the invited alone: what it makes and where it comes
 joined_two_of_three :
-    (g : Settings) → deeds_of (joins (record g { server = codes "s" }) (Changed (codes "#b") (FlagSet InviteOnly true) ∷ ChannelMade 2 (codes "#c") ∷ ChannelMade 2 (codes "#b") ∷ three) 1 (target (codes "#a") ∷ target (codes "#B") ∷ target (codes "#C") ∷ []))
+    (g : Settings) → deeds_of (joins (record g { server = codes "s" })
+    (Changed (codes "#b") (FlagSet InviteOnly true) ∷ ChannelMade 2 (codes "#c") ∷ ChannelMade 2 (codes "#b")
+    ∷ three) 1 (target (codes "#a") ∷ target (codes "#B") ∷ target (codes "#C") ∷ []))
     ≡ ChannelMade 1 (codes "#a") ∷ Changed (codes "#c") (Joined 1) ∷ []
-unfolding entered introduced shown channel_of bar_of channel_shape member_name members_for cut room numeric row_line untagged is_same fold_of
+unfolding entered introduced shown channel_of bar_of channel_shape member_name members_for cut room numeric row_line
+    untagged is_same fold_of
 joined_two_of_three g = refl
 
 -- bo made a channel, cy joined it, and now al does
@@ -56,16 +60,21 @@ abbrev al_says : List ℕ → List (List ℕ) → Bool → Out
 al_says = line (codes "al!al@h")
 
 members_are_shown :
-    (introduced three 1 (codes "al!al@h") come ≡ Show (2 ∷ 3 ∷ 1 ∷ []) (al_says (codes "JOIN") (codes "#a" ∷ []) false) ∷ [])
-    × (introduced asked 1 (codes "al!al@h") come ≡ Show (3 ∷ 1 ∷ []) (al_says (codes "JOIN") (codes "#a" ∷ []) false) ∷ Show (2 ∷ []) (al_says (codes "JOIN") (codes "#a" ∷ codes "*" ∷ codes "al" ∷ []) true) ∷ [])
+    (introduced three 1 (codes "al!al@h") come
+    ≡ Show (2 ∷ 3 ∷ 1 ∷ []) (al_says (codes "JOIN") (codes "#a" ∷ []) false) ∷ [])
+    × (introduced asked 1 (codes "al!al@h") come ≡ Show (3 ∷ 1 ∷ []) (al_says (codes "JOIN") (codes "#a" ∷ [])
+    false) ∷ Show (2 ∷ []) (al_says (codes "JOIN") (codes "#a" ∷ codes "*" ∷ codes "al" ∷ []) true) ∷ [])
     × (introduced (AwaySet 1 (Some (codes "out")) ∷ LoggedIn 1 (codes "Al") ∷ asked) 1 (codes "al!al@h") come
-    ≡ Show (3 ∷ 1 ∷ []) (al_says (codes "JOIN") (codes "#a" ∷ []) false) ∷ Show (2 ∷ []) (al_says (codes "JOIN") (codes "#a" ∷ codes "Al" ∷ codes "al" ∷ []) true) ∷ Show (2 ∷ []) (al_says (codes "AWAY") (codes "out" ∷ []) true) ∷ [])
+    ≡ Show (3 ∷ 1 ∷ []) (al_says (codes "JOIN") (codes "#a" ∷ []) false)
+    ∷ Show (2 ∷ []) (al_says (codes "JOIN") (codes "#a" ∷ codes "Al" ∷ codes "al" ∷ []) true)
+    ∷ Show (2 ∷ []) (al_says (codes "AWAY") (codes "out" ∷ []) true) ∷ [])
 unfolding introduced shown
 members_are_shown = (refl, refl, refl)
 
 -- al kicks bo, itself and cy, who is put out although al is gone by then
 kicked_itself_among_others :
-    (g : Settings) → deeds_of (kicks g (Changed (codes "#a") (Joined 3) ∷ Changed (codes "#a") (Joined 2) ∷ ChannelMade 1 (codes "#a") ∷ three) 1 (codes "#A") (codes "bo" ∷ codes "al" ∷ codes "CY" ∷ []) [])
+    (g : Settings) → deeds_of (kicks g (Changed (codes "#a") (Joined 3) ∷ Changed (codes "#a") (Joined 2)
+    ∷ ChannelMade 1 (codes "#a") ∷ three) 1 (codes "#A") (codes "bo" ∷ codes "al" ∷ codes "CY" ∷ []) [])
     ≡ Changed (codes "#a") (Left 2) ∷ Changed (codes "#a") (Left 1) ∷ Changed (codes "#a") (Left 3) ∷ []
 unfolding channel_of user_of is_same fold_of
 kicked_itself_among_others g = refl

@@ -1,5 +1,7 @@
--- The commands about channels: how each is named and read, and what it does. RFC 2812, sections 3.2.1, 3.2.2, 3.2.4, 3.2.7 and 3.2.8.
-use Rattle.std.specs.Prelude.{◌≡◌, ℕ, List, [], ◌∷◌, codes, Result, Ok, Option, Some, true, is_some, None, if◌then◌else◌}
+-- The commands about channels: how each is named and read, and what it does. RFC 2812, sections 3.2.1, 3.2.2, 3.2.4,
+-- 3.2.7 and 3.2.8.
+use Rattle.std.specs.Prelude.{◌≡◌, ℕ, List, [], ◌∷◌, codes, Result, Ok, Option}
+use Rattle.std.specs.Prelude.{Some, true, is_some, None, if◌then◌else◌}
 use Rattle.channel_commands.specs.declared.channel.ChannelCommand.{ChannelCommand}
 use Rattle.channel_commands.specs.declared.channel.ChannelCommand.TheVariants.{Join, Part, Kick, Invite, Topic}
 use Rattle.command_params.specs.declared.fault.ReadFault.{ReadFault}
@@ -53,7 +55,8 @@ channel_text (Topic channel text) = codes "TOPIC"
 
 -- none is left out
 abbrev pub EachChannelIsNamed : Type 0
-EachChannelIsNamed = (k : ChannelCommand) (ps : List (List ℕ)) → is_some (channel_command_of (channel_text k) ps) ≡ true
+EachChannelIsNamed = (k : ChannelCommand) (ps : List (List ℕ))
+    → is_some (channel_command_of (channel_text k) ps) ≡ true
 
 -- and none is read by another's name
 abbrev pub NoChannelIsMisnamed : Type 0

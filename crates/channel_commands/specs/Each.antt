@@ -13,4 +13,5 @@ each row fs (x ∷ xs) = row fs x ++ each row (after fs (deeds_of (row fs x))) x
 -- the same, with a count that grows by each fact
 abbrev pub each_counted : {A : Type 0} → (List Deed → ℕ → A → List Effect) → List Deed → ℕ → List A → List Effect
 each_counted row fs n [] = []
-each_counted row fs n (x ∷ xs) = row fs n x ++ each_counted row (after fs (deeds_of (row fs n x))) (n + length (deeds_of (row fs n x))) xs
+each_counted row fs n (x ∷ xs) = row fs n x ++ each_counted row (after fs (deeds_of (row fs n x)))
+    (n + length (deeds_of (row fs n x))) xs

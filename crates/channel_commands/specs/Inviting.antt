@@ -2,7 +2,8 @@
 use Rattle.std.specs.Prelude.{ℕ, not, ◌&&◌, List, [], ◌∷◌, Option, Some, None, if◌then◌else◌}
 use Rattle.channel_state.specs.declared.change.Change.TheVariants.{Invited}
 use Rattle.channel_state.specs.State.{among}
-use Rattle.numerics.specs.declared.numeric.Numeric.TheVariants.{NoSuchNick, NoSuchChannel, NotOnChannel, UserOnChannel, ChanOPrivsNeeded, Inviting, Away}
+use Rattle.numerics.specs.declared.numeric.Numeric.TheVariants.{NoSuchNick, NoSuchChannel, NotOnChannel}
+use Rattle.numerics.specs.declared.numeric.Numeric.TheVariants.{UserOnChannel, ChanOPrivsNeeded, Inviting, Away}
 use Rattle.registration.specs.declared.settings.Settings.{Settings}
 use Rattle.roster.specs.declared.deed.Deed.{Deed}
 use Rattle.roster.specs.declared.deed.Deed.TheVariants.{Changed}
@@ -34,7 +35,8 @@ invites_seen g fs s t n c None = tells g fs s (NoSuchChannel c) ∷ []
 invites_seen g fs s t n c (Some k) =
     if not (among s k.state.members) then tells g fs s (NotOnChannel k.name) ∷ []
     else if among t k.state.members then tells g fs s (UserOnChannel n k.name) ∷ []
-    else if k.state.modes.invite_only && not (among s k.state.operators) then tells g fs s (ChanOPrivsNeeded k.name) ∷ []
+    else if k.state.modes.invite_only && not (among s k.state.operators)
+    then tells g fs s (ChanOPrivsNeeded k.name) ∷ []
     else invites_user g fs s t n k
 
 abbrev pub invites_found : Settings → List Deed → ℕ → List ℕ → List ℕ → Option ℕ → List Effect

@@ -1,5 +1,7 @@
--- What JOIN does: RFC 2812, section 3.2.1, and RFC 2811, section 4 (keys, limits, bans and invitations); IRCv3 extended-join and away-notify.
-use Rattle.std.specs.Prelude.{ℕ, Bool, false, not, filter, ◌&&◌, nat_le, List, [], ◌∷◌, ◌++◌, length, Option, Some, None, if◌then◌else◌}
+-- What JOIN does: RFC 2812, section 3.2.1, and RFC 2811, section 4 (keys, limits, bans and invitations); IRCv3
+-- extended-join and away-notify.
+use Rattle.std.specs.Prelude.{ℕ, Bool, false, not, filter, ◌&&◌, nat_le, List, [], ◌∷◌}
+use Rattle.std.specs.Prelude.{◌++◌, length, Option, Some, None, if◌then◌else◌}
 use Rattle.std.specs.Str.{bytes_eq}
 use Rattle.casemapping.specs.Names.{channel_shape}
 use Rattle.channel_state.specs.declared.change.Change.TheVariants.{Joined}
@@ -18,7 +20,8 @@ use Rattle.drafts.specs.Seen.{Seen}
 use Rattle.drafts.specs.Hearers.{shown, takes}
 use Rattle.drafts.specs.Lines.{prefix, join_line, extended_join_line, away_line}
 use Rattle.drafts.specs.declared.denials.Denial.{Denial}
-use Rattle.drafts.specs.declared.denials.Denial.TheVariants.{BadChannelKey, BannedFromChan, InviteOnlyChan, ChannelIsFull}
+use Rattle.drafts.specs.declared.denials.Denial.TheVariants.{BadChannelKey, BannedFromChan}
+use Rattle.drafts.specs.declared.denials.Denial.TheVariants.{InviteOnlyChan, ChannelIsFull}
 use Rattle.drafts.specs.Denials.{denied}
 use Rattle.drafts.specs.Replies.{tells, tells_all}
 use Rattle.query_commands.specs.Names.{names_told}
@@ -77,7 +80,8 @@ join_shown fs s from k =
 -- where it is away, the others that take away-notify are shown so
 abbrev pub absence_shown : List Deed → ℕ → List ℕ → Seen → Option (List ℕ) → List Effect
 absence_shown fs s from k None = []
-absence_shown fs s from k (Some text) = shown (without s (filter (takes fs AwayNotify) k.state.members)) (away_line from (Some text))
+absence_shown fs s from k (Some text) = shown (without s (filter (takes fs AwayNotify) k.state.members))
+    (away_line from (Some text))
 
 -- what members are shown, by the facts before the line
 unfoldable pub introduced : List Deed → ℕ → List ℕ → Seen → List Effect
@@ -91,10 +95,12 @@ entered g fs0 fs s from k = introduced fs0 s from k ++ tells_all g fs s (welcome
 
 -- it makes one that isn't there
 abbrev pub makes : Settings → List Deed → List Deed → ℕ → List ℕ → List ℕ → List Effect
-makes g fs0 fs s from c = Establish (ChannelMade s c) ∷ entered g fs0 (ChannelMade s c ∷ fs) s from (record { name = c; state = made_by s })
+makes g fs0 fs s from c = Establish (ChannelMade s c) ∷ entered g fs0 (ChannelMade s c ∷ fs) s from
+    (record { name = c; state = made_by s })
 
 abbrev pub enters : Settings → List Deed → List Deed → ℕ → List ℕ → Seen → List Effect
-enters g fs0 fs s from k = Establish (Changed k.name (Joined s)) ∷ entered g fs0 (Changed k.name (Joined s) ∷ fs) s from (record { name = k.name; state = changed (Joined s) k.state })
+enters g fs0 fs s from k = Establish (Changed k.name (Joined s)) ∷ entered g fs0
+    (Changed k.name (Joined s) ∷ fs) s from (record { name = k.name; state = changed (Joined s) k.state })
 
 -- unless something bars it
 abbrev pub enters_unless : Settings → List Deed → List Deed → ℕ → List ℕ → Seen → Option Denial → List Effect
@@ -102,7 +108,8 @@ enters_unless g fs0 fs s from k None = enters g fs0 fs s from k
 enters_unless g fs0 fs s from k (Some bar) = tells g fs s (denied bar k.name) ∷ []
 
 abbrev pub joins_seen : Settings → List Deed → List Deed → ℕ → List ℕ → ℕ → JoinTarget → Option Seen → List Effect
-joins_seen g fs0 fs s from n t None = if nat_le 20 n then tells g fs s (TooManyChannels t.channel) ∷ [] else makes g fs0 fs s from t.channel
+joins_seen g fs0 fs s from n t None = if nat_le 20 n then tells g fs s (TooManyChannels t.channel) ∷ []
+    else makes g fs0 fs s from t.channel
 joins_seen g fs0 fs s from n t (Some k) =
     if among s k.state.members then []
     else if nat_le 20 n then tells g fs s (TooManyChannels k.name) ∷ []

@@ -3,7 +3,8 @@ use Rattle.std.specs.Prelude.{ℕ, not, List, [], ◌∷◌, take, slice_get, Op
 use Rattle.channel_state.specs.declared.change.Change.TheVariants.{Left}
 use Rattle.channel_state.specs.State.{among}
 use Rattle.numerics.specs.declared.outgoing.Out.{Out}
-use Rattle.numerics.specs.declared.numeric.Numeric.TheVariants.{NoSuchChannel, NotOnChannel, ChanOPrivsNeeded, TooManyTargets, NoSuchNick, UserNotInChannel}
+use Rattle.numerics.specs.declared.numeric.Numeric.TheVariants.{NoSuchChannel, NotOnChannel, ChanOPrivsNeeded}
+use Rattle.numerics.specs.declared.numeric.Numeric.TheVariants.{TooManyTargets, NoSuchNick, UserNotInChannel}
 use Rattle.registration.specs.declared.settings.Settings.{Settings}
 use Rattle.roster.specs.declared.deed.Deed.{Deed}
 use Rattle.roster.specs.declared.deed.Deed.TheVariants.{Changed}
@@ -25,7 +26,8 @@ leaves k t line = Show k.state.members line ∷ Establish (Changed k.name (Left 
 
 abbrev pub parts_seen : Settings → List Deed → ℕ → List ℕ → List ℕ → List ℕ → Option Seen → List Effect
 parts_seen g fs s from text c None = tells g fs s (NoSuchChannel c) ∷ []
-parts_seen g fs s from text c (Some k) = if not (among s k.state.members) then tells g fs s (NotOnChannel k.name) ∷ [] else leaves k s (part_line from k.name text)
+parts_seen g fs s from text c (Some k) = if not (among s k.state.members) then tells g fs s (NotOnChannel k.name)
+    ∷ [] else leaves k s (part_line from k.name text)
 
 abbrev pub parts_one : Settings → ℕ → List ℕ → List ℕ → List Deed → List ℕ → List Effect
 parts_one g s from text fs c = parts_seen g fs s from text c (channel_of fs c)
@@ -40,14 +42,16 @@ unfoldable pub kick_text : List Deed → ℕ → List ℕ → List ℕ
 kick_text fs s [] = title (nick fs s)
 kick_text fs s (x ∷ xs) = take 200 (x ∷ xs)
 
--- a user is put out of a channel, where it is on it. The channel may have ended by a kick before: c is its name as it was first spelled
+-- a user is put out of a channel, where it is on it. The channel may have ended by a kick before: c is its name as
+-- it was first spelled
 abbrev pub kicks_user : Settings → List Deed → List Deed → ℕ → List ℕ → List ℕ → List ℕ → ℕ → Option Seen → List Effect
 kicks_user g fs0 fs s from text c t None = tells g fs s (UserNotInChannel (title (nick fs0 t)) c) ∷ []
 kicks_user g fs0 fs s from text c t (Some k) =
     if not (among t k.state.members) then tells g fs s (UserNotInChannel (title (nick fs0 t)) c) ∷ []
     else leaves k t (kick_line from c (title (nick fs0 t)) text)
 
-abbrev pub kicks_found : Settings → List Deed → List Deed → ℕ → List ℕ → List ℕ → List ℕ → List ℕ → Option ℕ → List Effect
+abbrev pub kicks_found : Settings → List Deed → List Deed → ℕ → List ℕ → List ℕ → List ℕ → List ℕ → Option ℕ
+    → List Effect
 kicks_found g fs0 fs s from text c n None = tells g fs s (NoSuchNick n) ∷ []
 kicks_found g fs0 fs s from text c n (Some t) = kicks_user g fs0 fs s from text c t (channel_of fs c)
 

@@ -1,4 +1,5 @@
--- The lines that are shown of who leaves a channel, is invited to it, or sets its topic: RFC 2812, sections 3.2.2 (PART), 3.2.4 (TOPIC), 3.2.7 (INVITE) and 3.2.8 (KICK).
+-- The lines that are shown of who leaves a channel, is invited to it, or sets its topic: RFC 2812, sections 3.2.2
+-- (PART), 3.2.4 (TOPIC), 3.2.7 (INVITE) and 3.2.8 (KICK).
 use Rattle.std.specs.Prelude.{ℕ, List, [], ◌∷◌, codes, true, false}
 use Rattle.numerics.specs.declared.outgoing.Out.{Out}
 use Rattle.numerics.specs.Outgoing.{line}

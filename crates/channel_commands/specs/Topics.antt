@@ -2,7 +2,8 @@
 use Rattle.std.specs.Prelude.{ℕ, not, ◌&&◌, List, [], ◌∷◌, take, Option, Some, None, if◌then◌else◌}
 use Rattle.channel_state.specs.declared.change.Change.TheVariants.{TopicSet}
 use Rattle.channel_state.specs.State.{among}
-use Rattle.numerics.specs.declared.numeric.Numeric.TheVariants.{NoSuchChannel, NotOnChannel, ChanOPrivsNeeded, NoTopic, Topic}
+use Rattle.numerics.specs.declared.numeric.Numeric.TheVariants.{NoSuchChannel, NotOnChannel}
+use Rattle.numerics.specs.declared.numeric.Numeric.TheVariants.{ChanOPrivsNeeded, NoTopic, Topic}
 use Rattle.registration.specs.declared.settings.Settings.{Settings}
 use Rattle.roster.specs.declared.deed.Deed.{Deed}
 use Rattle.roster.specs.declared.deed.Deed.TheVariants.{Changed}
@@ -33,7 +34,8 @@ topic_of (x ∷ xs) = Some (x ∷ xs)
 
 -- all members are shown it
 abbrev pub sets_topic : List Deed → ℕ → Seen → List ℕ → List Effect
-sets_topic fs s k text = Establish (Changed k.name (TopicSet (topic_of text))) ∷ Show k.state.members (topic_line (prefix fs s) k.name text) ∷ []
+sets_topic fs s k text = Establish (Changed k.name (TopicSet (topic_of text)))
+    ∷ Show k.state.members (topic_line (prefix fs s) k.name text) ∷ []
 
 -- where it is locked operators alone set it
 unfoldable pub topic_served : Settings → List Deed → ℕ → Seen → Option (List ℕ) → List Effect
@@ -44,7 +46,8 @@ topic_served g fs s k (Some text) =
 
 abbrev pub topics_seen : Settings → List Deed → ℕ → List ℕ → Option (List ℕ) → Option Seen → List Effect
 topics_seen g fs s c text None = tells g fs s (NoSuchChannel c) ∷ []
-topics_seen g fs s c text (Some k) = if not (among s k.state.members) then tells g fs s (NotOnChannel k.name) ∷ [] else topic_served g fs s k text
+topics_seen g fs s c text (Some k) = if not (among s k.state.members) then tells g fs s (NotOnChannel k.name) ∷ []
+    else topic_served g fs s k text
 
 abbrev pub topics : Settings → List Deed → ℕ → List ℕ → Option (List ℕ) → List Effect
 topics g fs s c text = topics_seen g fs s c text (channel_of fs c)

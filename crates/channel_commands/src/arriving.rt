@@ -20,8 +20,10 @@ fn push_parted(
     plain: &mut Sessions,
     session: SessionId,
 ) -> Result<(), AllocError>
-    ensures extended { OnOk result (extended.new ≡ extended.old ++ filter (takes_extended roster.now.facts) (session ∷ [])) }
-    ensures plain { OnOk result (plain.new ≡ plain.old ++ filter (takes_plain roster.now.facts) (session ∷ [])) }
+    ensures extended { OnOk result
+        (extended.new ≡ extended.old ++ filter (takes_extended roster.now.facts) (session ∷ [])) }
+    ensures plain { OnOk result
+        (plain.new ≡ plain.old ++ filter (takes_plain roster.now.facts) (session ∷ [])) }
 {
     if roster.caps_of(session).contains(Cap::ExtendedJoin) {
         extended.push(session)
@@ -36,7 +38,8 @@ fn parted(
     roster: &Roster,
     sessions: &[SessionId],
 ) -> Result<(Sessions, Sessions), AllocError>
-    ensures extended { IfOk result (λ p. p.0 ≡ filter (takes_extended roster.now.facts) sessions.now) }
+    ensures extended { IfOk result
+        (λ p. p.0 ≡ filter (takes_extended roster.now.facts) sessions.now) }
     ensures plain { IfOk result (λ p. p.1 ≡ filter (takes_plain roster.now.facts) sessions.now) }
 {
     let mut extended = Sessions::from_vec(Vec::new(alloc));
@@ -57,7 +60,8 @@ fn show_plainly(
     from: &[u8],
     joined: &Joined<'_>,
 ) -> Result<(), AllocError>
-    ensures { OnOk result (draft.new ≡ grown draft.old (shown hearers (join_line from.now joined.now.name))) }
+    ensures { OnOk result
+        (draft.new ≡ grown draft.old (shown hearers (join_line from.now joined.now.name))) }
 {
     if hearers.as_slice().is_empty() {
         return Ok(());
@@ -75,7 +79,8 @@ fn show_extended(
     from: &[u8],
     joined: &Joined<'_>,
 ) -> Result<(), AllocError>
-    ensures { OnOk result (draft.new ≡ grown draft.old (shown hearers (extended_join_line from.now joined.now.name (account draft.old.base session) (real draft.old.base session)))) }
+    ensures { OnOk result (draft.new ≡ grown draft.old (shown hearers (extended_join_line from.now
+        joined.now.name (account draft.old.base session) (real draft.old.base session)))) }
 {
     if hearers.as_slice().is_empty() {
         return Ok(());
@@ -95,7 +100,8 @@ fn show_join(
     from: &[u8],
     joined: &Joined<'_>,
 ) -> Result<(), AllocError>
-    ensures { OnOk result (draft.new ≡ grown draft.old (join_shown draft.old.base session from.now joined.now)) }
+    ensures { OnOk result
+        (draft.new ≡ grown draft.old (join_shown draft.old.base session from.now joined.now)) }
 {
     let (extended, plain) = parted(draft.alloc(), draft.before(), joined.members)?;
     show_plainly(draft, plain, from, joined)?;
@@ -109,7 +115,8 @@ fn show_absence(
     from: &[u8],
     joined: &Joined<'_>,
 ) -> Result<(), AllocError>
-    ensures { OnOk result (draft.new ≡ grown draft.old (absence_shown draft.old.base session from.now joined.now (away draft.old.base session))) }
+    ensures { OnOk result (draft.new ≡ grown draft.old
+        (absence_shown draft.old.base session from.now joined.now (away draft.old.base session))) }
 {
     let Some(text) = draft.before().away_of(session) else {
         return Ok(());
@@ -128,7 +135,8 @@ pub(crate) fn introduce(
     from: &[u8],
     joined: &Joined<'_>,
 ) -> Result<(), AllocError>
-    ensures { OnOk result (draft.new ≡ grown draft.old (introduced draft.old.base session from.now joined.now)) }
+    ensures { OnOk result
+        (draft.new ≡ grown draft.old (introduced draft.old.base session from.now joined.now)) }
 {
     show_join(draft, session, from, joined)?;
     show_absence(draft, session, from, joined)

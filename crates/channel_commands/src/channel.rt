@@ -1,10 +1,13 @@
-//! The commands about channels: how each is named and read, and what it does (RFC 2812, sections 3.2.1, 3.2.2, 3.2.4, 3.2.7
-//! and 3.2.8).
+//! The commands about channels: how each is named and read, and what it does (RFC 2812, sections 3.2.1, 3.2.2,
+//! 3.2.4, 3.2.7 and 3.2.8).
 ghost use Rattle.std.specs.Prelude.{◌≡◌, ◌∷◌, ◌≤◌, length, OnOk, MatchOption};
 ghost use Rattle.roster.specs.Legal.{IsOpened};
 ghost use Rattle.drafts.specs.Words.{grown};
 ghost use Rattle.command_params.specs.Params.{IsRead, IsReadByName};
-ghost use Rattle.channel_commands.specs.Channel.{EachChannelIsNamed, NoChannelIsMisnamed, channel_command_of, join_command, part_command, kick_command, invite_command, topic_command, serves_channel};
+ghost use Rattle.channel_commands.specs.Channel.{EachChannelIsNamed, NoChannelIsMisnamed};
+ghost use Rattle.channel_commands.specs.Channel.{channel_command_of, join_command};
+ghost use Rattle.channel_commands.specs.Channel.{part_command, kick_command, invite_command};
+ghost use Rattle.channel_commands.specs.Channel.{topic_command, serves_channel};
 
 use crate::{invite, join, kick, part, set_topic};
 use chronicle::SessionId;
@@ -48,7 +51,8 @@ pub enum ChannelCommand {
 
 /// The first two parameters, and those after them.
 fn split_two<'a>(params: &LineParameters<'a>) -> Option<(&'a [u8], &'a [u8], LineParameters<'a>)>
-    ensures { MatchOption result (length params.now ≤ 1) (λ p. params.now ≡ p.0.now ∷ p.1.now ∷ p.2) }
+    ensures { MatchOption result (length params.now ≤ 1)
+        (λ p. params.now ≡ p.0.now ∷ p.1.now ∷ p.2) }
 {
     let (first, params) = params.split_first()?;
     let (second, params) = params.split_first()?;
@@ -114,7 +118,8 @@ fn read_topic(alloc: Global, params: &LineParameters<'_>) -> Result<ChannelComma
     Ok(ChannelCommand::Topic { channel, text })
 }
 
-/// What is asked by a name, or the numeric that answers it by what it says alone. `None` where it is no such command's.
+/// What is asked by a name, or the numeric that answers it by what it says alone. `None` where it is no such
+/// command's.
 #[tactic(auto, unfolding(crate::specs::Channel::channel_command_of))]
 pub fn read_channel(
     alloc: Global,
@@ -151,7 +156,8 @@ pub fn serve_channel(
 ) -> Result<(), AllocError>
     requires opened { IsOpened draft.old.facts session }
     requires first { draft.old.facts ≡ draft.old.base }
-    ensures { OnOk result (draft.new ≡ grown draft.old (serves_channel draft.old.settings draft.old.facts session command.now)) }
+    ensures { OnOk result (draft.new
+        ≡ grown draft.old (serves_channel draft.old.settings draft.old.facts session command.now)) }
 {
     match command {
         ChannelCommand::Join { targets } => join(draft, session, targets.as_slice()),

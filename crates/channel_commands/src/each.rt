@@ -19,7 +19,8 @@ pub(crate) trait DoesFor<T> {
 
     /// Does it.
     fn do_for(&self, draft: &mut Draft, one: &T) -> Result<(), AllocError>
-        ensures { OnOk result (draft.new ≡ grown draft.old (effects_of self.now draft.old.settings draft.old.base draft.old.facts one.now)) };
+        ensures { OnOk result (draft.new ≡ grown draft.old
+            (effects_of self.now draft.old.settings draft.old.base draft.old.facts one.now)) };
 }
 
 /// Does it for each of a list, in its order. Each finds the facts that those before it leave.
@@ -28,7 +29,8 @@ pub(crate) fn do_for_each<T, R: DoesFor<T>>(
     draft: &mut Draft,
     ones: &[T],
 ) -> Result<(), AllocError>
-    ensures { OnOk result (draft.new ≡ grown draft.old (each (R.effects_of command.now draft.old.settings draft.old.base) draft.old.facts ones.now)) }
+    ensures { OnOk result (draft.new ≡ grown draft.old (each
+        (R.effects_of command.now draft.old.settings draft.old.base) draft.old.facts ones.now)) }
 {
     for one in ones {
         command.do_for(draft, one)?;

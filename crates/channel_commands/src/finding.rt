@@ -16,7 +16,8 @@ pub(crate) fn channel_of<'a>(
     name: &Octets,
 ) -> Result<Option<Seen<'a>>, AllocError>
     ensures channel { IfOk result (λ o. o ≡ channel_of draft.now.facts name.now) }
-    ensures known { IfOk result (λ o. MatchOption o (has_member draft.now.facts name.now ≡ false) (IsSeen draft.now.facts)) }
+    ensures known { IfOk result (λ o. MatchOption o (has_member draft.now.facts name.now ≡ false)
+        (IsSeen draft.now.facts)) }
 {
     match draft.seen(name.as_slice())? {
         Some(seen) => Ok(Some(seen)),

@@ -23,7 +23,8 @@ fn tell_away(
     nick: &Octets,
     away: Option<&Octets>,
 ) -> Result<(), AllocError>
-    ensures { OnOk result (draft.new ≡ grown draft.old (away_told draft.old.settings draft.old.facts session nick.now (option_copied away.entry))) }
+    ensures { OnOk result (draft.new ≡ grown draft.old (away_told draft.old.settings draft.old.facts
+        session nick.now (option_copied away.entry))) }
 {
     let Some(text) = away else {
         return Ok(());
@@ -40,7 +41,8 @@ fn tell_present(
     nick: &Octets,
     name: &Octets,
 ) -> Result<(), AllocError>
-    ensures { OnOk result (draft.new ≡ grown draft.old (tells draft.old.settings draft.old.facts session (UserOnChannel nick.now name.now) ∷ [])) }
+    ensures { OnOk result (draft.new ≡ grown draft.old
+        (tells draft.old.settings draft.old.facts session (UserOnChannel nick.now name.now) ∷ [])) }
 {
     let nick = nick.clone()?;
     let channel = name.clone()?;
@@ -54,7 +56,8 @@ fn tell_invited(
     nick: &Octets,
     name: &Octets,
 ) -> Result<(), AllocError>
-    ensures { OnOk result (draft.new ≡ grown draft.old (tells draft.old.settings draft.old.facts session (Inviting nick.now name.now) ∷ [])) }
+    ensures { OnOk result (draft.new ≡ grown draft.old
+        (tells draft.old.settings draft.old.facts session (Inviting nick.now name.now) ∷ [])) }
 {
     let nick = nick.clone()?;
     let channel = name.clone()?;
@@ -69,7 +72,8 @@ fn show_invited(
     nick: &Octets,
     name: &Octets,
 ) -> Result<(), AllocError>
-    ensures { OnOk result (draft.new ≡ grown draft.old (Show (user ∷ []) (invite_line (prefix draft.old.facts session) nick.now name.now) ∷ [])) }
+    ensures { OnOk result (draft.new ≡ grown draft.old
+        (Show (user ∷ []) (invite_line (prefix draft.old.facts session) nick.now name.now) ∷ [])) }
 {
     let from = prefix_of(draft, session)?;
     let line = invite_line(
@@ -93,7 +97,8 @@ fn invite_user(
 ) -> Result<(), AllocError>
     requires first { draft.old.facts ≡ draft.old.base }
     requires seen { IsSeen draft.old.facts seen.now }
-    ensures { OnOk result (draft.new ≡ grown draft.old (invites_user draft.old.settings draft.old.facts session user nick.now seen.now)) }
+    ensures { OnOk result (draft.new ≡ grown draft.old
+        (invites_user draft.old.settings draft.old.facts session user nick.now seen.now)) }
 {
     let away = draft.before().away_of(user);
     let by_operator = seen.state().is_operator(session);
@@ -119,7 +124,8 @@ fn invite_seen(
 ) -> Result<(), AllocError>
     requires first { draft.old.facts ≡ draft.old.base }
     requires seen { IsSeen draft.old.facts seen.now }
-    ensures { OnOk result (draft.new ≡ grown draft.old (invites_seen draft.old.settings draft.old.facts session user nick.now [] (Some seen.now))) }
+    ensures { OnOk result (draft.new ≡ grown draft.old (invites_seen draft.old.settings
+        draft.old.facts session user nick.now [] (Some seen.now))) }
 {
     if !seen.state().has(session) {
         return deny(draft, session, Denial::NotOnChannel, seen.name());
@@ -141,7 +147,8 @@ fn invite_found(
     channel: &Octets,
 ) -> Result<(), AllocError>
     requires first { draft.old.facts ≡ draft.old.base }
-    ensures { OnOk result (draft.new ≡ grown draft.old (invites_found draft.old.settings draft.old.facts session [] channel.now (Some user))) }
+    ensures { OnOk result (draft.new ≡ grown draft.old
+        (invites_found draft.old.settings draft.old.facts session [] channel.now (Some user))) }
 {
     let nick = title_of(draft.alloc(), draft.before().nick_of(user))?;
     match channel_of(draft, channel)? {
@@ -158,7 +165,8 @@ pub fn invite(
     channel: &Octets,
 ) -> Result<(), AllocError>
     requires first { draft.old.facts ≡ draft.old.base }
-    ensures { OnOk result (draft.new ≡ grown draft.old (invites draft.old.settings draft.old.facts session nick.now channel.now)) }
+    ensures { OnOk result (draft.new ≡ grown draft.old
+        (invites draft.old.settings draft.old.facts session nick.now channel.now)) }
 {
     match user_of(draft, nick) {
         Some(user) => invite_found(draft, session, user, channel),

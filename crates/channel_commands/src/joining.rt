@@ -6,7 +6,8 @@ ghost use Rattle.drafts.specs.Words.{IsSeen, deeds_of, grown};
 ghost use Rattle.query_commands.specs.Telling.{telling_more};
 ghost use Rattle.channel_commands.specs.Each.{each_counted};
 ghost use Rattle.channel_commands.specs.Found.{channel_of};
-ghost use Rattle.channel_commands.specs.Joining.{welcomed, entered, makes, enters, enters_unless, joins_seen, joins_one, joins};
+ghost use Rattle.channel_commands.specs.Joining.{welcomed, entered, makes, enters, enters_unless};
+ghost use Rattle.channel_commands.specs.Joining.{joins_seen, joins_one, joins};
 
 use crate::arriving::introduce;
 use crate::bars::bar_of;
@@ -36,7 +37,8 @@ fn welcome(
     joined: &Joined<'_>,
 ) -> Result<(), AllocError>
     requires { among session joined.now.state.members ≡ true }
-    ensures { OnOk result (telling.new ≡ telling_more telling.old (welcomed draft.now.settings draft.now.base session joined.now)) }
+    ensures { OnOk result (telling.new ≡ telling_more telling.old
+        (welcomed draft.now.settings draft.now.base session joined.now)) }
 {
     if let Some(topic) = joined.state.topic() {
         let channel = joined.name.clone()?;
@@ -53,8 +55,8 @@ fn welcome(
     )
 }
 
-/// All members are shown that a session joined, which is told of the channel. What it is told is spelled before, since nobody's
-/// nickname changes.
+/// All members are shown that a session joined, which is told of the channel. What it is told is spelled before,
+/// since nobody's nickname changes.
 fn enter(
     draft: &mut Draft,
     session: SessionId,
@@ -62,7 +64,8 @@ fn enter(
     joined: &Joined<'_>,
 ) -> Result<(), AllocError>
     requires { among session joined.now.state.members ≡ true }
-    ensures { OnOk result (draft.new ≡ grown draft.old (entered draft.old.settings draft.old.base draft.old.facts session from.now joined.now)) }
+    ensures { OnOk result (draft.new ≡ grown draft.old
+        (entered draft.old.settings draft.old.base draft.old.facts session from.now joined.now)) }
 {
     let mut telling = Telling::new(draft, session)?;
     welcome(draft, &mut telling, session, joined)?;
@@ -81,7 +84,8 @@ fn make(
     channel: &Octets,
 ) -> Result<(), AllocError>
     requires { has_member draft.old.facts channel.now ≡ false }
-    ensures { OnOk result (draft.new ≡ grown draft.old (makes draft.old.settings draft.old.base draft.old.facts session from.now channel.now)) }
+    ensures { OnOk result (draft.new ≡ grown draft.old
+        (makes draft.old.settings draft.old.base draft.old.facts session from.now channel.now)) }
 {
     let seen = draft.make(session, channel)?;
     let joined = Joined {
@@ -97,7 +101,8 @@ fn make(
 fn come(draft: &mut Draft, session: SessionId, from: &[u8], seen: &Seen) -> Result<(), AllocError>
     requires seen { IsSeen draft.old.facts seen.now }
     requires away { among session seen.now.state.members ≡ false }
-    ensures { OnOk result (draft.new ≡ grown draft.old (enters draft.old.settings draft.old.base draft.old.facts session from.now seen.now)) }
+    ensures { OnOk result (draft.new ≡ grown draft.old
+        (enters draft.old.settings draft.old.base draft.old.facts session from.now seen.now)) }
 {
     let members = followed_by(draft.alloc(), seen.state().members(), session)?;
     draft.establish_change(seen, Change::Joined { session })?;
@@ -122,8 +127,10 @@ fn come_unless(
     requires seen { IsSeen draft.old.facts seen.now }
     requires away { among session seen.now.state.members ≡ false }
     requires few { count < 20 }
-    ensures grown { OnOk result (draft.new ≡ grown draft.old (enters_unless draft.old.settings draft.old.base draft.old.facts session from.now seen.now bar)) }
-    ensures count { IfOk result (λ n. n ≡ count + length (deeds_of (enters_unless draft.old.settings draft.old.base draft.old.facts session from.now seen.now bar))) }
+    ensures grown { OnOk result (draft.new ≡ grown draft.old (enters_unless draft.old.settings
+        draft.old.base draft.old.facts session from.now seen.now bar)) }
+    ensures count { IfOk result (λ n. n ≡ count + length (deeds_of (enters_unless draft.old.settings
+        draft.old.base draft.old.facts session from.now seen.now bar))) }
 {
     match bar {
         Some(bar) => {
@@ -147,8 +154,10 @@ fn join_there(
     seen: &Seen,
 ) -> Result<usize, AllocError>
     requires { IsSeen draft.old.facts seen.now }
-    ensures grown { OnOk result (draft.new ≡ grown draft.old (joins_seen draft.old.settings draft.old.base draft.old.facts session from.now count target.now (Some seen.now))) }
-    ensures count { IfOk result (λ n. n ≡ count + length (deeds_of (joins_seen draft.old.settings draft.old.base draft.old.facts session from.now count target.now (Some seen.now)))) }
+    ensures grown { OnOk result (draft.new ≡ grown draft.old (joins_seen draft.old.settings
+        draft.old.base draft.old.facts session from.now count target.now (Some seen.now))) }
+    ensures count { IfOk result (λ n. n ≡ count + length (deeds_of (joins_seen draft.old.settings
+        draft.old.base draft.old.facts session from.now count target.now (Some seen.now)))) }
 {
     if seen.state().has(session) {
         return Ok(count);
@@ -171,8 +180,10 @@ fn join_new(
     target: &JoinTarget,
 ) -> Result<usize, AllocError>
     requires { has_member draft.old.facts target.now.channel ≡ false }
-    ensures grown { OnOk result (draft.new ≡ grown draft.old (joins_seen draft.old.settings draft.old.base draft.old.facts session from.now count target.now None)) }
-    ensures count { IfOk result (λ n. n ≡ count + length (deeds_of (joins_seen draft.old.settings draft.old.base draft.old.facts session from.now count target.now None))) }
+    ensures grown { OnOk result (draft.new ≡ grown draft.old (joins_seen draft.old.settings
+        draft.old.base draft.old.facts session from.now count target.now None)) }
+    ensures count { IfOk result (λ n. n ≡ count + length (deeds_of (joins_seen draft.old.settings
+        draft.old.base draft.old.facts session from.now count target.now None))) }
 {
     let channel = &target.channel;
     if count >= MAX_CHANNELS {
@@ -191,8 +202,12 @@ fn join_named(
     count: usize,
     target: &JoinTarget,
 ) -> Result<usize, AllocError>
-    ensures grown { OnOk result (draft.new ≡ grown draft.old (joins_seen draft.old.settings draft.old.base draft.old.facts session from.now count target.now (channel_of draft.old.facts target.now.channel))) }
-    ensures count { IfOk result (λ n. n ≡ count + length (deeds_of (joins_seen draft.old.settings draft.old.base draft.old.facts session from.now count target.now (channel_of draft.old.facts target.now.channel)))) }
+    ensures grown { OnOk result (draft.new
+        ≡ grown draft.old (joins_seen draft.old.settings draft.old.base draft.old.facts session
+        from.now count target.now (channel_of draft.old.facts target.now.channel))) }
+    ensures count { IfOk result (λ n. n ≡ count + length
+        (deeds_of (joins_seen draft.old.settings draft.old.base draft.old.facts session
+        from.now count target.now (channel_of draft.old.facts target.now.channel)))) }
 {
     match channel_of(draft, &target.channel)? {
         Some(seen) => join_there(draft, session, from, count, target, &seen),
@@ -208,8 +223,10 @@ fn join_one(
     count: usize,
     target: &JoinTarget,
 ) -> Result<usize, AllocError>
-    ensures grown { OnOk result (draft.new ≡ grown draft.old (joins_one draft.old.settings draft.old.base session from.now draft.old.facts count target.now)) }
-    ensures count { IfOk result (λ n. n ≡ count + length (deeds_of (joins_one draft.old.settings draft.old.base session from.now draft.old.facts count target.now))) }
+    ensures grown { OnOk result (draft.new ≡ grown draft.old (joins_one draft.old.settings
+        draft.old.base session from.now draft.old.facts count target.now)) }
+    ensures count { IfOk result (λ n. n ≡ count + length (deeds_of (joins_one draft.old.settings
+        draft.old.base session from.now draft.old.facts count target.now))) }
 {
     if !is_channel(target.channel.as_slice()) {
         deny(draft, session, Denial::NoSuchChannel, &target.channel)?;
@@ -228,7 +245,8 @@ fn join_each(
     count: usize,
     targets: &[JoinTarget],
 ) -> Result<(), AllocError>
-    ensures { OnOk result (draft.new ≡ grown draft.old (each_counted (joins_one draft.old.settings draft.old.base session from.now) draft.old.facts count targets.now)) }
+    ensures { OnOk result (draft.new ≡ grown draft.old (each_counted (joins_one draft.old.settings
+        draft.old.base session from.now) draft.old.facts count targets.now)) }
 {
     let mut joined = count;
     for target in targets {
@@ -240,7 +258,8 @@ fn join_each(
 /// A session joins channels, or makes those that aren't there (RFC 2812, section 3.2.1).
 pub fn join(draft: &mut Draft, session: SessionId, targets: &[JoinTarget]) -> Result<(), AllocError>
     requires first { draft.old.facts ≡ draft.old.base }
-    ensures { OnOk result (draft.new ≡ grown draft.old (joins draft.old.settings draft.old.facts session targets.now)) }
+    ensures { OnOk result (draft.new
+        ≡ grown draft.old (joins draft.old.settings draft.old.facts session targets.now)) }
 {
     let from = prefix_of(draft, session)?;
     let count = draft.before().channel_count_of(session);

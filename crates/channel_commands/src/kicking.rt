@@ -44,7 +44,8 @@ fn kick_there(
 ) -> Result<(), AllocError>
     requires seen { IsSeen draft.old.facts seen.now }
     requires nick { nick.now ≡ title (nick_of draft.old.base user) }
-    ensures { OnOk result (draft.new ≡ grown draft.old (kicks_user draft.old.settings draft.old.base draft.old.facts session from.now text.now name.now user (Some seen.now))) }
+    ensures { OnOk result (draft.new ≡ grown draft.old (kicks_user draft.old.settings draft.old.base
+        draft.old.facts session from.now text.now name.now user (Some seen.now))) }
 {
     if !seen.state().has(user) {
         return deny_absent(draft, session, nick, name);
@@ -68,7 +69,9 @@ fn kick_user(
     name: &Octets,
     user: SessionId,
 ) -> Result<(), AllocError>
-    ensures { OnOk result (draft.new ≡ grown draft.old (kicks_user draft.old.settings draft.old.base draft.old.facts session from.now text.now name.now user (channel_of draft.old.facts name.now))) }
+    ensures { OnOk result
+        (draft.new ≡ grown draft.old (kicks_user draft.old.settings draft.old.base draft.old.facts
+        session from.now text.now name.now user (channel_of draft.old.facts name.now))) }
 {
     let nick = title_of(draft.alloc(), draft.before().nick_of(user))?;
     match channel_of(draft, name)? {
@@ -89,7 +92,8 @@ struct Kicking<'a> {
 impl DoesFor<Octets> for Kicking<'_> {
     ghost use Rattle.channel_commands.specs.Leaving.{kicks_one};
 
-    ghost effects_of = { λ k g before facts nick. kicks_one g before k.session k.from.now k.text.now k.name.now facts nick };
+    ghost effects_of = { λ k g before facts nick. kicks_one g before k.session k.from.now k.text.now
+        k.name.now facts nick };
 
     fn do_for(&self, draft: &mut Draft, nick: &Octets) -> Result<(), AllocError> {
         let Kicking {
@@ -114,7 +118,8 @@ fn kick_few(
     name: &Octets,
 ) -> Result<(), AllocError>
     requires first { draft.old.facts ≡ draft.old.base }
-    ensures { OnOk result (draft.new ≡ grown draft.old (kicks_each draft.old.settings draft.old.facts session nicks.now text.now name.now (slice_get nicks.now 4))) }
+    ensures { OnOk result (draft.new ≡ grown draft.old (kicks_each draft.old.settings
+        draft.old.facts session nicks.now text.now name.now (slice_get nicks.now 4))) }
 {
     if let Some(fifth) = nicks.get(MAX_TARGETS) {
         return deny(draft, session, Denial::TooManyTargets, fifth);
@@ -139,7 +144,8 @@ fn kick_seen(
     seen: &Seen,
 ) -> Result<(), AllocError>
     requires first { draft.old.facts ≡ draft.old.base }
-    ensures { OnOk result (draft.new ≡ grown draft.old (kicks_seen draft.old.settings draft.old.facts session nicks.now text.now [] (Some seen.now))) }
+    ensures { OnOk result (draft.new ≡ grown draft.old (kicks_seen draft.old.settings
+        draft.old.facts session nicks.now text.now [] (Some seen.now))) }
 {
     let name = seen.name();
     if !seen.state().has(session) {
@@ -160,7 +166,8 @@ pub fn kick(
     text: &Octets,
 ) -> Result<(), AllocError>
     requires first { draft.old.facts ≡ draft.old.base }
-    ensures { OnOk result (draft.new ≡ grown draft.old (kicks draft.old.settings draft.old.facts session channel.now nicks.now text.now)) }
+    ensures { OnOk result (draft.new ≡ grown draft.old
+        (kicks draft.old.settings draft.old.facts session channel.now nicks.now text.now)) }
 {
     match channel_of(draft, channel)? {
         Some(seen) => kick_seen(draft, session, nicks, text, &seen),

@@ -39,7 +39,8 @@ fn part_seen(
     seen: &Seen,
 ) -> Result<(), AllocError>
     requires { IsSeen draft.old.facts seen.now }
-    ensures { OnOk result (draft.new ≡ grown draft.old (parts_seen draft.old.settings draft.old.facts session from.now text.now [] (Some seen.now))) }
+    ensures { OnOk result (draft.new ≡ grown draft.old (parts_seen draft.old.settings
+        draft.old.facts session from.now text.now [] (Some seen.now))) }
 {
     let name = seen.name();
     if !seen.state().has(session) {
@@ -60,7 +61,8 @@ struct Parting<'a> {
 impl DoesFor<Octets> for Parting<'_> {
     ghost use Rattle.channel_commands.specs.Leaving.{parts_one};
 
-    ghost effects_of = { λ p g before facts channel. parts_one g p.session p.from.now p.text.now facts channel };
+    ghost effects_of = { λ p g before facts channel. parts_one g p.session p.from.now p.text.now
+        facts channel };
 
     fn do_for(&self, draft: &mut Draft, channel: &Octets) -> Result<(), AllocError> {
         match channel_of(draft, channel)? {
@@ -77,7 +79,8 @@ pub fn part(
     channels: &[Octets],
     text: &Octets,
 ) -> Result<(), AllocError>
-    ensures { OnOk result (draft.new ≡ grown draft.old (parts draft.old.settings draft.old.facts session channels.now text.now)) }
+    ensures { OnOk result (draft.new ≡ grown draft.old
+        (parts draft.old.settings draft.old.facts session channels.now text.now)) }
 {
     let from = prefix_of(draft, session)?;
     let parting = Parting {

@@ -1,5 +1,5 @@
-//! The commands about channels: JOIN, PART, KICK, INVITE and TOPIC, how each is named and read, and what it does (RFC 2812,
-//! section 3.2).
+//! The commands about channels: JOIN, PART, KICK, INVITE and TOPIC, how each is named and read, and what it does
+//! (RFC 2812, section 3.2).
 #![tactic(auto)]
 
 mod arriving;

@@ -5,7 +5,8 @@ ghost use Rattle.roster.specs.declared.deed.Deed.TheVariants.{Changed};
 ghost use Rattle.drafts.specs.declared.effect.Effect.TheVariants.{Establish};
 ghost use Rattle.drafts.specs.Words.{IsSeen, grown, prefix};
 ghost use Rattle.channel_commands.specs.Lines.{topic_line};
-ghost use Rattle.channel_commands.specs.Topics.{topic_shown, topic_text, topic_of, sets_topic, topic_served, topics_seen, topics};
+ghost use Rattle.channel_commands.specs.Topics.{topic_shown, topic_text, topic_of, sets_topic};
+ghost use Rattle.channel_commands.specs.Topics.{topic_served, topics_seen, topics};
 
 use crate::finding::channel_of;
 use crate::lines::{first_octets, topic_line};
@@ -22,7 +23,8 @@ const TOPICLEN: usize = 300;
 
 /// Answers with the topic of a channel.
 fn show_topic(draft: &mut Draft, session: SessionId, seen: &Seen) -> Result<(), AllocError>
-    ensures { OnOk result (draft.new ≡ grown draft.old (topic_shown draft.old.settings draft.old.facts session seen.now.name seen.now.state.topic)) }
+    ensures { OnOk result (draft.new ≡ grown draft.old (topic_shown draft.old.settings
+        draft.old.facts session seen.now.name seen.now.state.topic)) }
 {
     let channel = seen.name().clone()?;
     match seen.state().topic() {
@@ -60,7 +62,8 @@ fn shown_topic(
     seen: &Seen,
     text: &Octets,
 ) -> Result<Line, AllocError>
-    ensures { IfOk result (λ l. l ≡ topic_line (prefix draft.now.facts session) seen.now.name text.now) }
+    ensures { IfOk result
+        (λ l. l ≡ topic_line (prefix draft.now.facts session) seen.now.name text.now) }
 {
     let from = prefix_of(draft, session)?;
     topic_line(
@@ -74,7 +77,8 @@ fn shown_topic(
 /// The topic of a channel is set.
 fn change_topic(draft: &mut Draft, seen: &Seen, text: &Octets) -> Result<(), AllocError>
     requires { IsSeen draft.old.facts seen.now }
-    ensures { OnOk result (draft.new ≡ grown draft.old (Establish (Changed seen.now.name (TopicSet (topic_of text.now))) ∷ [])) }
+    ensures { OnOk result (draft.new
+        ≡ grown draft.old (Establish (Changed seen.now.name (TopicSet (topic_of text.now))) ∷ [])) }
 {
     let topic = topic_of(text)?;
     draft.establish_change(seen, Change::TopicSet { topic })
@@ -89,7 +93,8 @@ fn put_topic(
     text: &Octets,
 ) -> Result<(), AllocError>
     requires { IsSeen draft.old.facts seen.now }
-    ensures { OnOk result (draft.new ≡ grown draft.old (sets_topic draft.old.facts session seen.now text.now)) }
+    ensures { OnOk result
+        (draft.new ≡ grown draft.old (sets_topic draft.old.facts session seen.now text.now)) }
 {
     let line = shown_topic(draft, session, seen, text)?;
     change_topic(draft, seen, text)?;
@@ -105,7 +110,8 @@ fn put_topic_if_it_may(
     text: &Octets,
 ) -> Result<(), AllocError>
     requires { IsSeen draft.old.facts seen.now }
-    ensures { OnOk result (draft.new ≡ grown draft.old (topic_served draft.old.settings draft.old.facts session seen.now (Some text.now))) }
+    ensures { OnOk result (draft.new ≡ grown draft.old
+        (topic_served draft.old.settings draft.old.facts session seen.now (Some text.now))) }
 {
     if seen.state().modes().topic_locked && !seen.state().is_operator(session) {
         return deny(draft, session, Denial::ChanOPrivsNeeded, seen.name());
@@ -123,7 +129,8 @@ fn serve_topic(
     text: &Option<Octets>,
 ) -> Result<(), AllocError>
     requires { IsSeen draft.old.facts seen.now }
-    ensures { OnOk result (draft.new ≡ grown draft.old (topic_served draft.old.settings draft.old.facts session seen.now text.now)) }
+    ensures { OnOk result (draft.new ≡ grown draft.old
+        (topic_served draft.old.settings draft.old.facts session seen.now text.now)) }
 {
     match text {
         Some(text) => put_topic_if_it_may(draft, session, seen, text),
@@ -139,7 +146,8 @@ fn serve_seen(
     text: &Option<Octets>,
 ) -> Result<(), AllocError>
     requires { IsSeen draft.old.facts seen.now }
-    ensures { OnOk result (draft.new ≡ grown draft.old (topics_seen draft.old.settings draft.old.facts session [] text.now (Some seen.now))) }
+    ensures { OnOk result (draft.new ≡ grown draft.old
+        (topics_seen draft.old.settings draft.old.facts session [] text.now (Some seen.now))) }
 {
     if !seen.state().has(session) {
         return deny(draft, session, Denial::NotOnChannel, seen.name());
@@ -154,7 +162,8 @@ pub fn set_topic(
     channel: &Octets,
     text: &Option<Octets>,
 ) -> Result<(), AllocError>
-    ensures { OnOk result (draft.new ≡ grown draft.old (topics draft.old.settings draft.old.facts session channel.now text.now)) }
+    ensures { OnOk result (draft.new ≡ grown draft.old
+        (topics draft.old.settings draft.old.facts session channel.now text.now)) }
 {
     match channel_of(draft, channel)? {
         Some(seen) => serve_seen(draft, session, &seen, text),

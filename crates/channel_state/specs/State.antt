@@ -1,4 +1,5 @@
--- A channel: who is on it and with which rank, its modes, topic and bans, and who is invited: RFC 2811, sections 2 to 4.
+-- A channel: who is on it and with which rank, its modes, topic and bans, and who is invited: RFC 2811, sections 2
+-- to 4.
 use Rattle.std.specs.Prelude.{ℕ, Bool, true, false, not, ◌==◌, cond, List, [], ◌∷◌, ◌++◌, filter, Option, None}
 use Rattle.std.specs.List.{list_any}
 use Rattle.casemapping.specs.Fold.{is_same}
@@ -8,7 +9,8 @@ use Rattle.channel_state.specs.declared.modes.Flag.TheVariants.{InviteOnly, Mode
 use Rattle.channel_state.specs.declared.modes.Modes.{Modes}
 use Rattle.channel_state.specs.declared.change.Rank.TheVariants.{Operator, Voice}
 use Rattle.channel_state.specs.declared.change.Change.{Change}
-use Rattle.channel_state.specs.declared.change.Change.TheVariants.{Joined, Left, RankSet, FlagSet, KeySet, LimitSet, TopicSet, BanSet, BanLifted, Invited}
+use Rattle.channel_state.specs.declared.change.Change.TheVariants.{Joined, Left, RankSet, FlagSet, KeySet, LimitSet}
+use Rattle.channel_state.specs.declared.change.Change.TheVariants.{TopicSet, BanSet, BanLifted, Invited}
 
 pub record State : Type 0 where
   -- sessions, in the order of joining
@@ -46,7 +48,15 @@ ranked t on ts = cond on (with_last t ts) (without t ts)
 -- ---- modes
 
 abbrev pub no_modes : Modes
-no_modes = record { invite_only = false; moderated = false; no_outside = false; secret = false; topic_locked = false; key = None; limit = None }
+no_modes = record {
+  invite_only = false;
+  moderated = false;
+  no_outside = false;
+  secret = false;
+  topic_locked = false;
+  key = None;
+  limit = None;
+}
 
 -- whether a flag is set
 abbrev pub is_set : Flag → Modes → Bool
@@ -68,11 +78,25 @@ flagged TopicLocked on m = record m { topic_locked = on }
 
 -- one that isn't there: nobody is on it
 abbrev pub nothing : State
-nothing = record { members = []; operators = []; voices = []; invited = []; pardoned = []; modes = no_modes; topic = None; bans = [] }
+nothing = record {
+  members = [];
+  operators = [];
+  voices = [];
+  invited = [];
+  pardoned = [];
+  modes = no_modes;
+  topic = None;
+  bans = [];
+}
 
--- one that a session made: it is its operator, and the channel is closed to texts from outside, with a topic for operators
+-- one that a session made: it is its operator, and the channel is closed to texts from outside, with a topic for
+-- operators
 abbrev pub made_by : ℕ → State
-made_by t = record nothing { members = t ∷ []; operators = t ∷ []; modes = record no_modes { no_outside = true; topic_locked = true } }
+made_by t = record nothing {
+  members = t ∷ [];
+  operators = t ∷ [];
+  modes = record no_modes { no_outside = true; topic_locked = true };
+}
 
 -- whether a ban fits a source, nick!user@host
 abbrev pub is_banned : State → List ℕ → Bool
@@ -84,7 +108,11 @@ uninvited t k = record k { invited = without t k.invited; pardoned = without t k
 
 -- a session is on it no more, and has no rank there
 abbrev pub left_by : ℕ → State → State
-left_by t k = record k { members = without t k.members; operators = without t k.operators; voices = without t k.voices }
+left_by t k = record k {
+  members = without t k.members;
+  operators = without t k.operators;
+  voices = without t k.voices;
+}
 
 -- what a change makes of it. Who joins uses its invitation up
 abbrev pub changed : Change → State → State
@@ -98,7 +126,10 @@ changed (LimitSet limit) k = record k { modes = record k.modes { limit = limit }
 changed (TopicSet topic) k = record k { topic = topic }
 changed (BanSet mask) k = record k { bans = k.bans ++ mask ∷ [] }
 changed (BanLifted mask) k = record k { bans = filter (λ m. not (is_same m mask)) k.bans }
-changed (Invited t by_operator) k = record k { invited = with_last t k.invited; pardoned = ranked t by_operator k.pardoned }
+changed (Invited t by_operator) k = record k {
+  invited = with_last t k.invited;
+  pardoned = ranked t by_operator k.pardoned;
+}
 
 -- a session is gone from it
 abbrev pub departed : ℕ → State → State

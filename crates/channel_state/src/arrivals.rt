@@ -68,7 +68,8 @@ impl Turns {
 
     /// A session comes, after all others. It takes no memory: where there is no room for it all are forgotten.
     fn add(&mut self, session: SessionId)
-        ensures { 0 < length self.new → (t : ℕ) → has_come self.new t ≡ (session == t || has_come self.old t) }
+        ensures { 0 < length self.new → (t : ℕ) → has_come self.new t
+            ≡ (session == t || has_come self.old t) }
     {
         if self.turns.len() == self.turns.capacity() {
             self.turns.clear();
@@ -80,7 +81,8 @@ impl Turns {
 
     /// A session goes. It takes no memory.
     fn remove(&mut self, session: SessionId)
-        ensures others { (t : ℕ) → has_come self.new t ≡ cond (session == t) false (has_come self.old t) }
+        ensures others { (t : ℕ) → has_come self.new t
+            ≡ cond (session == t) false (has_come self.old t) }
         ensures count { length self.new ≤ length self.old }
     {
         self.turns.swap_remove(&session.number());
@@ -158,10 +160,11 @@ impl Arrivals {
         }
     }
 
-    /// A session comes, after all others, where anybody came before. It takes no memory: where there is no room for it all are
-    /// forgotten.
+    /// A session comes, after all others, where anybody came before. It takes no memory: where there is no room for
+    /// it all are forgotten.
     pub(crate) fn add(&mut self, session: SessionId)
-        ensures { 0 < length self.new → (t : ℕ) → has_come self.new t ≡ (session == t || has_come self.old t) }
+        ensures { 0 < length self.new → (t : ℕ) → has_come self.new t
+            ≡ (session == t || has_come self.old t) }
     {
         if let Some(turns) = &mut self.turns {
             turns.add(session);
@@ -170,7 +173,8 @@ impl Arrivals {
 
     /// A session goes. It takes no memory.
     pub(crate) fn remove(&mut self, session: SessionId)
-        ensures others { (t : ℕ) → has_come self.new t ≡ cond (session == t) false (has_come self.old t) }
+        ensures others { (t : ℕ) → has_come self.new t
+            ≡ cond (session == t) false (has_come self.old t) }
         ensures count { length self.new ≤ length self.old }
     {
         if let Some(turns) = &mut self.turns {

@@ -1,4 +1,5 @@
-//! How numbers that the server gives are hashed: FNV-1a over their octets, which is quick where these are few, and has no key.
+//! How numbers that the server gives are hashed: FNV-1a over their octets, which is quick where these are few, and
+//! has no key.
 ghost use Rattle.std.specs.Prelude.{◌≡◌};
 
 use std::hash::{BuildHasherDefault, Hasher};

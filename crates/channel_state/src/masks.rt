@@ -21,7 +21,10 @@ impl Model for Masks {
 
     ghost Value = { Rows };
 
-    ghost view = { λ a. record { list = a.masks.items; room = vec_capacity a.masks - vec_len a.masks } };
+    ghost view = { λ a. record {
+      list = a.masks.items;
+      room = vec_capacity a.masks - vec_len a.masks;
+    } };
 }
 
 impl Masks {

@@ -32,7 +32,8 @@ fn take_out(sessions: &mut SmallVec<SessionId, 4>, session: SessionId, place: Op
     }
 }
 
-/// Sessions, in order, and room for more. Few of them take no memory, and are searched; of many it is kept when each came.
+/// Sessions, in order, and room for more. Few of them take no memory, and are searched; of many it is kept when each
+/// came.
 #[derive(Drop)]
 pub(crate) struct Members {
     sessions: SmallVec<SessionId, 4>,
@@ -49,7 +50,10 @@ impl Model for Members {
 
     ghost Value = { Seats };
 
-    ghost view = { λ a. record { list = a.sessions.items; room = a.sessions.capacity - small_vec_len a.sessions } };
+    ghost view = { λ a. record {
+      list = a.sessions.items;
+      room = a.sessions.capacity - small_vec_len a.sessions;
+    } };
 
     ghost invariant = { λ a. AreKept a.sessions.items a.arrivals };
 }

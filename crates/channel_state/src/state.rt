@@ -1,6 +1,7 @@
 //! A channel (RFC 2811, sections 2 to 4).
 ghost use Rattle.std.specs.Prelude.{◌≡◌, ◌-◌, ◌<◌, ◌≤◌, option_copied, IfOk, OnOk, OnErr};
-ghost use Rattle.channel_state.specs.State.{among, changed, departed, is_banned, is_some_one, lasting, left_by, made_by, nothing, uninvited};
+ghost use Rattle.channel_state.specs.State.{among, changed, departed, is_banned, is_some_one};
+ghost use Rattle.channel_state.specs.State.{lasting, left_by, made_by, nothing, uninvited};
 
 use crate::masks::Masks;
 use crate::members::Members;
@@ -31,9 +32,23 @@ impl Model for ChannelState {
 
     ghost Value = { Held };
 
-    ghost view = { λ a. record { state = record { members = a.members.list; operators = a.operators.list; voices = a.voices.list; invited = a.invited.list; pardoned = a.pardoned.list; modes = a.modes; topic = a.topic; bans = a.bans.list }; room = a.room } };
+    ghost view = { λ a. record {
+      state = record {
+        members = a.members.list;
+        operators = a.operators.list;
+        voices = a.voices.list;
+        invited = a.invited.list;
+        pardoned =
+            a.pardoned.list;
+        modes = a.modes;
+        topic = a.topic;
+        bans = a.bans.list;
+      };
+      room = a.room;
+    } };
 
-    ghost invariant = { λ a. HaveRoom a.members a.operators a.voices a.invited a.pardoned a.bans a.room };
+    ghost invariant = { λ a. HaveRoom a.members a.operators a.voices a.invited a.pardoned
+        a.bans a.room };
 }
 
 impl ChannelState {
@@ -66,7 +81,12 @@ impl ChannelState {
 
     /// Has the sessions of another channel in the place of its own.
     fn copy_sessions(&mut self, other: &ChannelState) -> Result<(), AllocError>
-        ensures { OnOk result (self.new.state ≡ record other.now.state { modes = self.old.state.modes; topic = self.old.state.topic; bans = self.old.state.bans }) }
+        ensures { OnOk result (self.new.state ≡ record other.now.state {
+          modes =
+              self.old.state.modes;
+          topic = self.old.state.topic;
+          bans = self.old.state.bans;
+        }) }
     {
         self.room = 0;
         self.members = other.members.copied()?;
@@ -79,7 +99,12 @@ impl ChannelState {
 
     /// Has the modes, the topic and the bans of another channel in the place of its own.
     fn copy_settings(&mut self, other: &ChannelState) -> Result<(), AllocError>
-        ensures { OnOk result (self.new.state ≡ record self.old.state { modes = other.now.state.modes; topic = other.now.state.topic; bans = other.now.state.bans }) }
+        ensures { OnOk result (self.new.state ≡ record self.old.state {
+          modes =
+              other.now.state.modes;
+          topic = other.now.state.topic;
+          bans = other.now.state.bans;
+        }) }
     {
         self.room = 0;
         self.modes = other.modes.clone()?;

@@ -2,16 +2,19 @@
 use Rattle.std.proofs.Common.{arith, ◌≡◌, ℕ, ◌+◌, ◌-◌, ◌^◌, ◌<◌, ◌≤◌, min}
 use Rattle.chronicle.specs.Journal.{most}
 
-pub most_capped : (limit dropped : ℕ) → dropped ≤ 2 ^ 60 → 2 ^ 60 - dropped < limit → 2 ^ 60 ≡ most (record { records = limit; dropped = dropped })
+pub most_capped : (limit dropped : ℕ) → dropped ≤ 2 ^ 60 → 2 ^ 60 - dropped < limit
+    → 2 ^ 60 ≡ most (record { records = limit; dropped = dropped })
 unfolding most
 most_capped limit dropped h few = omega arith
 
-pub most_free : (limit dropped : ℕ) → dropped ≤ 2 ^ 60 → limit ≤ 2 ^ 60 - dropped → dropped + limit ≡ most (record { records = limit; dropped = dropped })
+pub most_free : (limit dropped : ℕ) → dropped ≤ 2 ^ 60 → limit ≤ 2 ^ 60 - dropped
+    → dropped + limit ≡ most (record { records = limit; dropped = dropped })
 unfolding most
 most_free limit dropped h few = omega arith
 
 -- what is kept within the limit is within it
-pub most_enough : (limit dropped kept : ℕ) → kept ≤ limit → dropped + kept ≤ 2 ^ 60 → dropped + kept ≤ most (record { records = limit; dropped = dropped })
+pub most_enough : (limit dropped kept : ℕ) → kept ≤ limit → dropped + kept ≤ 2 ^ 60
+    → dropped + kept ≤ most (record { records = limit; dropped = dropped })
 unfolding most
 most_enough limit dropped kept h k = omega arith
 
@@ -20,27 +23,34 @@ pub most_low : (limit dropped : ℕ) → most (record { records = limit; dropped
 unfolding most
 most_low limit dropped = omega arith
 
-pub most_kept : (limit dropped kept : ℕ) → dropped + kept < most (record { records = limit; dropped = dropped }) → kept < limit
+pub most_kept : (limit dropped kept : ℕ) → dropped + kept < most (record { records = limit; dropped = dropped })
+    → kept < limit
 unfolding most
 most_kept limit dropped kept h = omega arith
 
 -- room for one less after one more record
-pub room_less : (free' free m n : ℕ) → free' + 1 ≡ free → 0 < min free (m - n) → min free' (m - (n + 1)) + 1 ≡ min free (m - n)
+pub room_less : (free' free m n : ℕ) → free' + 1 ≡ free → 0 < min free (m - n)
+    → min free' (m - (n + 1)) + 1 ≡ min free (m - n)
 room_less free' free m n e h = omega arith
 
 room_there : (free m n : ℕ) → 0 < min free (m - n) → n < m
 room_there free m n h = omega arith
 
 -- where there is room for a record, it is within the limits
-pub room_kept : (free limit dropped kept : ℕ) → 0 < min free (most (record { records = limit; dropped = dropped }) - (dropped + kept)) → kept < limit
-room_kept free limit dropped kept h = most_kept limit dropped kept (room_there free (most (record { records = limit; dropped = dropped })) (dropped + kept) h)
+pub room_kept : (free limit dropped kept : ℕ)
+    → 0 < min free (most (record { records = limit; dropped = dropped }) - (dropped + kept)) → kept < limit
+room_kept free limit dropped kept h = most_kept limit dropped kept
+    (room_there free (most (record { records = limit; dropped = dropped })) (dropped + kept) h)
 
-pub room_low : (free limit dropped kept : ℕ) → 0 < min free (most (record { records = limit; dropped = dropped }) - (dropped + kept)) → dropped + kept < 2 ^ 60
+pub room_low : (free limit dropped kept : ℕ) → 0
+    < min free (most (record { records = limit; dropped = dropped }) - (dropped + kept)) → dropped + kept < 2 ^ 60
 room_low free limit dropped kept h =
     let n = room_there free (most (record { records = limit; dropped = dropped })) (dropped + kept) h in
     omega (arith, n, most_low limit dropped)
 
 -- and no less after all were dropped
-pub room_cut : (free free' limit dropped kept new none : ℕ) → free ≤ free' → new ≡ dropped + kept → none ≡ 0 → min free (most (record { records = limit; dropped = dropped }) - (dropped + kept)) ≤ min free' (most (record { records = limit; dropped = new }) - (new + none))
+pub room_cut : (free free' limit dropped kept new none : ℕ) → free ≤ free' → new ≡ dropped + kept
+    → none ≡ 0 → min free (most (record { records = limit; dropped = dropped }) - (dropped + kept))
+    ≤ min free' (most (record { records = limit; dropped = new }) - (new + none))
 unfolding most
 room_cut free free' limit dropped kept new none c e n = omega arith

@@ -1,5 +1,6 @@
 -- Records and which histories are legal: this project's own journal. A history is a list of records, the newest first.
-use Rattle.std.specs.Prelude.{◌≡◌, ℕ, ℤ, pos, ◌≤ℤ◌, ◌+◌, ◌<◌, ◌≤◌, Bool, true, false, ◌||◌, ◌&&◌, ◌==◌, cond, List, [], ◌∷◌, ◌++◌, length, codes, Option, Some, None}
+use Rattle.std.specs.Prelude.{◌≡◌, ℕ, ℤ, pos, ◌≤ℤ◌, ◌+◌, ◌<◌, ◌≤◌, Bool, true, false, ◌||◌, ◌&&◌, ◌==◌}
+use Rattle.std.specs.Prelude.{cond, List, [], ◌∷◌, ◌++◌, length, codes, Option, Some, None}
 use Rattle.std.specs.Str.{str_eq_ignore_ascii_case}
 use Rattle.std.specs.List.{list_any}
 use Rattle.line_grammar.specs.declared.message.Message.{Message}
@@ -21,7 +22,8 @@ pub record Rec : Type 0 where
 abbrev pub rec_of : Record → Rec
 rec_of r = record { number = r.number; moment = r.moment; kind = r.kind; missed = r.missed.items }
 
--- a moment that a record may have after one of the moment `last`: from 1970 to the end of the year 9998, and never earlier
+-- a moment that a record may have after one of the moment `last`: from 1970 to the end of the year 9998, and never
+-- earlier
 pub record IsMomentAfter (last moment : ℤ) : Type 0 where
   pub from_1970 : pos 0 ≤ℤ moment
   pub to_9998 : moment ≤ℤ pos 253370764799999

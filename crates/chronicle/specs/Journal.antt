@@ -1,5 +1,6 @@
 -- What clauses see of a journal: the history, how much of it was dropped, and the room that was made.
-use Rattle.std.specs.Prelude.{◌≡◌, ℕ, ℤ, ◌+◌, ◌-◌, ◌^◌, ◌≤◌, List, [], ◌∷◌, ◌++◌, length, map, reverse, min, slice_get, nat_le, cond, Option, Some, None}
+use Rattle.std.specs.Prelude.{◌≡◌, ℕ, ℤ, ◌+◌, ◌-◌, ◌^◌, ◌≤◌, List, [], ◌∷◌, ◌++◌, length, map}
+use Rattle.std.specs.Prelude.{reverse, min, slice_get, nat_le, cond, Option, Some, None}
 use Rattle.std.specs.Borrow.{Bor}
 use Rattle.chronicle.specs.declared.record.Kind.{Kind}
 use Rattle.chronicle.specs.declared.record.Record.{Record}
@@ -15,8 +16,8 @@ pub record Limit : Type 0 where
 unfoldable pub most : Limit → ℕ
 most l = min (l.dropped + l.records) (2 ^ 60)
 
--- all records, the newest first, and how many may be kept; how many more may be appended without memory; how many sessions may
--- miss the next record without memory, and how many more the newest
+-- all records, the newest first, and how many may be kept; how many more may be appended without memory; how many
+-- sessions may miss the next record without memory, and how many more the newest
 pub record Shown : Type 0 where
   pub history : List Rec
   pub limit : Limit
@@ -48,7 +49,8 @@ pub record IsRoomier (old new : Shown) : Type 0 where
 abbrev pub fresh_record : List Rec → ℤ → Kind → Rec
 fresh_record h m k = record { number = length h + 1; moment = m; kind = k; missed = [] }
 
--- a record that nobody missed was appended, in room for one record; what was prepared is the room for those who miss it
+-- a record that nobody missed was appended, in room for one record; what was prepared is the room for those who miss
+-- it
 pub record Appends (old new : Shown) (m : ℤ) (k : Kind) : Type 0 where
   pub history : new.history ≡ fresh_record old.history m k ∷ old.history
   pub limit : new.limit ≡ old.limit
@@ -79,6 +81,7 @@ abbrev pub record_at : Option (Bor Record) → Option Rec
 record_at None = None
 record_at (Some r) = Some (rec_of r.now)
 
--- the record of this number, unless it is one of those that were dropped: in the order of their numbers, the first is number 1
+-- the record of this number, unless it is one of those that were dropped: in the order of their numbers, the first
+-- is number 1
 abbrev pub numbered : List Rec → ℕ → ℕ → Option Rec
 numbered h dropped n = cond (nat_le n dropped) None (slice_get (reverse h) (n - 1))

@@ -1,5 +1,7 @@
--- Since when a session is quiet, and whether it was pinged since: this project's own, with PING of RFC 2812, section 3.7.2.
-use Rattle.std.specs.Prelude.{ℕ, ℤ, pos, ◌+ℤ◌, int_le, Bool, true, false, not, ◌&&◌, ◌||◌, ◌==◌, cond, List, [], ◌∷◌, Option, Some, None}
+-- Since when a session is quiet, and whether it was pinged since: this project's own, with PING of RFC 2812, section
+-- 3.7.2.
+use Rattle.std.specs.Prelude.{ℕ, ℤ, pos, ◌+ℤ◌, int_le, Bool, true, false, not, ◌&&◌, ◌||◌}
+use Rattle.std.specs.Prelude.{◌==◌, cond, List, [], ◌∷◌, Option, Some, None}
 use Rattle.chronicle.specs.declared.record.Kind.{Kind}
 use Rattle.chronicle.specs.declared.record.Kind.TheVariants.{Opened, Said, Hung, Gone, Ticked}
 use Rattle.chronicle.specs.History.{Rec, shut}

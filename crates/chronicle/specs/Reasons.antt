@@ -1,7 +1,9 @@
--- Why a session ended: this project's own reasons, which ERROR and QUIT lines tell (RFC 2812, sections 3.1.7 and 3.7.4).
+-- Why a session ended: this project's own reasons, which ERROR and QUIT lines tell (RFC 2812, sections 3.1.7 and
+-- 3.7.4).
 use Rattle.std.specs.Prelude.{ℕ, List, codes}
 use Rattle.chronicle.specs.declared.why.Why.{Why}
-use Rattle.chronicle.specs.declared.why.Why.TheVariants.{Quit, SendQ, ReadEnded, ReadFailed, WriteFailed, Memory, Shutdown, PingTimeout}
+use Rattle.chronicle.specs.declared.why.Why.TheVariants.{Quit, SendQ, ReadEnded, ReadFailed, WriteFailed}
+use Rattle.chronicle.specs.declared.why.Why.TheVariants.{Memory, Shutdown, PingTimeout}
 
 -- the word of a script
 abbrev pub word : Why → List ℕ

@@ -43,7 +43,8 @@ impl Change<Past, Kept> for Drops {
     ghost changed = { with_kept };
 }
 
-/// A list of records with a limit. Room for a record, and for the sessions that miss it, is made before it is appended.
+/// A list of records with a limit. Room for a record, and for the sessions that miss it, is made before it is
+/// appended.
 #[derive(Drop)]
 pub struct Journal {
     /// Those that weren't dropped.
@@ -64,9 +65,20 @@ impl Model for Journal {
 
     ghost Value = { Shown };
 
-    ghost view = { λ a. record { history = history_of a.records.items a.past.value; limit = record { records = a.limit; dropped = a.dropped }; room = min a.records.free (most (record { records = a.limit; dropped = a.dropped }) - (a.dropped + length a.records.items)); prepared = a.prepared.capacity - length a.prepared.items; left = room_left (reverse a.records.items) } };
+    ghost view = { λ a. record {
+      history = history_of a.records.items a.past.value;
+      limit = record { records = a.limit; dropped = a.dropped };
+      room = min a.records.free (most (record { records = a.limit; dropped = a.dropped })
+          - (a.dropped + length a.records.items));
+      prepared = a.prepared.capacity
+          - length a.prepared.items;
+      left = room_left (reverse a.records.items);
+    } };
 
-    ghost invariant = { λ a. (length a.records.items ≤ a.limit) × (a.dropped + length a.records.items ≤ 2 ^ 60) × (a.dropped ≡ length a.past.value) × (a.last ≡ last_moment (history_of a.records.items a.past.value)) × (a.prepared.items ≡ []) × (1 ≤ a.prepared.capacity) };
+    ghost invariant = { λ a. (length a.records.items ≤ a.limit)
+        × (a.dropped + length a.records.items ≤ 2 ^ 60) × (a.dropped ≡ length a.past.value)
+        × (a.last ≡ last_moment (history_of a.records.items a.past.value)) × (a.prepared.items ≡ [])
+        × (1 ≤ a.prepared.capacity) };
 }
 
 impl Journal {
@@ -75,7 +87,8 @@ impl Journal {
 
     /// An empty journal that keeps at most `limit` records.
     pub fn with_limit(alloc: Global, limit: usize) -> Result<Journal, AllocError>
-        ensures { IfOk result (λ j. (j.history ≡ []) × (j.limit ≡ record { records = limit; dropped = 0 })) }
+        ensures { IfOk result
+            (λ j. (j.history ≡ []) × (j.limit ≡ record { records = limit; dropped = 0 })) }
     {
         Ok(Journal {
             records: Kept::new(alloc),
@@ -103,7 +116,8 @@ impl Journal {
     pub fn reserve(&mut self, records: usize, missed: usize) -> Result<(), JournalRefusal>
         ensures same { IsRoomier self.old self.new }
         ensures ok { OnOk result ((records ≤ self.new.room) × (missed ≤ self.new.prepared)) }
-        ensures full { IsErrOf result JournalRefusal.Full ↔ (most self.old.limit < length self.old.history + records) }
+        ensures full { IsErrOf result JournalRefusal.Full
+            ↔ (most self.old.limit < length self.old.history + records) }
     {
         if self.most() - self.newest() < records {
             return Err(JournalRefusal::Full);
@@ -117,7 +131,8 @@ impl Journal {
         Ok(())
     }
 
-    /// Appends a record that nobody missed, in room that was made before. It takes no memory, and one session may always miss it.
+    /// Appends a record that nobody missed, in room that was made before. It takes no memory, and one session may
+    /// always miss it.
     pub fn append(&mut self, moment: Moment, kind: Kind) -> RecordNumber
         requires { 0 < self.old.room }
         ensures number { result ≡ length self.old.history + 1 }

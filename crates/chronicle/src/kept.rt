@@ -8,8 +8,8 @@ use crate::{Record, SessionId};
 use std::alloc::{AllocError, Global};
 use std::marker::Model;
 
-/// Records in order, and room for more. One that was dropped is still there until a new one takes its room, so dropping all of them takes
-/// no longer than dropping one.
+/// Records in order, and room for more. One that was dropped is still there until a new one takes its room, so
+/// dropping all of them takes no longer than dropping one.
 #[derive(Drop)]
 pub(crate) struct Kept {
     records: Vec<Record>,
@@ -23,9 +23,13 @@ impl Model for Kept {
 
     ghost Value = { Row };
 
-    ghost view = { λ a. record { items = take a.count a.records.items; free = vec_capacity a.records - a.count } };
+    ghost view = { λ a. record {
+      items = take a.count a.records.items;
+      free = vec_capacity a.records - a.count;
+    } };
 
-    ghost invariant = { λ a. (a.count ≤ vec_len a.records) × (vec_len a.records ≤ vec_capacity a.records) };
+    ghost invariant = { λ a. (a.count ≤ vec_len a.records)
+        × (vec_len a.records ≤ vec_capacity a.records) };
 }
 
 impl Kept {
@@ -76,7 +80,8 @@ impl Kept {
     /// Notes that a session missed the newest of them, in room that was made before.
     pub(crate) fn miss(&mut self, session: SessionId)
         requires { 0 < room_left (reverse self.old.items) }
-        ensures missed { map rec_of (reverse self.new.items) ≡ miss (map rec_of (reverse self.old.items)) session }
+        ensures missed { map rec_of (reverse self.new.items)
+            ≡ miss (map rec_of (reverse self.old.items)) session }
         ensures count { length self.new.items ≡ length self.old.items }
         ensures room { room_left (reverse self.new.items) + 1 ≡ room_left (reverse self.old.items) }
         ensures free { self.new.free ≡ self.old.free }

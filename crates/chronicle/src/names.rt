@@ -3,7 +3,8 @@ ghost use Rattle.std.specs.Prelude.{◌≡◌};
 
 use std::marker::Model;
 
-/// The number of a session. Sessions are numbered from 1 in the order in which they were opened; the default, 0, is no session's.
+/// The number of a session. Sessions are numbered from 1 in the order in which they were opened; the default, 0, is
+/// no session's.
 #[derive(Clone, Copy, Debug, Default, PartialEq, Eq)]
 pub struct SessionId {
     number: u64,

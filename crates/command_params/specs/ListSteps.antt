@@ -16,7 +16,8 @@ others_of (text ∷ texts) = texts
 
 -- one more, unless its name is empty or there already
 abbrev pub with_one : {X : Type 0} → (X → List ℕ) → List X → X → List X
-with_one name found x = cond (is_empty (name x) || list_any (λ y. is_same (name y) (name x)) found) found (found ++ x ∷ [])
+with_one name found x = cond (is_empty (name x) || list_any (λ y. is_same (name y) (name x)) found) found
+    (found ++ x ∷ [])
 
 abbrev pub with_name : List (List ℕ) → List ℕ → List (List ℕ)
 with_name = with_one (λ name. name)

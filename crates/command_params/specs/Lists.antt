@@ -1,5 +1,6 @@
--- Lists in one parameter: RFC 2812, section 2.3.1 (names are parted by commas), and IRCv3 Capability Negotiation (words are parted by spaces).
--- Empty names, and what repeats a name in either case, are left out (this project's own choice).
+-- Lists in one parameter: RFC 2812, section 2.3.1 (names are parted by commas), and IRCv3 Capability Negotiation
+-- (words are parted by spaces). Empty names, and what repeats a name in either case, are left out (this project's
+-- own choice).
 use Rattle.std.specs.Prelude.{ℕ, Bool, not, ◌==◌, List, [], ◌∷◌, filter, Option, Some, None}
 use Rattle.std.specs.List.{slice_split}
 use Rattle.casemapping.specs.Fold.{is_same}
@@ -35,7 +36,8 @@ paired (channel ∷ channels) (key ∷ keys) = record { channel = channel; key =
 -- the channels to join, with their keys: the places in both lists are counted before any name is left out
 abbrev pub targets_of : List ℕ → List ℕ → List JoinTarget
 targets_of channels keys =
-    distinct (λ target. target.channel) (filter (λ target. is_present target.channel) (paired (slice_split is_comma channels) (slice_split is_comma keys)))
+    distinct (λ target. target.channel) (filter (λ target. is_present target.channel)
+    (paired (slice_split is_comma channels) (slice_split is_comma keys)))
 
 -- the words between spaces
 abbrev pub words_of : List ℕ → List (List ℕ)

@@ -1,5 +1,6 @@
 //! Lists in one parameter (RFC 2812, section 2.3.1; IRCv3 Capability Negotiation).
-ghost use Rattle.std.specs.Prelude.{◌≡◌, ◌↔◌, ◌==◌, ◌&&◌, ◌++◌, ◌∷◌, ◌+◌, ◌<◌, [], length, not, cond, position, IfOk, OnOk, IsTrue};
+ghost use Rattle.std.specs.Prelude.{◌≡◌, ◌↔◌, ◌==◌, ◌&&◌, ◌++◌, ◌∷◌, ◌+◌, ◌<◌, [], length};
+ghost use Rattle.std.specs.Prelude.{not, cond, position, IfOk, OnOk, IsTrue};
 ghost use Rattle.std.specs.List.{slice_split, list_any};
 ghost use Rattle.casemapping.specs.Fold.{is_same};
 ghost use Rattle.line_grammar.specs.Parts.{is_empty, octets_left, parts, parts_left};
@@ -60,7 +61,8 @@ fn add_target(
     channel: &[u8],
     key: &[u8],
 ) -> Result<(), AllocError>
-    ensures { OnOk result (targets.new.items ≡ with_target targets.old.items (record { channel = channel.now; key = key.now })) }
+    ensures { OnOk result (targets.new.items
+        ≡ with_target targets.old.items (record { channel = channel.now; key = key.now })) }
 {
     if !channel.is_empty() && !is_target(targets, channel) {
         let channel = Octets::copied(alloc, channel)?;

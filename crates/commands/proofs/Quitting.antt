@@ -1,5 +1,6 @@
 -- A command asks to quit exactly where the piece does from which it is read.
-use Rattle.std.proofs.Common.{◌≡◌, ℕ, Bool, true, false, ◌&&◌, cond, List, [], ◌∷◌, codes, Option, Some, None, Result, Ok, Err, refl, inl, inr}
+use Rattle.std.proofs.Common.{◌≡◌, ℕ, Bool, true, false, ◌&&◌, cond, List, [], ◌∷◌, codes}
+use Rattle.std.proofs.Common.{Option, Some, None, Result, Ok, Err, refl, inl, inr}
 use Rattle.std.specs.List.{find, list_all}
 use Rattle.std.specs.Str.{str_eq_ignore_ascii_case}
 use Rattle.std.proofs.lemmas.Bool.{cases_Bool}
@@ -17,8 +18,10 @@ use Rattle.commands.specs.declared.command.Command.{Command}
 use Rattle.commands.specs.declared.command.Command.TheVariants as topic
 use Rattle.session_commands.specs.declared.session.SessionCommand.{SessionCommand}
 use Rattle.session_commands.specs.declared.session.SessionName.{SessionName}
-use Rattle.session_commands.specs.declared.session.SessionName.TheVariants.{Cap, Authenticate, Pass, Nick, User, Ping, Pong, Quit}
-use Rattle.session_commands.specs.Session.{user_name, cap_req, cap_subcommand, user_command, named_or_not, session_named, session_of, session_text}
+use Rattle.session_commands.specs.declared.session.SessionName.TheVariants.{Cap, Authenticate, Pass, Nick, User}
+use Rattle.session_commands.specs.declared.session.SessionName.TheVariants.{Ping, Pong, Quit}
+use Rattle.session_commands.specs.Session.{user_name, cap_req, cap_subcommand, user_command}
+use Rattle.session_commands.specs.Session.{named_or_not, session_named, session_of, session_text}
 use Rattle.channel_commands.specs.Channel.{channel_command_of}
 use Rattle.mode_commands.specs.Modes.{mode_of}
 use Rattle.talk_commands.specs.Talk.{talk_of}
@@ -31,7 +34,9 @@ is_quit_read r = asks_for_quit (read_as r)
 
 -- ---- topics without QUIT
 
-by_other : {K : Type 0} (topic : K → Command) (o : Option (Result K ReadFault)) (other : Result Command ReadFault) → ((k : K) → is_quit_command (topic k) ≡ false) → is_quit_read other ≡ false → is_quit_read (by_name topic o other) ≡ false
+by_other : {K : Type 0} (topic : K → Command) (o : Option (Result K ReadFault)) (other : Result Command ReadFault)
+    → ((k : K) → is_quit_command (topic k) ≡ false) → is_quit_read other ≡ false
+    → is_quit_read (by_name topic o other) ≡ false
 by_other topic None other never e = e
 by_other topic (Some (Ok k)) other never e = never k
 by_other topic (Some (Err fault)) other never e = refl
@@ -55,7 +60,8 @@ no_quit_elsewhere m =
 abbrev is_quit_of : Result SessionCommand ReadFault → Bool
 is_quit_of r = is_quit_read (as_topic topic.Session r)
 
-either : (b : Bool) (j k : Result SessionCommand ReadFault) → is_quit_of j ≡ false → is_quit_of k ≡ false → is_quit_of (cond b j k) ≡ false
+either : (b : Bool) (j k : Result SessionCommand ReadFault) → is_quit_of j ≡ false → is_quit_of k ≡ false
+    → is_quit_of (cond b j k) ≡ false
 either true j k e f = e
 either false j k e f = f
 
@@ -66,7 +72,8 @@ no_cap_req (list ∷ ps) = refl
 no_cap : (sub : List ℕ) (ps : List (List ℕ)) → is_quit_of (cap_subcommand sub ps) ≡ false
 no_cap sub ps =
     let is : List ℕ → Bool = str_eq_ignore_ascii_case sub in
-    either (is (codes "LS")) _ _ refl (either (is (codes "LIST")) _ _ refl (either (is (codes "REQ")) (cap_req ps) _ (no_cap_req ps) (either (is (codes "END")) _ _ refl refl)))
+    either (is (codes "LS")) _ _ refl (either (is (codes "LIST")) _ _ refl
+    (either (is (codes "REQ")) (cap_req ps) _ (no_cap_req ps) (either (is (codes "END")) _ _ refl refl)))
 
 no_user : (ps : List (List ℕ)) → is_quit_of (user_command ps) ≡ false
 no_user [] = refl
@@ -105,7 +112,8 @@ abbrev by_session : (SessionName → Bool) → Message → List SessionName → 
 by_session p m names = by_name topic.Session (named_or_not (find p names) m.params) (elsewhere m)
 
 -- a search among other names never finds QUIT
-none_found : (p : SessionName → Bool) (m : Message) (names : List SessionName) → list_all is_other names ≡ true → is_quit_read (by_session p m names) ≡ false
+none_found : (p : SessionName → Bool) (m : Message) (names : List SessionName) → list_all is_other names ≡ true
+    → is_quit_read (by_session p m names) ≡ false
 none_found p m [] e = no_quit_elsewhere m
 none_found p m (name ∷ names) e =
     elim (cases_Bool (p name)) [
@@ -113,14 +121,16 @@ none_found p m (name ∷ names) e =
       | inr isnt ↦ rw isnt (none_found p m names (second_true (is_other name) (list_all is_other names) e))
     ]
 
-found_first : (p : SessionName → Bool) (m : Message) (names : List SessionName) → list_all is_other names ≡ true → is_quit_read (by_session p m (Quit ∷ names)) ≡ p Quit
+found_first : (p : SessionName → Bool) (m : Message) (names : List SessionName) → list_all is_other names ≡ true
+    → is_quit_read (by_session p m (Quit ∷ names)) ≡ p Quit
 unfolding session_of
 found_first p m names e =
     elim (cases_Bool (p Quit)) [ inl is ↦ rw is refl | inr isnt ↦ rw isnt (none_found p m names e) ]
 
 quit_read : (m : Message) → is_quit_read (command_of m) ≡ str_eq_ignore_ascii_case m.command (codes "QUIT")
 unfolding command_of session_named
-quit_read m = found_first (λ known. str_eq_ignore_ascii_case m.command (session_text known)) m (Cap ∷ Authenticate ∷ Pass ∷ Nick ∷ User ∷ Ping ∷ Pong ∷ []) refl
+quit_read m = found_first (λ known. str_eq_ignore_ascii_case m.command (session_text known)) m
+    (Cap ∷ Authenticate ∷ Pass ∷ Nick ∷ User ∷ Ping ∷ Pong ∷ []) refl
 
 of_message : (m : Option Message) → asks_for_quit (asked_by m) ≡ asks_to_quit m
 of_message None = refl

@@ -1,4 +1,5 @@
--- What an accepted piece asks for: RFC 2812, section 2.3.1. A line that is too long is told apart (IRCv3 message-tags); what is no message asks for nothing.
+-- What an accepted piece asks for: RFC 2812, section 2.3.1. A line that is too long is told apart (IRCv3
+-- message-tags); what is no message asks for nothing.
 use Rattle.std.specs.Prelude.{Bool, true, false, Option, Some, None, Result, Ok, Err}
 use Rattle.line_grammar.specs.declared.message.Message.{Message}
 use Rattle.line_grammar.specs.declared.splitter.Piece.{Piece}
@@ -9,7 +10,8 @@ use Rattle.commands.specs.declared.asked.Asked.TheVariants.{Nothing, TooLong, Co
 use Rattle.commands.specs.declared.command.Command.{Command}
 use Rattle.commands.specs.declared.command.Command.TheVariants.{Session, Channel, Mode, Talk, Query}
 use Rattle.session_commands.specs.declared.session.SessionCommand.{SessionCommand}
-use Rattle.session_commands.specs.declared.session.SessionCommand.TheVariants.{Cap, Authenticate, Pass, Nick, User, Ping, Pong, Quit}
+use Rattle.session_commands.specs.declared.session.SessionCommand.TheVariants.{Cap, Authenticate, Pass, Nick, User}
+use Rattle.session_commands.specs.declared.session.SessionCommand.TheVariants.{Ping, Pong, Quit}
 use Rattle.command_params.specs.declared.fault.ReadFault.{ReadFault}
 use Rattle.commands.specs.Commands.{command_of}
 

@@ -1,4 +1,5 @@
--- What a message asks for, by its topic: RFC 2812, section 3, IRCv3 Capability Negotiation, SASL 3.1 and message-tags. Each command's checks stand in the order in which they are made.
+-- What a message asks for, by its topic: RFC 2812, section 3, IRCv3 Capability Negotiation, SASL 3.1 and
+-- message-tags. Each command's checks stand in the order in which they are made.
 use Rattle.std.specs.Prelude.{Option, Some, None, Result, Ok, Err}
 use Rattle.line_grammar.specs.declared.message.Message.{Message}
 use Rattle.command_params.specs.declared.fault.ReadFault.{ReadFault}
@@ -17,7 +18,8 @@ as_topic topic (Ok command) = Ok (topic command)
 as_topic topic (Err fault) = Err fault
 
 -- what a topic reads by a name of its own, or else something other
-abbrev pub by_name : {K : Type 0} → (K → Command) → Option (Result K ReadFault) → Result Command ReadFault → Result Command ReadFault
+abbrev pub by_name : {K : Type 0} → (K → Command) → Option (Result K ReadFault) → Result Command ReadFault
+    → Result Command ReadFault
 by_name topic None other = other
 by_name topic (Some read) other = as_topic topic read
 

@@ -18,7 +18,8 @@ use talk_commands::read_talk;
 #[tactic(auto, unfolding(crate::specs::Commands::command_of))]
 pub fn read(alloc: Global, message: LineMessage<'_>) -> Result<Command, ReadFault>
     ensures ok { IfOk result (λ command. command_of message.entry ≡ Ok command) }
-    ensures err { IfErr result (λ fault. (fault ≡ ReadFault.Memory) ⊎ (command_of message.entry ≡ Err fault)) }
+    ensures err { IfErr result
+        (λ fault. (fault ≡ ReadFault.Memory) ⊎ (command_of message.entry ≡ Err fault)) }
     ensures memory { IsErrOf result ReadFault.Memory → IsOk (command_of message.entry) }
 {
     let name = message.command();

@@ -1,4 +1,5 @@
--- What each kind of record does, and so the facts of a history and the lines of a record: RFC 2812, section 3.1 (registration, QUIT).
+-- What each kind of record does, and so the facts of a history and the lines of a record: RFC 2812, section 3.1
+-- (registration, QUIT).
 use Rattle.std.specs.Prelude.{ℕ, ℤ, ◌==◌, cond, List, [], ◌∷◌, map, Option, None}
 use Rattle.commands.specs.Asked.{asked_of}
 use Rattle.registration.specs.declared.settings.Settings.{Settings}
@@ -18,7 +19,8 @@ use Rattle.drafts.specs.Effects.{deeds_of, reply, copies, due}
 use Rattle.deeds.specs.Departure.{departs}
 use Rattle.deeds.specs.Rows.{of_asked}
 
--- what a record does, on a server of these settings. What a tick tells goes by moments, which facts don't have: `told` of what a history owes says it
+-- what a record does, on a server of these settings. What a tick tells goes by moments, which facts don't have:
+-- `told` of what a history owes says it
 abbrev pub effects : Settings → List Deed → Kind → List Effect
 effects g fs (kind.Opened s h) = Establish (Opened s h) ∷ []
 effects g fs (kind.Said s i piece) = of_asked g fs s (asked_of piece)
@@ -40,9 +42,11 @@ abbrev pub label_in : List Deed → Kind → Option (List ℕ)
 label_in fs (kind.Said s i piece) = label_of (caps fs s) piece
 label_in fs k = None
 
--- all lines of record n of s to t: to s itself the answer, under this label, and what it sent to itself; to another what it is shown
+-- all lines of record n of s to t: to s itself the answer, under this label, and what it sent to itself; to another
+-- what it is shown
 abbrev pub lines : Settings → ℕ → Option (List ℕ) → List Effect → ℕ → ℕ → List Tagged
-lines g s label es n t = cond (s == t) (answered g.server label n (reply s es) (copies es)) (map (tagged_as None) (due es t))
+lines g s label es n t = cond (s == t) (answered g.server label n (reply s es) (copies es))
+    (map (tagged_as None) (due es t))
 
 -- as t takes them at the record's moment, by the capabilities that it had before it
 abbrev pub spelled : Settings → List Deed → ℕ → Option (List ℕ) → List Effect → ℤ → ℕ → ℕ → List ℕ

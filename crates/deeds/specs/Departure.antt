@@ -16,4 +16,5 @@ farewell w (x ∷ xs) = x ∷ xs
 
 -- it is shown to each other that shares a channel with it, and then it leaves them
 abbrev pub departs : List Deed → ℕ → List Effect
-departs fs s = Show (sharers fs s) (quit_line (prefix fs s) (farewell (why fs s) (parting fs s))) ∷ Establish (Gone s) ∷ []
+departs fs s = Show (sharers fs s) (quit_line (prefix fs s) (farewell (why fs s) (parting fs s)))
+    ∷ Establish (Gone s) ∷ []

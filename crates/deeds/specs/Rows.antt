@@ -10,7 +10,9 @@ use Rattle.commands.specs.declared.asked.Asked.TheVariants.{Nothing, TooLong, Co
 use Rattle.commands.specs.declared.command.Command.{Command}
 use Rattle.commands.specs.declared.command.Command.TheVariants.{Session, Channel, Mode, Talk, Query}
 use Rattle.command_params.specs.declared.fault.ReadFault.{ReadFault}
-use Rattle.command_params.specs.declared.fault.ReadFault.TheVariants.{UnknownCommand, NeedMoreParams, NoNicknameGiven, NoRecipient, NoTextToSend, NoOrigin, InvalidCapSubcommand, Memory}
+use Rattle.command_params.specs.declared.fault.ReadFault.TheVariants.{UnknownCommand, NeedMoreParams}
+use Rattle.command_params.specs.declared.fault.ReadFault.TheVariants.{NoNicknameGiven, NoRecipient, NoTextToSend}
+use Rattle.command_params.specs.declared.fault.ReadFault.TheVariants.{NoOrigin, InvalidCapSubcommand, Memory}
 use Rattle.drafts.specs.declared.effect.Effect.{Effect}
 use Rattle.drafts.specs.Effects.{deeds_of}
 use Rattle.drafts.specs.Replies.{tells}

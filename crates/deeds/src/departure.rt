@@ -46,7 +46,8 @@ pub fn decide_gone(
     requires { IsOpened roster.now.facts session }
     ensures verdict { IfOk result (λ v. IsVerdict v session (departs roster.now.facts session)) }
     ensures next { IfOk result (λ v. AreNext roster.now.facts v.deeds.items) }
-    ensures opened { IfOk result (λ v. opened (after roster.now.facts v.deeds.items) ≡ opened roster.now.facts) }
+    ensures opened { IfOk result
+        (λ v. opened (after roster.now.facts v.deeds.items) ≡ opened roster.now.facts) }
 {
     let mut draft = Draft::new(alloc, roster, session);
     depart(&mut draft, session)?;

@@ -3,7 +3,8 @@ ghost use Rattle.std.specs.Prelude.{◌≡◌, Some, None, option_copied, IfOk, 
 ghost use Rattle.roster.specs.LookBack.{after, opened};
 ghost use Rattle.roster.specs.Legal.{IsOpened, AreNext};
 ghost use Rattle.drafts.specs.Words.{grown};
-ghost use Rattle.deeds.specs.Rows.{asked, fault_numeric, is_for_registered, is_silent, of_asked, of_command, refused, served, turned_away};
+ghost use Rattle.deeds.specs.Rows.{asked, fault_numeric, is_for_registered, is_silent};
+ghost use Rattle.deeds.specs.Rows.{of_asked, of_command, refused, served, turned_away};
 ghost use Rattle.drafts.specs.Verdicts.{IsVerdict};
 
 use channel_commands::serve_channel;
@@ -24,7 +25,8 @@ use talk_commands::{is_unanswered, serve_talk};
 fn serve(draft: &mut Draft, session: SessionId, command: &Command) -> Result<(), AllocError>
     requires opened { IsOpened draft.old.facts session }
     requires first { draft.old.facts ≡ draft.old.base }
-    ensures { OnOk result (draft.new ≡ grown draft.old (served draft.old.settings draft.old.facts session command.now)) }
+    ensures { OnOk result (draft.new
+        ≡ grown draft.old (served draft.old.settings draft.old.facts session command.now)) }
 {
     match command {
         Command::Session(command) => serve_session(draft, session, command),
@@ -56,7 +58,8 @@ fn is_silent(command: &Command) -> bool
 
 /// Tells a session that it isn't registered, but not after NOTICE.
 fn turn_away(draft: &mut Draft, session: SessionId, command: &Command) -> Result<(), AllocError>
-    ensures { OnOk result (draft.new ≡ grown draft.old (turned_away draft.old.settings draft.old.facts session command.now)) }
+    ensures { OnOk result (draft.new
+        ≡ grown draft.old (turned_away draft.old.settings draft.old.facts session command.now)) }
 {
     if is_silent(command) {
         return Ok(());
@@ -68,7 +71,8 @@ fn turn_away(draft: &mut Draft, session: SessionId, command: &Command) -> Result
 fn obey(draft: &mut Draft, session: SessionId, command: &Command) -> Result<(), AllocError>
     requires opened { IsOpened draft.old.facts session }
     requires first { draft.old.facts ≡ draft.old.base }
-    ensures { OnOk result (draft.new ≡ grown draft.old (asked draft.old.settings draft.old.facts session command.now)) }
+    ensures { OnOk result (draft.new
+        ≡ grown draft.old (asked draft.old.settings draft.old.facts session command.now)) }
 {
     if is_for_registered(command) && !draft.is_registered(session) {
         return turn_away(draft, session, command);
@@ -81,7 +85,8 @@ fn obey(draft: &mut Draft, session: SessionId, command: &Command) -> Result<(), 
 fn perform(draft: &mut Draft, session: SessionId, command: &Command) -> Result<(), AllocError>
     requires opened { IsOpened draft.old.facts session }
     requires first { draft.old.facts ≡ draft.old.base }
-    ensures { OnOk result (draft.new ≡ grown draft.old (of_command draft.old.settings draft.old.facts session command.now)) }
+    ensures { OnOk result (draft.new
+        ≡ grown draft.old (of_command draft.old.settings draft.old.facts session command.now)) }
 {
     obey(draft, session, command)?;
     complete(draft, session)
@@ -111,7 +116,8 @@ fn fault_numeric(alloc: Global, fault: &ReadFault) -> Result<Option<Numeric>, Al
 
 /// Answers a message which asks for nothing that can be done.
 fn refuse(draft: &mut Draft, session: SessionId, fault: &ReadFault) -> Result<(), AllocError>
-    ensures { OnOk result (draft.new ≡ grown draft.old (refused draft.old.settings draft.old.facts session (fault_numeric fault.now))) }
+    ensures { OnOk result (draft.new ≡ grown draft.old
+        (refused draft.old.settings draft.old.facts session (fault_numeric fault.now))) }
 {
     match fault_numeric(draft.alloc(), fault)? {
         Some(numeric) => tell(draft, session, numeric),
@@ -123,7 +129,8 @@ fn refuse(draft: &mut Draft, session: SessionId, fault: &ReadFault) -> Result<()
 fn answer(draft: &mut Draft, session: SessionId, asked: &Asked) -> Result<(), AllocError>
     requires opened { IsOpened draft.old.facts session }
     requires first { draft.old.facts ≡ draft.old.base }
-    ensures { OnOk result (draft.new ≡ grown draft.old (of_asked draft.old.settings draft.old.facts session asked.now)) }
+    ensures { OnOk result (draft.new
+        ≡ grown draft.old (of_asked draft.old.settings draft.old.facts session asked.now)) }
 {
     match asked {
         Asked::Nothing => Ok(()),
@@ -133,8 +140,8 @@ fn answer(draft: &mut Draft, session: SessionId, asked: &Asked) -> Result<(), Al
     }
 }
 
-/// What comes of a line of a session at a moment: just the effects of its command's row, in their order. Its facts may come
-/// next.
+/// What comes of a line of a session at a moment: just the effects of its command's row, in their order. Its facts
+/// may come next.
 pub fn decide(
     alloc: Global,
     roster: &Roster,
@@ -143,9 +150,11 @@ pub fn decide(
     _moment: Moment,
 ) -> Result<Verdict, AllocError>
     requires { IsOpened roster.now.facts session }
-    ensures verdict { IfOk result (λ v. IsVerdict v session (of_asked roster.now.settings roster.now.facts session asked.now)) }
+    ensures verdict { IfOk result (λ v. IsVerdict v session
+        (of_asked roster.now.settings roster.now.facts session asked.now)) }
     ensures next { IfOk result (λ v. AreNext roster.now.facts v.deeds.items) }
-    ensures opened { IfOk result (λ v. opened (after roster.now.facts v.deeds.items) ≡ opened roster.now.facts) }
+    ensures opened { IfOk result
+        (λ v. opened (after roster.now.facts v.deeds.items) ≡ opened roster.now.facts) }
 {
     let mut draft = Draft::new(alloc, roster, session);
     answer(&mut draft, session, asked)?;

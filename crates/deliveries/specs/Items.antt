@@ -18,8 +18,8 @@ front x = x.front
 abbrev pub owed_by_front : Item → List Delivery
 owed_by_front x = owed x.settings (front x) x.session
 
--- an item may come after these: it is of the newest record of its history, and with it they are what that history owes its session;
--- they are of that session and of that server, and the history of each grows to its own
+-- an item may come after these: it is of the newest record of its history, and with it they are what that history
+-- owes its session; they are of that session and of that server, and the history of each grows to its own
 pub record Continues (before : List Item) (x : Item) : Type 0 where
   pub newest : number_of x.delivery ≡ length (front x)
   pub owed : deliveries (before ++ x ∷ []) ≡ owed_by_front x

@@ -31,15 +31,18 @@ reason k = Quit
 
 -- what a tick after h tells t: a PING, where it is quiet and wasn't pinged since it was heard of
 abbrev pub ticked : Settings → List Rec → Kind → ℤ → ℕ → List ℕ
-ticked g h k moment t = cond (is_tick k && is_pinged h t moment) (spelled_for (caps (facts g h) t) moment (ping_line g.server)) []
+ticked g h k moment t = cond (is_tick k && is_pinged h t moment)
+    (spelled_for (caps (facts g h) t) moment (ping_line g.server)) []
 
 -- what a record of this kind and moment after h tells t: by a tick, or by its effects where t was opened before it
 abbrev pub told : Settings → List Rec → Kind → ℤ → ℕ → List ℕ
-told g h k moment t = ticked g h k moment t ++ cond (nat_le t (sessions h)) (text g (facts g h) k moment (length h + 1) t) []
+told g h k moment t = ticked g h k moment t ++ cond (nat_le t (sessions h))
+    (text g (facts g h) k moment (length h + 1) t) []
 
 -- the delivery of such a record to t: the last one to a session that it ends
 abbrev pub delivery : Settings → List Rec → Kind → ℤ → ℕ → List Delivery
-delivery g h k moment t = cond (ends k t) (Last (length h + 1) (reason k) ∷ []) (item (length h + 1) (told g h k moment t))
+delivery g h k moment t = cond (ends k t) (Last (length h + 1) (reason k) ∷ [])
+    (item (length h + 1) (told g h k moment t))
 
 -- the deliveries to t in order, but for each record that misses t and each after t was shut
 abbrev pub owed : Settings → List Rec → ℕ → List Delivery

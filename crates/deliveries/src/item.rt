@@ -7,7 +7,8 @@ use ghosts::Snapshot;
 use registration::Settings;
 use std::marker::Model;
 
-/// A delivery and the session that it is for. A clause sees beside these the history in which it is put, and the server's settings.
+/// A delivery and the session that it is for. A clause sees beside these the history in which it is put, and the
+/// server's settings.
 #[derive(Drop)]
 pub struct Item {
     delivery: Delivery,
@@ -21,7 +22,12 @@ impl Model for Item {
 
     ghost Value = { Shown };
 
-    ghost view = { λ x. record { delivery = x.delivery; session = x.session; front = x.front.value.history; settings = x.settings.value } };
+    ghost view = { λ x. record {
+      delivery = x.delivery;
+      session = x.session;
+      front = x.front.value.history;
+      settings = x.settings.value;
+    } };
 }
 
 impl Item {

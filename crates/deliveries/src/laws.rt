@@ -1,7 +1,9 @@
 //! That a history goes on from its base alone, as functions that do nothing.
-ghost use Rattle.deliveries.specs.Going.{OwedGoesOn, AcceptedGoesOn, FactsGoOn, NumbersGoOn, ShutGoesOn, QuietGoesOn, PingedGoesOn};
+ghost use Rattle.deliveries.specs.Going.{OwedGoesOn, AcceptedGoesOn, FactsGoOn, NumbersGoOn};
+ghost use Rattle.deliveries.specs.Going.{ShutGoesOn, QuietGoesOn, PingedGoesOn};
 
-/// What later records owe follows from them and from the base of the history before them, and comes after what that owed.
+/// What later records owe follows from them and from the base of the history before them, and comes after what that
+/// owed.
 pub fn owed_goes_on()
     ensures { OwedGoesOn }
 {}

@@ -40,7 +40,9 @@ fn write_next<W: Write>(
 ) -> (usize, Result<(), WriteFault>)
     requires { before.0 + length part.now < 2 ^ 64 }
     ensures within { result.0 ≤ before.0 + length part.now }
-    ensures front { (start : Option (List ℕ)) → (text : List ℕ) → WritesFront start (W.contents out.old) text before → WritesFront start (W.contents out.new) (text ++ part.now) result }
+    ensures front { (start : Option (List ℕ)) → (text : List ℕ)
+        → WritesFront start (W.contents out.old) text before
+        → WritesFront start (W.contents out.new) (text ++ part.now) result }
 {
     let (count, Ok(())) = before else {
         return before;
@@ -51,7 +53,8 @@ fn write_next<W: Write>(
 
 /// Writes the ERROR line of a session's end.
 fn write_error<W: Write>(host: &[u8], why: Why, out: &mut W) -> (usize, Result<(), WriteFault>)
-    ensures { WritesFront (W.contents out.old) (W.contents out.new) (error_line host.now why) result }
+    ensures { WritesFront (W.contents out.old) (W.contents out.new)
+        (error_line host.now why) result }
 {
     let mut written = write_all_of(b"ERROR :Closing Link: ", out);
     written = write_next(written, host, out);
@@ -60,7 +63,8 @@ fn write_error<W: Write>(host: &[u8], why: Why, out: &mut W) -> (usize, Result<(
     write_next(written, b")\r\n", out)
 }
 
-/// Writes a delivery's octets: its lines, or the ERROR line of who has this host. It answers how many went out, from the front.
+/// Writes a delivery's octets: its lines, or the ERROR line of who has this host. It answers how many went out, from
+/// the front.
 ///
 /// It takes no memory. After a fault the rest was not written.
 pub fn write_out<W: Write>(
@@ -69,7 +73,8 @@ pub fn write_out<W: Write>(
     out: &mut W,
 ) -> (usize, Result<(), WriteFault>)
     ensures within { result.0 ≤ length (delivery_text delivery.now host.now) }
-    ensures appended { Appends (W.contents out.old) (W.contents out.new) (take result.0 (delivery_text delivery.now host.now)) }
+    ensures appended { Appends (W.contents out.old) (W.contents out.new)
+        (take result.0 (delivery_text delivery.now host.now)) }
     ensures whole { IsOk result.1 ↔ (result.0 ≡ length (delivery_text delivery.now host.now)) }
 {
     match delivery {

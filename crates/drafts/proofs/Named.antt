@@ -1,9 +1,12 @@
 -- Names of channels, and which deeds may come next.
-use Rattle.std.proofs.Common.{◌≡◌, inl, inr, ℕ, Bool, ◌⊎◌, true, false, cond, List, [], ◌∷◌, Option, Some, None, option_copied, unwrap_or, IfSome, IfOk, Result, Ok, Err, Bor, refl, sym, subst, ap, ◌∙◌}
+use Rattle.std.proofs.Common.{◌≡◌, inl, inr, ℕ, Bool, ◌⊎◌, true, false, cond, List, [], ◌∷◌, Option, Some, None}
+use Rattle.std.proofs.Common.{option_copied, unwrap_or, IfSome, IfOk, Result, Ok, Err, Bor, refl, sym, subst, ap, ◌∙◌}
 use Rattle.std.specs.Option.{option_or, option_map}
 use Rattle.roster.specs.Laws.{ChannelsHaveOneName, SpelledNamesAreNames}
 use Rattle.roster.specs.declared.deed.Deed.{Deed}
-use Rattle.roster.specs.declared.deed.Deed.TheVariants.{Opened, NickSet, UserSet, HoldSet, CapsSet, ExchangeSet, LoggedIn, Enrolled, AwaySet, InvisibleSet, ChannelMade, Changed, Ended, Gone}
+use Rattle.roster.specs.declared.deed.Deed.TheVariants.{Opened, NickSet, UserSet, HoldSet, CapsSet}
+use Rattle.roster.specs.declared.deed.Deed.TheVariants.{ExchangeSet, LoggedIn, Enrolled, AwaySet}
+use Rattle.roster.specs.declared.deed.Deed.TheVariants.{InvisibleSet, ChannelMade, Changed, Ended, Gone}
 use Rattle.casemapping.specs.Fold.{is_same}
 use Rattle.casemapping.proofs.SameNames.{is_same-refl}
 use Rattle.channel_state.specs.declared.change.Change.{Change}
@@ -23,11 +26,13 @@ someone-without : (s : ℕ) (ts : List ℕ) → is_some_one ts ≡ false → is_
 someone-without s [] e = refl
 someone-without s (t ∷ ts) e = absurd (let f : true ≡ false = e in cc)
 
-pub copied_unwrap : {T : Type 0} (a : Option (Option (Bor T))) (b : Option (Bor T)) → option_copied (unwrap_or a b) ≡ unwrap_or (option_map (λ o. option_copied o) a) (option_copied b)
+pub copied_unwrap : {T : Type 0} (a : Option (Option (Bor T))) (b : Option (Bor T))
+    → option_copied (unwrap_or a b) ≡ unwrap_or (option_map (λ o. option_copied o) a) (option_copied b)
 copied_unwrap None b = refl
 copied_unwrap (Some x) b = refl
 
-pub copied_or : {T : Type 0} (a b : Option (Bor T)) → option_copied (option_or a b) ≡ option_or (option_copied a) (option_copied b)
+pub copied_or : {T : Type 0} (a b : Option (Bor T)) → option_copied (option_or a b)
+    ≡ option_or (option_copied a) (option_copied b)
 copied_or None b = refl
 copied_or (Some x) b = refl
 
@@ -35,14 +40,18 @@ copied_or (Some x) b = refl
 left_some : (t : ℕ) (k : State) → is_some_one (lasting (departed t k)).members ≡ true → is_some_one k.members ≡ true
 left_some t k e = elim (either (is_some_one k.members)) [
   | inl some ↦ some
-  | inr none ↦ absurd (let f : true ≡ false = sym e ∙ ap is_some_one (members-lasting (departed t k)) ∙ someone-without t k.members none in cc)
+  | inr none ↦ absurd (let f : true ≡ false = sym e ∙ ap is_some_one (members-lasting (departed t k))
+      ∙ someone-without t k.members none in cc)
 ]
 
-same_there : ChannelsHaveOneName → (fs : List Deed) (k c : List ℕ) → is_same k c ≡ true → has_member fs k ≡ true → has_member fs c ≡ true
+same_there : ChannelsHaveOneName → (fs : List Deed) (k c : List ℕ) → is_same k c ≡ true → has_member fs k ≡ true
+    → has_member fs c ≡ true
 same_there law fs k c e h = ap (λ (st : State). is_some_one st.members) (sym (law fs k c e).0) ∙ h
 
 -- a channel that is there after a deed has the name that it tells, or was there before it
-pub told : ChannelsHaveOneName → (fs : List Deed) (d : Deed) (c : List ℕ) (o : Option (List ℕ)) → IsNext fs d → (has_member fs c ≡ true → o ≡ Some (name fs c)) → has_member (d ∷ fs) c ≡ true → option_or (tells_name c d) o ≡ Some (name (d ∷ fs) c)
+pub told : ChannelsHaveOneName → (fs : List Deed) (d : Deed) (c : List ℕ) (o : Option (List ℕ))
+    → IsNext fs d → (has_member fs c ≡ true → o ≡ Some (name fs c)) → has_member (d ∷ fs) c ≡ true
+    → option_or (tells_name c d) o ≡ Some (name (d ∷ fs) c)
 told law fs (Opened t x) c o may h e = h e
 told law fs (NickSet t n) c o may h e = h e
 told law fs (UserSet t u r) c o may h e = h e
@@ -54,20 +63,23 @@ told law fs (Enrolled t) c o may h e = h e
 told law fs (Ended t w x) c o may h e = h e
 told law fs (ChannelMade t k) c o may h e = elim (either (is_same k c)) [
   | inl same ↦ rw same refl
-  | inr other ↦ let was : has_member fs c ≡ true = sym (ap (λ b. is_some_one (cond b (made_by t) (state fs c)).members) other) ∙ e in rw other (h was)
+  | inr other ↦ let was : has_member fs c
+      ≡ true = sym (ap (λ b. is_some_one (cond b (made_by t) (state fs c)).members) other) ∙ e in rw other (h was)
 ]
 told law fs (AwaySet t x) c o may h e = h e
 told law fs (InvisibleSet t x) c o may h e = h e
 told law fs (Changed k x) c o may h e = elim (either (is_same k c)) [
   | inl same ↦ h (same_there law fs k c same may.0)
-  | inr other ↦ h (sym (ap (λ b. is_some_one (cond b (lasting (changed x (state fs c))) (state fs c)).members) other) ∙ e)
+  | inr other ↦ h
+      (sym (ap (λ b. is_some_one (cond b (lasting (changed x (state fs c))) (state fs c)).members) other) ∙ e)
 ]
 told law fs (Gone t) c o may h e = h (left_some t (state fs c) e)
 
 -- ---- a channel that is seen
 
 -- it is what its own name says
-pub seen_is : ChannelsHaveOneName → SpelledNamesAreNames → (fs : List Deed) (c : List ℕ) → has_member fs c ≡ true → IsSeen fs (record { name = name fs c; state = state fs c })
+pub seen_is : ChannelsHaveOneName → SpelledNamesAreNames → (fs : List Deed) (c : List ℕ) → has_member fs c ≡ true
+    → IsSeen fs (record { name = name fs c; state = state fs c })
 seen_is law spelled fs c e =
     let same : state fs (name fs c) ≡ state fs c = (law fs (name fs c) c (spelled fs c)).0 in
     record { there = ap (λ (st : State). is_some_one st.members) same ∙ e; state = same; lasts = e }
@@ -88,10 +100,12 @@ untouched fs (ExchangeSet t x) c e = refl
 untouched fs (LoggedIn t x) c e = refl
 untouched fs (Enrolled t) c e = refl
 untouched fs (Ended t w x) c e = refl
-untouched fs (ChannelMade t k) c e = seen_alike fs (ChannelMade t k ∷ fs) c (ap (λ b. cond b (made_by t) (state fs c)) e) (ap (λ b. unwrap_or (cond b (Some k) None) (name fs c)) e)
+untouched fs (ChannelMade t k) c e = seen_alike fs (ChannelMade t k ∷ fs) c
+    (ap (λ b. cond b (made_by t) (state fs c)) e) (ap (λ b. unwrap_or (cond b (Some k) None) (name fs c)) e)
 untouched fs (AwaySet t x) c e = refl
 untouched fs (InvisibleSet t x) c e = refl
-untouched fs (Changed k x) c e = seen_alike fs (Changed k x ∷ fs) c (ap (λ b. cond b (lasting (changed x (state fs c))) (state fs c)) e) refl
+untouched fs (Changed k x) c e = seen_alike fs (Changed k x ∷ fs) c
+    (ap (λ b. cond b (lasting (changed x (state fs c))) (state fs c)) e) refl
 untouched fs (Gone t) c e = absurd (let f : true ≡ false = e in cc)
 
 -- a channel that is seen is known, and one whose name isn't known isn't there
@@ -101,17 +115,23 @@ known law spelled fs c = elim (either (has_member fs c)) [
   | inr nobody ↦ rw nobody tt
 ]
 
-pub known_ok : {E : Type 0} → ChannelsHaveOneName → SpelledNamesAreNames → (fs : List Deed) (c : List ℕ) (r : Result (Option Seen) E) → IfOk r (λ o. o ≡ seen fs c) → IfOk r (λ o. IfSome o (IsSeen fs))
+pub known_ok : {E : Type 0} → ChannelsHaveOneName → SpelledNamesAreNames → (fs : List Deed) (c : List ℕ)
+    (r : Result (Option Seen) E) → IfOk r (λ o. o ≡ seen fs c) → IfOk r (λ o. IfSome o (IsSeen fs))
 known_ok law spelled fs c (Ok o) e = subst (λ (o : Option Seen). IfSome o (IsSeen fs)) (sym e) (known law spelled fs c)
 known_ok law spelled fs c (Err x) e = tt
 
 -- and still is after a change that leaves somebody on it
-pub seen_changed : (fs : List Deed) (k : Seen) (x : Change) → IsSeen fs k → is_some_one (changed x k.state).members ≡ true → IsSeen (Changed k.name x ∷ fs) (record { name = k.name; state = changed x k.state })
+pub seen_changed : (fs : List Deed) (k : Seen) (x : Change) → IsSeen fs k → is_some_one (changed x k.state).members
+    ≡ true → IsSeen (Changed k.name x ∷ fs) (record { name = k.name; state = changed x k.state })
 seen_changed fs k x i e =
     let now : state (Changed k.name x ∷ fs) k.name ≡ changed x k.state =
-    ap (λ b. cond b (lasting (changed x (state fs k.name))) (state fs k.name)) (is_same-refl k.name) ∙ ap (λ st. lasting (changed x st)) i.state
+    ap (λ b. cond b (lasting (changed x (state fs k.name))) (state fs k.name)) (is_same-refl k.name) ∙ ap
+    (λ st. lasting (changed x st)) i.state
     ∙ ap (λ b. cond b (changed x k.state) nothing) e in
     record { there = ap (λ (st : State). is_some_one st.members) now ∙ e; state = now; lasts = e }
 
-pub seen_after : (fs gs : List Deed) (k j : Seen) (x : Change) → gs ≡ Changed k.name x ∷ fs → j ≡ record { name = k.name; state = changed x k.state } → IsSeen fs k → is_some_one (changed x k.state).members ≡ true → IsSeen gs j
-seen_after fs gs k j x facts now i e = subst (λ (hs : List Deed). IsSeen hs j) (sym facts) (subst (IsSeen (Changed k.name x ∷ fs)) (sym now) (seen_changed fs k x i e))
+pub seen_after : (fs gs : List Deed) (k j : Seen) (x : Change) → gs ≡ Changed k.name x ∷ fs
+    → j ≡ record { name = k.name; state = changed x k.state } → IsSeen fs k
+    → is_some_one (changed x k.state).members ≡ true → IsSeen gs j
+seen_after fs gs k j x facts now i e = subst (λ (hs : List Deed). IsSeen hs j) (sym facts)
+    (subst (IsSeen (Changed k.name x ∷ fs)) (sym now) (seen_changed fs k x i e))

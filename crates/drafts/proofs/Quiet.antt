@@ -7,7 +7,8 @@ use Rattle.drafts.specs.Effects.{deeds_of}
 use Rattle.drafts.specs.Hearers.{shown}
 use Rattle.drafts.proofs.Replay.{deeds_of-append}
 
-pub either-quiet : (b : Bool) (xs ys : List Effect) → deeds_of xs ≡ [] → deeds_of ys ≡ [] → deeds_of (cond b xs ys) ≡ []
+pub either-quiet : (b : Bool) (xs ys : List Effect) → deeds_of xs ≡ [] → deeds_of ys ≡ []
+    → deeds_of (cond b xs ys) ≡ []
 either-quiet true xs ys e f = e
 either-quiet false xs ys e f = f
 

@@ -1,10 +1,13 @@
 -- What is looked up after facts is the answer before them, changed by each in turn; effects on effects.
-use Rattle.std.proofs.Common.{◌≡◌, ℕ, zero, suc, ◌+◌, ◌<◌, ◌≤◌, List, [], ◌∷◌, ◌++◌, length, take, get_or, unwrap_or, arith, refl, sym, ap, ◌∙◌, subst, append_assoc, length-append, Result, Ok, Err}
+use Rattle.std.proofs.Common.{◌≡◌, ℕ, zero, suc, ◌+◌, ◌<◌, ◌≤◌, List, [], ◌∷◌, ◌++◌, length, take, get_or, unwrap_or}
+use Rattle.std.proofs.Common.{arith, refl, sym, ap, ◌∙◌, subst, append_assoc, length-append, Result, Ok, Err}
 use Rattle.std.specs.Result.{OnOk}
 use Rattle.drafts.specs.Drafted.{Drafted, IsDraft, grown}
 use Rattle.std.proofs.lemmas.List.{take_more}
 use Rattle.roster.specs.declared.deed.Deed.{Deed}
-use Rattle.roster.specs.declared.deed.Deed.TheVariants.{Opened, NickSet, UserSet, HoldSet, CapsSet, ExchangeSet, LoggedIn, Enrolled, AwaySet, InvisibleSet, ChannelMade, Changed, Ended, Gone}
+use Rattle.roster.specs.declared.deed.Deed.TheVariants.{Opened, NickSet, UserSet, HoldSet, CapsSet}
+use Rattle.roster.specs.declared.deed.Deed.TheVariants.{ExchangeSet, LoggedIn, Enrolled, AwaySet}
+use Rattle.roster.specs.declared.deed.Deed.TheVariants.{InvisibleSet, ChannelMade, Changed, Ended, Gone}
 use Rattle.roster.specs.LookBack.{after, opened, host, enrol, enrolled, reshaped, state, tells_host}
 use Rattle.roster.specs.Legal.{IsOpened, IsNext, AreNext}
 use Rattle.drafts.specs.declared.effect.Effect.{Effect}
@@ -23,16 +26,21 @@ deeds_of-append (Show hs l ∷ xs) ys = deeds_of-append xs ys
 deeds_of-append (Copy l ∷ xs) ys = deeds_of-append xs ys
 
 -- the facts after more effects
-pub after-effects : (fs : List Deed) (xs ys : List Effect) → after fs (deeds_of (xs ++ ys)) ≡ after (after fs (deeds_of xs)) (deeds_of ys)
+pub after-effects : (fs : List Deed) (xs ys : List Effect) → after fs (deeds_of (xs ++ ys))
+    ≡ after (after fs (deeds_of xs)) (deeds_of ys)
 after-effects fs xs ys = ap (after fs) (deeds_of-append xs ys) ∙ after-append fs (deeds_of xs) (deeds_of ys)
 
 -- the facts after one fact more
-pub after-take : (fs ds : List Deed) (i : ℕ) (d : Deed) → i < length ds → d ≡ get_or ds i d → after fs (take (i + 1) ds) ≡ d ∷ after fs (take i ds)
-after-take fs ds i d l is = ap (after fs) (take_more ds i d l ∙ ap (λ (x : Deed). take i ds ++ x ∷ []) (sym is)) ∙ after-append fs (take i ds) (d ∷ [])
+pub after-take : (fs ds : List Deed) (i : ℕ) (d : Deed) → i < length ds → d ≡ get_or ds i d
+    → after fs (take (i + 1) ds) ≡ d ∷ after fs (take i ds)
+after-take fs ds i d l is = ap (after fs) (take_more ds i d l ∙ ap (λ (x : Deed). take i ds ++ x ∷ []) (sym is))
+    ∙ after-append fs (take i ds) (d ∷ [])
 
 -- a look-back that each fact changes by a step
-pub replay : {A : Type 0} (look : List Deed → A) (step : A → Deed → A) → ((fs : List Deed) (d : Deed) → look (d ∷ fs) ≡ step (look fs) d)
-    → (fs ds : List Deed) (i : ℕ) (d : Deed) → i < length ds → d ≡ get_or ds i d → look (after fs (take (i + 1) ds)) ≡ step (look (after fs (take i ds))) d
+pub replay : {A : Type 0} (look : List Deed → A) (step : A → Deed → A)
+    → ((fs : List Deed) (d : Deed) → look (d ∷ fs) ≡ step (look fs) d)
+    → (fs ds : List Deed) (i : ℕ) (d : Deed) → i < length ds → d ≡ get_or ds i d
+    → look (after fs (take (i + 1) ds)) ≡ step (look (after fs (take i ds))) d
 replay look step h fs ds i d l is = ap look (after-take fs ds i d l is) ∙ h (after fs (take i ds)) d
 
 pub host_step : (s : ℕ) (fs : List Deed) (d : Deed) → host (d ∷ fs) s ≡ unwrap_or (tells_host s d) (host fs s)
@@ -51,22 +59,41 @@ next-append fs [] es a b = b
 next-append fs (d ∷ ds) es a b = (a.0, next-append (d ∷ fs) ds es a.1 b)
 
 pub draft-append : (fs ds es : List Deed) → IsDraft fs ds → IsDraft (after fs ds) es → IsDraft fs (ds ++ es)
-draft-append fs ds es a b = record { next = next-append fs ds es a.next b.next; opened = ap opened (after-append fs ds es) ∙ b.opened ∙ a.opened }
+draft-append fs ds es a b = record {
+  next = next-append fs ds es a.next b.next;
+  opened = ap opened (after-append fs ds es) ∙ b.opened ∙ a.opened;
+}
 
 -- each may come after those before it
-pub next_at : (fs ds : List Deed) (i : ℕ) (d : Deed) → i < length ds → d ≡ get_or ds i d → AreNext fs ds → IsNext (after fs (take i ds)) d
+pub next_at : (fs ds : List Deed) (i : ℕ) (d : Deed) → i < length ds → d ≡ get_or ds i d → AreNext fs ds
+    → IsNext (after fs (take i ds)) d
 next_at fs [] i d l is a = absurd (omega arith)
 next_at fs (x ∷ ds) zero d l is a = subst (λ (y : Deed). IsNext fs y) (sym is) a.0
-next_at fs (x ∷ ds) (suc i) d l is a = let inside : i < length ds = omega arith in next_at (x ∷ fs) ds i d inside is a.1
+next_at fs (x ∷ ds) (suc i) d l is a = let inside : i < length ds = omega arith in
+    next_at (x ∷ fs) ds i d inside is a.1
 
 -- effects on effects
 pub grown_grown : (d : Drafted) (xs ys : List Effect) → grown (grown d xs) ys ≡ grown d (xs ++ ys)
 grown_grown d xs ys =
-    ap (λ (gs : List Deed). record { settings = d.settings; base = d.base; facts = gs; effects = d.effects ++ xs ++ ys; session = d.session }) (sym (after-effects d.facts xs ys))
-    ∙ ap (λ (es : List Effect). record { settings = d.settings; base = d.base; facts = after d.facts (deeds_of (xs ++ ys)); effects = es; session = d.session }) (append_assoc d.effects xs ys)
+    ap (λ (gs : List Deed). record {
+      settings = d.settings;
+      base = d.base;
+      facts = gs;
+      effects = d.effects ++ xs ++ ys;
+      session = d.session;
+    }) (sym (after-effects d.facts xs ys))
+    ∙ ap (λ (es : List Effect). record {
+      settings = d.settings;
+      base = d.base;
+      facts = after d.facts
+          (deeds_of (xs ++ ys));
+      effects = es;
+      session = d.session;
+    }) (append_assoc d.effects xs ys)
 
 -- a step that adds effects, after one that added others
-pub on_grown : {E : Type 0} (r : Result (Unit {0}) E) (d m k : Drafted) (xs ys : List Effect) → m ≡ grown d xs → OnOk r (k ≡ grown m ys) → OnOk r (k ≡ grown d (xs ++ ys))
+pub on_grown : {E : Type 0} (r : Result (Unit {0}) E) (d m k : Drafted) (xs ys : List Effect) → m ≡ grown d xs
+    → OnOk r (k ≡ grown m ys) → OnOk r (k ≡ grown d (xs ++ ys))
 on_grown (Ok u) d m k xs ys e f = f ∙ ap (λ (x : Drafted). grown x ys) e ∙ grown_grown d xs ys
 on_grown (Err x) d m k xs ys e f = tt
 
@@ -76,7 +103,8 @@ same : (n : ℕ) → n ≤ n
 same n = omega arith
 
 opened_one : (d : Deed) (fs : List Deed) → length (opened fs) ≤ length (opened (d ∷ fs))
-opened_one (Opened t h) fs = let e : length (opened fs ++ t ∷ []) ≡ length (opened fs) + 1 = length-append (opened fs) (t ∷ []) in omega arith
+opened_one (Opened t h) fs = let e : length (opened fs ++ t ∷ [])
+    ≡ length (opened fs) + 1 = length-append (opened fs) (t ∷ []) in omega arith
 opened_one (NickSet t n) fs = same (length (opened fs))
 opened_one (UserSet t u r) fs = same (length (opened fs))
 opened_one (HoldSet t x) fs = same (length (opened fs))
@@ -100,5 +128,7 @@ pub still_opened : (fs ds : List Deed) (s : ℕ) → IsOpened fs s → IsOpened 
 still_opened fs ds s o = (o.0, (let a = opened_more fs ds in let b = o.1 in omega arith))
 
 -- also in a draft that grew
-pub opened_grown : (d m : Drafted) (xs : List Effect) (s : ℕ) → m ≡ grown d xs → IsOpened d.facts s → IsOpened m.facts s
-opened_grown d m xs s e o = subst (λ (x : Drafted). IsOpened x.facts s) (sym e) (still_opened d.facts (deeds_of xs) s o)
+pub opened_grown : (d m : Drafted) (xs : List Effect) (s : ℕ) → m ≡ grown d xs → IsOpened d.facts s
+    → IsOpened m.facts s
+opened_grown d m xs s e o = subst (λ (x : Drafted). IsOpened x.facts s) (sym e)
+    (still_opened d.facts (deeds_of xs) s o)

@@ -3,7 +3,10 @@ use Rattle.std.specs.Prelude.{ℕ, List}
 use Rattle.numerics.specs.declared.numeric.Numeric.{Numeric}
 use Rattle.numerics.specs.declared.numeric.Numeric.TheVariants as numeric
 use Rattle.drafts.specs.declared.denials.Denial.{Denial}
-use Rattle.drafts.specs.declared.denials.Denial.TheVariants.{NoSuchNick, NoSuchChannel, CannotSendToChan, TooManyChannels, TooManyTargets, NotOnChannel, ChannelIsFull, InviteOnlyChan, BannedFromChan, BadChannelKey, ChanOPrivsNeeded}
+use Rattle.drafts.specs.declared.denials.Denial.TheVariants.{NoSuchNick, NoSuchChannel, CannotSendToChan}
+use Rattle.drafts.specs.declared.denials.Denial.TheVariants.{TooManyChannels, TooManyTargets, NotOnChannel}
+use Rattle.drafts.specs.declared.denials.Denial.TheVariants.{ChannelIsFull, InviteOnlyChan, BannedFromChan}
+use Rattle.drafts.specs.declared.denials.Denial.TheVariants.{BadChannelKey, ChanOPrivsNeeded}
 
 abbrev pub denied : Denial → List ℕ → Numeric
 denied NoSuchNick name = numeric.NoSuchNick name

@@ -22,7 +22,13 @@ pub record Drafted : Type 0 where
 
 -- a draft with these effects more
 abbrev pub grown : Drafted → List Effect → Drafted
-grown d es = record { settings = d.settings; base = d.base; facts = after d.facts (deeds_of es); effects = d.effects ++ es; session = d.session }
+grown d es = record {
+  settings = d.settings;
+  base = d.base;
+  facts = after d.facts (deeds_of es);
+  effects = d.effects ++ es;
+  session = d.session;
+}
 
 -- facts that a draft may establish: they may come next, and open no session
 pub record IsDraft (fs ds : List Deed) : Type 0 where

@@ -1,4 +1,5 @@
--- What a record does is a list of effects, in order; what follows from them for its own session and for each other (this project's own promise).
+-- What a record does is a list of effects, in order; what follows from them for its own session and for each other
+-- (this project's own promise).
 use Rattle.std.specs.Prelude.{ℕ, ◌==◌, List, [], ◌∷◌, ◌++◌, filter, map}
 use Rattle.numerics.specs.declared.outgoing.Out.{Out}
 use Rattle.roster.specs.declared.deed.Deed.{Deed}

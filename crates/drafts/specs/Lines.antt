@@ -1,4 +1,6 @@
--- The lines that are shown, and those that answer without a number: RFC 2812, sections 2.3.1 (prefix), 3.1.2 (NICK), 3.1.7 (QUIT), 3.2.1 (JOIN) and 3.7.3 (PONG); IRCv3 Capability Negotiation, SASL 3.1, extended-join and away-notify.
+-- The lines that are shown, and those that answer without a number: RFC 2812, sections 2.3.1 (prefix), 3.1.2 (NICK),
+-- 3.1.7 (QUIT), 3.2.1 (JOIN) and 3.7.3 (PONG); IRCv3 Capability Negotiation, SASL 3.1, extended-join and
+-- away-notify.
 use Rattle.std.specs.Prelude.{ℕ, List, [], ◌∷◌, ◌++◌, codes, unwrap_or, true, false, Option, Some, None}
 use Rattle.line_grammar.specs.Spelling.{needs_colon}
 use Rattle.numerics.specs.declared.outgoing.Out.{Out}
@@ -19,7 +21,8 @@ join_line from channel = line from (codes "JOIN") (channel ∷ []) false
 
 -- a join with the account of who joined, or a star, and its real name
 abbrev pub extended_join_line : List ℕ → List ℕ → Option (List ℕ) → Option (List ℕ) → Out
-extended_join_line from channel account real = line from (codes "JOIN") (channel ∷ title account ∷ unwrap_or real [] ∷ []) true
+extended_join_line from channel account real = line from (codes "JOIN")
+    (channel ∷ title account ∷ unwrap_or real [] ∷ []) true
 
 -- away with a text, or here again
 abbrev pub away_line : List ℕ → Option (List ℕ) → Out
@@ -42,4 +45,10 @@ cap_line server to subcommand list = line server (codes "CAP") (to ∷ subcomman
 
 -- the client is to go on. It names nobody whom it comes from
 abbrev pub go_on_line : Out
-go_on_line = record { tags = []; source = None; command = codes "AUTHENTICATE"; params = codes "+" ∷ []; colon = false }
+go_on_line = record {
+  tags = [];
+  source = None;
+  command = codes "AUTHENTICATE";
+  params = codes "+" ∷ [];
+  colon = false;
+}

@@ -1,4 +1,5 @@
--- The words of this crate that the files of each topic take: what a draft is, what is seen of a channel, who hears, and what is told.
+-- The words of this crate that the files of each topic take: what a draft is, what is seen of a channel, who hears,
+-- and what is told.
 pub use Rattle.drafts.specs.Drafted.{grown}
 pub use Rattle.drafts.specs.Seen.{IsSeen, seen}
 pub use Rattle.drafts.specs.Effects.{copied, deeds_of, heard, replied}

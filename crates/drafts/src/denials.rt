@@ -65,7 +65,8 @@ pub fn deny(
     denial: Denial,
     name: &Octets,
 ) -> Result<(), AllocError>
-    ensures { OnOk result (draft.new ≡ grown draft.old (tells draft.old.settings draft.old.facts session (denied denial name.now) ∷ [])) }
+    ensures { OnOk result (draft.new ≡ grown draft.old
+        (tells draft.old.settings draft.old.facts session (denied denial name.now) ∷ [])) }
 {
     let name = name.clone()?;
     tell(draft, session, numeric_of(denial, name))
@@ -78,7 +79,8 @@ pub fn deny_absent(
     nick: &Octets,
     channel: &Octets,
 ) -> Result<(), AllocError>
-    ensures { OnOk result (draft.new ≡ grown draft.old (tells draft.old.settings draft.old.facts session (UserNotInChannel nick.now channel.now) ∷ [])) }
+    ensures { OnOk result (draft.new ≡ grown draft.old (tells draft.old.settings draft.old.facts
+        session (UserNotInChannel nick.now channel.now) ∷ [])) }
 {
     let nick = nick.clone()?;
     let channel = channel.clone()?;

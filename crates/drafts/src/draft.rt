@@ -1,7 +1,9 @@
 //! A draft: a roster, and what a record does to it so far.
-ghost use Rattle.std.specs.Prelude.{◌≡◌, ◌∷◌, ◌++◌, [], true, false, cond, None, Some, option_copied, IfOk, IfSome, OnOk};
+ghost use Rattle.std.specs.Prelude.{◌≡◌, ◌∷◌, ◌++◌, [], true, false, cond, None, Some};
+ghost use Rattle.std.specs.Prelude.{option_copied, IfOk, IfSome, OnOk};
 ghost use Rattle.registration.specs.Enrol.{enrolment};
-ghost use Rattle.roster.specs.LookBack.{after, opened, host, nick, caps, exchange, registered, enrol, state, has_member, name};
+ghost use Rattle.roster.specs.LookBack.{after, opened, host, nick, caps, exchange};
+ghost use Rattle.roster.specs.LookBack.{registered, enrol, state, has_member, name};
 ghost use Rattle.roster.specs.declared.deed.Deed.TheVariants.{ChannelMade, Changed};
 ghost use Rattle.channel_state.specs.declared.change.Change.TheVariants.{Left};
 ghost use Rattle.channel_state.specs.State.{among, changed, is_some_one, made_by};
@@ -43,7 +45,13 @@ impl<'a> Model for Draft<'a> {
 
     ghost Value = { Drafted };
 
-    ghost view = { λ a. record { settings = a.roster.now.settings; base = a.roster.now.facts; facts = after a.roster.now.facts a.verdict.deeds.items; effects = a.effects.value; session = a.session } };
+    ghost view = { λ a. record {
+      settings = a.roster.now.settings;
+      base = a.roster.now.facts;
+      facts = after a.roster.now.facts a.verdict.deeds.items;
+      effects = a.effects.value;
+      session = a.session;
+    } };
 
     ghost invariant = { λ a. IsKept a.roster.now.facts a.verdict a.session a.effects.value };
 }
@@ -62,7 +70,8 @@ fn touches(deed: &Deed, channel: &[u8]) -> bool
 
 /// A copy of a channel by its name, where somebody is on it.
 fn there<'a>(name: Octets, state: ChannelState) -> Option<Seen<'a>>
-    ensures { result ≡ cond (is_some_one state.state.members) (Some (record { name = name; state = state.state })) None }
+    ensures { result ≡ cond (is_some_one state.state.members)
+        (Some (record { name = name; state = state.state })) None }
 {
     let seen = Seen::copied(name, state);
     if seen.state().is_there() {
@@ -95,7 +104,13 @@ impl<'a> Draft<'a> {
 
     /// The draft of a session's record that does nothing yet.
     pub fn new(alloc: Global, roster: &'a Roster, session: SessionId) -> Draft<'a>
-        ensures { result ≡ record { settings = roster.now.settings; base = roster.now.facts; facts = roster.now.facts; effects = []; session = session } }
+        ensures { result ≡ record {
+          settings = roster.now.settings;
+          base = roster.now.facts;
+          facts = roster.now.facts;
+          effects = [];
+          session = session;
+        } }
     {
         Draft {
             alloc,
@@ -123,7 +138,8 @@ impl<'a> Draft<'a> {
     pub fn finish(self) -> Verdict
         ensures verdict { IsVerdict result self.entry.session self.entry.effects }
         ensures next { AreNext self.entry.base result.deeds.items }
-        ensures opened { opened (after self.entry.base result.deeds.items) ≡ opened self.entry.base }
+        ensures opened { opened (after self.entry.base result.deeds.items)
+            ≡ opened self.entry.base }
     {
         self.verdict
     }
@@ -224,8 +240,8 @@ impl<'a> Draft<'a> {
         self.enrol_of(session).registered
     }
 
-    /// A channel, with who is on it and with which rank, its modes, topic and bans, and who is invited. Nobody is on one that
-    /// isn't there.
+    /// A channel, with who is on it and with which rank, its modes, topic and bans, and who is invited. Nobody is on
+    /// one that isn't there.
     pub fn state_of(&self, channel: &[u8]) -> Result<ChannelState, AllocError>
         ensures { IfOk result (λ k. k.state ≡ state self.now.facts channel.now) }
     {
@@ -241,7 +257,8 @@ impl<'a> Draft<'a> {
 
     /// The name of a channel that has a member, as it was first spelled.
     fn spelling(&self, channel: &[u8]) -> Option<&Octets>
-        ensures { has_member self.now.facts channel.now ≡ true → option_copied result ≡ Some (name self.now.facts channel.now) }
+        ensures { has_member self.now.facts channel.now ≡ true
+            → option_copied result ≡ Some (name self.now.facts channel.now) }
     {
         channels_have_one_name();
         let mut spelling = self.roster.name_of(channel);
@@ -253,7 +270,8 @@ impl<'a> Draft<'a> {
 
     /// Whether the record told of a channel, or may have. One that it didn't is as it was before.
     fn touches(&self, channel: &[u8]) -> bool
-        ensures { result ≡ false → seen self.now.facts channel.now ≡ seen self.now.base channel.now }
+        ensures { result ≡ false → seen self.now.facts channel.now
+            ≡ seen self.now.base channel.now }
     {
         for deed in &self.verdict.deeds {
             if touches(deed, channel) {
@@ -275,7 +293,8 @@ impl<'a> Draft<'a> {
         Ok(there(name, state))
     }
 
-    /// The channel of a name, where it is there. One of which the record told nothing yet is looked at where it is kept.
+    /// The channel of a name, where it is there. One of which the record told nothing yet is looked at where it is
+    /// kept.
     pub fn seen(&self, channel: &[u8]) -> Result<Option<Seen<'a>>, AllocError>
         ensures seen { IfOk result (λ o. o ≡ seen self.now.facts channel.now) }
         ensures known { IfOk result (λ o. IfSome o (IsSeen self.now.facts)) }
@@ -291,7 +310,8 @@ impl<'a> Draft<'a> {
     /// Establishes that a session makes a channel that isn't there.
     fn establish_made(&mut self, session: SessionId, channel: &Octets) -> Result<(), AllocError>
         requires { has_member self.old.facts channel.now ≡ false }
-        ensures { OnOk result (self.new ≡ grown self.old (Establish (ChannelMade session channel.now) ∷ [])) }
+        ensures { OnOk result
+            (self.new ≡ grown self.old (Establish (ChannelMade session channel.now) ∷ [])) }
     {
         let channel = channel.clone()?;
         self.establish(Deed::ChannelMade { session, channel })
@@ -300,8 +320,10 @@ impl<'a> Draft<'a> {
     /// A session makes a channel that isn't there: the channel as it is then.
     pub fn make(&mut self, session: SessionId, channel: &Octets) -> Result<Seen<'a>, AllocError>
         requires { has_member self.old.facts channel.now ≡ false }
-        ensures grown { OnOk result (self.new ≡ grown self.old (Establish (ChannelMade session channel.now) ∷ [])) }
-        ensures seen { IfOk result (λ k. k ≡ record { name = channel.now; state = made_by session }) }
+        ensures grown { OnOk result
+            (self.new ≡ grown self.old (Establish (ChannelMade session channel.now) ∷ [])) }
+        ensures seen { IfOk result
+            (λ k. k ≡ record { name = channel.now; state = made_by session }) }
     {
         self.establish_made(session, channel)?;
         let name = channel.clone()?;
@@ -314,7 +336,8 @@ impl<'a> Draft<'a> {
         requires seen { IsSeen self.old.facts seen.now }
         requires fit { IsFit seen.now.state change }
         requires lasts { is_some_one (changed change seen.now.state).members ≡ true }
-        ensures { OnOk result (self.new ≡ grown self.old (Establish (Changed seen.now.name change) ∷ [])) }
+        ensures { OnOk result
+            (self.new ≡ grown self.old (Establish (Changed seen.now.name change) ∷ [])) }
     {
         let channel = seen.name().clone()?;
         let deed = Deed::Changed { channel, change };
@@ -326,8 +349,10 @@ impl<'a> Draft<'a> {
         requires seen { IsSeen self.old.facts seen.old }
         requires fit { IsFit seen.old.state change }
         requires lasts { is_some_one (changed change seen.old.state).members ≡ true }
-        ensures grown { OnOk result (self.new ≡ grown self.old (Establish (Changed seen.old.name change) ∷ [])) }
-        ensures now { OnOk result (seen.new ≡ record { name = seen.old.name; state = changed change seen.old.state }) }
+        ensures grown { OnOk result
+            (self.new ≡ grown self.old (Establish (Changed seen.old.name change) ∷ [])) }
+        ensures now { OnOk result
+            (seen.new ≡ record { name = seen.old.name; state = changed change seen.old.state }) }
         ensures known { OnOk result (IsSeen self.new.facts seen.new) }
     {
         let channel = seen.name().clone()?;
@@ -345,7 +370,8 @@ impl<'a> Draft<'a> {
     pub fn leave(&mut self, seen: &Seen<'_>, session: SessionId) -> Result<(), AllocError>
         requires seen { IsSeen self.old.facts seen.now }
         requires member { among session seen.now.state.members ≡ true }
-        ensures { OnOk result (self.new ≡ grown self.old (Establish (Changed seen.now.name (Left session)) ∷ [])) }
+        ensures { OnOk result
+            (self.new ≡ grown self.old (Establish (Changed seen.now.name (Left session)) ∷ [])) }
     {
         let channel = seen.name().clone()?;
         let change = Change::Left { session };

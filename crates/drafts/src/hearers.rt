@@ -47,7 +47,8 @@ pub fn takers(
     Ok(Sessions::from_vec(takers))
 }
 
-/// Shows sessions that one is away with a text, or here again where there is none. Where there is no session, no line is made.
+/// Shows sessions that one is away with a text, or here again where there is none. Where there is no session, no
+/// line is made.
 #[tactic(auto, unfolding(crate::specs::Hearers::shown))]
 pub fn show_away(
     draft: &mut Draft,
@@ -55,7 +56,8 @@ pub fn show_away(
     from: &[u8],
     text: Option<&Octets>,
 ) -> Result<(), AllocError>
-    ensures { OnOk result (draft.new ≡ grown draft.old (shown hearers (away_line from.now (option_copied text.entry)))) }
+    ensures { OnOk result (draft.new
+        ≡ grown draft.old (shown hearers (away_line from.now (option_copied text.entry)))) }
 {
     if hearers.as_slice().is_empty() {
         return Ok(());

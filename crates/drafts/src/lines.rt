@@ -2,7 +2,8 @@
 //! 3.7.3; IRCv3 Capability Negotiation, SASL 3.1, extended-join and away-notify).
 ghost use Rattle.std.specs.Prelude.{◌≡◌, ◌++◌, ◌∷◌, [], codes, true, unwrap_or, option_copied, OnOk, IfOk};
 ghost use Rattle.numerics.specs.Outgoing.{line};
-ghost use Rattle.drafts.specs.Lines.{title, prefix, join_line, extended_join_line, away_line, quit_line, nick_line, pong_line, cap_line, go_on_line};
+ghost use Rattle.drafts.specs.Lines.{title, prefix, join_line, extended_join_line, away_line};
+ghost use Rattle.drafts.specs.Lines.{quit_line, nick_line, pong_line, cap_line, go_on_line};
 
 use crate::draft::Draft;
 use chronicle::SessionId;
@@ -70,12 +71,14 @@ fn extended_join_of(
     account: &[u8],
     real: &[u8],
 ) -> Result<Line, AllocError>
-    ensures { IfOk result (λ l. l ≡ line from.now (codes "JOIN") (channel.now ∷ account.now ∷ real.now ∷ []) true) }
+    ensures { IfOk result
+        (λ l. l ≡ line from.now (codes "JOIN") (channel.now ∷ account.now ∷ real.now ∷ []) true) }
 {
     Line::telling(alloc, from, b"JOIN", &[channel, account], real)
 }
 
-/// The line that shows a join to who takes extended-join: with the account of who joined, or a star, and its real name.
+/// The line that shows a join to who takes extended-join: with the account of who joined, or a star, and its real
+/// name.
 pub fn extended_join_line(
     alloc: Global,
     from: &[u8],
@@ -83,7 +86,8 @@ pub fn extended_join_line(
     account: Option<&Octets>,
     real: Option<&Octets>,
 ) -> Result<Line, AllocError>
-    ensures { IfOk result (λ l. l ≡ extended_join_line from.now channel.now (option_copied account.entry) (option_copied real.entry)) }
+    ensures { IfOk result (λ l. l ≡ extended_join_line from.now channel.now
+        (option_copied account.entry) (option_copied real.entry)) }
 {
     extended_join_of(
         alloc,

@@ -24,7 +24,8 @@ pub fn title_of(alloc: Global, name: Option<&Octets>) -> Result<Octets, AllocErr
 
 /// Answers with a numeric to whom it names.
 fn answer_numeric(draft: &mut Draft, to: &[u8], numeric: &Numeric) -> Result<(), AllocError>
-    ensures { OnOk result (draft.new ≡ grown draft.old (Answer (numeric_line draft.old.settings.server to.now numeric.now) ∷ [])) }
+    ensures { OnOk result (draft.new ≡ grown draft.old
+        (Answer (numeric_line draft.old.settings.server to.now numeric.now) ∷ [])) }
 {
     let server = draft.before().settings().server.as_slice();
     let line = numeric.line(draft.alloc(), server, to)?;
@@ -33,7 +34,8 @@ fn answer_numeric(draft: &mut Draft, to: &[u8], numeric: &Numeric) -> Result<(),
 
 /// Answers a session with a numeric, which is lent: a numeric is large, and each branch that drops one costs a proof.
 fn tell_borrowed(draft: &mut Draft, session: SessionId, numeric: &Numeric) -> Result<(), AllocError>
-    ensures { OnOk result (draft.new ≡ grown draft.old (tells draft.old.settings draft.old.facts session numeric.now ∷ [])) }
+    ensures { OnOk result (draft.new
+        ≡ grown draft.old (tells draft.old.settings draft.old.facts session numeric.now ∷ [])) }
 {
     let to = title_of(draft.alloc(), draft.nick_of(session))?;
     answer_numeric(draft, to.as_slice(), numeric)
@@ -41,7 +43,8 @@ fn tell_borrowed(draft: &mut Draft, session: SessionId, numeric: &Numeric) -> Re
 
 /// Answers a session with a numeric, from the server and to the session's nickname.
 pub fn tell(draft: &mut Draft, session: SessionId, numeric: Numeric) -> Result<(), AllocError>
-    ensures { OnOk result (draft.new ≡ grown draft.old (tells draft.old.settings draft.old.facts session numeric ∷ [])) }
+    ensures { OnOk result (draft.new
+        ≡ grown draft.old (tells draft.old.settings draft.old.facts session numeric ∷ [])) }
 {
     tell_borrowed(draft, session, &numeric)
 }
@@ -52,7 +55,8 @@ pub fn tell_all(
     session: SessionId,
     numerics: &[Numeric],
 ) -> Result<(), AllocError>
-    ensures { OnOk result (draft.new ≡ grown draft.old (tells_all draft.old.settings draft.old.facts session numerics.now)) }
+    ensures { OnOk result (draft.new
+        ≡ grown draft.old (tells_all draft.old.settings draft.old.facts session numerics.now)) }
 {
     let to = title_of(draft.alloc(), draft.nick_of(session))?;
     for numeric in numerics {

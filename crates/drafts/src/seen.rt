@@ -44,7 +44,10 @@ impl<'a> Look<'a> {
     /// Changes the copy. It takes no memory.
     pub(crate) fn change(&mut self, change: Change)
         requires { 0 < look_room self.old }
-        ensures { looked self.new ≡ record { name = (looked self.old).name; state = changed change (looked self.old).state } }
+        ensures { looked self.new ≡ record {
+          name = (looked self.old).name;
+          state = changed change (looked self.old).state;
+        } }
     {
         if let Look::Copied { state, .. } = self {
             state.change(change);

@@ -36,7 +36,8 @@ fn push_for(
     line: &Line,
     session: SessionId,
 ) -> Result<(), AllocError>
-    ensures { OnOk result (lines.new.items ≡ lines.old.items ++ cond (hearer == session) (line.now ∷ []) []) }
+    ensures { OnOk result
+        (lines.new.items ≡ lines.old.items ++ cond (hearer == session) (line.now ∷ []) []) }
 {
     if hearer == session {
         lines.push(line.clone()?)?;
@@ -51,7 +52,8 @@ fn push_heard(
     line: &Line,
     session: SessionId,
 ) -> Result<(), AllocError>
-    ensures { OnOk result (lines.new.items ≡ lines.old.items ++ heard hearers.now line.now session) }
+    ensures { OnOk result
+        (lines.new.items ≡ lines.old.items ++ heard hearers.now line.now session) }
 {
     for hearer in hearers {
         push_for(lines, *hearer, line, session)?;
@@ -74,10 +76,14 @@ impl Verdict {
 
     /// Adds what comes of an effect of a session's record.
     pub(crate) fn add(&mut self, effect: Effect, session: SessionId) -> Result<(), AllocError>
-        ensures deeds { OnOk result (self.new.deeds.items ≡ self.old.deeds.items ++ deeds_of (effect ∷ [])) }
-        ensures reply { OnOk result (self.new.reply.items ≡ self.old.reply.items ++ replied session effect) }
-        ensures copies { OnOk result (self.new.copies.items ≡ self.old.copies.items ++ copied effect) }
-        ensures others { OnOk result (self.new.others.items ≡ self.old.others.items ++ shown (effect ∷ [])) }
+        ensures deeds { OnOk result
+            (self.new.deeds.items ≡ self.old.deeds.items ++ deeds_of (effect ∷ [])) }
+        ensures reply { OnOk result
+            (self.new.reply.items ≡ self.old.reply.items ++ replied session effect) }
+        ensures copies { OnOk result
+            (self.new.copies.items ≡ self.old.copies.items ++ copied effect) }
+        ensures others { OnOk result
+            (self.new.others.items ≡ self.old.others.items ++ shown (effect ∷ [])) }
     {
         match effect {
             Effect::Establish { deed } => self.deeds.push(deed)?,

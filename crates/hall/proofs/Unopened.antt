@@ -15,4 +15,5 @@ said_none h Ticked t i late = refl
 
 pub silent : (g : Settings) (h : List Rec) (t : ℕ) → IsLegal g h → sessions h < t → accepted h t ≡ []
 silent g [] t i late = refl
-silent g (r ∷ h) t i late = let before : sessions h < t = omega arith in rw (silent g h t i.4 before) (said_none h r.kind t i.2 before)
+silent g (r ∷ h) t i late = let before : sessions h < t = omega arith in
+    rw (silent g h t i.4 before) (said_none h r.kind t i.2 before)

@@ -27,8 +27,8 @@ pub record MayReap {O : Type 0} (m : Shown O) (baton stub : ℕ) : Type 0 where
   pub one : stub ≡ baton
   pub gone : gone m.history baton ≡ true
 
--- the pieces done with a baton are those that the history accepts; without those that the base counts they are what the records
--- that are kept accept from there
+-- the pieces done with a baton are those that the history accepts; without those that the base counts they are what
+-- the records that are kept accept from there
 pub record AreAllAccepted {O : Type 0} (m : Shown O) (s : ℕ) (pieces : List Piece) : Type 0 where
   pub all : pieces ≡ accepted m.history s
   pub since : drop ((base_of m).accepted s) pieces ≡ accepted_from (base_of m) (kept_of m) s
@@ -37,16 +37,19 @@ pub record AreAllAccepted {O : Type 0} (m : Shown O) (s : ℕ) (pieces : List Pi
 abbrev pub IsReapRefusal : {O : Type 0} → Shown O → ℕ → ℕ → ReapRefusal → Type 0
 IsReapRefusal m baton stub reaping.Busy = m.busy ≡ true
 IsReapRefusal m baton stub reaping.Stranger = (m.busy ≡ false) × (IsKnown m baton × (stub ≡ baton) → ⊥)
-IsReapRefusal m baton stub reaping.NotGone = (m.busy ≡ false) × IsKnown m baton × (stub ≡ baton) × (gone m.history baton ≡ false)
+IsReapRefusal m baton stub reaping.NotGone = (m.busy ≡ false) × IsKnown m baton × (stub ≡ baton)
+    × (gone m.history baton ≡ false)
 
--- what a taker took of a session's outbox, then so many items that are left there, is what the history owes the session
--- what a taker took of a session's outbox, then so many items that are left there, is what the history owes the session; without
--- those that the base counts it is what the records that are kept owe from there
-pub record IsAllOwed {O W : Type 0} (sent : O → List Item) (taken : O → W → List Item) (m : Shown O) (s : ℕ) (taker : W) (count : ℕ) : Type 0 where
+-- what a taker took of a session's outbox, then so many items that are left there, is what the history owes the
+-- session what a taker took of a session's outbox, then so many items that are left there, is what the history owes
+-- the session; without those that the base counts it is what the records that are kept owe from there
+pub record IsAllOwed {O W : Type 0} (sent : O → List Item) (taken : O → W → List Item) (m : Shown O) (s : ℕ)
+    (taker : W) (count : ℕ) : Type 0 where
   pub outbox : O
   pub here : box_at m.outboxes s ≡ Some outbox
   pub left : List Item
   pub rest : sent outbox ≡ taken outbox taker ++ left
   pub owed : deliveries (taken outbox taker ++ left) ≡ owed m.settings m.history s
-  pub since : drop ((base_of m).owed s) (deliveries (taken outbox taker ++ left)) ≡ owed_from m.settings (base_of m) (kept_of m) s
+  pub since : drop ((base_of m).owed s) (deliveries (taken outbox taker ++ left))
+      ≡ owed_from m.settings (base_of m) (kept_of m) s
   pub count_is : count ≡ length left

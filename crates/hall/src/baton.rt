@@ -8,8 +8,8 @@ use outbox::Outbox;
 use register::{Mark, Naming};
 use std::marker::Model;
 
-/// Whose line is next: a session has one baton, made by `Book::open` alone. A clause sees which of its lines that is, the pieces
-/// done with it, and the history when the newest of them was done, or when the session was opened.
+/// Whose line is next: a session has one baton, made by `Book::open` alone. A clause sees which of its lines that
+/// is, the pieces done with it, and the history when the newest of them was done, or when the session was opened.
 #[derive(Drop)]
 pub struct Baton<L: Naming, O: Outbox> {
     pub(crate) turn: book::Baton,
@@ -23,9 +23,20 @@ impl<L: Naming, O: Outbox> Model for Baton<L, O> {
 
     ghost Value = { Turn };
 
-    ghost view = { λ b. record { session = b.turn.session; next = b.turn.next; pieces = b.mark.pieces; front = b.front.value.history } };
+    ghost view = { λ b. record {
+      session = b.turn.session;
+      next = b.turn.next;
+      pieces = b.mark.pieces;
+      front = b.front.value.history;
+    } };
 
-    ghost invariant = { λ b. (b.mark.session ≡ b.turn.session) × IsInTurn (record { session = b.turn.session; next = b.turn.next; pieces = b.mark.pieces; front = b.front.value.history }) };
+    ghost invariant = { λ b. (b.mark.session ≡ b.turn.session)
+        × IsInTurn (record {
+          session = b.turn.session;
+          next = b.turn.next;
+          pieces = b.mark.pieces;
+          front = b.front.value.history;
+        }) };
 }
 
 impl<L: Naming, O: Outbox> Baton<L, O> {

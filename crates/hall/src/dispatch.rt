@@ -1,5 +1,6 @@
 //! A book whose sessions have tokens.
-ghost use Rattle.std.specs.Prelude.{◌≡◌, ◌≢◌, ◌<◌, ◌+◌, ◌++◌, [], ◌∷◌, ℕ, Some, None, true, false, length, IfOk, IfErr, IfSome, IsSome, OnOk, OnErr, slice_get, option_copied};
+ghost use Rattle.std.specs.Prelude.{◌≡◌, ◌≢◌, ◌<◌, ◌+◌, ◌++◌, [], ◌∷◌, ℕ, Some, None, true, false, length, IfOk};
+ghost use Rattle.std.specs.Prelude.{IfErr, IfSome, IsSome, OnOk, OnErr, slice_get, option_copied};
 ghost use Rattle.std.specs.List.{list_any};
 ghost use Rattle.std.specs.Prelude.{◌==◌};
 ghost use Rattle.casemapping.specs.Names.{host_shape};
@@ -66,8 +67,10 @@ fn advance<L: Naming, O: Outbox>(
     requires kept { book.now.limit.dropped < length book.now.history }
     requires line { IsSome (newest_line book.now.history) }
     ensures knew { pieces_at register.old.rows mark.old.session ≡ Some mark.old.pieces }
-    ensures register { IfSome (newest_line book.now.history) (λ l. register.new ≡ with_done register.old mark.old.session l.1) }
-    ensures mark { IfSome (newest_line book.now.history) (λ l. mark.new ≡ longer_mark mark.old l.1) }
+    ensures register { IfSome (newest_line book.now.history)
+        (λ l. register.new ≡ with_done register.old mark.old.session l.1) }
+    ensures mark { IfSome (newest_line book.now.history)
+        (λ l. mark.new ≡ longer_mark mark.old l.1) }
 {
     let Some(record) = book.record(number) else {
         unreachable!();
@@ -79,9 +82,13 @@ fn advance<L: Naming, O: Outbox>(
 }
 
 impl<L: Naming, O: Lasting> Book<L, O> {
-    ghost use Rattle.book.specs.Book.{empty_book, opened, begun, finished, reaped, IsPutNext, IsPutAll, IsDone, to_sweep, to_ping, late, MayOpen, MayBegin, MayHang, MaySweep, MayTick, IsSomebodyQuiet, HasRoom, IsOpenRefusal, IsLineRefusal, IsHangRefusal, IsSweepRefusal, IsTickRefusal, IsRollRefusal, IsOut, newest_missed, rolled};
+    ghost use Rattle.book.specs.Book.{empty_book, opened, begun, finished, reaped, IsPutNext, IsPutAll, IsDone};
+    ghost use Rattle.book.specs.Book.{to_sweep, to_ping, late, MayOpen, MayBegin, MayHang, MaySweep, MayTick};
+    ghost use Rattle.book.specs.Book.{IsSomebodyQuiet, HasRoom, IsOpenRefusal, IsLineRefusal, IsHangRefusal};
+    ghost use Rattle.book.specs.Book.{IsSweepRefusal, IsTickRefusal, IsRollRefusal, IsOut, newest_missed, rolled};
 
-    /// An empty book for at most `limit` records, whose tokens a register has that is named by `L` and has no session yet.
+    /// An empty book for at most `limit` records, whose tokens a register has that is named by `L` and has no
+    /// session yet.
     pub fn new(
         alloc: Global,
         register: Register<O::Name>,
@@ -131,8 +138,8 @@ impl<L: Naming, O: Lasting> Book<L, O> {
         &self.book
     }
 
-    /// Opens a session whose host has the shape of one, and gives its baton and its stub. A refusal gives the outbox back, and
-    /// changes nothing.
+    /// Opens a session whose host has the shape of one, and gives its baton and its stub. A refusal gives the outbox
+    /// back, and changes nothing.
     pub fn open(
         &mut self,
         host: Octets,
@@ -160,17 +167,19 @@ impl<L: Naming, O: Lasting> Book<L, O> {
         Ok((session, Baton { turn, mark, front }, stub))
     }
 
-    /// Begins the next line of the baton's session: its record is appended, and a plan of its deliveries is handed out. All memory
-    /// is taken here; a refusal changes nothing. The line isn't done until the plan is given back.
+    /// Begins the next line of the baton's session: its record is appended, and a plan of its deliveries is handed
+    /// out. All memory is taken here; a refusal changes nothing. The line isn't done until the plan is given back.
     pub fn begin(
         &mut self,
         baton: &Baton<L, O>,
         piece: &Piece,
         moment: Moment,
     ) -> Result<Plan, LineRefusal>
-        ensures ok { OnOk result (self.new ≡ begun self.old (kind.Said baton.now.session baton.now.next piece.now) moment) }
+        ensures ok { OnOk result (self.new
+            ≡ begun self.old (kind.Said baton.now.session baton.now.next piece.now) moment) }
         ensures out { IfOk result (λ p. IsOut self.new p) }
-        ensures line { IfOk result (λ p. (p.session ≡ baton.now.session) × (p.next ≡ Some (baton.now.next + 1))) }
+        ensures line { IfOk result
+            (λ p. (p.session ≡ baton.now.session) × (p.next ≡ Some (baton.now.next + 1))) }
         ensures may { OnOk result (MayBegin self.old (turn_of baton.now) moment) }
         ensures refusal { IfErr result (λ e. IsLineRefusal self.old (turn_of baton.now) moment e) }
         ensures err { OnErr result (self.new ≡ self.old) }
@@ -178,8 +187,8 @@ impl<L: Naming, O: Lasting> Book<L, O> {
         self.book.begin(&baton.turn, piece, moment)
     }
 
-    /// Puts the first delivery of the plan that is out into its session's outbox, or notes that the session missed the record
-    /// where the outbox doesn't take it. It answers `None` where nothing is left, and takes no memory.
+    /// Puts the first delivery of the plan that is out into its session's outbox, or notes that the session missed
+    /// the record where the outbox doesn't take it. It answers `None` where nothing is left, and takes no memory.
     pub fn put_next(&mut self, plan: &mut Plan) -> Option<Step>
         requires out { IsOut self.old plan.old }
         ensures put { IsPutNext O.accepts O.refuses self.old self.old.plan result self.new }
@@ -227,16 +236,18 @@ impl<L: Naming, O: Lasting> Book<L, O> {
         while let Some(_) = self.put_noted(plan, told) {}
     }
 
-    /// Gives back the plan of a line, with nothing left in it: now the line is done, and the turn goes on to the next. It takes no
-    /// memory.
+    /// Gives back the plan of a line, with nothing left in it: now the line is done, and the turn goes on to the
+    /// next. It takes no memory.
     pub fn finish(&mut self, plan: Plan, baton: &mut Baton<L, O>) -> Done
         requires out { IsOut self.old plan }
         requires none { self.old.plan ≡ [] }
-        requires line { (plan.session ≡ baton.old.session) × (plan.next ≡ Some (baton.old.next + 1)) }
+        requires line { (plan.session ≡ baton.old.session)
+            × (plan.next ≡ Some (baton.old.next + 1)) }
         ensures book { self.new ≡ finished self.old }
         ensures session { baton.new.session ≡ baton.old.session }
         ensures next { baton.new.next ≡ baton.old.next + 1 }
-        ensures grown { baton.new.pieces ≡ baton.old.pieces ++ newest_said self.old.history baton.old.session }
+        ensures grown { baton.new.pieces
+            ≡ baton.old.pieces ++ newest_said self.old.history baton.old.session }
         ensures accepted { baton.new.pieces ≡ accepted self.new.history baton.old.session }
         ensures front { baton.new.front ≡ self.new.history }
         ensures number { result.number ≡ length self.old.history }
@@ -251,8 +262,8 @@ impl<L: Naming, O: Lasting> Book<L, O> {
         done
     }
 
-    /// Accepts the next line of the baton's session: begins it, puts or misses all that it owes, and finishes it, when the line is
-    /// done. Whoever got something is told of it. A refusal changes nothing.
+    /// Accepts the next line of the baton's session: begins it, puts or misses all that it owes, and finishes it,
+    /// when the line is done. Whoever got something is told of it. A refusal changes nothing.
     pub fn line(
         &mut self,
         baton: &mut Baton<L, O>,
@@ -260,46 +271,54 @@ impl<L: Naming, O: Lasting> Book<L, O> {
         moment: Moment,
         told: &mut Told,
     ) -> Result<Done, LineRefusal>
-        ensures ok { OnOk result (IsDone O.accepts O.refuses self.old (kind.Said baton.old.session baton.old.next piece.now) moment self.new) }
+        ensures ok { OnOk result (IsDone O.accepts O.refuses self.old
+            (kind.Said baton.old.session baton.old.next piece.now) moment self.new) }
         ensures baton { OnOk result (baton.new ≡ next_turn baton.old piece.now self.new.history) }
-        ensures accepted { OnOk result (baton.new.pieces ≡ accepted self.new.history baton.old.session) }
+        ensures accepted { OnOk result
+            (baton.new.pieces ≡ accepted self.new.history baton.old.session) }
         ensures may { OnOk result (MayBegin self.old (turn_of baton.old) moment) }
         ensures number { IfOk result (λ d. d.number ≡ length self.old.history + 1) }
         ensures missed { IfOk result (λ d. d.missed ≡ newest_missed self.new.history) }
         ensures shut { IfOk result (λ d. d.shut ≡ shut self.new.history baton.old.session) }
         ensures refusal { IfErr result (λ e. IsLineRefusal self.old (turn_of baton.old) moment e) }
         ensures told { OnOk result (TellsOf told.old told.new self.old.outboxes self.new.outboxes) }
-        ensures err { OnErr result ((self.new ≡ self.old) × (baton.new ≡ baton.old) × (told.new ≡ told.old)) }
+        ensures err { OnErr result ((self.new ≡ self.old) × (baton.new ≡ baton.old)
+            × (told.new ≡ told.old)) }
     {
         let mut plan = self.begin(baton, piece, moment)?;
         self.put_rest(&mut plan, told);
         Ok(self.finish(plan, baton))
     }
 
-    /// Ends a session: one record is appended, and its last item is put, or missed where its outbox doesn't take it. It takes no
-    /// memory; a refusal changes nothing.
+    /// Ends a session: one record is appended, and its last item is put, or missed where its outbox doesn't take it.
+    /// It takes no memory; a refusal changes nothing.
     pub fn hang(
         &mut self,
         session: SessionId,
         why: Why,
         moment: Moment,
     ) -> Result<Hung, HangRefusal>
-        ensures ok { OnOk result (IsDone O.accepts O.refuses self.old (kind.Hung session why) moment self.new) }
+        ensures ok { OnOk result
+            (IsDone O.accepts O.refuses self.old (kind.Hung session why) moment self.new) }
         ensures may { OnOk result (MayHang self.old session moment) }
         ensures number { IfOk result (λ d. d.number ≡ length self.old.history + 1) }
-        ensures missed { IfOk result (λ d. d.missed ≡ list_any (λ u. u == session) (newest_missed self.new.history)) }
+        ensures missed { IfOk result
+            (λ d. d.missed ≡ list_any (λ u. u == session) (newest_missed self.new.history)) }
         ensures refusal { IfErr result (λ e. IsHangRefusal self.old session moment e) }
         ensures err { OnErr result (self.new ≡ self.old) }
     {
         self.book.hang(session, why, moment)
     }
 
-    /// Begins to sweep the shut session of the lowest number that isn't gone: its record is appended, and a plan is handed out
-    /// of what others are told. It answers `None` where there is no such session. All memory is taken here; a refusal changes
-    /// nothing.
+    /// Begins to sweep the shut session of the lowest number that isn't gone: its record is appended, and a plan is
+    /// handed out of what others are told. It answers `None` where there is no such session. All memory is taken
+    /// here; a refusal changes nothing.
     pub fn begin_sweep(&mut self, moment: Moment) -> Result<Option<Plan>, SweepRefusal>
-        ensures some { IfOk result (λ o. IfSome o (λ p. (to_sweep self.old.history ≡ Some p.session) × (self.new ≡ begun self.old (kind.Gone p.session) moment) × IsOut self.new p × (p.next ≡ None))) }
-        ensures none { IfOk result (λ o. o ≡ None → (to_sweep self.old.history ≡ None) × (self.new ≡ self.old)) }
+        ensures some { IfOk result (λ o. IfSome o (λ p. (to_sweep self.old.history ≡ Some p.session)
+            × (self.new ≡ begun self.old (kind.Gone p.session) moment) × IsOut self.new p
+            × (p.next ≡ None))) }
+        ensures none { IfOk result
+            (λ o. o ≡ None → (to_sweep self.old.history ≡ None) × (self.new ≡ self.old)) }
         ensures may { OnOk result (MaySweep self.old moment) }
         ensures refusal { IfErr result (λ e. IsSweepRefusal self.old moment e) }
         ensures err { OnErr result (self.new ≡ self.old) }
@@ -320,12 +339,16 @@ impl<L: Naming, O: Lasting> Book<L, O> {
         self.book.finish_sweep(plan)
     }
 
-    /// Sweeps up to one session: begins, puts or misses all that it owes, and finishes. Whoever got something is told of it. A
-    /// refusal changes nothing.
+    /// Sweeps up to one session: begins, puts or misses all that it owes, and finishes. Whoever got something is
+    /// told of it. A refusal changes nothing.
     #[tactic(auto, using(book::proofs::Sweeps::swept_is))]
     pub fn sweep(&mut self, moment: Moment, told: &mut Told) -> Result<Option<Done>, SweepRefusal>
-        ensures some { IfOk result (λ o. IfSome o (λ d. (s : ℕ) × (to_sweep self.old.history ≡ Some s) × IsDone O.accepts O.refuses self.old (kind.Gone s) moment self.new × (d.number ≡ length self.old.history + 1) × (d.missed ≡ newest_missed self.new.history) × (d.shut ≡ shut self.new.history s))) }
-        ensures none { IfOk result (λ o. o ≡ None → (to_sweep self.old.history ≡ None) × (self.new ≡ self.old)) }
+        ensures some { IfOk result (λ o. IfSome o (λ d. (s : ℕ)
+            × (to_sweep self.old.history ≡ Some s) × IsDone O.accepts O.refuses self.old
+            (kind.Gone s) moment self.new × (d.number ≡ length self.old.history + 1)
+            × (d.missed ≡ newest_missed self.new.history) × (d.shut ≡ shut self.new.history s))) }
+        ensures none { IfOk result
+            (λ o. o ≡ None → (to_sweep self.old.history ≡ None) × (self.new ≡ self.old)) }
         ensures may { OnOk result (MaySweep self.old moment) }
         ensures refusal { IfErr result (λ e. IsSweepRefusal self.old moment e) }
         ensures told { OnOk result (TellsOf told.old told.new self.old.outboxes self.new.outboxes) }
@@ -338,13 +361,17 @@ impl<L: Naming, O: Lasting> Book<L, O> {
         Ok(Some(self.finish_sweep(plan)))
     }
 
-    /// Begins a tick: its record is appended, and a plan is handed out of the PING that it owes each session that is quiet for long
-    /// enough and wasn't pinged since it was heard of. It answers `None` where there is no such session. All memory is taken here; a
-    /// refusal changes nothing.
+    /// Begins a tick: its record is appended, and a plan is handed out of the PING that it owes each session that is
+    /// quiet for long enough and wasn't pinged since it was heard of. It answers `None` where there is no such
+    /// session. All memory is taken here; a refusal changes nothing.
     pub fn begin_tick(&mut self, moment: Moment) -> Result<Option<Plan>, TickRefusal>
-        ensures some { IfOk result (λ o. IfSome o (λ p. (self.new ≡ begun self.old kind.Ticked moment) × IsOut self.new p × (p.session ≡ 0) × (p.next ≡ None))) }
-        ensures quiet { IfOk result (λ o. IfSome o (λ p. IsSomebodyQuiet self.old moment × HasRoom self.old)) }
-        ensures none { IfOk result (λ o. o ≡ None → (to_ping self.old.history moment ≡ []) × (self.new ≡ self.old)) }
+        ensures some { IfOk result
+            (λ o. IfSome o (λ p. (self.new ≡ begun self.old kind.Ticked moment) × IsOut self.new p
+            × (p.session ≡ 0) × (p.next ≡ None))) }
+        ensures quiet { IfOk result
+            (λ o. IfSome o (λ p. IsSomebodyQuiet self.old moment × HasRoom self.old)) }
+        ensures none { IfOk result
+            (λ o. o ≡ None → (to_ping self.old.history moment ≡ []) × (self.new ≡ self.old)) }
         ensures may { OnOk result (MayTick self.old moment) }
         ensures refusal { IfErr result (λ e. IsTickRefusal self.old moment e) }
         ensures err { OnErr result (self.new ≡ self.old) }
@@ -366,12 +393,16 @@ impl<L: Naming, O: Lasting> Book<L, O> {
         self.book.finish_tick(plan)
     }
 
-    /// Pings whoever is quiet for long enough: begins, puts or misses all that the tick owes, and finishes. Whoever got something is
-    /// told of it. It answers `None` where nobody is to be pinged. A refusal changes nothing.
+    /// Pings whoever is quiet for long enough: begins, puts or misses all that the tick owes, and finishes. Whoever
+    /// got something is told of it. It answers `None` where nobody is to be pinged. A refusal changes nothing.
     pub fn tick(&mut self, moment: Moment, told: &mut Told) -> Result<Option<Done>, TickRefusal>
-        ensures some { IfOk result (λ o. IfSome o (λ d. IsDone O.accepts O.refuses self.old kind.Ticked moment self.new × (d.number ≡ length self.old.history + 1) × (d.missed ≡ newest_missed self.new.history) × (d.shut ≡ false))) }
-        ensures quiet { IfOk result (λ o. IfSome o (λ d. IsSomebodyQuiet self.old moment × HasRoom self.old)) }
-        ensures none { IfOk result (λ o. o ≡ None → (to_ping self.old.history moment ≡ []) × (self.new ≡ self.old)) }
+        ensures some { IfOk result (λ o. IfSome o (λ d. IsDone O.accepts O.refuses
+            self.old kind.Ticked moment self.new × (d.number ≡ length self.old.history + 1)
+            × (d.missed ≡ newest_missed self.new.history) × (d.shut ≡ false))) }
+        ensures quiet { IfOk result
+            (λ o. IfSome o (λ d. IsSomebodyQuiet self.old moment × HasRoom self.old)) }
+        ensures none { IfOk result
+            (λ o. o ≡ None → (to_ping self.old.history moment ≡ []) × (self.new ≡ self.old)) }
         ensures may { OnOk result (MayTick self.old moment) }
         ensures refusal { IfErr result (λ e. IsTickRefusal self.old moment e) }
         ensures told { OnOk result (TellsOf told.old told.new self.old.outboxes self.new.outboxes) }
@@ -391,11 +422,12 @@ impl<L: Naming, O: Lasting> Book<L, O> {
         self.book.late(moment)
     }
 
-    /// Drops all records, and keeps what has to be known of them. Numbers go on, and there is room for as many records as at the
-    /// start. A refusal changes nothing.
+    /// Drops all records, and keeps what has to be known of them. Numbers go on, and there is room for as many
+    /// records as at the start. A refusal changes nothing.
     pub fn roll(&mut self) -> Result<Rolled, RollRefusal>
         ensures ok { OnOk result (self.new ≡ rolled self.old) }
-        ensures dropped { IfOk result (λ r. r.dropped + self.old.limit.dropped ≡ length self.old.history) }
+        ensures dropped { IfOk result
+            (λ r. r.dropped + self.old.limit.dropped ≡ length self.old.history) }
         ensures next { IfOk result (λ r. r.next ≡ length self.old.history + 1) }
         ensures idle { OnOk result (self.old.busy ≡ false) }
         ensures refusal { IfErr result (λ e. IsRollRefusal self.old e) }
@@ -418,9 +450,9 @@ impl<L: Naming, O: Lasting> Book<L, O> {
         }
     }
 
-    /// Gives up a session that is gone, with its tokens and with what is left in its outbox, whose taker is given up with it. The
-    /// taker is that of the outbox for which the stub was given. It takes no memory; a refusal gives all three back, and changes
-    /// nothing.
+    /// Gives up a session that is gone, with its tokens and with what is left in its outbox, whose taker is given up
+    /// with it. The taker is that of the outbox for which the stub was given. It takes no memory; a refusal gives
+    /// all three back, and changes nothing.
     pub fn reap(
         &mut self,
         baton: Baton<L, O>,
@@ -432,10 +464,12 @@ impl<L: Naming, O: Lasting> Book<L, O> {
         requires own { stub.outbox ≡ Some (O.taker_of taker) }
         ensures ok { OnOk result (self.new ≡ reaped self.old baton.session) }
         ensures session { IfOk result (λ l. l.session ≡ baton.session) }
-        ensures left { IfOk result (λ l. IsAllOwed O.sent O.taken self.old baton.session taker l.count) }
+        ensures left { IfOk result
+            (λ l. IsAllOwed O.sent O.taken self.old baton.session taker l.count) }
         ensures pieces { OnOk result (AreAllAccepted self.old baton.session baton.pieces) }
         ensures may { OnOk result (MayReap self.old baton.session stub.session) }
-        ensures refusal { IfErr result (λ e. IsReapRefusal self.old baton.session stub.session e.0) }
+        ensures refusal { IfErr result
+            (λ e. IsReapRefusal self.old baton.session stub.session e.0) }
         ensures same { OnErr result (self.new ≡ self.old) }
         ensures back { IfErr result (λ e. (e.1 ≡ baton) × (e.2 ≡ stub) × (e.3 ≡ taker)) }
     {
@@ -476,7 +510,8 @@ impl<L: Naming> Book<L, Ring> {
 
     /// Takes the item that waits longest for a session. It takes no memory.
     pub fn take(&mut self, session: SessionId) -> Result<Item, TakeRefusal>
-        ensures ok { IfOk result (λ x. slice_get (outbox_at self.old.outboxes session).queue 0 ≡ Some x) }
+        ensures ok { IfOk result
+            (λ x. slice_get (outbox_at self.old.outboxes session).queue 0 ≡ Some x) }
         ensures taken { OnOk result (self.new ≡ taken self.old session) }
         ensures known { OnOk result (IsKnown self.old session) }
         ensures refusal { IfErr result (λ e. IsTakeRefusal self.old session e) }

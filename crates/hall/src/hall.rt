@@ -1,5 +1,6 @@
 //! What stands in a lock.
-ghost use Rattle.std.specs.Prelude.{◌≡◌, ◌≢◌, ◌<◌, ◌≤◌, ◌+◌, ◌↔◌, ◌==◌, [], ℕ, Some, None, true, false, length, IsTrue, IfOk, IfErr, IfSome, OnOk, OnErr};
+ghost use Rattle.std.specs.Prelude.{◌≡◌, ◌≢◌, ◌<◌, ◌≤◌, ◌+◌, ◌↔◌, ◌==◌, [], ℕ, Some, None, true, false};
+ghost use Rattle.std.specs.Prelude.{length, IsTrue, IfOk, IfErr, IfSome, OnOk, OnErr};
 ghost use Rattle.std.specs.List.{list_any};
 ghost use Rattle.casemapping.specs.Names.{host_shape};
 ghost use Rattle.chronicle.specs.declared.record.Kind.TheVariants as kind;
@@ -29,9 +30,9 @@ use std::hash::RandomState;
 use std::marker::Model;
 use std::mem;
 
-/// A book with no plan out, which is what stands in a lock. Whenever nobody has it, its history is legal, what was put into each
-/// session's outbox is what the history owes the session, and the register has each session's outbox and accepted pieces. A clause
-/// sees the book.
+/// A book with no plan out, which is what stands in a lock. Whenever nobody has it, its history is legal, what was
+/// put into each session's outbox is what the history owes the session, and the register has each session's outbox
+/// and accepted pieces. A clause sees the book.
 #[derive(Drop)]
 pub struct Hall<L: Naming, O: Outbox> {
     book: Book<L, O>,
@@ -50,10 +51,14 @@ impl<L: Naming, O: Outbox> Model for Hall<L, O> {
 }
 
 impl<L: Naming, O: Lasting> Hall<L, O> {
-    ghost use Rattle.book.specs.Book.{empty_book, opened, reaped, IsDone, IsSound, to_sweep, to_ping, late, MayOpen, MayBegin, MayHang, MaySweep, MayTick, IsSomebodyQuiet, HasRoom, IsOpenRefusal, IsLineRefusal, IsHangRefusal, IsSweepRefusal, IsTickRefusal, IsRollRefusal, newest_missed, is_here, rolled, base_of};
+    ghost use Rattle.book.specs.Book.{empty_book, opened, reaped, IsDone, IsSound, to_sweep, to_ping, late, MayOpen};
+    ghost use Rattle.book.specs.Book.{MayBegin, MayHang, MaySweep, MayTick, IsSomebodyQuiet, HasRoom, IsOpenRefusal};
+    ghost use Rattle.book.specs.Book.{IsLineRefusal, IsHangRefusal, IsSweepRefusal, IsTickRefusal, IsRollRefusal};
+    ghost use Rattle.book.specs.Book.{newest_missed, is_here, rolled, base_of};
     ghost use Rattle.book.specs.Noted.{base_by, is_noted};
 
-    /// An empty hall for at most `limit` records, whose tokens a register has that is named by `L` and has no session yet.
+    /// An empty hall for at most `limit` records, whose tokens a register has that is named by `L` and has no
+    /// session yet.
     pub fn new(
         alloc: Global,
         register: Register<O::Name>,
@@ -94,8 +99,8 @@ impl<L: Naming, O: Lasting> Hall<L, O> {
         })
     }
 
-    /// Opens a session whose host has the shape of one, and gives its baton and its stub. A refusal gives the outbox back, and
-    /// changes nothing.
+    /// Opens a session whose host has the shape of one, and gives its baton and its stub. A refusal gives the outbox
+    /// back, and changes nothing.
     pub fn open(
         &mut self,
         host: Octets,
@@ -116,17 +121,19 @@ impl<L: Naming, O: Lasting> Hall<L, O> {
         self.book.open(host, moment, outbox)
     }
 
-    /// Accepts the next line of the baton's session: its record is appended, all that it owes is put or missed, and the line is
-    /// done. A refusal changes nothing.
+    /// Accepts the next line of the baton's session: its record is appended, all that it owes is put or missed, and
+    /// the line is done. A refusal changes nothing.
     pub fn line(
         &mut self,
         baton: &mut Baton<L, O>,
         piece: &Piece,
         moment: Moment,
     ) -> Result<Done, LineRefusal>
-        ensures ok { OnOk result (IsDone O.accepts O.refuses self.old (kind.Said baton.old.session baton.old.next piece.now) moment self.new) }
+        ensures ok { OnOk result (IsDone O.accepts O.refuses self.old
+            (kind.Said baton.old.session baton.old.next piece.now) moment self.new) }
         ensures baton { OnOk result (baton.new ≡ next_turn baton.old piece.now self.new.history) }
-        ensures accepted { OnOk result (baton.new.pieces ≡ accepted self.new.history baton.old.session) }
+        ensures accepted { OnOk result
+            (baton.new.pieces ≡ accepted self.new.history baton.old.session) }
         ensures may { OnOk result (MayBegin self.old (turn_of baton.old) moment) }
         ensures number { IfOk result (λ d. d.number ≡ length self.old.history + 1) }
         ensures missed { IfOk result (λ d. d.missed ≡ newest_missed self.new.history) }
@@ -138,17 +145,20 @@ impl<L: Naming, O: Lasting> Hall<L, O> {
         self.book.line(baton, piece, moment, &mut self.told)
     }
 
-    /// Accepts the next line of the baton's session, which was read before the hall was taken, as `line` does. Whether its label counts
-    /// is decided here, by the capabilities that the session has before the line. A refusal changes nothing.
+    /// Accepts the next line of the baton's session, which was read before the hall was taken, as `line` does.
+    /// Whether its label counts is decided here, by the capabilities that the session has before the line. A refusal
+    /// changes nothing.
     pub fn line_read(
         &mut self,
         baton: &mut Baton<L, O>,
         line: ReadLine,
         moment: Moment,
     ) -> Result<Done, LineRefusal>
-        ensures ok { OnOk result (IsDone O.accepts O.refuses self.old (kind.Said baton.old.session baton.old.next line) moment self.new) }
+        ensures ok { OnOk result (IsDone O.accepts O.refuses self.old
+            (kind.Said baton.old.session baton.old.next line) moment self.new) }
         ensures baton { OnOk result (baton.new ≡ next_turn baton.old line self.new.history) }
-        ensures accepted { OnOk result (baton.new.pieces ≡ accepted self.new.history baton.old.session) }
+        ensures accepted { OnOk result
+            (baton.new.pieces ≡ accepted self.new.history baton.old.session) }
         ensures may { OnOk result (MayBegin self.old (turn_of baton.old) moment) }
         ensures number { IfOk result (λ d. d.number ≡ length self.old.history + 1) }
         ensures missed { IfOk result (λ d. d.missed ≡ newest_missed self.new.history) }
@@ -160,18 +170,20 @@ impl<L: Naming, O: Lasting> Hall<L, O> {
         self.book.line_read(baton, line, moment, &mut self.told)
     }
 
-    /// Ends a session: one record is appended, and its last item is put, or missed where its outbox doesn't take it. It takes no
-    /// memory; a refusal changes nothing.
+    /// Ends a session: one record is appended, and its last item is put, or missed where its outbox doesn't take it.
+    /// It takes no memory; a refusal changes nothing.
     pub fn hang(
         &mut self,
         session: SessionId,
         why: Why,
         moment: Moment,
     ) -> Result<Hung, HangRefusal>
-        ensures ok { OnOk result (IsDone O.accepts O.refuses self.old (kind.Hung session why) moment self.new) }
+        ensures ok { OnOk result
+            (IsDone O.accepts O.refuses self.old (kind.Hung session why) moment self.new) }
         ensures may { OnOk result (MayHang self.old session moment) }
         ensures number { IfOk result (λ d. d.number ≡ length self.old.history + 1) }
-        ensures missed { IfOk result (λ d. d.missed ≡ list_any (λ u. u == session) (newest_missed self.new.history)) }
+        ensures missed { IfOk result
+            (λ d. d.missed ≡ list_any (λ u. u == session) (newest_missed self.new.history)) }
         ensures refusal { IfErr result (λ e. IsHangRefusal self.old session moment e) }
         ensures not_busy { IfErr result (λ e. e ≢ HangRefusal.Busy) }
         ensures err { OnErr result (self.new ≡ self.old) }
@@ -183,11 +195,15 @@ impl<L: Naming, O: Lasting> Hall<L, O> {
         Ok(hung)
     }
 
-    /// Sweeps up to one session: the shut one of the lowest number that isn't gone. Its record is appended, and all that it owes is
-    /// put or missed. It answers `None` where there is no such session. A refusal changes nothing.
+    /// Sweeps up to one session: the shut one of the lowest number that isn't gone. Its record is appended, and all
+    /// that it owes is put or missed. It answers `None` where there is no such session. A refusal changes nothing.
     pub fn sweep(&mut self, moment: Moment) -> Result<Option<Done>, SweepRefusal>
-        ensures some { IfOk result (λ o. IfSome o (λ d. (s : ℕ) × (to_sweep self.old.history ≡ Some s) × IsDone O.accepts O.refuses self.old (kind.Gone s) moment self.new × (d.number ≡ length self.old.history + 1) × (d.missed ≡ newest_missed self.new.history) × (d.shut ≡ shut self.new.history s))) }
-        ensures none { IfOk result (λ o. o ≡ None → (to_sweep self.old.history ≡ None) × (self.new ≡ self.old)) }
+        ensures some { IfOk result (λ o. IfSome o (λ d. (s : ℕ)
+            × (to_sweep self.old.history ≡ Some s) × IsDone O.accepts O.refuses self.old
+            (kind.Gone s) moment self.new × (d.number ≡ length self.old.history + 1)
+            × (d.missed ≡ newest_missed self.new.history) × (d.shut ≡ shut self.new.history s))) }
+        ensures none { IfOk result
+            (λ o. o ≡ None → (to_sweep self.old.history ≡ None) × (self.new ≡ self.old)) }
         ensures may { OnOk result (MaySweep self.old moment) }
         ensures refusal { IfErr result (λ e. IsSweepRefusal self.old moment e) }
         ensures not_busy { IfErr result (λ e. e ≢ SweepRefusal.Busy) }
@@ -196,12 +212,16 @@ impl<L: Naming, O: Lasting> Hall<L, O> {
         self.book.sweep(moment, &mut self.told)
     }
 
-    /// Pings each session that is quiet for long enough and wasn't pinged since it was heard of, by one record. It answers `None`
-    /// where there is no such session. A refusal changes nothing.
+    /// Pings each session that is quiet for long enough and wasn't pinged since it was heard of, by one record. It
+    /// answers `None` where there is no such session. A refusal changes nothing.
     pub fn tick(&mut self, moment: Moment) -> Result<Option<Done>, TickRefusal>
-        ensures some { IfOk result (λ o. IfSome o (λ d. IsDone O.accepts O.refuses self.old kind.Ticked moment self.new × (d.number ≡ length self.old.history + 1) × (d.missed ≡ newest_missed self.new.history) × (d.shut ≡ false))) }
-        ensures quiet { IfOk result (λ o. IfSome o (λ d. IsSomebodyQuiet self.old moment × HasRoom self.old)) }
-        ensures none { IfOk result (λ o. o ≡ None → (to_ping self.old.history moment ≡ []) × (self.new ≡ self.old)) }
+        ensures some { IfOk result (λ o. IfSome o (λ d. IsDone O.accepts O.refuses
+            self.old kind.Ticked moment self.new × (d.number ≡ length self.old.history + 1)
+            × (d.missed ≡ newest_missed self.new.history) × (d.shut ≡ false))) }
+        ensures quiet { IfOk result
+            (λ o. IfSome o (λ d. IsSomebodyQuiet self.old moment × HasRoom self.old)) }
+        ensures none { IfOk result
+            (λ o. o ≡ None → (to_ping self.old.history moment ≡ []) × (self.new ≡ self.old)) }
         ensures may { OnOk result (MayTick self.old moment) }
         ensures refusal { IfErr result (λ e. IsTickRefusal self.old moment e) }
         ensures not_busy { IfErr result (λ e. e ≢ TickRefusal.Busy) }
@@ -210,16 +230,17 @@ impl<L: Naming, O: Lasting> Hall<L, O> {
         self.book.tick(moment, &mut self.told)
     }
 
-    /// The session of the lowest number that isn't shut and is quiet for too long at a moment, which is to be hung. It takes no memory.
+    /// The session of the lowest number that isn't shut and is quiet for too long at a moment, which is to be hung.
+    /// It takes no memory.
     pub fn late(&self, moment: Moment) -> Option<SessionId>
         ensures { result ≡ late self.now.history moment }
     {
         self.book.late(moment)
     }
 
-    /// Gives up a session that is gone, with its tokens and with what is left in its outbox, whose taker is given up with it. The
-    /// taker is that of the outbox for which the stub was given. It takes no memory; a refusal gives all three back, and changes
-    /// nothing.
+    /// Gives up a session that is gone, with its tokens and with what is left in its outbox, whose taker is given up
+    /// with it. The taker is that of the outbox for which the stub was given. It takes no memory; a refusal gives
+    /// all three back, and changes nothing.
     pub fn reap(
         &mut self,
         baton: Baton<L, O>,
@@ -231,10 +252,12 @@ impl<L: Naming, O: Lasting> Hall<L, O> {
         requires own { stub.outbox ≡ Some (O.taker_of taker) }
         ensures ok { OnOk result (self.new ≡ reaped self.old baton.session) }
         ensures session { IfOk result (λ l. l.session ≡ baton.session) }
-        ensures left { IfOk result (λ l. IsAllOwed O.sent O.taken self.old baton.session taker l.count) }
+        ensures left { IfOk result
+            (λ l. IsAllOwed O.sent O.taken self.old baton.session taker l.count) }
         ensures pieces { OnOk result (AreAllAccepted self.old baton.session baton.pieces) }
         ensures may { OnOk result (MayReap self.old baton.session stub.session) }
-        ensures refusal { IfErr result (λ e. IsReapRefusal self.old baton.session stub.session e.0) }
+        ensures refusal { IfErr result
+            (λ e. IsReapRefusal self.old baton.session stub.session e.0) }
         ensures not_busy { IfErr result (λ e. e.0 ≢ ReapRefusal.Busy) }
         ensures same { OnErr result (self.new ≡ self.old) }
         ensures back { IfErr result (λ e. (e.1 ≡ baton) × (e.2 ≡ stub) × (e.3 ≡ taker)) }
@@ -242,11 +265,12 @@ impl<L: Naming, O: Lasting> Hall<L, O> {
         self.book.reap(baton, stub, taker)
     }
 
-    /// Drops all records, and keeps what has to be known of them. Numbers go on, and there is room for as many records as at the
-    /// start. A refusal changes nothing.
+    /// Drops all records, and keeps what has to be known of them. Numbers go on, and there is room for as many
+    /// records as at the start. A refusal changes nothing.
     pub fn roll(&mut self) -> Result<Rolled, RollRefusal>
         ensures ok { OnOk result (self.new ≡ rolled self.old) }
-        ensures dropped { IfOk result (λ r. r.dropped + self.old.limit.dropped ≡ length self.old.history) }
+        ensures dropped { IfOk result
+            (λ r. r.dropped + self.old.limit.dropped ≡ length self.old.history) }
         ensures next { IfOk result (λ r. r.next ≡ length self.old.history + 1) }
         ensures refusal { IfErr result (λ e. IsRollRefusal self.old e) }
         ensures not_busy { IfErr result (λ e. e ≢ RollRefusal.Busy) }
@@ -258,8 +282,10 @@ impl<L: Naming, O: Lasting> Hall<L, O> {
     /// What is known of the records that were dropped. `None` where none was.
     pub fn base(&self) -> Option<&Base>
         ensures base { IfSome result (λ b. base_by b.now ≡ base_of self.now) }
-        ensures noted { IfSome result (λ b. (t : ℕ) → 0 < t → t ≤ (base_of self.now).sessions → is_here self.now.outboxes t ≡ true → is_noted b.now t ≡ true) }
-        ensures opened { IfSome result (λ b. (t : ℕ) → is_noted b.now t ≡ true → (0 < t) × (t ≤ (base_of self.now).sessions)) }
+        ensures noted { IfSome result (λ b. (t : ℕ) → 0 < t → t ≤ (base_of self.now).sessions
+            → is_here self.now.outboxes t ≡ true → is_noted b.now t ≡ true) }
+        ensures opened { IfSome result
+            (λ b. (t : ℕ) → is_noted b.now t ≡ true → (0 < t) × (t ≤ (base_of self.now).sessions)) }
         ensures none { result ≡ None → self.now.limit.dropped ≡ 0 }
         ensures some { IfSome result (λ b. 0 < self.now.limit.dropped) }
     {
@@ -296,13 +322,14 @@ impl<L: Naming, O: Lasting> Hall<L, O> {
 
     /// Whether a session was opened and isn't shut.
     pub fn is_open(&self, session: SessionId) -> bool
-        ensures { IsTrue result ↔ ((0 < session) × (session ≤ sessions self.now.history) × (shut self.now.history session ≡ false)) }
+        ensures { IsTrue result ↔ ((0 < session) × (session ≤ sessions self.now.history)
+            × (shut self.now.history session ≡ false)) }
     {
         self.book.book().is_open(session)
     }
 
-    /// What holds of every hall: its history is legal, what was put into each session's outbox is what the history owes it, and no
-    /// plan is out.
+    /// What holds of every hall: its history is legal, what was put into each session's outbox is what the history
+    /// owes it, and no plan is out.
     pub fn sound(&self)
         ensures sound { IsSound O.sent self.now }
         ensures idle { self.now.busy ≡ false }

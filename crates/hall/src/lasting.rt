@@ -7,7 +7,8 @@ pub trait Lasting: Outbox {
     ghost use Rattle.std.specs.Prelude.{◌≡◌};
     ghost use Rattle.deliveries.specs.declared.item.Item.{Item};
 
-    ghost stays: { (a : Self) (x : Item) (b : Self) → Self.accepts a x b → Self.name b ≡ Self.name a };
+    ghost stays: { (a : Self) (x : Item) (b : Self) → Self.accepts a x b
+        → Self.name b ≡ Self.name a };
 }
 
 impl Lasting for Ring {

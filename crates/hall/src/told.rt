@@ -7,8 +7,9 @@ use smallvec::SmallVec;
 use std::alloc::Global;
 use std::marker::Model;
 
-/// Sessions into whose outboxes something was put, in the order of the puts; or all, where there was no memory for the list. A
-/// record that tells those whom one before it told adds nothing. Two of them take no memory of their own.
+/// Sessions into whose outboxes something was put, in the order of the puts; or all, where there was no memory for
+/// the list. A record that tells those whom one before it told adds nothing. Two of them take no memory of their
+/// own.
 #[derive(Drop)]
 pub struct Told {
     sessions: SmallVec<SessionId, 2>,

@@ -1,5 +1,6 @@
 -- The text of an answer that is spelled line by line is that of its tagged lines.
-use Rattle.std.proofs.Common.{◌≡◌, ◌∙◌, ℕ, ℤ, Bool, true, false, not, ◌&&◌, ◌==◌, List, [], ◌∷◌, ◌++◌, map, length, Option, Some, None, ap, sym, refl, append_assoc, append-nil}
+use Rattle.std.proofs.Common.{◌≡◌, ◌∙◌, ℕ, ℤ, Bool, true, false, not, ◌&&◌, ◌==◌, List, [], ◌∷◌, ◌++◌, map}
+use Rattle.std.proofs.Common.{length, Option, Some, None, ap, sym, refl, append_assoc, append-nil}
 use Rattle.std.specs.List.{flat_map}
 use Rattle.std.proofs.lemmas.Grind.{flat_map-append}
 use Rattle.numerics.specs.declared.outgoing.Out.{Out}
@@ -16,21 +17,26 @@ use Rattle.labels_batches.specs.Spellings.{spelled_with}
 use Rattle.labels_batches.proofs.Alike.{as_taken}
 
 -- lines after the tags that all of them have
-pub headed_rendered : (caps : Caps) (m : ℤ) (tag : Option AnswerTag) (ls : List Out) → flat_map (headed caps (timed caps m (answered_tag tag))) ls ≡ rendered caps m (map (tagged_as tag) ls)
+pub headed_rendered : (caps : Caps) (m : ℤ) (tag : Option AnswerTag) (ls : List Out)
+    → flat_map (headed caps (timed caps m (answered_tag tag))) ls ≡ rendered caps m (map (tagged_as tag) ls)
 unfolding spelled_line
 headed_rendered caps m tag [] = refl
-headed_rendered caps m tag (l ∷ ls) = ap (λ x. headed caps (timed caps m (answered_tag tag)) l ++ x) (headed_rendered caps m tag ls)
+headed_rendered caps m tag (l ∷ ls) = ap (λ x. headed caps (timed caps m (answered_tag tag)) l ++ x)
+    (headed_rendered caps m tag ls)
 
-pub rendered_lines : (caps : Caps) (m : ℤ) (tag : Option AnswerTag) (ls : List Out) (head : List ℕ) → head ≡ timed caps m (answered_tag tag) → flat_map (headed caps head) ls ≡ rendered caps m (map (tagged_as tag) ls)
+pub rendered_lines : (caps : Caps) (m : ℤ) (tag : Option AnswerTag) (ls : List Out) (head : List ℕ) → head
+    ≡ timed caps m (answered_tag tag) → flat_map (headed caps head) ls ≡ rendered caps m (map (tagged_as tag) ls)
 rendered_lines caps m tag ls head e = ap (λ h. flat_map (headed caps h) ls) e ∙ headed_rendered caps m tag ls
 
 -- some lines, and then others
-pub rendered_both : (caps : Caps) (m : ℤ) (xs ys : List Tagged) → rendered caps m (xs ++ ys) ≡ rendered caps m xs ++ rendered caps m ys
+pub rendered_both : (caps : Caps) (m : ℤ) (xs ys : List Tagged) → rendered caps m (xs ++ ys)
+    ≡ rendered caps m xs ++ rendered caps m ys
 rendered_both caps m xs ys = flat_map-append (spelled_line caps m) xs ys
 
 -- a batch: what opens it, its lines, and what ends it
 pub rendered_batch : (caps : Caps) (m : ℤ) (before : List ℕ) (x y : Tagged) (ls : List Tagged) →
-    ((before ++ rendered caps m (x ∷ [])) ++ rendered caps m ls) ++ rendered caps m (y ∷ []) ≡ before ++ rendered caps m (x ∷ ls ++ y ∷ [])
+    ((before ++ rendered caps m (x ∷ [])) ++ rendered caps m ls) ++ rendered caps m (y ∷ [])
+    ≡ before ++ rendered caps m (x ∷ ls ++ y ∷ [])
 rendered_batch caps m before x y ls =
     append_assoc (before ++ rendered caps m (x ∷ [])) (rendered caps m ls) (rendered caps m (y ∷ []))
     ∙ append_assoc before (rendered caps m (x ∷ [])) (rendered caps m ls ++ rendered caps m (y ∷ []))
@@ -43,10 +49,13 @@ bare_with false false m l e = refl
 bare_with false true m l e = absurd (let f : false ≡ true = e in cc)
 bare_with true tags m l e = absurd (let f : false ≡ true = e in cc)
 
-pub bare_spelled : (caps : Caps) (m : ℤ) (l : Out) → is_bare caps l ≡ true → octets l ≡ spelled_line caps m (tagged_as None l)
-bare_spelled caps m l e = bare_with (is_on caps ServerTime) (is_on caps MessageTags && not (length l.tags == 0)) m l e ∙ sym (as_taken caps m l)
+pub bare_spelled : (caps : Caps) (m : ℤ) (l : Out) → is_bare caps l ≡ true
+    → octets l ≡ spelled_line caps m (tagged_as None l)
+bare_spelled caps m l e = bare_with (is_on caps ServerTime)
+    (is_on caps MessageTags && not (length l.tags == 0)) m l e ∙ sym (as_taken caps m l)
 
 -- an answer of one line
-pub sole_rendered : (caps : Caps) (m : ℤ) (server : List ℕ) (label : Option (List ℕ)) (n : ℕ) (l : Out) → spelled_line caps m (tagged_as (label_mark label) l) ≡ rendered caps m (answered server label n (l ∷ []) [])
+pub sole_rendered : (caps : Caps) (m : ℤ) (server : List ℕ) (label : Option (List ℕ)) (n : ℕ) (l : Out)
+    → spelled_line caps m (tagged_as (label_mark label) l) ≡ rendered caps m (answered server label n (l ∷ []) [])
 sole_rendered caps m server None n l = sym (append-nil _)
 sole_rendered caps m server (Some label) n l = sym (append-nil _)

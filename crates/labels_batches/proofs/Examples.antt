@@ -35,7 +35,8 @@ hi tags = record (line (codes "al!a@h1") (codes "PRIVMSG") (codes "al" ∷ codes
 -- no line is acknowledged, and one line has the label
 short :
     (rendered on (pos 0) (answered server (Some (codes "8")) 5 [] []) ≡ codes "@label=8 :irc.example ACK" ++ crlf)
-    × (rendered on (pos 0) (answered server (Some (codes "a;b c")) 4 (pong ∷ []) []) ≡ codes "@label=a\\:b\\sc :irc.example PONG irc.example x" ++ crlf)
+    × (rendered on (pos 0) (answered server (Some (codes "a;b c")) 4 (pong ∷ []) [])
+    ≡ codes "@label=a\\:b\\sc :irc.example PONG irc.example x" ++ crlf)
     × (rendered on (pos 0) (answered server None 4 (pong ∷ []) []) ≡ codes ":irc.example PONG irc.example x" ++ crlf)
 unfolding spelled_line octets untagged
 short = (refl, refl, refl)
@@ -43,20 +44,27 @@ short = (refl, refl, refl)
 -- several lines stand in a batch
 batch :
     rendered on (pos 0) (answered server (Some (codes "j")) 9 (pong ∷ pong ∷ []) [])
-    ≡ codes "@label=j :irc.example BATCH +9 labeled-response" ++ crlf ++ codes "@batch=9 :irc.example PONG irc.example x" ++ crlf ++ codes "@batch=9 :irc.example PONG irc.example x" ++ crlf ++ codes ":irc.example BATCH -9" ++ crlf
+    ≡ codes "@label=j :irc.example BATCH +9 labeled-response" ++ crlf
+    ++ codes "@batch=9 :irc.example PONG irc.example x" ++ crlf
+    ++ codes "@batch=9 :irc.example PONG irc.example x" ++ crlf ++ codes ":irc.example BATCH -9" ++ crlf
 unfolding spelled_line octets untagged digits
 batch = refl
 
 -- who sends to itself gets the echo with the label, and then the text
-to_oneself : rendered on (pos 0) (answered server (Some (codes "s")) 9 (hi [] ∷ []) (hi [] ∷ [])) ≡ codes "@label=s :al!a@h1 PRIVMSG al :hi" ++ crlf ++ codes ":al!a@h1 PRIVMSG al :hi" ++ crlf
+to_oneself : rendered on (pos 0) (answered server (Some (codes "s")) 9 (hi [] ∷ []) (hi [] ∷ []))
+    ≡ codes "@label=s :al!a@h1 PRIVMSG al :hi" ++ crlf ++ codes ":al!a@h1 PRIVMSG al :hi" ++ crlf
 unfolding spelled_line octets untagged
 to_oneself = refl
 
 -- the label, the moment, and the tags of another client, each for who takes it
 all_tags :
-    (rendered (turned (turned on ServerTime true) MessageTags true) (pos 0) (answered server (Some (codes "7")) 4 (hi (codes "+k=v") ∷ []) []) ≡ codes "@label=7;time=1970-01-01T00:00:00.000Z;+k=v :al!a@h1 PRIVMSG al :hi" ++ crlf)
-    × (rendered (turned none_on MessageTags true) (pos 0) (answered server None 4 (hi (codes "+k=v") ∷ []) []) ≡ codes "@+k=v :al!a@h1 PRIVMSG al :hi" ++ crlf)
-    × (rendered none_on (pos 0) (answered server None 4 (hi (codes "+k=v") ∷ []) []) ≡ codes ":al!a@h1 PRIVMSG al :hi" ++ crlf)
+    (rendered (turned (turned on ServerTime true) MessageTags true) (pos 0)
+    (answered server (Some (codes "7")) 4 (hi (codes "+k=v") ∷ []) [])
+    ≡ codes "@label=7;time=1970-01-01T00:00:00.000Z;+k=v :al!a@h1 PRIVMSG al :hi" ++ crlf)
+    × (rendered (turned none_on MessageTags true) (pos 0) (answered server None 4 (hi (codes "+k=v") ∷ []) [])
+    ≡ codes "@+k=v :al!a@h1 PRIVMSG al :hi" ++ crlf)
+    × (rendered none_on (pos 0) (answered server None 4 (hi (codes "+k=v") ∷ []) [])
+    ≡ codes ":al!a@h1 PRIVMSG al :hi" ++ crlf)
 unfolding spelled_line octets untagged time_text civil_date falls_in
 all_tags = (refl, refl, refl)
 

@@ -1,5 +1,7 @@
--- The answer to a line as its session takes it: IRCv3 labeled-response ("Servers") and IRCv3 batch. That a batch's reference is the record's number is this project's own.
-use Rattle.std.specs.Prelude.{ℕ, ◌==◌, false, List, [], ◌∷◌, ◌++◌, map, length, codes, decimal, Option, Some, None, if◌then◌else◌}
+-- The answer to a line as its session takes it: IRCv3 labeled-response ("Servers") and IRCv3 batch. That a batch's
+-- reference is the record's number is this project's own.
+use Rattle.std.specs.Prelude.{ℕ, ◌==◌, false, List, [], ◌∷◌, ◌++◌, map, length, codes}
+use Rattle.std.specs.Prelude.{decimal, Option, Some, None, if◌then◌else◌}
 use Rattle.numerics.specs.declared.outgoing.Out.{Out}
 use Rattle.numerics.specs.Outgoing.{line}
 use Rattle.labels_batches.specs.declared.answers.AnswerTag.{AnswerTag}
@@ -23,7 +25,8 @@ batch_ends server n = line server (codes "BATCH") ((codes "-" ++ decimal n) ∷ 
 -- the line that opens it has the label, and those between the reference
 abbrev pub batched : List ℕ → List ℕ → ℕ → List Out → List Tagged
 batched server label n ls =
-    tagged_as (Some (Label label)) (batch_opens server n) ∷ map (tagged_as (Some (Batch n))) ls ++ tagged_as None (batch_ends server n) ∷ []
+    tagged_as (Some (Label label)) (batch_opens server n) ∷ map (tagged_as (Some (Batch n))) ls
+    ++ tagged_as None (batch_ends server n) ∷ []
 
 -- no line is acknowledged, one has the label, several stand in a batch
 abbrev pub labelled : List ℕ → List ℕ → ℕ → List Out → List Tagged

@@ -18,7 +18,8 @@ headed caps head l = ended (relayed_tags caps l.tags head) ++ octets l
 -- a batch whose first line has this tag
 abbrev pub batched_as : List ℕ → Option AnswerTag → ℕ → List Out → List Tagged
 batched_as server tag n ls =
-    tagged_as tag (batch_opens server n) ∷ map (tagged_as (Some (Batch n))) ls ++ tagged_as None (batch_ends server n) ∷ []
+    tagged_as tag (batch_opens server n) ∷ map (tagged_as (Some (Batch n))) ls
+    ++ tagged_as None (batch_ends server n) ∷ []
 
 -- whether a line without a label goes out without tags
 abbrev pub is_bare : Caps → Out → Bool

@@ -1,5 +1,7 @@
--- Lines with their tags, as a receiver takes them: IRCv3 message-tags ("Format"), IRCv3 server-time, IRCv3 labeled-response and IRCv3 batch. The order of the tags is this project's own.
-use Rattle.std.specs.Prelude.{ℕ, ◌==◌, ℤ, ◌&&◌, not, List, [], ◌++◌, length, codes, decimal, Option, Some, None, if◌then◌else◌}
+-- Lines with their tags, as a receiver takes them: IRCv3 message-tags ("Format"), IRCv3 server-time, IRCv3
+-- labeled-response and IRCv3 batch. The order of the tags is this project's own.
+use Rattle.std.specs.Prelude.{ℕ, ◌==◌, ℤ, ◌&&◌, not, List, [], ◌++◌, length, codes}
+use Rattle.std.specs.Prelude.{decimal, Option, Some, None, if◌then◌else◌}
 use Rattle.std.specs.List.{flat_map}
 use Rattle.message_tags.specs.Value.{escaped}
 use Rattle.numerics.specs.CivilTime.{time_text}

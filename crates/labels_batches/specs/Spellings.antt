@@ -1,4 +1,5 @@
--- A line that is no part of an answer, for receivers of any capabilities: of these only server-time and message-tags tell how it is spelled (IRCv3 server-time, IRCv3 message-tags).
+-- A line that is no part of an answer, for receivers of any capabilities: of these only server-time and message-tags
+-- tell how it is spelled (IRCv3 server-time, IRCv3 message-tags).
 use Rattle.std.specs.Prelude.{◌≡◌, ℕ, ℤ, Bool, true, false, List, [], ◌++◌, codes, cond, Option, None, IfSome}
 use Rattle.numerics.specs.declared.outgoing.Out.{Out}
 use Rattle.numerics.specs.CivilTime.{time_text}

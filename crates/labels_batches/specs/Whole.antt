@@ -1,5 +1,6 @@
 -- An answer to a labelled line is given once, and whole: IRCv3 labeled-response ("Servers") and IRCv3 batch.
-use Rattle.std.specs.Prelude.{◌≡◌, ◌≢◌, ℕ, ◌≤◌, Bool, true, false, List, ◌∷◌, ◌++◌, filter, map, length, codes, decimal, slice_get, Option, Some, None}
+use Rattle.std.specs.Prelude.{◌≡◌, ◌≢◌, ℕ, ◌≤◌, Bool, true, false, List, ◌∷◌, ◌++◌, filter, map}
+use Rattle.std.specs.Prelude.{length, codes, decimal, slice_get, Option, Some, None}
 use Rattle.std.specs.List.{All}
 use Rattle.numerics.specs.declared.outgoing.Out.{Out}
 use Rattle.labels_batches.specs.declared.answers.AnswerTag.{AnswerTag}
@@ -28,8 +29,8 @@ pub record IsLone (label : List ℕ) (copies : List Out) (ls : List Tagged) : Ty
   pub lines : ls ≡ tagged_as (Some (Label label)) line ∷ map (tagged_as None) copies
   pub opens_none : line.command ≢ codes "BATCH"
 
--- the line that opens a batch has the label, two lines or more follow with its reference, and then the line that ends it; what the
--- session sent to itself follows. The reference is the record's number n at both ends
+-- the line that opens a batch has the label, two lines or more follow with its reference, and then the line that
+-- ends it; what the session sent to itself follows. The reference is the record's number n at both ends
 pub record IsClosed (server label : List ℕ) (n : ℕ) (between copies : List Out) (ls : List Tagged) : Type 0 where
   pub several : 2 ≤ length between
   pub lines : ls ≡ batched server label n between ++ map (tagged_as None) copies
@@ -43,12 +44,15 @@ OpensNoBatch ls = All (λ l. l.command ≢ codes "BATCH") ls
 -- ---- what holds of every answer to a label
 
 abbrev pub LabelFirst : Type 0
-LabelFirst = (server label : List ℕ) (n : ℕ) (reply copies : List Out) → HasLabelFirst label (answered server (Some label) n reply copies)
+LabelFirst = (server label : List ℕ) (n : ℕ) (reply copies : List Out)
+    → HasLabelFirst label (answered server (Some label) n reply copies)
 
 -- of one line at most, which opens no batch by itself
 abbrev pub LoneOpensNone : Type 0
-LoneOpensNone = (server label : List ℕ) (n : ℕ) (reply copies : List Out) → length reply ≤ 1 → OpensNoBatch reply → IsLone label copies (answered server (Some label) n reply copies)
+LoneOpensNone = (server label : List ℕ) (n : ℕ) (reply copies : List Out) → length reply ≤ 1 → OpensNoBatch reply
+    → IsLone label copies (answered server (Some label) n reply copies)
 
 -- of several lines
 abbrev pub SeveralAreClosed : Type 0
-SeveralAreClosed = (server label : List ℕ) (n : ℕ) (reply copies : List Out) → 2 ≤ length reply → IsClosed server label n reply copies (answered server (Some label) n reply copies)
+SeveralAreClosed = (server label : List ℕ) (n : ℕ) (reply copies : List Out) → 2 ≤ length reply
+    → IsClosed server label n reply copies (answered server (Some label) n reply copies)

@@ -1,7 +1,8 @@
 //! The answer to a line as its session takes it (IRCv3 labeled-response; IRCv3 batch).
 ghost use Rattle.std.specs.Prelude.{◌≡◌, ◌∷◌, ◌++◌, [], map, option_copied, IfOk, OnOk};
 ghost use Rattle.labels_batches.specs.declared.answers.AnswerTag.TheVariants.{Label};
-ghost use Rattle.labels_batches.specs.Answers.{ack, answered, batch_ends, batch_opens, batched, labelled, tagged_as, wrapped};
+ghost use Rattle.labels_batches.specs.Answers.{ack, answered, batch_ends, batch_opens, batched};
+ghost use Rattle.labels_batches.specs.Answers.{labelled, tagged_as, wrapped};
 
 use chronicle::RecordNumber;
 use line_grammar::Octets;
@@ -30,7 +31,8 @@ fn push_all(
     tag: &Option<AnswerTag>,
     lines: Vec<Line>,
 ) -> Result<(), AllocError>
-    ensures { OnOk result (tagged.new.items ≡ tagged.old.items ++ map (tagged_as tag.now) lines.items) }
+    ensures { OnOk result
+        (tagged.new.items ≡ tagged.old.items ++ map (tagged_as tag.now) lines.items) }
 {
     for line in lines {
         let tag = tag.clone()?;
@@ -48,7 +50,8 @@ fn label_tag(label: &Octets) -> Result<Option<AnswerTag>, AllocError>
 
 /// Adds a line that has a label.
 fn push_labelled(tagged: &mut Vec<Tagged>, label: &Octets, line: Line) -> Result<(), AllocError>
-    ensures { OnOk result (tagged.new.items ≡ tagged.old.items ++ tagged_as (Some (Label label.now)) line ∷ []) }
+    ensures { OnOk result
+        (tagged.new.items ≡ tagged.old.items ++ tagged_as (Some (Label label.now)) line ∷ []) }
 {
     let tag = label_tag(label)?;
     tagged.push(Tagged { line, tag })?;
@@ -97,7 +100,8 @@ fn push_start(
     label: &Octets,
     number: RecordNumber,
 ) -> Result<(), AllocError>
-    ensures { OnOk result (tagged.new.items ≡ tagged.old.items ++ tagged_as (Some (Label label.now)) (batch_opens server.now number) ∷ []) }
+    ensures { OnOk result (tagged.new.items ≡ tagged.old.items
+        ++ tagged_as (Some (Label label.now)) (batch_opens server.now number) ∷ []) }
 {
     let line = batch_opens(alloc, server, number)?;
     push_labelled(tagged, label, line)
@@ -110,7 +114,8 @@ fn push_end(
     server: &[u8],
     number: RecordNumber,
 ) -> Result<(), AllocError>
-    ensures { OnOk result (tagged.new.items ≡ tagged.old.items ++ tagged_as None (batch_ends server.now number) ∷ []) }
+    ensures { OnOk result (tagged.new.items
+        ≡ tagged.old.items ++ tagged_as None (batch_ends server.now number) ∷ []) }
 {
     let line = batch_ends(alloc, server, number)?;
     tagged.push(Tagged { line, tag: None })?;
@@ -126,7 +131,8 @@ fn push_batch(
     number: RecordNumber,
     lines: Vec<Line>,
 ) -> Result<(), AllocError>
-    ensures { OnOk result (tagged.new.items ≡ tagged.old.items ++ batched server.now label.now number lines.items) }
+    ensures { OnOk result
+        (tagged.new.items ≡ tagged.old.items ++ batched server.now label.now number lines.items) }
 {
     push_start(alloc, tagged, server, label, number)?;
     push_all(tagged, &Some(AnswerTag::Batch(number)), lines)?;
@@ -142,7 +148,8 @@ fn push_answer(
     number: RecordNumber,
     lines: Vec<Line>,
 ) -> Result<(), AllocError>
-    ensures { OnOk result (tagged.new.items ≡ tagged.old.items ++ labelled server.now label.now number lines.items) }
+    ensures { OnOk result
+        (tagged.new.items ≡ tagged.old.items ++ labelled server.now label.now number lines.items) }
 {
     match lines.len() {
         0 => push_labelled(tagged, label, ack(alloc, server)?),
@@ -160,7 +167,8 @@ fn push_reply(
     number: RecordNumber,
     reply: Vec<Line>,
 ) -> Result<(), AllocError>
-    ensures { OnOk result (tagged.new.items ≡ tagged.old.items ++ wrapped server.now (option_copied label.entry) number reply.items) }
+    ensures { OnOk result (tagged.new.items
+        ≡ tagged.old.items ++ wrapped server.now (option_copied label.entry) number reply.items) }
 {
     match label {
         Some(label) => push_answer(alloc, tagged, server, label, number, reply),
@@ -168,9 +176,10 @@ fn push_reply(
     }
 }
 
-/// The answer to a line of a record, and what its session sent to itself after it, which is no part of the answer. Where the line
-/// has a label, no line of an answer becomes `ACK` with the label, one line has it, and several stand in a batch, whose reference is
-/// the record's number and whose first line has it (IRCv3 labeled-response, "Servers").
+/// The answer to a line of a record, and what its session sent to itself after it, which is no part of the answer.
+/// Where the line has a label, no line of an answer becomes `ACK` with the label, one line has it, and several stand
+/// in a batch, whose reference is the record's number and whose first line has it (IRCv3 labeled-response,
+/// "Servers").
 pub fn wrap(
     alloc: Global,
     server: &[u8],
@@ -179,7 +188,8 @@ pub fn wrap(
     reply: Vec<Line>,
     copies: Vec<Line>,
 ) -> Result<Vec<Tagged>, AllocError>
-    ensures { IfOk result (λ v. v.items ≡ answered server.now (option_copied label.entry) number reply.items copies.items) }
+    ensures { IfOk result (λ v. v.items
+        ≡ answered server.now (option_copied label.entry) number reply.items copies.items) }
 {
     let mut tagged = Vec::new(alloc);
     push_reply(alloc, &mut tagged, server, label, number, reply)?;

@@ -13,7 +13,8 @@ use std::alloc::{AllocError, Global};
 /// The most octets of a label.
 const LABELLEN: usize = 64;
 
-/// Whether labels count for a session of these capabilities: labeled-response and batch are both on (IRCv3 labeled-response).
+/// Whether labels count for a session of these capabilities: labeled-response and batch are both on (IRCv3
+/// labeled-response).
 pub fn takes_labels(caps: Caps) -> bool
     ensures { result ≡ takes_labels caps }
 {
@@ -50,8 +51,8 @@ fn line_label(alloc: Global, line: &[u8]) -> Result<Option<Octets>, AllocError>
     }
 }
 
-/// The label of an accepted piece, whether or not it counts for its session: the value of the last tag `label`, of 1 to 64 octets
-/// (IRCv3 labeled-response).
+/// The label of an accepted piece, whether or not it counts for its session: the value of the last tag `label`, of 1
+/// to 64 octets (IRCv3 labeled-response).
 pub fn piece_label(alloc: Global, piece: &Piece) -> Result<Option<Octets>, AllocError>
     ensures label { IfOk result (λ o. o ≡ piece_label piece.now) }
 
@@ -64,8 +65,8 @@ pub fn piece_label(alloc: Global, piece: &Piece) -> Result<Option<Octets>, Alloc
     }
 }
 
-/// The label of an accepted piece, as it counts for a session that had these capabilities before it: that of `piece_label` where
-/// `takes_labels` holds, and none elsewhere.
+/// The label of an accepted piece, as it counts for a session that had these capabilities before it: that of
+/// `piece_label` where `takes_labels` holds, and none elsewhere.
 pub fn label_of(alloc: Global, caps: Caps, piece: &Piece) -> Result<Option<Octets>, AllocError>
     ensures label { IfOk result (λ o. o ≡ label_of caps piece.now) }
 

@@ -1,5 +1,5 @@
-//! The answer to a labelled line, and lines with their tags as a receiver takes them (IRCv3 labeled-response, batch, server-time and
-//! message-tags).
+//! The answer to a labelled line, and lines with their tags as a receiver takes them (IRCv3 labeled-response, batch,
+//! server-time and message-tags).
 #![tactic(auto)]
 
 mod answers;

@@ -2,7 +2,8 @@
 ghost use Rattle.std.specs.Prelude.{◌≡◌, ◌++◌, codes, decimal, IfOk, OnOk};
 ghost use Rattle.message_tags.specs.Value.{escaped};
 ghost use Rattle.numerics.specs.CivilTime.{time_text};
-ghost use Rattle.labels_batches.specs.Rendered.{answered_tag, ended, relayed_tags, rendered, spelled_line, tag_block, timed, with_tag};
+ghost use Rattle.labels_batches.specs.Rendered.{answered_tag, ended, relayed_tags, rendered};
+ghost use Rattle.labels_batches.specs.Rendered.{spelled_line, tag_block, timed, with_tag};
 
 use crate::{AnswerTag, Tagged};
 use chronicle::{RecordMoment, RecordNumber};
@@ -164,8 +165,9 @@ fn push_line(
     text.extend_from_slice(line.line.octets())
 }
 
-/// Lines as a receiver of these capabilities takes them, at their record's moment, each cut to 510 octets without its tags and
-/// ended by CR LF: the tag of an answer first, then the moment (server-time), then the tags that another client sent (message-tags).
+/// Lines as a receiver of these capabilities takes them, at their record's moment, each cut to 510 octets without
+/// its tags and ended by CR LF: the tag of an answer first, then the moment (server-time), then the tags that
+/// another client sent (message-tags).
 pub fn render(
     alloc: Global,
     lines: &[Tagged],

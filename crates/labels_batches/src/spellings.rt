@@ -38,7 +38,8 @@ impl Untagged {
     fn spelled(&self, time: bool, tags: bool) -> Result<Octets, AllocError>
         requires octets { self.now.plain ≡ octets self.now.line.value }
         requires tags { self.now.tags ≡ self.now.line.value.tags }
-        ensures { IfOk result (λ t. t ≡ spelled_with time tags self.now.moment self.now.line.value) }
+        ensures { IfOk result
+            (λ t. t ≡ spelled_with time tags self.now.moment self.now.line.value) }
     {
         let mut text = Octets::from_vec(Vec::new(self.alloc));
         if time {
@@ -62,9 +63,12 @@ fn kept_or_made(
 ) -> Result<Text, AllocError>
     requires octets { line.now.plain ≡ octets line.now.line.value }
     requires tags { line.now.tags ≡ line.now.line.value.tags }
-    requires kept { IfSome kept.old (λ t. t ≡ spelled_with time tags line.now.moment line.now.line.value) }
-    ensures kept { IfSome kept.new (λ t. t ≡ spelled_with time tags line.now.moment line.now.line.value) }
-    ensures text { IfOk result (λ t. t ≡ spelled_with time tags line.now.moment line.now.line.value) }
+    requires kept { IfSome kept.old
+        (λ t. t ≡ spelled_with time tags line.now.moment line.now.line.value) }
+    ensures kept { IfSome kept.new
+        (λ t. t ≡ spelled_with time tags line.now.moment line.now.line.value) }
+    ensures text { IfOk result
+        (λ t. t ≡ spelled_with time tags line.now.moment line.now.line.value) }
 {
     if let Some(spelling) = kept {
         return spelling.clone();
@@ -75,8 +79,8 @@ fn kept_or_made(
     Ok(text)
 }
 
-/// A line at its record's moment, with the spellings of it that were asked for so far: each is made once, and shared by all that
-/// take it.
+/// A line at its record's moment, with the spellings of it that were asked for so far: each is made once, and shared
+/// by all that take it.
 #[derive(Drop)]
 pub struct Spellings {
     untagged: Untagged,
@@ -92,7 +96,8 @@ impl Model for Spellings {
 
     ghost view = { λ a. record { line = a.untagged.line.value; moment = a.untagged.moment } };
 
-    ghost invariant = { λ a. AreOf a.untagged.line.value a.untagged.moment a.untagged.tags a.untagged.plain a.timed a.tagged a.timed_and_tagged };
+    ghost invariant = { λ a. AreOf a.untagged.line.value a.untagged.moment a.untagged.tags
+        a.untagged.plain a.timed a.tagged a.timed_and_tagged };
 }
 
 impl Spellings {
@@ -130,8 +135,8 @@ impl Spellings {
         }
     }
 
-    /// The line as a receiver of these capabilities takes it: with its moment for who takes server-time, and with its client's tags
-    /// for who takes message-tags.
+    /// The line as a receiver of these capabilities takes it: with its moment for who takes server-time, and with
+    /// its client's tags for who takes message-tags.
     pub fn text_for(&mut self, caps: Caps) -> Result<Text, AllocError>
         ensures same { self.new ≡ self.old }
         ensures text { IfOk result (λ t. t ≡ spelled_for caps self.old.moment self.old.line) }

@@ -24,7 +24,8 @@ pub struct Receiver {
 
 /// Adds the tags of another client after those that a line has, and the space that ends them.
 fn push_tags(text: &mut Vec<u8>, head: &[u8], caps: Caps, tags: &[u8]) -> Result<(), AllocError>
-    ensures { OnOk result (text.new.items ≡ text.old.items ++ ended (relayed_tags caps tags.now head.now)) }
+    ensures { OnOk result
+        (text.new.items ≡ text.old.items ++ ended (relayed_tags caps tags.now head.now)) }
 {
     if caps.contains(Cap::MessageTags) && !tags.is_empty() {
         text.extend_from_slice(head)?;
@@ -54,7 +55,8 @@ fn push_all_headed(
     caps: Caps,
     lines: &[Line],
 ) -> Result<(), AllocError>
-    ensures { OnOk result (text.new.items ≡ text.old.items ++ flat_map (headed caps head.now) lines.now) }
+    ensures { OnOk result
+        (text.new.items ≡ text.old.items ++ flat_map (headed caps head.now) lines.now) }
 {
     for line in lines {
         push_headed(text, head, caps, line)?;
@@ -85,7 +87,8 @@ fn push_lines(
     lines: &[Line],
     to: &Receiver,
 ) -> Result<(), AllocError>
-    ensures { OnOk result (text.new.items ≡ text.old.items ++ rendered to.now.caps to.now.moment (map (tagged_as tag.now) lines.now)) }
+    ensures { OnOk result (text.new.items ≡ text.old.items ++ rendered to.now.caps to.now.moment
+        (map (tagged_as tag.now) lines.now)) }
 {
     if lines.is_empty() {
         return Ok(());
@@ -102,7 +105,8 @@ fn push_untagged(
     lines: &[Line],
     to: &Receiver,
 ) -> Result<(), AllocError>
-    ensures { OnOk result (text.new.items ≡ text.old.items ++ rendered to.now.caps to.now.moment (map (tagged_as None) lines.now)) }
+    ensures { OnOk result (text.new.items
+        ≡ text.old.items ++ rendered to.now.caps to.now.moment (map (tagged_as None) lines.now)) }
 {
     push_lines(alloc, text, &None, lines, to)
 }
@@ -115,7 +119,8 @@ fn push_line(
     line: &Line,
     to: &Receiver,
 ) -> Result<(), AllocError>
-    ensures { OnOk result (text.new.items ≡ text.old.items ++ rendered to.now.caps to.now.moment (tagged_as tag.now line.now ∷ [])) }
+    ensures { OnOk result (text.new.items
+        ≡ text.old.items ++ rendered to.now.caps to.now.moment (tagged_as tag.now line.now ∷ [])) }
 {
     push_lines(alloc, text, tag, slice::from_ref(line), to)
 }
@@ -131,7 +136,8 @@ fn push_batch(
     lines: &[Line],
     to: &Receiver,
 ) -> Result<(), AllocError>
-    ensures { OnOk result (text.new.items ≡ text.old.items ++ rendered to.now.caps to.now.moment (batched_as server.now label.now number lines.now)) }
+    ensures { OnOk result (text.new.items ≡ text.old.items ++ rendered to.now.caps to.now.moment
+        (batched_as server.now label.now number lines.now)) }
 {
     push_line(alloc, text, label, &batch_opens(alloc, server, number)?, to)?;
     push_lines(alloc, text, &Some(AnswerTag::Batch(number)), lines, to)?;
@@ -148,7 +154,8 @@ fn push_labelled(
     lines: &[Line],
     to: &Receiver,
 ) -> Result<(), AllocError>
-    ensures { OnOk result (text.new.items ≡ text.old.items ++ rendered to.now.caps to.now.moment (labelled server.now label number lines.now)) }
+    ensures { OnOk result (text.new.items ≡ text.old.items ++ rendered to.now.caps to.now.moment
+        (labelled server.now label number lines.now)) }
 {
     let label = Some(AnswerTag::Label(label));
     match lines.len() {
@@ -168,7 +175,8 @@ fn push_answer(
     lines: &[Line],
     to: &Receiver,
 ) -> Result<(), AllocError>
-    ensures { OnOk result (text.new.items ≡ text.old.items ++ rendered to.now.caps to.now.moment (wrapped server.now label number lines.now)) }
+    ensures { OnOk result (text.new.items ≡ text.old.items ++ rendered to.now.caps to.now.moment
+        (wrapped server.now label number lines.now)) }
 {
     match label {
         Some(label) => push_labelled(alloc, text, server, label, number, lines, to),
@@ -191,7 +199,8 @@ fn tagged_text(
     line: &Line,
     to: &Receiver,
 ) -> Result<Octets, AllocError>
-    ensures { IfOk result (λ t. t ≡ spelled_line to.now.caps to.now.moment (tagged_as tag.now line.now)) }
+    ensures { IfOk result
+        (λ t. t ≡ spelled_line to.now.caps to.now.moment (tagged_as tag.now line.now)) }
 {
     let length = line.octets().len().saturating_add(line.tags().len());
     let more = length.saturating_add(MORE_TAGS);
@@ -210,7 +219,8 @@ fn sole_text(
     line: Line,
     to: &Receiver,
 ) -> Result<Octets, AllocError>
-    ensures { IfOk result (λ t. t ≡ spelled_line to.now.caps to.now.moment (tagged_as (label_mark label) line)) }
+    ensures { IfOk result
+        (λ t. t ≡ spelled_line to.now.caps to.now.moment (tagged_as (label_mark label) line)) }
 {
     match label {
         Some(label) => tagged_text(alloc, &Some(AnswerTag::Label(label)), &line, to),
@@ -241,7 +251,8 @@ fn listed_text(
     copies: &[Line],
     to: &Receiver,
 ) -> Result<Octets, AllocError>
-    ensures { IfOk result (λ t. t ≡ rendered to.now.caps to.now.moment (answered server.now label number reply.now copies.now)) }
+    ensures { IfOk result (λ t. t ≡ rendered to.now.caps to.now.moment
+        (answered server.now label number reply.now copies.now)) }
 {
     let mut text = Vec::new(alloc);
     push_answer(alloc, &mut text, server, label, number, reply, to)?;
@@ -249,8 +260,8 @@ fn listed_text(
     Ok(Octets::from_vec(text))
 }
 
-/// The text of the answer to a line of a record, and of what its session sent to itself after it, as [`wrap`](crate::wrap) and
-/// [`render`](crate::render) give it, without the list of tagged lines.
+/// The text of the answer to a line of a record, and of what its session sent to itself after it, as
+/// [`wrap`](crate::wrap) and [`render`](crate::render) give it, without the list of tagged lines.
 #[tactic(auto, using(crate::proofs::AnswerTexts::sole_rendered))]
 pub fn answer_text(
     alloc: Global,
@@ -261,7 +272,8 @@ pub fn answer_text(
     copies: &[Line],
     to: &Receiver,
 ) -> Result<Octets, AllocError>
-    ensures { IfOk result (λ t. t ≡ rendered to.now.caps to.now.moment (answered server.now label number reply.items copies.now)) }
+    ensures { IfOk result (λ t. t ≡ rendered to.now.caps to.now.moment
+        (answered server.now label number reply.items copies.now)) }
 {
     match sole_line(reply, copies) {
         Ok(line) => sole_text(alloc, label, line, to),

@@ -1,20 +1,38 @@
 -- A line spells at most one message, which is the one that reading it part by part finds.
-use Rattle.std.proofs.Common.{◌≡◌, ◌≢◌, ℕ, false, List, [], ◌∷◌, ◌++◌, drop, refl, ap, sym, subst, ◌∙◌, ◌⊎◌, inl, inr, arith, eqb, append_assoc}
+use Rattle.std.proofs.Common.{◌≡◌, ◌≢◌, ℕ, false, List, [], ◌∷◌, ◌++◌, drop, refl, ap, sym}
+use Rattle.std.proofs.Common.{subst, ◌∙◌, ◌⊎◌, inl, inr, arith, eqb, append_assoc}
 use Rattle.std.specs.Prelude.{Some, None, Option}
 use Rattle.std.specs.List.{AllByRecursion, list_any}
 use Rattle.std.proofs.lemmas.Bool.{cases_Bool, eqb-true, eqb-false, eq-eqb, ne_eqb, or_from, or_parts}
 use Rattle.line_grammar.specs.declared.message.Message.{Message}
 use Rattle.line_grammar.specs.Lines.{after_space, before_space}
-use Rattle.line_grammar.specs.Reading.{begins_with, without_spaces, is_command, tags_of, after_tags, source_of, after_source, parameters, with_command, reading}
-use Rattle.line_grammar.specs.Grammar.{IsFreeOf, AreSpaces, IsGap, IsLetter, IsDigit, IsCommand, SpellsTags, SpellsSource, BeginsPlain, SpellsParameters, Reads}
-use Rattle.line_grammar.proofs.Readings.{BeginsApart, BeginsWord, before_space-word, after_space-word, without_spaces-spaces, without_spaces-word, free_before_space, apart, apart-begins, split-apart, drop-apart, split-spaces, command_is, is_a_command, params-begin, params_read, drop_first, params_spelled, gap-begins}
+use Rattle.line_grammar.specs.Reading.{begins_with, without_spaces, is_command, tags_of, after_tags}
+use Rattle.line_grammar.specs.Reading.{source_of, after_source, parameters, with_command, reading}
+use Rattle.line_grammar.specs.Grammar.{IsFreeOf, AreSpaces, IsGap, IsLetter, IsDigit, IsCommand, SpellsTags}
+use Rattle.line_grammar.specs.Grammar.{SpellsSource, BeginsPlain, SpellsParameters, Reads}
+use Rattle.line_grammar.proofs.Readings.{BeginsApart, BeginsWord, before_space-word, after_space-word}
+use Rattle.line_grammar.proofs.Readings.{without_spaces-spaces, without_spaces-word, free_before_space, apart}
+use Rattle.line_grammar.proofs.Readings.{apart-begins, split-apart, drop-apart, split-spaces, command_is, is_a_command}
+use Rattle.line_grammar.proofs.Readings.{params-begin, params_read, drop_first, params_spelled, gap-begins}
 
 -- ---- a command
 
 not_apart : (b : ℕ) → IsLetter b ⊎ IsDigit b → (b ≢ 32) × (b ≢ 58) × (b ≢ 64)
-not_apart b (inl (inl upper)) = (λ e. omega (arith, upper.0, upper.1), λ e. omega (arith, upper.0, upper.1), λ e. omega (arith, upper.0, upper.1))
-not_apart b (inl (inr lower)) = (λ e. omega (arith, lower.0, lower.1), λ e. omega (arith, lower.0, lower.1), λ e. omega (arith, lower.0, lower.1))
-not_apart b (inr digit) = (λ e. omega (arith, digit.0, digit.1), λ e. omega (arith, digit.0, digit.1), λ e. omega (arith, digit.0, digit.1))
+not_apart b (inl (inl upper)) = (
+  λ e. omega (arith, upper.0, upper.1),
+  λ e. omega (arith, upper.0, upper.1),
+  λ e. omega (arith, upper.0, upper.1),
+)
+not_apart b (inl (inr lower)) = (
+  λ e. omega (arith, lower.0, lower.1),
+  λ e. omega (arith, lower.0, lower.1),
+  λ e. omega (arith, lower.0, lower.1),
+)
+not_apart b (inr digit) = (
+  λ e. omega (arith, digit.0, digit.1),
+  λ e. omega (arith, digit.0, digit.1),
+  λ e. omega (arith, digit.0, digit.1),
+)
 
 command_first : (b : ℕ) (bs : List ℕ) → IsCommand (b ∷ bs) → IsLetter b ⊎ IsDigit b
 command_first b bs (inl letters) = inl letters.1.0
@@ -24,9 +42,11 @@ no_empty_command : IsCommand [] → ⊥
 no_empty_command (inl letters) = omega (arith, letters.0)
 no_empty_command (inr digits) = omega (arith, digits.0)
 
-command_plain : (word rest : List ℕ) → IsCommand word → BeginsPlain (word ++ rest) × (begins_with 64 (word ++ rest) ≡ false)
+command_plain : (word rest : List ℕ) → IsCommand word → BeginsPlain (word ++ rest)
+    × (begins_with 64 (word ++ rest) ≡ false)
 command_plain [] rest c = absurd (no_empty_command c)
-command_plain (b ∷ bs) rest c = let first = not_apart b (command_first b bs c) in ((first.0, first.1), ne_eqb b 64 first.2)
+command_plain (b ∷ bs) rest c = let first = not_apart b (command_first b bs c) in
+    ((first.0, first.1), ne_eqb b 64 first.2)
 
 letters_free : (bs : List ℕ) → AllByRecursion IsLetter bs → IsFreeOf 32 bs
 letters_free [] a = tt
@@ -69,10 +89,16 @@ record SourceIs (bs : List ℕ) (source : Option (List ℕ)) (rest : List ℕ) :
   word : BeginsWord bs
   untagged : begins_with 64 bs ≡ false
 
-source_read : (part : List ℕ) (source : Option (List ℕ)) (rest : List ℕ) → SpellsSource part source → BeginsPlain rest → begins_with 64 rest ≡ false → SourceIs (part ++ rest) source rest
+source_read : (part : List ℕ) (source : Option (List ℕ)) (rest : List ℕ) → SpellsSource part source
+    → BeginsPlain rest → begins_with 64 rest ≡ false → SourceIs (part ++ rest) source rest
 source_read part None rest e plain untagged =
     subst (λ x. SourceIs (x ++ rest) None rest) (sym e)
-    (record { is = rw (no_colon rest plain) refl; after = rw (no_colon rest plain) refl; word = word_plain rest plain; untagged = untagged })
+    (record {
+      is = rw (no_colon rest plain) refl;
+      after = rw (no_colon rest plain) refl;
+      word = word_plain rest plain;
+      untagged = untagged;
+    })
 source_read part (Some source) rest s plain untagged =
     let gap = s.1.0 in
     let joined : (source ++ gap) ++ rest ≡ source ++ (gap ++ rest) = append_assoc source gap rest in
@@ -80,26 +106,35 @@ source_read part (Some source) rest s plain untagged =
     subst (λ x. SourceIs (x ++ rest) (Some source) rest) (sym s.1.2)
     (record {
       is = ap Some (ap before_space joined ∙ before_space-word source (gap ++ rest) s.0 next);
-      after = ap without_spaces (ap after_space joined ∙ after_space-word source (gap ++ rest) s.0 next) ∙ drop_gap gap rest s.1.1 (word_plain rest plain);
+      after = ap without_spaces (ap after_space joined ∙ after_space-word source (gap ++ rest) s.0 next)
+          ∙ drop_gap gap rest s.1.1 (word_plain rest plain);
       word = (λ e. omega arith);
       untagged = refl;
     })
 
-spaces-untagged : (spaces rest : List ℕ) → AreSpaces spaces → begins_with 64 rest ≡ false → begins_with 64 (spaces ++ rest) ≡ false
+spaces-untagged : (spaces rest : List ℕ) → AreSpaces spaces → begins_with 64 rest ≡ false
+    → begins_with 64 (spaces ++ rest) ≡ false
 spaces-untagged [] rest all u = u
 spaces-untagged (b ∷ bs) rest all u = ne_eqb b 64 (λ e. omega (arith, all.0, e))
 
-tags_read : (part tags spaces rest : List ℕ) → SpellsTags part tags → AreSpaces spaces → BeginsWord rest → begins_with 64 rest ≡ false
+tags_read : (part tags spaces rest : List ℕ) → SpellsTags part tags → AreSpaces spaces → BeginsWord rest
+    → begins_with 64 rest ≡ false
     → (tags_of (part ++ (spaces ++ rest)) ≡ tags) × (after_tags (part ++ (spaces ++ rest)) ≡ rest)
 tags_read [] tags spaces rest t all w u =
-    let bare : without_spaces (spaces ++ rest) ≡ rest = without_spaces-spaces spaces rest all ∙ without_spaces-word rest w in
+    let bare : without_spaces (spaces ++ rest) ≡ rest = without_spaces-spaces spaces rest all
+    ∙ without_spaces-word rest w in
     let no_tag = spaces-untagged spaces rest all u in
     (rw no_tag (sym t), rw no_tag bare)
 tags_read (b ∷ bs) tags spaces rest t all w u =
-    let bare : without_spaces (spaces ++ rest) ≡ rest = without_spaces-spaces spaces rest all ∙ without_spaces-word rest w in
-    let joined : bs ++ (spaces ++ rest) ≡ tags ++ 32 ∷ (spaces ++ rest) = ap (λ x. x ++ (spaces ++ rest)) t.2 ∙ append_assoc tags (32 ∷ []) (spaces ++ rest) in
-    subst (λ c. (tags_of (c ∷ (bs ++ (spaces ++ rest))) ≡ tags) × (after_tags (c ∷ (bs ++ (spaces ++ rest))) ≡ rest)) (sym t.0)
-    (ap before_space joined ∙ before_space-word tags (32 ∷ (spaces ++ rest)) t.1 refl, ap without_spaces (ap after_space joined ∙ after_space-word tags (32 ∷ (spaces ++ rest)) t.1 refl) ∙ bare)
+    let bare : without_spaces (spaces ++ rest) ≡ rest = without_spaces-spaces spaces rest all
+    ∙ without_spaces-word rest w in
+    let joined : bs ++ (spaces ++ rest) ≡ tags ++ 32 ∷ (spaces ++ rest) = ap
+    (λ x. x ++ (spaces ++ rest)) t.2 ∙ append_assoc tags (32 ∷ []) (spaces ++ rest) in
+    subst (λ c. (tags_of (c ∷ (bs ++ (spaces ++ rest))) ≡ tags)
+    × (after_tags (c ∷ (bs ++ (spaces ++ rest))) ≡ rest)) (sym t.0) (
+      ap before_space joined ∙ before_space-word tags (32 ∷ (spaces ++ rest)) t.1 refl,
+      ap without_spaces (ap after_space joined ∙ after_space-word tags (32 ∷ (spaces ++ rest)) t.1 refl) ∙ bare,
+    )
 
 pub reads_is_reading : (line : List ℕ) (m : Message) → Reads line m → reading line ≡ Some m
 unfolding reading with_command
@@ -111,16 +146,28 @@ reads_is_reading line m r =
     let begins = params-begin 14 r.params_part m.params m.colon r.params in
     let free = command_free m.command r.command in
     let params : parameters 14 (after_space after) ≡ (m.params, m.colon) =
-    ap (parameters 14) (after_space-word m.command r.params_part free begins) ∙ drop_first 14 r.params_part begins ∙ params_read 14 r.params_part m.params m.colon r.params in
+    ap (parameters 14) (after_space-word m.command r.params_part free begins) ∙ drop_first 14 r.params_part begins
+    ∙ params_read 14 r.params_part m.params m.colon r.params in
     let line_tags : tags_of line ≡ m.tags = ap tags_of r.whole ∙ tags.0 in
     let line_rest : after_tags line ≡ rest = ap after_tags r.whole ∙ tags.1 in
-    rw (no_nul-any line r.no_nul, line_tags, line_rest, source.is, source.after, before_space-word m.command r.params_part free begins, command_is m.command r.command, params) refl
+    rw (
+      no_nul-any line r.no_nul,
+      line_tags,
+      line_rest,
+      source.is,
+      source.after,
+      before_space-word m.command r.params_part free begins,
+      command_is m.command r.command,
+      params,
+    ) refl
 
 -- ---- what is read is spelled so
 
-drop_to_word : (bs : List ℕ) → BeginsWord (without_spaces (after_space bs)) → (rest : List ℕ) × (apart bs ≡ 32 ∷ rest) × (after_space bs ≡ rest)
+drop_to_word : (bs : List ℕ) → BeginsWord (without_spaces (after_space bs)) → (rest : List ℕ)
+    × (apart bs ≡ 32 ∷ rest) × (after_space bs ≡ rest)
 drop_to_word bs w = dropped (apart bs) (after_space bs) (apart-begins bs) (drop-apart bs) w where
-  dropped : (x y : List ℕ) → BeginsApart x → drop 1 x ≡ y → BeginsWord (without_spaces y) → (rest : List ℕ) × (x ≡ 32 ∷ rest) × (y ≡ rest)
+  dropped : (x y : List ℕ) → BeginsApart x → drop 1 x ≡ y → BeginsWord (without_spaces y) → (rest : List ℕ)
+      × (x ≡ 32 ∷ rest) × (y ≡ rest)
   dropped [] y a e w = absurd (subst (λ z. BeginsWord (without_spaces z)) (sym e) w)
   dropped (b ∷ x) y a e w = (x, ap (λ c. c ∷ x) a, sym e)
 
@@ -141,18 +188,21 @@ tags_split (b ∷ bs) w =
           rw other (record { part = []; spaces = split.0; spells = refl; are_spaces = split.1; whole = split.2 })
     ]
   where
-    tagged_split : (b : ℕ) (bs : List ℕ) → b ≡ 64 → BeginsWord (after_tags (b ∷ bs)) → TagsSplit (b ∷ bs) (tags_of (b ∷ bs)) (after_tags (b ∷ bs))
+    tagged_split : (b : ℕ) (bs : List ℕ) → b ≡ 64 → BeginsWord (after_tags (b ∷ bs))
+        → TagsSplit (b ∷ bs) (tags_of (b ∷ bs)) (after_tags (b ∷ bs))
     tagged_split b bs e w =
         subst (λ c. TagsSplit (c ∷ bs) (tags_of (c ∷ bs)) (after_tags (c ∷ bs))) (sym e) (
         let cut = drop_to_word bs (subst (λ c. BeginsWord (after_tags (c ∷ bs))) e w) in
         let split = split-spaces (after_space bs) in
-        let tail : apart bs ≡ (32 ∷ []) ++ (split.0 ++ without_spaces (after_space bs)) = cut.1 ∙ ap (λ x. 32 ∷ x) (sym cut.2 ∙ split.2) in
+        let tail : apart bs ≡ (32 ∷ []) ++ (split.0 ++ without_spaces (after_space bs)) = cut.1 ∙ ap
+        (λ x. 32 ∷ x) (sym cut.2 ∙ split.2) in
         record {
           part = 64 ∷ (before_space bs ++ 32 ∷ []);
           spaces = split.0;
           spells = (refl, free_before_space bs, refl);
           are_spaces = split.1;
-          whole = ap (λ x. 64 ∷ x) (split-apart bs ∙ ap (λ x. before_space bs ++ x) tail ∙ sym (append_assoc (before_space bs) (32 ∷ []) (split.0 ++ without_spaces (after_space bs))));
+          whole = ap (λ x. 64 ∷ x) (split-apart bs ∙ ap (λ x. before_space bs ++ x) tail
+              ∙ sym (append_assoc (before_space bs) (32 ∷ []) (split.0 ++ without_spaces (after_space bs))));
         }
         )
 
@@ -169,17 +219,20 @@ source_split (b ∷ bs) w =
       | inr other ↦ rw other (record { part = []; spells = refl; whole = refl })
     ]
   where
-    named_split : (b : ℕ) (bs : List ℕ) → b ≡ 58 → BeginsWord (after_source (b ∷ bs)) → SourceSplit (b ∷ bs) (source_of (b ∷ bs)) (after_source (b ∷ bs))
+    named_split : (b : ℕ) (bs : List ℕ) → b ≡ 58 → BeginsWord (after_source (b ∷ bs))
+        → SourceSplit (b ∷ bs) (source_of (b ∷ bs)) (after_source (b ∷ bs))
     named_split b bs e w =
         subst (λ c. SourceSplit (c ∷ bs) (source_of (c ∷ bs)) (after_source (c ∷ bs))) (sym e) (
         let cut = drop_to_word bs (subst (λ c. BeginsWord (after_source (c ∷ bs))) e w) in
         let split = split-spaces (after_space bs) in
         let gap = 32 ∷ split.0 in
-        let tail : apart bs ≡ gap ++ without_spaces (after_space bs) = cut.1 ∙ ap (λ x. 32 ∷ x) (sym cut.2 ∙ split.2) in
+        let tail : apart bs ≡ gap ++ without_spaces (after_space bs) = cut.1 ∙ ap
+        (λ x. 32 ∷ x) (sym cut.2 ∙ split.2) in
         record {
           part = 58 ∷ (before_space bs ++ gap);
           spells = (free_before_space bs, (gap, (omega arith, (refl, split.1)), refl));
-          whole = ap (λ x. 58 ∷ x) (split-apart bs ∙ ap (λ x. before_space bs ++ x) tail ∙ sym (append_assoc (before_space bs) gap (without_spaces (after_space bs))));
+          whole = ap (λ x. 58 ∷ x) (split-apart bs ∙ ap (λ x. before_space bs ++ x) tail
+              ∙ sym (append_assoc (before_space bs) gap (without_spaces (after_space bs))));
         }
         )
 
@@ -194,21 +247,30 @@ word_before_source (b ∷ bs) w = λ space. subst (λ c. BeginsWord (after_sourc
 some_same : (m n : Message) → Some m ≡ Some n → m ≡ n
 some_same m n e = cc
 
-spelled : (line : List ℕ) → list_any (λ b. eqb b 0) line ≡ false → let after = after_source (after_tags line) in let more = parameters 14 (after_space after) in
-    IsCommand (before_space after) → Reads line (record { tags = tags_of line; source = source_of (after_tags line); command = before_space after; params = more.0; colon = more.1 })
+spelled : (line : List ℕ) → list_any (λ b. eqb b 0) line ≡ false → let after = after_source (after_tags line) in
+    let more = parameters 14 (after_space after) in
+    IsCommand (before_space after) → Reads line (record {
+      tags = tags_of line;
+      source = source_of (after_tags line);
+      command = before_space after;
+      params = more.0;
+      colon = more.1;
+    })
 spelled line no_nul command =
     let rest = after_tags line in let after = after_source rest in
     let word = word_from_command after command in
     let source = source_split rest word in
     let tags = tags_split line (word_before_source rest word) in
     let params = params_spelled 14 (apart after) (apart-begins after) in
-    let same : parameters 14 (apart after) ≡ parameters 14 (after_space after) = sym (drop_first 14 (apart after) (apart-begins after)) ∙ ap (parameters 14) (drop-apart after) in
+    let same : parameters 14 (apart after) ≡ parameters 14 (after_space after) = sym
+    (drop_first 14 (apart after) (apart-begins after)) ∙ ap (parameters 14) (drop-apart after) in
     record {
       tags_part = tags.part;
       spaces = tags.spaces;
       source_part = source.part;
       params_part = apart after;
-      whole = tags.whole ∙ ap (λ x. tags.part ++ (tags.spaces ++ x)) (source.whole ∙ ap (λ x. source.part ++ x) (split-apart after));
+      whole = tags.whole ∙ ap (λ x. tags.part ++ (tags.spaces ++ x))
+          (source.whole ∙ ap (λ x. source.part ++ x) (split-apart after));
       tags = tags.spells;
       are_spaces = tags.are_spaces;
       source = source.spells;
@@ -226,7 +288,13 @@ reading_is_reads line m e =
       | inr no_nul ↦ elim (cases_Bool (is_command (before_space after))) [
         | inl is ↦
             let more = parameters 14 (after_space after) in
-            let found : Message = record { tags = tags_of line; source = source_of rest; command = before_space after; params = more.0; colon = more.1 } in
+            let found : Message = record {
+              tags = tags_of line;
+              source = source_of rest;
+              command = before_space after;
+              params = more.0;
+              colon = more.1;
+            } in
             let same : Some found ≡ Some m = rw (no_nul, is) at e in
             subst (Reads line) (some_same found m same) (spelled line no_nul (is_a_command (before_space after) is))
         | inr other ↦ let no : None ≡ Some m = rw (no_nul, other) at e in cc
@@ -234,7 +302,8 @@ reading_is_reads line m e =
     ]
 
 pub one_message : (line : List ℕ) (m n : Message) → Reads line m → Reads line n → m ≡ n
-one_message line m n first second = some_same m n (sym (reads_is_reading line m first) ∙ reads_is_reading line n second)
+one_message line m n first second = some_same m n
+    (sym (reads_is_reading line m first) ∙ reads_is_reading line n second)
 
 pub none_spelled : (line : List ℕ) → reading line ≡ None → (m : Message) → Reads line m → ⊥
 none_spelled line none m r = let no : None ≡ Some m = sym none ∙ reads_is_reading line m r in cc

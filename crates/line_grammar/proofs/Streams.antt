@@ -1,5 +1,6 @@
 -- What the lines of a stream, and what stands after its last line end, become when more octets come.
-use Rattle.std.proofs.Common.{◌≡◌, ℕ, Bool, true, false, ◌||◌, cond, List, [], ◌∷◌, ◌++◌, length, refl, ap, sym, ◌∙◌, inl, inr, arith, append-nil, append_assoc, ◌+◌, ◌-◌, ◌<◌, ◌≤◌, suc, take, drop, get_or}
+use Rattle.std.proofs.Common.{◌≡◌, ℕ, Bool, true, false, ◌||◌, cond, List, [], ◌∷◌, ◌++◌, length, refl, ap, sym, ◌∙◌}
+use Rattle.std.proofs.Common.{inl, inr, arith, append-nil, append_assoc, ◌+◌, ◌-◌, ◌<◌, ◌≤◌, suc, take, drop, get_or}
 use Rattle.std.specs.Prelude.{Some, None, Option}
 use Rattle.std.specs.List.{flat_map, list_any, position, position_or_len}
 use Rattle.std.proofs.lemmas.List.{take_rest, take_all}
@@ -10,7 +11,8 @@ use Rattle.line_grammar.proofs.Lengths.{kept_with-kept_of}
 use Rattle.line_grammar.proofs.Spaces.{position_some, position_none}
 use Rattle.std.proofs.lemmas.Bool.{cases_Bool, or_parts, or_right}
 use Rattle.std.proofs.lemmas.List.Concat.{flat_map-append}
-use Rattle.line_grammar.specs.Lines.{is_line_end, ended, unfinished, is_too_long, piece_of, lines, left_by, kept_of, Feeds}
+use Rattle.line_grammar.specs.Lines.{is_line_end, ended, unfinished, is_too_long}
+use Rattle.line_grammar.specs.Lines.{piece_of, lines, left_by, kept_of, Feeds}
 use Rattle.line_grammar.specs.Steps.{kept_with, ended_piece, EndsLine}
 
 -- ---- octets without a line end
@@ -31,7 +33,8 @@ pub ended-append : (s h : List ℕ) → list_any is_line_end h ≡ false → end
 ended-append [] h n = ended-none h n
 ended-append (b ∷ bs) h n = rw (ended-append bs h n) refl
 
-any-append_none : (s h : List ℕ) → list_any is_line_end h ≡ false → list_any is_line_end (s ++ h) ≡ list_any is_line_end s
+any-append_none : (s h : List ℕ) → list_any is_line_end h ≡ false → list_any is_line_end (s ++ h)
+    ≡ list_any is_line_end s
 any-append_none [] h n = n
 any-append_none (b ∷ bs) h n = ap (λ c. is_line_end b || c) (any-append_none bs h n)
 
@@ -39,7 +42,8 @@ pub unfinished-append : (s h : List ℕ) → list_any is_line_end h ≡ false �
 unfinished-append [] h n = unfinished-none h n
 unfinished-append (b ∷ bs) h n =
     rw (any-append_none bs h n, unfinished-append bs h n)
-    (elim (is_line_end b || list_any is_line_end bs) as (λ c. cond c (unfinished bs ++ h) (b ∷ (unfinished bs ++ h)) ≡ cond c (unfinished bs) (b ∷ unfinished bs) ++ h) [ true ↦ refl | false ↦ refl ])
+    (elim (is_line_end b || list_any is_line_end bs) as (λ c. cond c (unfinished bs ++ h) (b ∷ (unfinished bs ++ h))
+    ≡ cond c (unfinished bs) (b ∷ unfinished bs) ++ h) [ true ↦ refl | false ↦ refl ])
 
 -- ---- octets with a line end after h
 
@@ -55,16 +59,19 @@ pub unfinished-end : (h t : List ℕ) (e : ℕ) → is_line_end e ≡ true → u
 unfinished-end [] t e is = rw is refl
 unfinished-end (b ∷ bs) t e is = rw (or_right (is_line_end b) _ (any_end bs t e is)) (unfinished-end bs t e is)
 
-pub unfinished-append_end : (s h t : List ℕ) (e : ℕ) → is_line_end e ≡ true → unfinished (s ++ (h ++ e ∷ t)) ≡ unfinished t
+pub unfinished-append_end : (s h t : List ℕ) (e : ℕ) → is_line_end e ≡ true → unfinished (s ++ (h ++ e ∷ t))
+    ≡ unfinished t
 unfinished-append_end s h t e is = ap unfinished (sym (append_assoc s h (e ∷ t))) ∙ unfinished-end (s ++ h) t e is
 
-ended-end : (h t : List ℕ) (e : ℕ) → list_any is_line_end h ≡ false → is_line_end e ≡ true → ended (h ++ e ∷ t) ≡ h ∷ ended t
+ended-end : (h t : List ℕ) (e : ℕ) → list_any is_line_end h ≡ false → is_line_end e ≡ true
+    → ended (h ++ e ∷ t) ≡ h ∷ ended t
 ended-end [] t e n is = rw is refl
 ended-end (b ∷ bs) t e n is =
     let none = or_parts (is_line_end b) (list_any is_line_end bs) n in
     rw (none.0, ended-end bs t e none.1 is) refl
 
-some_ended : (h : List ℕ) → list_any is_line_end h ≡ true → (line : List ℕ) × (more : List (List ℕ)) × (ended h ≡ line ∷ more)
+some_ended : (h : List ℕ) → list_any is_line_end h ≡ true → (line : List ℕ) × (more : List (List ℕ))
+    × (ended h ≡ line ∷ more)
 some_ended [] a = cc
 some_ended (b ∷ bs) a =
     elim (cases_Bool (is_line_end b)) [
@@ -74,7 +81,8 @@ some_ended (b ∷ bs) a =
           (b ∷ rest.0, rest.1, rw (not, rest.2) refl)
     ]
 
-pub ended-append_end : (s h t : List ℕ) (e : ℕ) → list_any is_line_end h ≡ false → is_line_end e ≡ true → ended (s ++ (h ++ e ∷ t)) ≡ ended s ++ (unfinished s ++ h) ∷ ended t
+pub ended-append_end : (s h t : List ℕ) (e : ℕ) → list_any is_line_end h ≡ false → is_line_end e ≡ true
+    → ended (s ++ (h ++ e ∷ t)) ≡ ended s ++ (unfinished s ++ h) ∷ ended t
 ended-append_end [] h t e n is = ended-end h t e n is
 ended-append_end (b ∷ bs) h t e n is =
     elim (cases_Bool (is_line_end b)) [
@@ -91,39 +99,52 @@ ended-append_end (b ∷ bs) h t e n is =
 pub lines-append : (s h : List ℕ) → list_any is_line_end h ≡ false → lines (s ++ h) ≡ lines s
 lines-append s h n = ap (flat_map piece_of) (ended-append s h n)
 
-pub lines-append_end : (s h t : List ℕ) (e : ℕ) → list_any is_line_end h ≡ false → is_line_end e ≡ true → lines (s ++ (h ++ e ∷ t)) ≡ lines s ++ (piece_of (unfinished s ++ h) ++ lines t)
-lines-append_end s h t e n is = ap (flat_map piece_of) (ended-append_end s h t e n is) ∙ flat_map-append piece_of (ended s) _
+pub lines-append_end : (s h t : List ℕ) (e : ℕ) → list_any is_line_end h ≡ false → is_line_end e ≡ true
+    → lines (s ++ (h ++ e ∷ t)) ≡ lines s ++ (piece_of (unfinished s ++ h) ++ lines t)
+lines-append_end s h t e n is = ap (flat_map piece_of) (ended-append_end s h t e n is)
+    ∙ flat_map-append piece_of (ended s) _
 
 pub ended_piece-kept_of : (line : List ℕ) → ended_piece (kept_of line) ≡ piece_of line
 ended_piece-kept_of [] = refl
 ended_piece-kept_of (b ∷ bs) =
-    elim (is_too_long (b ∷ bs)) as (λ c. ended_piece (cond c None (Some (b ∷ bs))) ≡ cond c TooLong (Line (b ∷ bs)) ∷ []) [ true ↦ refl | false ↦ refl ]
+    elim (is_too_long (b ∷ bs)) as (λ c. ended_piece (cond c None (Some (b ∷ bs)))
+    ≡ cond c TooLong (Line (b ∷ bs)) ∷ []) [ true ↦ refl | false ↦ refl ]
 
 -- octets with no line end come
-pub fed_within : (stream octets : List ℕ) (kept new : Option (List ℕ)) (out : List Piece) → list_any is_line_end octets ≡ false → kept ≡ left_by stream → new ≡ kept_with kept octets → Feeds stream octets new out out
+pub fed_within : (stream octets : List ℕ) (kept new : Option (List ℕ)) (out : List Piece)
+    → list_any is_line_end octets ≡ false → kept ≡ left_by stream → new ≡ kept_with kept octets
+    → Feeds stream octets new out out
 fed_within stream octets kept new out none was is =
     record {
       added = [];
-      keeps = is ∙ ap (λ k. kept_with k octets) was ∙ kept_with-kept_of (unfinished stream) octets ∙ ap kept_of (sym (unfinished-append stream octets none));
+      keeps = is ∙ ap (λ k. kept_with k octets) was ∙ kept_with-kept_of (unfinished stream) octets
+          ∙ ap kept_of (sym (unfinished-append stream octets none));
       grows = sym (append-nil out);
       adds = lines-append stream octets none ∙ sym (append-nil (lines stream));
     }
 
 -- octets with a line end come: the piece of the line that goes on, then the lines of the rest
-pub fed_over : (stream octets front rest : List ℕ) (kept ended_kept next : Option (List ℕ)) (piece : List Piece) (old new : List Piece) → EndsLine octets front rest → kept ≡ left_by stream
-    → ended_kept ≡ kept_with kept front → piece ≡ ended_piece ended_kept → next ≡ left_by rest → new ≡ old ++ (piece ++ lines rest) → Feeds stream octets next old new
+pub fed_over : (stream octets front rest : List ℕ) (kept ended_kept next : Option (List ℕ)) (piece : List Piece)
+    (old new : List Piece) → EndsLine octets front rest → kept ≡ left_by stream
+    → ended_kept ≡ kept_with kept front → piece ≡ ended_piece ended_kept → next ≡ left_by rest
+    → new ≡ old ++ (piece ++ lines rest) → Feeds stream octets next old new
 fed_over stream octets front rest kept ended_kept next piece old new ends was is made left grown =
     let whole : stream ++ octets ≡ stream ++ (front ++ ends.line_end ∷ rest) = ap (λ x. stream ++ x) ends.whole in
-    let first : piece ≡ piece_of (unfinished stream ++ front) = made ∙ ap ended_piece (is ∙ ap (λ k. kept_with k front) was ∙ kept_with-kept_of (unfinished stream) front) ∙ ended_piece-kept_of (unfinished stream ++ front) in
+    let first : piece ≡ piece_of (unfinished stream ++ front) = made
+    ∙ ap ended_piece (is ∙ ap (λ k. kept_with k front) was ∙ kept_with-kept_of (unfinished stream) front)
+    ∙ ended_piece-kept_of (unfinished stream ++ front) in
     record {
       added = piece ++ lines rest;
-      keeps = left ∙ ap kept_of (sym (ap unfinished whole ∙ unfinished-append_end stream front rest ends.line_end ends.is_end));
+      keeps = left ∙ ap kept_of
+          (sym (ap unfinished whole ∙ unfinished-append_end stream front rest ends.line_end ends.is_end));
       grows = grown;
-      adds = ap lines whole ∙ lines-append_end stream front rest ends.line_end ends.none_before ends.is_end ∙ ap (λ x. lines stream ++ (x ++ lines rest)) (sym first);
+      adds = ap lines whole ∙ lines-append_end stream front rest ends.line_end ends.none_before ends.is_end ∙ ap
+          (λ x. lines stream ++ (x ++ lines rest)) (sym first);
     }
 
 -- the lines of a stream from one line end on
-pub lines-end : (front rest : List ℕ) (e : ℕ) → list_any is_line_end front ≡ false → is_line_end e ≡ true → lines (front ++ e ∷ rest) ≡ piece_of front ++ lines rest
+pub lines-end : (front rest : List ℕ) (e : ℕ) → list_any is_line_end front ≡ false → is_line_end e ≡ true
+    → lines (front ++ e ∷ rest) ≡ piece_of front ++ lines rest
 lines-end front rest e none is = lines-append_end [] front rest e none is
 
 -- ---- what an answer of `position` says
@@ -139,11 +160,13 @@ none_before_first p (b ∷ bs) =
           rw step (rw fails (none_before_first p bs))
     ]
 
-pub ends_at : (xs : List ℕ) (i : ℕ) → position is_line_end xs ≡ Some i → EndsLine xs (take i xs) (take (length xs - (i + 1)) (drop (i + 1) xs))
+pub ends_at : (xs : List ℕ) (i : ℕ) → position is_line_end xs ≡ Some i
+    → EndsLine xs (take i xs) (take (length xs - (i + 1)) (drop (i + 1) xs))
 ends_at xs i e =
     let at_i = position_some is_line_end xs i e in
     let more : position_or_len is_line_end xs < length xs = omega (arith, at_i.0, at_i.1) in
-    let rest : take (length xs - (i + 1)) (drop (i + 1) xs) ≡ drop (position_or_len is_line_end xs + 1) xs = take_rest xs (i + 1) ∙ ap (λ (n : ℕ). drop (n + 1) xs) (sym at_i.0) in
+    let rest : take (length xs - (i + 1)) (drop (i + 1) xs) ≡ drop (position_or_len is_line_end xs + 1) xs =
+    take_rest xs (i + 1) ∙ ap (λ (n : ℕ). drop (n + 1) xs) (sym at_i.0) in
     record {
       line_end = get_or xs (position_or_len is_line_end xs) 0;
       whole = rw (rest, ← at_i.0) (split_at_first is_line_end xs 0 more);

@@ -1,5 +1,6 @@
 -- When a line spells a message, rule by rule: RFC 2812, section 2.3.1, with the tags of IRCv3 message-tags.
-use Rattle.std.specs.Prelude.{◌≡◌, ◌≢◌, ℕ, ◌<◌, ◌≤◌, ◌⊎◌, Bool, true, false, zero, suc, List, [], ◌∷◌, ◌++◌, length, Option, Some, None}
+use Rattle.std.specs.Prelude.{◌≡◌, ◌≢◌, ℕ, ◌<◌, ◌≤◌, ◌⊎◌, Bool, true, false, zero, suc}
+use Rattle.std.specs.Prelude.{List, [], ◌∷◌, ◌++◌, length, Option, Some, None}
 use Rattle.std.specs.List.{AllByRecursion}
 use Rattle.line_grammar.specs.declared.message.Message.{Message}
 
@@ -50,11 +51,15 @@ IsMiddle word = BeginsPlain word × IsFreeOf 32 word
 -- with at most n middles; and whether the last is spelled with a colon
 pub data SpellsParameters : ℕ → List ℕ → List (List ℕ) → Bool → Type 0 where
   none : (n : ℕ) (spaces : List ℕ) → AreSpaces spaces → SpellsParameters n spaces [] false
-  middle : (n : ℕ) (gap word rest : List ℕ) (others : List (List ℕ)) (colon : Bool) → IsGap gap → IsMiddle word → SpellsParameters n rest others colon → SpellsParameters (suc n) (gap ++ (word ++ rest)) (word ∷ others) colon
+  middle : (n : ℕ) (gap word rest : List ℕ) (others : List (List ℕ)) (colon : Bool)
+      → IsGap gap → IsMiddle word → SpellsParameters n rest others colon
+      → SpellsParameters (suc n) (gap ++ (word ++ rest)) (word ∷ others) colon
   trailing : (n : ℕ) (gap text : List ℕ) → IsGap gap → SpellsParameters n (gap ++ 58 ∷ text) (text ∷ []) true
-  fifteenth : (gap text : List ℕ) → IsGap gap → BeginsPlain text → SpellsParameters zero (gap ++ text) (text ∷ []) false
+  fifteenth : (gap text : List ℕ) → IsGap gap → BeginsPlain text
+      → SpellsParameters zero (gap ++ text) (text ∷ []) false
 
--- the line spells the message: its tags, spaces that count for nothing, its source, its command, its parameters. No octet is NUL
+-- the line spells the message: its tags, spaces that count for nothing, its source, its command, its parameters. No
+-- octet is NUL
 pub record Reads (line : List ℕ) (m : Message) : Type 0 where
   pub tags_part : List ℕ
   pub spaces : List ℕ

@@ -1,6 +1,7 @@
--- The lines of a byte stream: RFC 2812, section 2.3 (either CR or LF ends a line, empty ones are ignored), with the limits of
--- IRCv3 message-tags (4094 octets of tag data, 510 of the rest).
-use Rattle.std.specs.Prelude.{◌≡◌, ℕ, Bool, false, ◌||◌, ◌==◌, nat_lt, cond, List, [], ◌∷◌, ◌++◌, length, Option, Some, None}
+-- The lines of a byte stream: RFC 2812, section 2.3 (either CR or LF ends a line, empty ones are ignored), with the
+-- limits of IRCv3 message-tags (4094 octets of tag data, 510 of the rest).
+use Rattle.std.specs.Prelude.{◌≡◌, ℕ, Bool, false, ◌||◌, ◌==◌, nat_lt, cond, List, []}
+use Rattle.std.specs.Prelude.{◌∷◌, ◌++◌, length, Option, Some, None}
 use Rattle.std.specs.List.{flat_map, list_any}
 use Rattle.line_grammar.specs.declared.splitter.Piece.{Piece}
 use Rattle.line_grammar.specs.declared.splitter.Piece.TheVariants.{Line, TooLong}
@@ -34,10 +35,12 @@ abbrev pub before_space : List ℕ → List ℕ
 before_space [] = []
 before_space (b ∷ bs) = cond (b == 32) [] (b ∷ before_space bs)
 
--- more than 510 octets; in a line that begins with `@`, more than 4094 from there to the first space, or more than 510 after it
+-- more than 510 octets; in a line that begins with `@`, more than 4094 from there to the first space, or more than
+-- 510 after it
 abbrev pub is_too_long : List ℕ → Bool
 is_too_long [] = false
-is_too_long (b ∷ bs) = cond (b == 64) (nat_lt 4094 (length (before_space bs)) || nat_lt 510 (length (after_space bs))) (nat_lt 510 (length (b ∷ bs)))
+is_too_long (b ∷ bs) = cond (b == 64)
+    (nat_lt 4094 (length (before_space bs)) || nat_lt 510 (length (after_space bs))) (nat_lt 510 (length (b ∷ bs)))
 
 -- an empty line is left out
 abbrev pub piece_of : List ℕ → List Piece
@@ -56,7 +59,8 @@ kept_of line = cond (is_too_long line) None (Some line)
 abbrev pub left_by : List ℕ → Option (List ℕ)
 left_by bs = kept_of (unfinished bs)
 
--- octets come after a stream: the list of pieces grows by the lines that end in them, and what is kept is left by the longer stream
+-- octets come after a stream: the list of pieces grows by the lines that end in them, and what is kept is left by
+-- the longer stream
 pub record Feeds (stream octets : List ℕ) (kept : Option (List ℕ)) (old new : List Piece) : Type 0 where
   pub added : List Piece
   pub keeps : kept ≡ left_by (stream ++ octets)

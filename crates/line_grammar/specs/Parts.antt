@@ -1,4 +1,5 @@
--- Parts of a text between separators, as lists in parameters have them (RFC 2812, section 2.3.1), and what is left of them.
+-- Parts of a text between separators, as lists in parameters have them (RFC 2812, section 2.3.1), and what is left
+-- of them.
 use Rattle.std.specs.Prelude.{ℕ, Bool, not, ◌+◌, ◌==◌, List, [], length, Option, Some, None}
 use Rattle.std.specs.Borrow.{Bor}
 use Rattle.std.specs.List.{slice_split}

@@ -1,5 +1,6 @@
 -- The message in a line, part by part from the left: RFC 2812, section 2.3.1, with the tag data of IRCv3 message-tags.
-use Rattle.std.specs.Prelude.{ℕ, Bool, true, false, ◌||◌, ◌&&◌, ◌==◌, nat_le, nat_lt, cond, zero, suc, List, [], ◌∷◌, length, drop, Option, Some, None}
+use Rattle.std.specs.Prelude.{ℕ, Bool, true, false, ◌||◌, ◌&&◌, ◌==◌, nat_le, nat_lt, cond, zero}
+use Rattle.std.specs.Prelude.{suc, List, [], ◌∷◌, length, drop, Option, Some, None}
 use Rattle.std.specs.List.{list_all, list_any}
 use Rattle.line_grammar.specs.declared.message.Message.{Message}
 use Rattle.line_grammar.specs.Lines.{after_space, before_space}
@@ -54,7 +55,8 @@ parameters (suc n) bs =
 unfoldable pub with_command : List ℕ → Option (List ℕ) → List ℕ → Option Message
 with_command tags source bs =
     let more = parameters 14 (after_space bs) in
-    cond (is_command (before_space bs)) (Some (record { tags = tags; source = source; command = before_space bs; params = more.0; colon = more.1 })) None
+    cond (is_command (before_space bs)) (Some
+    (record { tags = tags; source = source; command = before_space bs; params = more.0; colon = more.1 })) None
 
 -- the message in a line, if there is one. A line with NUL has none
 unfoldable pub reading : List ℕ → Option Message

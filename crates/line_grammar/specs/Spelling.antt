@@ -1,5 +1,7 @@
--- The spelling of a message as a line: RFC 2812, section 2.3.1, with the tags of IRCv3 message-tags. One space parts the pieces.
-use Rattle.std.specs.Prelude.{◌≡◌, ℕ, ◌-◌, ◌<◌, ◌≤◌, ◌==◌, ◌||◌, ◌&&◌, not, Bool, true, cond, List, [], ◌∷◌, ◌++◌, length, take, drop, Option, Some, None, IfSome}
+-- The spelling of a message as a line: RFC 2812, section 2.3.1, with the tags of IRCv3 message-tags. One space parts
+-- the pieces.
+use Rattle.std.specs.Prelude.{◌≡◌, ℕ, ◌-◌, ◌<◌, ◌≤◌, ◌==◌, ◌||◌, ◌&&◌, not, Bool, true, cond, List, []}
+use Rattle.std.specs.Prelude.{◌∷◌, ◌++◌, length, take, drop, Option, Some, None, IfSome}
 use Rattle.std.specs.List.{flat_map, list_all, list_any}
 use Rattle.line_grammar.specs.declared.message.Message.{Message}
 use Rattle.line_grammar.specs.Reading.{is_command}
@@ -41,7 +43,8 @@ spelled_source None = []
 spelled_source (Some source) = 58 ∷ (source ++ 32 ∷ [])
 
 abbrev pub spelled_params : List (List ℕ) → Bool → List ℕ
-spelled_params params colon = flat_map (λ p. 32 ∷ p) (plain_parameters params colon) ++ flat_map (λ p. 32 ∷ 58 ∷ p) (drop (plain_count params colon) params)
+spelled_params params colon = flat_map (λ p. 32 ∷ p) (plain_parameters params colon) ++ flat_map
+    (λ p. 32 ∷ 58 ∷ p) (drop (plain_count params colon) params)
 
 -- a line of these parts, without tags
 unfoldable pub untagged : Option (List ℕ) → List ℕ → List (List ℕ) → Bool → List ℕ

@@ -1,10 +1,12 @@
 //! Reading a line as a message (RFC 2812, section 2.3.1).
-ghost use Rattle.std.specs.Prelude.{◌≡◌, ◌↔◌, None, Some, IfOk, IsErrOf, IsSome, Contains, ◌++◌, not, ◌||◌, ◌==◌, length};
+ghost use Rattle.std.specs.Prelude.{◌≡◌, ◌↔◌, None, Some, IfOk, IsErrOf, IsSome};
+ghost use Rattle.std.specs.Prelude.{Contains, ◌++◌, not, ◌||◌, ◌==◌, length};
 ghost use Rattle.std.specs.List.{list_all};
 ghost use Rattle.std.specs.Option.{option_map};
 ghost use Rattle.line_grammar.specs.declared.message.Message.{Message};
 ghost use Rattle.line_grammar.specs.Grammar.{Reads};
-ghost use Rattle.line_grammar.specs.Reading.{after_source, after_tags, begins_with, is_command, is_digit, is_letter, last_parameter, parameters, reading, source_of, tags_of};
+ghost use Rattle.line_grammar.specs.Reading.{after_source, after_tags, begins_with, is_command, is_digit, is_letter};
+ghost use Rattle.line_grammar.specs.Reading.{last_parameter, parameters, reading, source_of, tags_of};
 ghost use Rattle.line_grammar.specs.declared.grammar.LineFault.TheVariants.{Memory};
 
 use crate::words::{skip_spaces, split_word};
@@ -153,7 +155,8 @@ pub(crate) fn begins_middle(octets: &[u8]) -> bool
 
 /// Adds the last parameter, where there is one, and says whether it is spelled with a colon.
 fn push_last(found: &mut Vec<Octets>, alloc: Global, octets: &[u8]) -> Result<bool, AllocError>
-    ensures last { IfOk result (λ colon. found.new.items ≡ found.old.items ++ (last_parameter octets.now).0) }
+    ensures last { IfOk result
+        (λ colon. found.new.items ≡ found.old.items ++ (last_parameter octets.now).0) }
     ensures colon { IfOk result (λ colon. colon ≡ (last_parameter octets.now).1) }
 {
     let (last, colon) = match octets {

@@ -1,5 +1,6 @@
 //! A message in the line in which it stands: its parts are slices of the line.
-ghost use Rattle.std.specs.Prelude.{◌≡◌, ◌∷◌, ◌-◌, ◌≤◌, [], length, slice_get, vec_capacity, IfOk, IfSome, MatchOption};
+ghost use Rattle.std.specs.Prelude.{◌≡◌, ◌∷◌, ◌-◌, ◌≤◌, [], length, slice_get};
+ghost use Rattle.std.specs.Prelude.{vec_capacity, IfOk, IfSome, MatchOption};
 ghost use Rattle.std.specs.Option.{option_map};
 ghost use Rattle.line_grammar.specs.Reading.{last_parameter, parameters};
 
@@ -40,7 +41,8 @@ impl<'a> LineParameters<'a> {
 /// The first parameter, where at most so many end at a space before the last, and what stands after it.
 #[tactic(auto, using(crate::proofs::Firsts::firsts))]
 fn split_parameter(octets: &[u8], middles: usize) -> Option<(&[u8], &[u8])>
-    ensures parts { MatchOption result ((parameters middles octets.now).0 ≡ []) (λ p. (parameters middles octets.now).0 ≡ p.0.now ∷ (parameters (middles - 1) p.1.now).0) }
+    ensures parts { MatchOption result ((parameters middles octets.now).0 ≡ [])
+        (λ p. (parameters middles octets.now).0 ≡ p.0.now ∷ (parameters (middles - 1) p.1.now).0) }
     ensures within { IfSome result (λ p. length p.0.now ≤ length octets.now) }
 {
     let rest = skip_spaces(octets);
@@ -53,7 +55,8 @@ fn split_parameter(octets: &[u8], middles: usize) -> Option<(&[u8], &[u8])>
 
 /// The last parameter, without the colon that it may be spelled with. `None` where there is none.
 fn last_parameter(octets: &[u8]) -> Option<&[u8]>
-    ensures last { MatchOption result ((last_parameter octets.now).0 ≡ []) (λ p. (last_parameter octets.now).0 ≡ p.now ∷ []) }
+    ensures last { MatchOption result ((last_parameter octets.now).0 ≡ [])
+        (λ p. (last_parameter octets.now).0 ≡ p.now ∷ []) }
     ensures within { IfSome result (λ p. length p.now ≤ length octets.now) }
 {
     match octets {
@@ -63,8 +66,8 @@ fn last_parameter(octets: &[u8]) -> Option<&[u8]>
     }
 }
 
-/// A message in its line, with room for one of its parts: its command or its first parameter can be kept without taking
-/// memory.
+/// A message in its line, with room for one of its parts: its command or its first parameter can be kept without
+/// taking memory.
 #[derive(Drop)]
 pub struct LineMessage<'a> {
     pub(crate) tags: &'a [u8],
@@ -84,9 +87,16 @@ impl<'a> Model for LineMessage<'a> {
 
     ghost Value = { Message };
 
-    ghost view = { λ a. record { tags = a.tags.now; source = option_map (λ s. s.now) a.source; command = a.command.now; params = (parameters 14 a.rest.now).0; colon = (parameters 14 a.rest.now).1 } };
+    ghost view = { λ a. record {
+      tags = a.tags.now;
+      source = option_map (λ s. s.now) a.source;
+      command = a.command.now;
+      params = (parameters 14 a.rest.now).0;
+      colon = (parameters 14 a.rest.now).1;
+    } };
 
-    ghost invariant = { λ a. (a.room.items ≡ []) × (length a.command.now ≤ vec_capacity a.room) × (length a.rest.now ≤ vec_capacity a.room) };
+    ghost invariant = { λ a. (a.room.items ≡ []) × (length a.command.now ≤ vec_capacity a.room)
+        × (length a.rest.now ≤ vec_capacity a.room) };
 }
 
 impl<'a> LineMessage<'a> {

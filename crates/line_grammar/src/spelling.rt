@@ -1,9 +1,11 @@
 //! Writing a message as a line (RFC 2812, section 2.3.1; IRCv3 message-tags).
-ghost use Rattle.std.specs.Prelude.{◌≡◌, ◌↔◌, ◌==◌, ◌∷◌, ◌++◌, [], Some, true, false, List, ℕ, OnOk, IfOk, IsErrOf, IsTrue, IfSome, drop, length};
+ghost use Rattle.std.specs.Prelude.{◌≡◌, ◌↔◌, ◌==◌, ◌∷◌, ◌++◌, [], Some, true, false, List, ℕ};
+ghost use Rattle.std.specs.Prelude.{OnOk, IfOk, IsErrOf, IsTrue, IfSome, drop, length};
 ghost use Rattle.std.specs.List.{flat_map, list_all, list_any};
 ghost use Rattle.line_grammar.specs.Grammar.{Reads};
 ghost use Rattle.line_grammar.specs.Reading.{reading};
-ghost use Rattle.line_grammar.specs.Spelling.{IsWritable, is_text_octet, is_word_octet, needs_colon, plain_count, plain_parameters, spelled_source, spelled_tags, spelling, untagged};
+ghost use Rattle.line_grammar.specs.Spelling.{IsWritable, is_text_octet, is_word_octet, needs_colon, plain_count};
+ghost use Rattle.line_grammar.specs.Spelling.{plain_parameters, spelled_source, spelled_tags, spelling, untagged};
 ghost use Rattle.line_grammar.specs.declared.spelling.WriteFault.TheVariants.{Memory};
 
 use crate::grammar::{MAX_PARAMETERS, is_command};
@@ -78,10 +80,13 @@ fn is_text(octets: &[u8]) -> bool
 /// written by the same rule, and may be read otherwise or as no message.
 pub fn write(alloc: Global, message: &Message) -> Result<Octets, WriteFault>
     ensures spelled { IfOk result (λ line. line ≡ spelling message.now) }
-    ensures is_read { IsWritable message.now → IfOk result (λ line. reading line ≡ Some message.now) }
+    ensures is_read { IsWritable message.now
+        → IfOk result (λ line. reading line ≡ Some message.now) }
     ensures spells { IsWritable message.now → IfOk result (λ line. Reads line message.now) }
-    ensures text { IsWritable message.now → IfOk result (λ line. list_all is_text_octet line ≡ true) }
-    ensures cannot { IsErrOf result WriteFault.CannotSpell ↔ (list_any needs_colon (plain_parameters message.now.params message.now.colon) ≡ true) }
+    ensures text { IsWritable message.now
+        → IfOk result (λ line. list_all is_text_octet line ≡ true) }
+    ensures cannot { IsErrOf result WriteFault.CannotSpell
+        ↔ (list_any needs_colon (plain_parameters message.now.params message.now.colon) ≡ true) }
 {
     let params = message.params.as_slice();
     let (plain, _) = params.split_at(count_plain(params, message.colon));
@@ -120,7 +125,8 @@ pub fn push_untagged(
     params: &[Octets],
     colon: bool,
 ) -> Result<(), AllocError>
-    ensures { OnOk result (line.new.items ≡ line.old.items ++ untagged source.now command.now params.now colon) }
+    ensures { OnOk result
+        (line.new.items ≡ line.old.items ++ untagged source.now command.now params.now colon) }
 {
     let (plain, trailing) = params.split_at(count_plain(params, colon));
     push_source(line, source)?;
@@ -178,7 +184,8 @@ fn push_source(line: &mut Vec<u8>, source: &Option<Octets>) -> Result<(), AllocE
 
 /// Adds a word between what announces it and a space.
 fn push_enclosed(line: &mut Vec<u8>, front: &[u8], word: &[u8]) -> Result<(), AllocError>
-    ensures { OnOk result (line.new.items ≡ line.old.items ++ (front.now ++ (word.now ++ 32 ∷ []))) }
+    ensures { OnOk result
+        (line.new.items ≡ line.old.items ++ (front.now ++ (word.now ++ 32 ∷ []))) }
 {
     line.extend_from_slice(front)?;
     line.extend_from_slice(word)?;
@@ -188,7 +195,8 @@ fn push_enclosed(line: &mut Vec<u8>, front: &[u8], word: &[u8]) -> Result<(), Al
 
 /// Adds parameters, each after what announces it.
 fn push_each(line: &mut Vec<u8>, front: &[u8], parameters: &[Octets]) -> Result<(), AllocError>
-    ensures { OnOk result (line.new.items ≡ line.old.items ++ flat_map (λ p. front.now ++ p) parameters.now) }
+    ensures { OnOk result
+        (line.new.items ≡ line.old.items ++ flat_map (λ p. front.now ++ p) parameters.now) }
 {
     for parameter in parameters {
         line.extend_from_slice(front)?;

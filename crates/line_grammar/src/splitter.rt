@@ -1,5 +1,6 @@
 //! Cutting a byte stream into lines (RFC 2812, section 2.3; IRCv3 message-tags).
-ghost use Rattle.std.specs.Prelude.{◌≡◌, [], ◌∷◌, List, ℕ, ◌++◌, ◌≤◌, length, Bool, true, false, not, OnOk, OnErr, IfOk, MatchOption, cond, nat_lt, vec_len, ◌||◌, ◌-◌, ◌+◌, ◌<◌, ◌^◌};
+ghost use Rattle.std.specs.Prelude.{◌≡◌, [], ◌∷◌, List, ℕ, ◌++◌, ◌≤◌, length, Bool, true, false, not, OnOk, OnErr};
+ghost use Rattle.std.specs.Prelude.{IfOk, MatchOption, cond, nat_lt, vec_len, ◌||◌, ◌-◌, ◌+◌, ◌<◌, ◌^◌};
 ghost use Rattle.std.specs.Vec.{vec_capacity};
 ghost use Rattle.std.specs.Option.{option_to_list};
 ghost use Rattle.std.specs.List.{flat_map, list_any, position};
@@ -53,7 +54,8 @@ impl Model for Unfinished {
 
     ghost view = { λ a. a.octets.items };
 
-    ghost invariant = { λ a. (a.word_length ≡ length (before_space a.octets.items)) × (is_too_long a.octets.items ≡ false) };
+    ghost invariant = { λ a. (a.word_length ≡ length (before_space a.octets.items))
+        × (is_too_long a.octets.items ≡ false) };
 }
 
 impl Unfinished {
@@ -134,7 +136,8 @@ fn is_tagged(front: &[u8], back: &[u8]) -> bool
 /// What stands before the first line end, and what after it.
 #[tactic(auto, using(crate::proofs::Streams::line_ends))]
 fn split_line(octets: &[u8]) -> Option<(&[u8], &[u8])>
-    ensures { MatchOption result (list_any is_line_end octets.now ≡ false) (λ parts. EndsLine octets.now parts.0.now parts.1.now) }
+    ensures { MatchOption result (list_any is_line_end octets.now ≡ false)
+        (λ parts. EndsLine octets.now parts.0.now parts.1.now) }
 {
     let end = first_line_end(octets)?;
     Some((&octets[..end], &octets[end + 1..]))
@@ -148,8 +151,8 @@ fn first_line_end(octets: &[u8]) -> Option<usize>
         .position(|octet| *octet == b'\r' || *octet == b'\n')
 }
 
-/// Cuts a stream that comes in any pieces. It keeps the unfinished line, at most 4606 octets of it: `@`, 4094 of tag data,
-/// a space and 510 of the rest.
+/// Cuts a stream that comes in any pieces. It keeps the unfinished line, at most 4606 octets of it: `@`, 4094 of tag
+/// data, a space and 510 of the rest.
 #[derive(Drop)]
 pub struct Splitter {
     /// `None` where the line is too long.
@@ -215,10 +218,11 @@ impl Splitter {
     }
 
     /// Takes the octets that come next in the stream, and adds to `out` each line that ends in them: CR or LF ends a
-    /// line, and empty lines are left out (RFC 2812, section 2.3). It fails only where a growth is refused, which changes
-    /// neither the splitter nor `out`.
+    /// line, and empty lines are left out (RFC 2812, section 2.3). It fails only where a growth is refused, which
+    /// changes neither the splitter nor `out`.
     pub fn feed(&mut self, octets: &[u8], out: &mut Vec<Piece>) -> Result<(), AllocError>
-        ensures ok { OnOk result ((stream : List ℕ) → self.old ≡ left_by stream → Feeds stream octets.now self.new out.old.items out.new.items) }
+        ensures ok { OnOk result ((stream : List ℕ) → self.old ≡ left_by stream
+            → Feeds stream octets.now self.new out.old.items out.new.items) }
         ensures err { OnErr result ((self.new ≡ self.old) × (out.new.items ≡ out.old.items)) }
     {
         let Some((front, rest)) = split_line(octets) else {

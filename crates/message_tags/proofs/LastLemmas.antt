@@ -1,5 +1,7 @@
 -- Of each key the last tag, found from the end.
-use Rattle.std.proofs.Common.{◌≡◌, ℕ, ◌<◌, nat_eq, Bool, true, false, cond, not, ◌&&◌, ◌||◌, if◌then◌else◌, List, [], ◌∷◌, ◌++◌, map, filter, length, get_or, take, reverse, Bor, BTreeSet, refl, arith, sym, ap, ◌∙◌}
+use Rattle.std.proofs.Common.{◌≡◌, ℕ, ◌<◌, nat_eq, Bool, true, false, cond, not, ◌&&◌, ◌||◌}
+use Rattle.std.proofs.Common.{if◌then◌else◌, List, [], ◌∷◌, ◌++◌, map, filter, length, get_or, take}
+use Rattle.std.proofs.Common.{reverse, Bor, BTreeSet, refl, arith, sym, ap, ◌∙◌}
 use Rattle.std.specs.List.{list_any, starts_with}
 use Rattle.std.specs.Str.{bytes_eq}
 use Rattle.std.specs.declared.cmp.Ordering.{Ordering}
@@ -17,7 +19,8 @@ use Rattle.message_tags.specs.ClientOnly.{is_client_only, is_last, last_of_each,
 abbrev pub last_found : List Tag → List Tag
 last_found done = reverse (filter is_client_only (last_of_each (reverse done)))
 
-reversed-one : (counts : Bool) (tag : Tag) (tags : List Tag) → reverse (if counts then tag ∷ tags else tags) ≡ (if counts then reverse tags ++ tag ∷ [] else reverse tags)
+reversed-one : (counts : Bool) (tag : Tag) (tags : List Tag) → reverse (if counts then tag ∷ tags else tags)
+    ≡ (if counts then reverse tags ++ tag ∷ [] else reverse tags)
 reversed-one true tag tags = reverse-append (tag ∷ []) tags
 reversed-one false tag tags = refl
 
@@ -31,17 +34,21 @@ always false x y = refl
 
 reversed-both : (last : Bool) (tag : Tag) (others : List Tag) →
     reverse (filter is_client_only (if last then tag ∷ others else others))
-    ≡ (if is_client_only tag && last then reverse (filter is_client_only others) ++ tag ∷ [] else reverse (filter is_client_only others))
-reversed-both true tag others = reversed-one (is_client_only tag) tag (filter is_client_only others) ∙ always (is_client_only tag) _ _
+    ≡ (if is_client_only tag && last then reverse (filter is_client_only others) ++ tag ∷ []
+    else reverse (filter is_client_only others))
+reversed-both true tag others = reversed-one (is_client_only tag) tag (filter is_client_only others)
+    ∙ always (is_client_only tag) _ _
 reversed-both false tag others = never (is_client_only tag) _ _
 
 -- one tag more
-pub last_found-more : (done : List Tag) (tag : Tag) → last_found (done ++ tag ∷ []) ≡ (if is_client_only tag && is_last tag (reverse done) then last_found done ++ tag ∷ [] else last_found done)
+pub last_found-more : (done : List Tag) (tag : Tag) → last_found (done ++ tag ∷ [])
+    ≡ (if is_client_only tag && is_last tag (reverse done) then last_found done ++ tag ∷ [] else last_found done)
 last_found-more done tag =
     ap (λ tags. reverse (filter is_client_only (last_of_each tags))) (reverse-append done (tag ∷ []))
     ∙ reversed-both (is_last tag (reverse done)) tag (last_of_each (reverse done))
 
-pub last_found-all : (tags : List Tag) (n : ℕ) → n ≡ length (reverse tags) → last_found (take n (reverse tags)) ≡ reverse (filter is_client_only (last_of_each tags))
+pub last_found-all : (tags : List Tag) (n : ℕ) → n ≡ length (reverse tags) → last_found (take n (reverse tags))
+    ≡ reverse (filter is_client_only (last_of_each tags))
 last_found-all tags n all =
     ap last_found (take_all n (reverse tags) (omega arith))
     ∙ ap (λ ts. reverse (filter is_client_only (last_of_each ts))) (reverse-reverse tags)
@@ -52,7 +59,8 @@ key_cmp x y = slice_cmp nat_cmp x.now y.now
 
 -- the set has the keys of the client-only tags among these
 pub record HasKeys (keys : BTreeSet (Bor (List ℕ))) (done : List Tag) : Type 0 where
-  pub at : (key : Bor (List ℕ)) → starts_with nat_eq key.now (43 ∷ []) ≡ true → contains key_cmp keys key ≡ list_any (has_key key.now) (reverse done)
+  pub at : (key : Bor (List ℕ)) → starts_with nat_eq key.now (43 ∷ []) ≡ true
+      → contains key_cmp keys key ≡ list_any (has_key key.now) (reverse done)
 
 pub HasKeys-none : (keys : BTreeSet (Bor (List ℕ))) → keys.keys ≡ [] → HasKeys keys []
 HasKeys-none keys none = record { at = λ key marked. ap (list_any (λ k. is_eq (key_cmp key k))) none }
@@ -61,18 +69,23 @@ bytes_ties : (x y : List ℕ) → bytes_eq x y ≡ is_eq (slice_cmp nat_cmp x y)
 bytes_ties x y = lists_ties nat_cmp unsigned_ties x y
 
 -- a tag whose key isn't client-only has no key that is
-apart : (b : Bool) (tag : Tag) (key : List ℕ) → bytes_eq tag.key key ≡ b → is_client_only tag ≡ false → starts_with nat_eq key (43 ∷ []) ≡ true → b ≡ false
-apart true tag key same unmarked marked = absurd (false≢true (sym unmarked ∙ ap (λ k. starts_with nat_eq k (43 ∷ [])) ((bytes_decides tag.key key).0 same) ∙ marked))
+apart : (b : Bool) (tag : Tag) (key : List ℕ) → bytes_eq tag.key key ≡ b → is_client_only tag ≡ false
+    → starts_with nat_eq key (43 ∷ []) ≡ true → b ≡ false
+apart true tag key same unmarked marked = absurd (false≢true
+    (sym unmarked ∙ ap (λ k. starts_with nat_eq k (43 ∷ [])) ((bytes_decides tag.key key).0 same) ∙ marked))
 apart false tag key same unmarked marked = refl
 
-any-more : (key : List ℕ) (done : List Tag) (tag : Tag) → list_any (has_key key) (reverse (done ++ tag ∷ [])) ≡ (bytes_eq tag.key key || list_any (has_key key) (reverse done))
+any-more : (key : List ℕ) (done : List Tag) (tag : Tag) → list_any (has_key key) (reverse (done ++ tag ∷ []))
+    ≡ (bytes_eq tag.key key || list_any (has_key key) (reverse done))
 any-more key done tag = ap (list_any (has_key key)) (reverse-append done (tag ∷ []))
 
-pub HasKeys-unmarked : (keys : BTreeSet (Bor (List ℕ))) (done : List Tag) (tag : Tag) → is_client_only tag ≡ false → HasKeys keys done → HasKeys keys (done ++ tag ∷ [])
+pub HasKeys-unmarked : (keys : BTreeSet (Bor (List ℕ))) (done : List Tag) (tag : Tag) → is_client_only tag ≡ false
+    → HasKeys keys done → HasKeys keys (done ++ tag ∷ [])
 HasKeys-unmarked keys done tag unmarked has = record {
   at = λ key marked.
       has.at key marked
-      ∙ ap (λ b. b || list_any (has_key key.now) (reverse done)) (sym (apart (bytes_eq tag.key key.now) tag key.now refl unmarked marked))
+      ∙ ap (λ b. b || list_any (has_key key.now) (reverse done))
+      (sym (apart (bytes_eq tag.key key.now) tag key.now refl unmarked marked))
       ∙ sym (any-more key.now done tag);
 }
 
@@ -80,7 +93,8 @@ cond_or : (a b : Bool) → cond a true b ≡ (a || b)
 cond_or true b = refl
 cond_or false b = refl
 
-pub HasKeys-more : (keys more : BTreeSet (Bor (List ℕ))) (done : List Tag) (tag : Tag) (own : Bor (List ℕ)) → own.now ≡ tag.key → Updates key_cmp keys more own true → HasKeys keys done → HasKeys more (done ++ tag ∷ [])
+pub HasKeys-more : (keys more : BTreeSet (Bor (List ℕ))) (done : List Tag) (tag : Tag) (own : Bor (List ℕ))
+    → own.now ≡ tag.key → Updates key_cmp keys more own true → HasKeys keys done → HasKeys more (done ++ tag ∷ [])
 HasKeys-more keys more done tag own is updates has = record {
   at = λ key marked.
       updates.0 key
@@ -92,7 +106,8 @@ HasKeys-more keys more done tag own is updates has = record {
 }
 
 -- an own key that the set hasn't is that of no later tag
-last-by : (keys : BTreeSet (Bor (List ℕ))) (done : List Tag) (tag : Tag) (own : Bor (List ℕ)) → own.now ≡ tag.key → is_client_only tag ≡ true → HasKeys keys done → is_last tag (reverse done) ≡ not (contains key_cmp keys own)
+last-by : (keys : BTreeSet (Bor (List ℕ))) (done : List Tag) (tag : Tag) (own : Bor (List ℕ)) → own.now ≡ tag.key
+    → is_client_only tag ≡ true → HasKeys keys done → is_last tag (reverse done) ≡ not (contains key_cmp keys own)
 last-by keys done tag own is marked has =
     ap (λ k. not (list_any (has_key k) (reverse done))) (sym is)
     ∙ ap not (sym (has.at own (ap (λ k. starts_with nat_eq k (43 ∷ [])) is ∙ marked)))
@@ -112,20 +127,29 @@ second-false true false x y is_b = refl
 second-false false b x y is_b = refl
 
 -- a tag whose key is new to the set counts
-pub last_found-new : (keys : BTreeSet (Bor (List ℕ))) (done : List Tag) (tag : Tag) (own : Bor (List ℕ)) → own.now ≡ tag.key → is_client_only tag ≡ true → HasKeys keys done → not (contains key_cmp keys own) ≡ true → last_found (done ++ tag ∷ []) ≡ last_found done ++ tag ∷ []
+pub last_found-new : (keys : BTreeSet (Bor (List ℕ))) (done : List Tag) (tag : Tag) (own : Bor (List ℕ))
+    → own.now ≡ tag.key → is_client_only tag ≡ true → HasKeys keys done → not (contains key_cmp keys own) ≡ true
+    → last_found (done ++ tag ∷ []) ≡ last_found done ++ tag ∷ []
 last_found-new keys done tag own is marked has new =
-    last_found-more done tag ∙ both-true (is_client_only tag) (is_last tag (reverse done)) _ _ marked (last-by keys done tag own is marked has ∙ new)
+    last_found-more done tag ∙ both-true (is_client_only tag) (is_last tag (reverse done)) _ _ marked
+    (last-by keys done tag own is marked has ∙ new)
 
 -- another doesn't
-pub last_found-old : (keys : BTreeSet (Bor (List ℕ))) (done : List Tag) (tag : Tag) (own : Bor (List ℕ)) → own.now ≡ tag.key → is_client_only tag ≡ true → HasKeys keys done → not (contains key_cmp keys own) ≡ false → last_found (done ++ tag ∷ []) ≡ last_found done
+pub last_found-old : (keys : BTreeSet (Bor (List ℕ))) (done : List Tag) (tag : Tag) (own : Bor (List ℕ))
+    → own.now ≡ tag.key → is_client_only tag ≡ true → HasKeys keys done → not (contains key_cmp keys own) ≡ false
+    → last_found (done ++ tag ∷ []) ≡ last_found done
 last_found-old keys done tag own is marked has old =
-    last_found-more done tag ∙ second-false (is_client_only tag) (is_last tag (reverse done)) _ _ (last-by keys done tag own is marked has ∙ old)
+    last_found-more done tag ∙ second-false (is_client_only tag) (is_last tag (reverse done)) _ _
+    (last-by keys done tag own is marked has ∙ old)
 
-pub last_found-unmarked : (done : List Tag) (tag : Tag) → is_client_only tag ≡ false → last_found (done ++ tag ∷ []) ≡ last_found done
+pub last_found-unmarked : (done : List Tag) (tag : Tag) → is_client_only tag ≡ false
+    → last_found (done ++ tag ∷ []) ≡ last_found done
 last_found-unmarked done tag unmarked =
     last_found-more done tag ∙ first-false (is_client_only tag) (is_last tag (reverse done)) _ _ unmarked
 
-pub taken-more : (tags : List Tag) (yielded : List (Bor Tag)) (tag : Bor Tag) → length yielded < length tags → tag.now ≡ get_or tags (length yielded) tag.now → take (length (yielded ++ tag ∷ [])) tags ≡ take (length yielded) tags ++ tag.now ∷ []
+pub taken-more : (tags : List Tag) (yielded : List (Bor Tag)) (tag : Bor Tag) → length yielded < length tags
+    → tag.now ≡ get_or tags (length yielded) tag.now → take (length (yielded ++ tag ∷ [])) tags
+    ≡ take (length yielded) tags ++ tag.now ∷ []
 taken-more tags yielded tag inside is =
     ap (λ n. take n tags) (length_push yielded tag)
     ∙ take_more tags (length yielded) tag.now inside
@@ -135,13 +159,15 @@ taken-more tags yielded tag inside is =
 abbrev pub left_spellings : List (Bor Tag) → List (List ℕ)
 left_spellings left = map spelling_of (reverse (map (λ tag. tag.now) left))
 
-pub left_spellings-pop : (left others : List (Bor Tag)) (tag : Bor Tag) → left ≡ others ++ tag ∷ [] → left_spellings left ≡ spelling_of tag.now ∷ left_spellings others
+pub left_spellings-pop : (left others : List (Bor Tag)) (tag : Bor Tag) → left ≡ others ++ tag ∷ []
+    → left_spellings left ≡ spelling_of tag.now ∷ left_spellings others
 left_spellings-pop left others tag is =
     ap left_spellings is
     ∙ ap (λ tags. map spelling_of (reverse tags)) (map-append (λ t. t.now) others (tag ∷ []))
     ∙ ap (map spelling_of) (reverse-append (map (λ t. t.now) others) (tag.now ∷ []))
 
-pub left_spellings-all : (left : List (Bor Tag)) (tags : List Tag) → map (λ tag. tag.now) left ≡ reverse (filter is_client_only (last_of_each tags)) → left_spellings left ≡ spellings tags
+pub left_spellings-all : (left : List (Bor Tag)) (tags : List Tag) → map (λ tag. tag.now) left
+    ≡ reverse (filter is_client_only (last_of_each tags)) → left_spellings left ≡ spellings tags
 left_spellings-all left tags is =
     ap (λ ts. map spelling_of (reverse ts)) is
     ∙ ap (map spelling_of) (reverse-reverse (filter is_client_only (last_of_each tags)))

@@ -1,5 +1,6 @@
 -- The tags of tag data (IRCv3 message-tags, "Format" and "Rules for naming message tags").
-use Rattle.std.specs.Prelude.{ℕ, ◌+◌, take, drop, position, None, Some, ◌==◌, nat_le, Bool, ◌&&◌, ◌||◌, not, List, [], ◌∷◌, map, filter, reverse, length, Option, if◌then◌else◌}
+use Rattle.std.specs.Prelude.{ℕ, ◌+◌, take, drop, position, None, Some, ◌==◌, nat_le, Bool, ◌&&◌, ◌||◌, not}
+use Rattle.std.specs.Prelude.{List, [], ◌∷◌, map, filter, reverse, length, Option, if◌then◌else◌}
 use Rattle.std.specs.Option.{option_map}
 use Rattle.std.specs.List.{list_all, find, slice_split, before_first, after_first}
 use Rattle.std.specs.Str.{is_utf8, bytes_eq}

@@ -1,4 +1,5 @@
--- What a tag's value means as it stands in a line, and how a value is written there (IRCv3 message-tags, "Escaping values").
+-- What a tag's value means as it stands in a line, and how a value is written there (IRCv3 message-tags, "Escaping
+-- values").
 use Rattle.std.specs.Prelude.{ℕ, ◌==◌, Bool, true, false, List, [], ◌∷◌, if◌then◌else◌}
 use Rattle.std.specs.List.{flat_map}
 

@@ -2,7 +2,8 @@
 ghost use Rattle.std.specs.Prelude.{◌≡◌, ◌&&◌, not, ◌++◌, if◌then◌else◌, map, filter, reverse, IfOk, OnOk};
 ghost use Rattle.std.specs.List.{list_any};
 ghost use Rattle.message_tags.specs.Tags.{has_key};
-ghost use Rattle.message_tags.specs.ClientOnly.{is_client_only, is_last, last_of_each, spelling_of, joined, client_only_data};
+ghost use Rattle.message_tags.specs.ClientOnly.{is_client_only, is_last, last_of_each};
+ghost use Rattle.message_tags.specs.ClientOnly.{spelling_of, joined, client_only_data};
 
 use crate::escaping::push_escaped;
 use crate::list::Tags;

@@ -51,7 +51,8 @@ pub fn unescape(alloc: Global, escaped: &[u8]) -> Result<Octets, AllocError>
 /// Whether the octet after this one stands behind a backslash.
 #[tactic(auto, using(crate::proofs::ValueLemmas::length_left_of))]
 fn is_escape(after_backslash: bool, octet: u8) -> bool
-    ensures { (rest : List ℕ) → length (value (left_of after_backslash (octet ∷ rest))) ≡ (if result then 0 else 1) + length (value (left_of result rest)) }
+    ensures { (rest : List ℕ) → length (value (left_of after_backslash (octet ∷ rest)))
+        ≡ (if result then 0 else 1) + length (value (left_of result rest)) }
 {
     !after_backslash && octet == b'\\'
 }

@@ -29,7 +29,8 @@ fn key_and_raw_value(part: &[u8]) -> (&[u8], &[u8])
 }
 
 fn push_tag(alloc: Global, tags: &mut Vec<Tag>, part: &[u8]) -> Result<(), AllocError>
-    ensures { OnOk result (tags.new.items ≡ tags.old.items ++ map tag_of (filter counts (part.now ∷ []))) }
+    ensures { OnOk result
+        (tags.new.items ≡ tags.old.items ++ map tag_of (filter counts (part.now ∷ []))) }
 {
     let (key, raw_value) = key_and_raw_value(part);
     if is_key(key) && is_text(raw_value) {
@@ -44,7 +45,8 @@ fn push_tag(alloc: Global, tags: &mut Vec<Tag>, part: &[u8]) -> Result<(), Alloc
 /// The value of a part as it stands, where the part is a tag that counts and has this key.
 #[tactic(auto, unfolding(crate::specs::Tags::last_value))]
 fn raw_value_under<'a>(key: &[u8], part: &'a [u8]) -> Option<&'a [u8]>
-    ensures { option_map (λ raw. value raw.now) result ≡ last_value (map tag_of (filter counts (part.now ∷ []))) key.now }
+    ensures { option_map (λ raw. value raw.now) result
+        ≡ last_value (map tag_of (filter counts (part.now ∷ []))) key.now }
 {
     let (own, raw_value) = key_and_raw_value(part);
     if own == key && is_key(own) && is_text(raw_value) {

@@ -1,5 +1,6 @@
 -- Whatever comes of a letter, the channel may change so, and nobody joins or leaves by it.
-use Rattle.std.proofs.Common.{◌≡◌, ℕ, Bool, true, false, not, ◌==◌, ◌||◌, nat_le, List, length, is_some, Option, Some, None, if◌then◌else◌, refl}
+use Rattle.std.proofs.Common.{◌≡◌, ℕ, Bool, true, false, not, ◌==◌, ◌||◌, nat_le, List, length}
+use Rattle.std.proofs.Common.{is_some, Option, Some, None, if◌then◌else◌, refl}
 use Rattle.line_grammar.specs.Spelling.{needs_colon}
 use Rattle.channel_state.specs.declared.modes.Flag.{Flag}
 use Rattle.channel_state.specs.declared.change.Rank.{Rank}
@@ -12,14 +13,17 @@ use Rattle.drafts.specs.Lines.{title}
 use Rattle.mode_commands.specs.declared.letters.ModeChange.{ModeChange}
 use Rattle.mode_commands.specs.declared.steps.Step.{Step}
 use Rattle.mode_commands.specs.Parameters.{completed, is_key, limit_of}
-use Rattle.mode_commands.specs.Steps.{IsMild, agree, has_ban, has_key, has_limit, has_rank, flag_of, flag_step, member_step, user_step, rank_step, mask_step, ban_step, key_set, key_given, key_step, limit_set, limit_given, limit_step, step}
+use Rattle.mode_commands.specs.Steps.{IsMild, agree, has_ban, has_key, has_limit, has_rank, flag_of, flag_step}
+use Rattle.mode_commands.specs.Steps.{member_step, user_step, rank_step, mask_step, ban_step, key_set, key_given}
+use Rattle.mode_commands.specs.Steps.{key_step, limit_set, limit_given, limit_step, step}
 
 -- of two steps, by a test
 either : (k : State) (b : Bool) (x y : Step) → IsMild k x → IsMild k y → IsMild k (if b then x else y)
 either k true x y p q = p
 either k false x y p q = q
 
-either_known : (k : State) (b : Bool) (x y : Step) → IsMild k x → (b ≡ false → IsMild k y) → IsMild k (if b then x else y)
+either_known : (k : State) (b : Bool) (x y : Step) → IsMild k x → (b ≡ false → IsMild k y)
+    → IsMild k (if b then x else y)
 either_known k true x y p q = p
 either_known k false x y p q = q refl
 
@@ -36,18 +40,22 @@ flag_mild k a None = tt
 flag_mild k a (Some f) = either k (agree a.on (is_set f k.modes)) _ _ tt (tt, refl)
 
 member_mild : (k : State) (rank : Rank) (a : ModeChange) (n : List ℕ) (t : ℕ) → IsMild k (member_step k rank a n t)
-member_mild k rank a n t = either_known k (not (among t k.members)) _ _ tt (λ away. either k (agree a.on (has_rank k rank t)) _ _ tt (is_so (among t k.members) away, same_members t rank a.on k))
+member_mild k rank a n t = either_known k (not (among t k.members)) _ _ tt (λ away. either k
+    (agree a.on (has_rank k rank t)) _ _ tt (is_so (among t k.members) away, same_members t rank a.on k))
 
-user_mild : (fs : List Deed) (k : State) (rank : Rank) (a : ModeChange) (n : List ℕ) (o : Option ℕ) → IsMild k (user_step fs k rank a n o)
+user_mild : (fs : List Deed) (k : State) (rank : Rank) (a : ModeChange) (n : List ℕ) (o : Option ℕ)
+    → IsMild k (user_step fs k rank a n o)
 user_mild fs k rank a n None = tt
 user_mild fs k rank a n (Some t) = member_mild k rank a (title (nick fs t)) t
 
-rank_mild : (fs : List Deed) (k : State) (rank : Rank) (a : ModeChange) (o : Option (List ℕ)) → IsMild k (rank_step fs k rank a o)
+rank_mild : (fs : List Deed) (k : State) (rank : Rank) (a : ModeChange) (o : Option (List ℕ))
+    → IsMild k (rank_step fs k rank a o)
 rank_mild fs k rank a None = tt
 rank_mild fs k rank a (Some n) = user_mild fs k rank a n (found fs n)
 
 mask_mild : (k : State) (a : ModeChange) (mask : List ℕ) → IsMild k (mask_step k a mask)
-mask_mild k a mask = either k a.on _ _ (either k (has_ban k mask || nat_le 60 (length k.bans)) _ _ tt (tt, refl)) (either k (has_ban k mask) _ _ (tt, refl) tt)
+mask_mild k a mask = either k a.on _ _ (either k (has_ban k mask || nat_le 60 (length k.bans)) _ _ tt (tt, refl))
+    (either k (has_ban k mask) _ _ (tt, refl) tt)
 
 ban_mild : (k : State) (a : ModeChange) (o : Option (List ℕ)) → IsMild k (ban_step k a o)
 ban_mild k a None = tt

@@ -9,7 +9,8 @@ pub each-mode : EachModeIsNamed
 unfolding mode_of
 each-mode k ps = refl
 
-own_mode : (n : List ℕ) → str_eq_ignore_ascii_case n (codes "MODE") ≡ true → (ps : List (List ℕ)) → HasName mode_text n (Some (mode_command ps))
+own_mode : (n : List ℕ) → str_eq_ignore_ascii_case n (codes "MODE") ≡ true → (ps : List (List ℕ))
+    → HasName mode_text n (Some (mode_command ps))
 own_mode n e [] = tt
 own_mode n e (target ∷ ps) = e
 

@@ -1,7 +1,9 @@
 -- MODE of a channel: RFC 2812, section 3.2.3.
 use Rattle.std.specs.Prelude.{ℕ, Bool, false, ◌==◌, ◌&&◌, not, List, [], ◌∷◌, ◌++◌, map, codes, is_some, if◌then◌else◌}
 use Rattle.numerics.specs.declared.numeric.Numeric.{Numeric}
-use Rattle.numerics.specs.declared.numeric.Numeric.TheVariants.{NeedMoreParams, NoSuchNick, UserNotInChannel, UnknownMode, ChannelModeIs, BanList, EndOfBanList, ChanOPrivsNeeded}
+use Rattle.numerics.specs.declared.numeric.Numeric.TheVariants.{NeedMoreParams, NoSuchNick, UserNotInChannel}
+use Rattle.numerics.specs.declared.numeric.Numeric.TheVariants.{UnknownMode, ChannelModeIs, BanList}
+use Rattle.numerics.specs.declared.numeric.Numeric.TheVariants.{EndOfBanList, ChanOPrivsNeeded}
 use Rattle.registration.specs.declared.settings.Settings.{Settings}
 use Rattle.channel_state.specs.State.{among}
 use Rattle.roster.specs.declared.deed.Deed.{Deed}
@@ -25,7 +27,8 @@ use Rattle.mode_commands.specs.Steps.{steps, all_shown}
 -- ---- what is told
 
 abbrev pub tells_modes : Settings → List Deed → ℕ → Seen → Effect
-tells_modes g fs s k = tells g fs s (ChannelModeIs k.name (letters_set k.state.modes) (params_set (among s k.state.members) k.state.modes))
+tells_modes g fs s k = tells g fs s
+    (ChannelModeIs k.name (letters_set k.state.modes) (params_set (among s k.state.members) k.state.modes))
 
 abbrev pub ban_numerics : Seen → List Numeric
 ban_numerics k = map (BanList k.name) k.state.bans ++ EndOfBanList k.name ∷ []

@@ -1,8 +1,10 @@
 -- The letters of MODE with their signs and parameters: RFC 2812, section 3.2.3.
-use Rattle.std.specs.Prelude.{ℕ, ◌-◌, Bool, true, false, ◌==◌, ◌&&◌, ◌||◌, List, [], ◌∷◌, ◌++◌, Option, Some, None, if◌then◌else◌}
+use Rattle.std.specs.Prelude.{ℕ, ◌-◌, Bool, true, false, ◌==◌, ◌&&◌, ◌||◌, List, [], ◌∷◌}
+use Rattle.std.specs.Prelude.{◌++◌, Option, Some, None, if◌then◌else◌}
 use Rattle.mode_commands.specs.declared.letters.ModeChange.{ModeChange}
 
--- what is known as letters are read: the sign in force, how many letters with a parameter may still come, and the parameters that are left
+-- what is known as letters are read: the sign in force, how many letters with a parameter may still come, and the
+-- parameters that are left
 pub record Reading : Type 0 where
   pub on : Bool
   pub room : ℕ

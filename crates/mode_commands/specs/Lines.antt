@@ -1,5 +1,6 @@
 -- The lines and texts that show modes: RFC 2812, sections 3.1.5, 3.2.3 and 5.1.
-use Rattle.std.specs.Prelude.{ℕ, Bool, false, cond, List, [], ◌∷◌, ◌++◌, codes, decimal, Option, Some, None, is_some, option_to_list}
+use Rattle.std.specs.Prelude.{ℕ, Bool, false, cond, List, [], ◌∷◌, ◌++◌, codes, decimal}
+use Rattle.std.specs.Prelude.{Option, Some, None, is_some, option_to_list}
 use Rattle.channel_state.specs.declared.modes.Modes.{Modes}
 use Rattle.numerics.specs.declared.outgoing.Out.{Out}
 use Rattle.numerics.specs.Outgoing.{line}
@@ -34,8 +35,10 @@ letter_where is letter = cond is letter []
 
 unfoldable pub letters_set : Modes → List ℕ
 letters_set m =
-    codes "+" ++ letter_where m.invite_only (codes "i") ++ letter_where (is_some m.key) (codes "k") ++ letter_where (is_some m.limit) (codes "l")
-    ++ letter_where m.moderated (codes "m") ++ letter_where m.no_outside (codes "n") ++ letter_where m.secret (codes "s") ++ letter_where m.topic_locked (codes "t")
+    codes "+" ++ letter_where m.invite_only (codes "i") ++ letter_where (is_some m.key) (codes "k")
+    ++ letter_where (is_some m.limit) (codes "l")
+    ++ letter_where m.moderated (codes "m") ++ letter_where m.no_outside (codes "n")
+    ++ letter_where m.secret (codes "s") ++ letter_where m.topic_locked (codes "t")
 
 -- the key is told members alone
 abbrev pub key_told : Bool → Option (List ℕ) → List (List ℕ)

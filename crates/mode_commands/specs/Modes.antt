@@ -1,5 +1,6 @@
 -- MODE: how it is named and read, and what it does. RFC 2812, sections 3.1.5 and 3.2.3.
-use Rattle.std.specs.Prelude.{◌≡◌, ℕ, Bool, true, false, ◌==◌, ◌||◌, List, [], ◌∷◌, codes, Result, Ok, Option, Some, None, is_some, if◌then◌else◌}
+use Rattle.std.specs.Prelude.{◌≡◌, ℕ, Bool, true, false, ◌==◌, ◌||◌, List, [], ◌∷◌, codes}
+use Rattle.std.specs.Prelude.{Result, Ok, Option, Some, None, is_some, if◌then◌else◌}
 use Rattle.std.specs.Str.{str_eq_ignore_ascii_case}
 use Rattle.command_params.specs.declared.fault.ReadFault.{ReadFault}
 use Rattle.command_params.specs.Params.{HasName, needs_more}
@@ -48,7 +49,8 @@ of_user g fs s target changes None = tells g fs s (NoSuchNick target) ∷ []
 of_user g fs s target changes (Some t) = if t == s then own_modes g fs s changes else tells g fs s UsersDontMatch ∷ []
 
 abbrev pub modes : Settings → List Deed → ℕ → List ℕ → List (List ℕ) → List Effect
-modes g fs s target changes = if names_channel target then of_channel g fs s target changes (seen fs target) else of_user g fs s target changes (found fs target)
+modes g fs s target changes = if names_channel target then of_channel g fs s target changes (seen fs target)
+    else of_user g fs s target changes (found fs target)
 
 -- what a command about modes does
 abbrev pub serves_mode : Settings → List Deed → ℕ → ModeCommand → List Effect

@@ -1,5 +1,7 @@
--- Parameters of modes: masks (RFC 2812, section 2.5; RFC 2811, section 4.3), keys and limits (RFC 2811, sections 4.2.9 and 4.2.10). What isn't well formed, and how it is completed, is this project's own.
-use Rattle.std.specs.Prelude.{ℕ, ◌+◌, ◌*◌, ◌-◌, nat_le, Bool, not, ◌==◌, ◌&&◌, ◌||◌, cond, List, [], ◌∷◌, ◌++◌, codes, Option, Some, None, if◌then◌else◌}
+-- Parameters of modes: masks (RFC 2812, section 2.5; RFC 2811, section 4.3), keys and limits (RFC 2811, sections
+-- 4.2.9 and 4.2.10). What isn't well formed, and how it is completed, is this project's own.
+use Rattle.std.specs.Prelude.{ℕ, ◌+◌, ◌*◌, ◌-◌, nat_le, Bool, not, ◌==◌, ◌&&◌, ◌||◌, cond, List, []}
+use Rattle.std.specs.Prelude.{◌∷◌, ◌++◌, codes, Option, Some, None, if◌then◌else◌}
 use Rattle.std.specs.List.{list_any}
 use Rattle.line_grammar.specs.Spelling.{needs_colon}
 use Rattle.casemapping.specs.Names.{is_digit}
@@ -27,7 +29,8 @@ is_key key = not (needs_colon key || has_octet 44 key)
 -- a number from its digits, where it is one from 1 to 65535
 abbrev pub limit_from : ℕ → List ℕ → Option ℕ
 limit_from n [] = if n == 0 then None else Some n
-limit_from n (d ∷ ds) = if is_digit d && nat_le (n * 10 + (d - 48)) 65535 then limit_from (n * 10 + (d - 48)) ds else None
+limit_from n (d ∷ ds) = if is_digit d && nat_le (n * 10 + (d - 48)) 65535 then limit_from (n * 10 + (d - 48)) ds
+    else None
 
 abbrev pub limit_of : List ℕ → Option ℕ
 limit_of text = limit_from 0 text

@@ -1,5 +1,6 @@
 -- What a letter of MODE does to a channel: RFC 2812, section 3.2.3; RFC 2811, sections 4.1 to 4.3.
-use Rattle.std.specs.Prelude.{◌≡◌, ℕ, nat_le, Bool, false, not, ◌==◌, ◌||◌, cond, List, [], ◌∷◌, ◌++◌, length, take, codes, decimal, Option, Some, None, is_some, if◌then◌else◌}
+use Rattle.std.specs.Prelude.{◌≡◌, ℕ, nat_le, Bool, false, not, ◌==◌, ◌||◌, cond, List, [], ◌∷◌, ◌++◌, length}
+use Rattle.std.specs.Prelude.{take, codes, decimal, Option, Some, None, is_some, if◌then◌else◌}
 use Rattle.std.specs.List.{list_any}
 use Rattle.std.specs.Str.{bytes_eq}
 use Rattle.line_grammar.specs.Spelling.{needs_colon}
@@ -8,7 +9,8 @@ use Rattle.channel_state.specs.declared.modes.Flag.{Flag}
 use Rattle.channel_state.specs.declared.modes.Flag.TheVariants.{InviteOnly, Moderated, NoOutside, Secret, TopicLocked}
 use Rattle.channel_state.specs.declared.change.Rank.{Rank}
 use Rattle.channel_state.specs.declared.change.Rank.TheVariants.{Operator, Voice}
-use Rattle.channel_state.specs.declared.change.Change.TheVariants.{RankSet, FlagSet, KeySet, LimitSet, BanSet, BanLifted}
+use Rattle.channel_state.specs.declared.change.Change.TheVariants.{RankSet, FlagSet, KeySet, LimitSet}
+use Rattle.channel_state.specs.declared.change.Change.TheVariants.{BanSet, BanLifted}
 use Rattle.channel_state.specs.State.{State, among, is_set, changed}
 use Rattle.roster.specs.declared.deed.Deed.{Deed}
 use Rattle.roster.specs.LookBack.{nick, found}
@@ -41,7 +43,8 @@ flag_of letter =
 
 abbrev pub flag_step : State → ModeChange → Option Flag → Step
 flag_step k a None = Refused (Unknown a.letter)
-flag_step k a (Some flag) = if agree a.on (is_set flag k.modes) then Nothing else Changes (FlagSet flag a.on) (shown_with a None)
+flag_step k a (Some flag) = if agree a.on (is_set flag k.modes) then Nothing
+    else Changes (FlagSet flag a.on) (shown_with a None)
 
 -- ---- ranks: `o` and `v`
 
@@ -71,7 +74,8 @@ has_ban k mask = list_any (λ m. is_same m mask) k.bans
 
 abbrev pub mask_step : State → ModeChange → List ℕ → Step
 mask_step k a mask =
-    if a.on then (if has_ban k mask || nat_le 60 (length k.bans) then Nothing else Changes (BanSet mask) (shown_with a (Some mask)))
+    if a.on then (if has_ban k mask || nat_le 60 (length k.bans) then Nothing
+    else Changes (BanSet mask) (shown_with a (Some mask)))
     else (if has_ban k mask then Changes (BanLifted mask) (shown_with a (Some mask)) else Nothing)
 
 abbrev pub ban_step : State → ModeChange → Option (List ℕ) → Step
@@ -105,7 +109,8 @@ has_limit (Some old) limit = old == limit
 
 abbrev pub limit_set : State → ModeChange → Option ℕ → Step
 limit_set k a None = Nothing
-limit_set k a (Some limit) = if has_limit k.modes.limit limit then Nothing else Changes (LimitSet (Some limit)) (shown_with a (Some (decimal limit)))
+limit_set k a (Some limit) = if has_limit k.modes.limit limit then Nothing
+    else Changes (LimitSet (Some limit)) (shown_with a (Some (decimal limit)))
 
 abbrev pub limit_given : State → ModeChange → Option (List ℕ) → Step
 limit_given k a None = Refused LacksParameter

@@ -2,7 +2,9 @@
 ghost use Rattle.std.specs.Prelude.{◌≡◌, ◌∷◌, ◌++◌, [], map, IfOk, OnOk};
 ghost use Rattle.numerics.specs.declared.numeric.Numeric.TheVariants.{BanList};
 ghost use Rattle.drafts.specs.Words.{IsSeen, grown, tells, tells_all};
-ghost use Rattle.mode_commands.specs.ChannelModes.{asks_bans, ban_numerics, channel_modes, does, does_changes, in_turn, refusal_numeric, shows_changes, takes_changes, takes_steps, tells_modes};
+ghost use Rattle.mode_commands.specs.ChannelModes.{asks_bans, ban_numerics, channel_modes, does};
+ghost use Rattle.mode_commands.specs.ChannelModes.{does_changes, in_turn, refusal_numeric, shows_changes};
+ghost use Rattle.mode_commands.specs.ChannelModes.{takes_changes, takes_steps, tells_modes};
 ghost use Rattle.mode_commands.specs.Steps.{IsMild, all_shown, shown_by, step, stepped, steps};
 
 use crate::letters::{ModeChange, asked_changes};
@@ -19,7 +21,8 @@ use std::alloc::{AllocError, Global};
 
 /// Tells the modes of a channel.
 fn tell_modes(draft: &mut Draft, session: SessionId, seen: &Seen) -> Result<(), AllocError>
-    ensures { OnOk result (draft.new ≡ grown draft.old (tells_modes draft.old.settings draft.old.facts session seen.now ∷ [])) }
+    ensures { OnOk result (draft.new
+        ≡ grown draft.old (tells_modes draft.old.settings draft.old.facts session seen.now ∷ [])) }
 {
     let is_member = seen.state().has(session);
     let modes = letters_set(draft.alloc(), seen.state().modes())?;
@@ -43,7 +46,8 @@ fn push_bans(
     channel: &Octets,
     bans: &[Octets],
 ) -> Result<(), AllocError>
-    ensures { OnOk result (numerics.new.items ≡ numerics.old.items ++ map (BanList channel.now) bans.now) }
+    ensures { OnOk result
+        (numerics.new.items ≡ numerics.old.items ++ map (BanList channel.now) bans.now) }
 {
     for ban in bans {
         let channel = channel.clone()?;
@@ -66,7 +70,8 @@ fn ban_numerics(alloc: Global, seen: &Seen) -> Result<Vec<Numeric>, AllocError>
 
 /// Tells the bans of a channel.
 fn tell_bans(draft: &mut Draft, session: SessionId, seen: &Seen) -> Result<(), AllocError>
-    ensures { OnOk result (draft.new ≡ grown draft.old (tells_all draft.old.settings draft.old.facts session (ban_numerics seen.now))) }
+    ensures { OnOk result (draft.new ≡ grown draft.old
+        (tells_all draft.old.settings draft.old.facts session (ban_numerics seen.now))) }
 {
     let numerics = ban_numerics(draft.alloc(), seen)?;
     tell_all(draft, session, &numerics)
@@ -81,7 +86,8 @@ fn refuse(
     channel: &Octets,
     refusal: Refusal,
 ) -> Result<(), AllocError>
-    ensures { OnOk result (draft.new ≡ grown draft.old (tells draft.old.settings draft.old.facts session (refusal_numeric channel.now refusal) ∷ [])) }
+    ensures { OnOk result (draft.new ≡ grown draft.old (tells draft.old.settings draft.old.facts
+        session (refusal_numeric channel.now refusal) ∷ [])) }
 {
     match refusal {
         Refusal::LacksParameter => {
@@ -107,8 +113,10 @@ fn take_step(
 ) -> Result<(), AllocError>
     requires seen { IsSeen draft.old.facts seen.old }
     requires mild { IsMild seen.old.state step }
-    ensures grown { OnOk result (draft.new ≡ grown draft.old (does draft.old.settings session seen.old.name draft.old.facts step)) }
-    ensures seen { OnOk result (seen.new ≡ record { name = seen.old.name; state = stepped step seen.old.state }) }
+    ensures grown { OnOk result (draft.new
+        ≡ grown draft.old (does draft.old.settings session seen.old.name draft.old.facts step)) }
+    ensures seen { OnOk result
+        (seen.new ≡ record { name = seen.old.name; state = stepped step seen.old.state }) }
     ensures known { OnOk result (IsSeen draft.new.facts seen.new) }
     ensures shown { OnOk result (shown.new.items ≡ shown.old.items ++ shown_by step) }
 {
@@ -133,10 +141,15 @@ fn take_change(
     shown: &mut Vec<ModeChange>,
 ) -> Result<(), AllocError>
     requires seen { IsSeen draft.old.facts seen.old }
-    ensures grown { OnOk result (draft.new ≡ grown draft.old (does draft.old.settings session seen.old.name draft.old.facts (step draft.old.base seen.old.state asked.now))) }
-    ensures seen { OnOk result (seen.new ≡ record { name = seen.old.name; state = stepped (step draft.old.base seen.old.state asked.now) seen.old.state }) }
+    ensures grown { OnOk result (draft.new ≡ grown draft.old (does draft.old.settings session
+        seen.old.name draft.old.facts (step draft.old.base seen.old.state asked.now))) }
+    ensures seen { OnOk result (seen.new ≡ record {
+      name = seen.old.name;
+      state = stepped (step draft.old.base seen.old.state asked.now) seen.old.state;
+    }) }
     ensures known { OnOk result (IsSeen draft.new.facts seen.new) }
-    ensures shown { OnOk result (shown.new.items ≡ shown.old.items ++ shown_by (step draft.old.base seen.old.state asked.now)) }
+    ensures shown { OnOk result (shown.new.items
+        ≡ shown.old.items ++ shown_by (step draft.old.base seen.old.state asked.now)) }
 {
     let step = step_of(draft.alloc(), draft.before(), seen.state(), asked)?;
     take_step(draft, session, seen, step, shown)
@@ -152,7 +165,8 @@ fn end_step(
 ) -> Result<(), AllocError>
     requires seen { IsSeen draft.old.facts seen.now }
     requires mild { IsMild seen.now.state step }
-    ensures grown { OnOk result (draft.new ≡ grown draft.old (does draft.old.settings session seen.now.name draft.old.facts step)) }
+    ensures grown { OnOk result (draft.new
+        ≡ grown draft.old (does draft.old.settings session seen.now.name draft.old.facts step)) }
     ensures shown { OnOk result (shown.new.items ≡ shown.old.items ++ shown_by step) }
 {
     match step {
@@ -166,7 +180,8 @@ fn end_step(
     }
 }
 
-/// Takes the last letter, after which nobody looks at the channel: so it is looked at where it is kept, if it is the only one.
+/// Takes the last letter, after which nobody looks at the channel: so it is looked at where it is kept, if it is the
+/// only one.
 #[tactic(auto, using(crate::proofs::Mild::step_mild))]
 fn take_last(
     draft: &mut Draft,
@@ -176,8 +191,10 @@ fn take_last(
     shown: &mut Vec<ModeChange>,
 ) -> Result<(), AllocError>
     requires seen { IsSeen draft.old.facts seen.now }
-    ensures grown { OnOk result (draft.new ≡ grown draft.old (does draft.old.settings session seen.now.name draft.old.facts (step draft.old.base seen.now.state asked.now))) }
-    ensures shown { OnOk result (shown.new.items ≡ shown.old.items ++ shown_by (step draft.old.base seen.now.state asked.now)) }
+    ensures grown { OnOk result (draft.new ≡ grown draft.old (does draft.old.settings session
+        seen.now.name draft.old.facts (step draft.old.base seen.now.state asked.now))) }
+    ensures shown { OnOk result (shown.new.items
+        ≡ shown.old.items ++ shown_by (step draft.old.base seen.now.state asked.now)) }
 {
     let step = step_of(draft.alloc(), draft.before(), seen.state(), asked)?;
     end_step(draft, session, seen, step, shown)
@@ -192,8 +209,10 @@ fn take_each(
     shown: &mut Vec<ModeChange>,
 ) -> Result<(), AllocError>
     requires seen { IsSeen draft.old.facts seen.old }
-    ensures grown { OnOk result (draft.new ≡ grown draft.old (in_turn draft.old.settings session seen.old.name draft.old.facts (steps draft.old.base seen.old.state changes.now))) }
-    ensures shown { OnOk result (shown.new.items ≡ shown.old.items ++ all_shown (steps draft.old.base seen.old.state changes.now)) }
+    ensures grown { OnOk result (draft.new ≡ grown draft.old (in_turn draft.old.settings session
+        seen.old.name draft.old.facts (steps draft.old.base seen.old.state changes.now))) }
+    ensures shown { OnOk result (shown.new.items
+        ≡ shown.old.items ++ all_shown (steps draft.old.base seen.old.state changes.now)) }
 {
     let Some((last, others)) = changes.split_last() else {
         return Ok(());
@@ -212,7 +231,8 @@ fn show_changes(
     members: Sessions,
     shown: &[ModeChange],
 ) -> Result<(), AllocError>
-    ensures { OnOk result (draft.new ≡ grown draft.old (shows_changes from.now channel.now members shown.now)) }
+    ensures { OnOk result
+        (draft.new ≡ grown draft.old (shows_changes from.now channel.now members shown.now)) }
 {
     if shown.is_empty() {
         return Ok(());
@@ -231,7 +251,9 @@ fn take_and_show(
     changes: &[ModeChange],
 ) -> Result<(), AllocError>
     requires seen { IsSeen draft.old.facts seen.old }
-    ensures { OnOk result (draft.new ≡ grown draft.old (takes_steps draft.old.settings draft.old.facts session from.now channel.now seen.old (steps draft.old.base seen.old.state changes.now))) }
+    ensures { OnOk result (draft.new ≡ grown draft.old
+        (takes_steps draft.old.settings draft.old.facts session from.now channel.now seen.old
+        (steps draft.old.base seen.old.state changes.now))) }
 {
     let members = Sessions::copied(draft.alloc(), seen.state().members())?;
     let mut shown = Vec::new(draft.alloc());
@@ -248,7 +270,8 @@ fn take_changes(
 ) -> Result<(), AllocError>
     requires seen { IsSeen draft.old.facts seen.old }
     requires first { draft.old.facts ≡ draft.old.base }
-    ensures { OnOk result (draft.new ≡ grown draft.old (takes_changes draft.old.settings draft.old.facts session seen.old changes.now)) }
+    ensures { OnOk result (draft.new ≡ grown draft.old
+        (takes_changes draft.old.settings draft.old.facts session seen.old changes.now)) }
 {
     let from = prefix_of(draft, session)?;
     let channel = seen.name().clone()?;
@@ -283,7 +306,8 @@ fn do_changes(
 ) -> Result<(), AllocError>
     requires seen { IsSeen draft.old.facts seen.old }
     requires first { draft.old.facts ≡ draft.old.base }
-    ensures { OnOk result (draft.new ≡ grown draft.old (does_changes draft.old.settings draft.old.facts session seen.old changes.now)) }
+    ensures { OnOk result (draft.new ≡ grown draft.old
+        (does_changes draft.old.settings draft.old.facts session seen.old changes.now)) }
 {
     if asks_bans(changes) {
         return tell_bans(draft, session, seen);
@@ -303,7 +327,8 @@ pub(crate) fn channel_modes(
 ) -> Result<(), AllocError>
     requires seen { IsSeen draft.old.facts seen.old }
     requires first { draft.old.facts ≡ draft.old.base }
-    ensures { OnOk result (draft.new ≡ grown draft.old (channel_modes draft.old.settings draft.old.facts session seen.old changes.now)) }
+    ensures { OnOk result (draft.new ≡ grown draft.old
+        (channel_modes draft.old.settings draft.old.facts session seen.old changes.now)) }
 {
     let Some((letters, params)) = changes.split_first() else {
         return tell_modes(draft, session, seen);

@@ -48,7 +48,8 @@ impl<'a> Reading<'a> {
     /// Reads a letter that takes the next parameter, where there is one.
     fn read_with_next(&mut self, asked: &mut Vec<ModeChange>, letter: u8) -> Result<(), AllocError>
         ensures past { OnOk result (self.new ≡ past_next self.old self.old.params) }
-        ensures told { OnOk result (asked.new.items ≡ asked.old.items ++ with_next self.old letter self.old.params) }
+        ensures told { OnOk result
+            (asked.new.items ≡ asked.old.items ++ with_next self.old letter self.old.params) }
     {
         let on = self.on;
         let Some((param, rest)) = self.params.split_first() else {

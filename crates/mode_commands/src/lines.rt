@@ -1,6 +1,7 @@
 //! The lines and texts that show modes (RFC 2812, sections 3.1.5, 3.2.3 and 5.1).
 ghost use Rattle.std.specs.Prelude.{◌≡◌, ◌∷◌, ◌++◌, [], IfOk, OnOk, None, option_to_list};
-ghost use Rattle.mode_commands.specs.Lines.{key_told, letter_where, letters_after, letters_set, limit_told, mode_line, params_of, params_set, sign, sign_after};
+ghost use Rattle.mode_commands.specs.Lines.{key_told, letter_where, letters_after, letters_set, limit_told};
+ghost use Rattle.mode_commands.specs.Lines.{mode_line, params_of, params_set, sign, sign_after};
 
 use crate::letters::ModeChange;
 use crate::steps::{agree, decimal};
@@ -27,7 +28,8 @@ fn sign_after(was: Option<bool>, on: bool) -> &'static [u8]
 
 /// Adds a letter, after one with a sign.
 fn push_letter(text: &mut Vec<u8>, was: Option<bool>, shown: &ModeChange) -> Result<(), AllocError>
-    ensures { OnOk result (text.new.items ≡ text.old.items ++ (sign_after was shown.now.on ++ shown.now.letter ∷ [])) }
+    ensures { OnOk result (text.new.items
+        ≡ text.old.items ++ (sign_after was shown.now.on ++ shown.now.letter ∷ [])) }
 {
     text.extend_from_slice(sign_after(was, shown.on))?;
     text.push(shown.letter)?;

@@ -4,7 +4,8 @@ ghost use Rattle.roster.specs.LookBack.{found};
 ghost use Rattle.roster.specs.Legal.{IsOpened};
 ghost use Rattle.drafts.specs.Words.{grown, seen};
 ghost use Rattle.command_params.specs.Params.{IsRead, IsReadByName};
-ghost use Rattle.mode_commands.specs.Modes.{EachModeIsNamed, NoModeIsMisnamed, mode_command, mode_of, modes, names_channel, of_channel, of_user, serves_mode};
+ghost use Rattle.mode_commands.specs.Modes.{EachModeIsNamed, NoModeIsMisnamed, mode_command, mode_of, modes};
+ghost use Rattle.mode_commands.specs.Modes.{names_channel, of_channel, of_user, serves_mode};
 
 use crate::channel_modes::channel_modes;
 use crate::user_modes::own_modes;
@@ -34,7 +35,8 @@ fn read_params(alloc: Global, params: &LineParameters<'_>) -> Result<ModeCommand
     Ok(ModeCommand { target, changes })
 }
 
-/// What is asked by a name, or the numeric that answers it by what it says alone. `None` where it is another command's.
+/// What is asked by a name, or the numeric that answers it by what it says alone. `None` where it is another
+/// command's.
 #[tactic(auto, unfolding(crate::specs::Modes::mode_of))]
 pub fn read_mode(
     alloc: Global,
@@ -73,7 +75,8 @@ fn of_channel(
     changes: &[Octets],
 ) -> Result<(), AllocError>
     requires { draft.old.facts ≡ draft.old.base }
-    ensures { OnOk result (draft.new ≡ grown draft.old (of_channel draft.old.settings draft.old.facts session target.now changes.now (seen draft.old.facts target.now))) }
+    ensures { OnOk result (draft.new ≡ grown draft.old (of_channel draft.old.settings
+        draft.old.facts session target.now changes.now (seen draft.old.facts target.now))) }
 {
     match draft.seen(target.as_slice())? {
         Some(mut seen) => channel_modes(draft, session, &mut seen, changes),
@@ -89,7 +92,8 @@ fn of_user(
 ) -> Result<(), AllocError>
     requires opened { IsOpened draft.old.facts session }
     requires first { draft.old.facts ≡ draft.old.base }
-    ensures { OnOk result (draft.new ≡ grown draft.old (of_user draft.old.settings draft.old.facts session target.now changes.now (found draft.old.facts target.now))) }
+    ensures { OnOk result (draft.new ≡ grown draft.old (of_user draft.old.settings draft.old.facts
+        session target.now changes.now (found draft.old.facts target.now))) }
 {
     match draft.before().find(target.as_slice()) {
         Some(user) if user == session => own_modes(draft, session, changes),
@@ -98,8 +102,8 @@ fn of_user(
     }
 }
 
-/// MODE: tells the modes of a channel or of the session itself where no changes are given, and changes them otherwise. The
-/// changes are the parameters after the target: signs and letters, and then the letters' parameters.
+/// MODE: tells the modes of a channel or of the session itself where no changes are given, and changes them
+/// otherwise. The changes are the parameters after the target: signs and letters, and then the letters' parameters.
 pub fn change_modes(
     draft: &mut Draft,
     session: SessionId,
@@ -108,7 +112,8 @@ pub fn change_modes(
 ) -> Result<(), AllocError>
     requires opened { IsOpened draft.old.facts session }
     requires first { draft.old.facts ≡ draft.old.base }
-    ensures { OnOk result (draft.new ≡ grown draft.old (modes draft.old.settings draft.old.facts session target.now changes.now)) }
+    ensures { OnOk result (draft.new ≡ grown draft.old
+        (modes draft.old.settings draft.old.facts session target.now changes.now)) }
 {
     if names_channel(target.as_slice()) {
         return of_channel(draft, session, target, changes);
@@ -124,7 +129,8 @@ pub fn serve_mode(
 ) -> Result<(), AllocError>
     requires opened { IsOpened draft.old.facts session }
     requires first { draft.old.facts ≡ draft.old.base }
-    ensures { OnOk result (draft.new ≡ grown draft.old (serves_mode draft.old.settings draft.old.facts session command.now)) }
+    ensures { OnOk result (draft.new
+        ≡ grown draft.old (serves_mode draft.old.settings draft.old.facts session command.now)) }
 {
     change_modes(draft, session, &command.target, command.changes.as_slice())
 }

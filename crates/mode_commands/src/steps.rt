@@ -1,7 +1,10 @@
 //! What a letter of MODE does to a channel (RFC 2812, section 3.2.3; RFC 2811, sections 4.1 to 4.3).
 ghost use Rattle.std.specs.Prelude.{◌≡◌, decimal, take, IfOk};
 ghost use Rattle.roster.specs.LookBack.{found};
-ghost use Rattle.mode_commands.specs.Steps.{agree, ban_step, flag_of, flag_step, has_ban, has_key, has_limit, has_rank, key_given, key_lifted, key_set, key_step, limit_given, limit_lifted, limit_set, limit_step, mask_step, member_step, rank_step, shown_with, step, user_step};
+ghost use Rattle.mode_commands.specs.Steps.{agree, ban_step, flag_of, flag_step, has_ban, has_key, has_limit};
+ghost use Rattle.mode_commands.specs.Steps.{has_rank, key_given, key_lifted, key_set, key_step, limit_given};
+ghost use Rattle.mode_commands.specs.Steps.{limit_lifted, limit_set, limit_step, mask_step, member_step};
+ghost use Rattle.mode_commands.specs.Steps.{rank_step, shown_with, step, user_step};
 
 use crate::letters::ModeChange;
 use crate::parameters::{completed, is_key, limit_of};
@@ -144,7 +147,8 @@ fn user_step(
     asked: &ModeChange,
     nick: &Octets,
 ) -> Result<Step, AllocError>
-    ensures { IfOk result (λ x. x ≡ user_step roster.now.facts state.now.state rank asked.now nick.now (found roster.now.facts nick.now)) }
+    ensures { IfOk result (λ x. x ≡ user_step roster.now.facts state.now.state rank asked.now
+        nick.now (found roster.now.facts nick.now)) }
 {
     match roster.find(nick.as_slice()) {
         Some(session) => {
@@ -167,7 +171,8 @@ fn rank_step(
     rank: Rank,
     asked: &ModeChange,
 ) -> Result<Step, AllocError>
-    ensures { IfOk result (λ x. x ≡ rank_step roster.now.facts state.now.state rank asked.now asked.now.param) }
+    ensures { IfOk result
+        (λ x. x ≡ rank_step roster.now.facts state.now.state rank asked.now asked.now.param) }
 {
     match &asked.param {
         Some(nick) => user_step(alloc, roster, state, rank, asked, nick),

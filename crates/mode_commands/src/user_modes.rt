@@ -7,7 +7,8 @@ ghost use Rattle.roster.specs.Legal.{IsOpened};
 ghost use Rattle.drafts.specs.Words.{grown, prefix, tells, title};
 ghost use Rattle.mode_commands.specs.Letters.{asked_changes, asks};
 ghost use Rattle.mode_commands.specs.Lines.{mode_line};
-ghost use Rattle.mode_commands.specs.UserModes.{hides, invisible_after, is_known, modes_text, own_modes, takes_own, tells_unknown};
+ghost use Rattle.mode_commands.specs.UserModes.{hides, invisible_after, is_known, modes_text};
+ghost use Rattle.mode_commands.specs.UserModes.{own_modes, takes_own, tells_unknown};
 
 use crate::letters::{ModeChange, asked_changes};
 use crate::lines::mode_line;
@@ -52,7 +53,8 @@ fn tell_unknown(
     session: SessionId,
     changes: &[ModeChange],
 ) -> Result<(), AllocError>
-    ensures grown { OnOk result (draft.new ≡ grown draft.old (tells_unknown draft.old.settings draft.old.facts session changes.now)) }
+    ensures grown { OnOk result (draft.new
+        ≡ grown draft.old (tells_unknown draft.old.settings draft.old.facts session changes.now)) }
     ensures facts { OnOk result (draft.new.facts ≡ draft.old.facts) }
 {
     if has_unknown(changes) {
@@ -63,7 +65,8 @@ fn tell_unknown(
 
 /// The line that shows a session its own mode.
 fn own_line(draft: &Draft, session: SessionId, is: bool) -> Result<Line, AllocError>
-    ensures { IfOk result (λ l. l ≡ mode_line (prefix draft.now.facts session) (title (nick draft.now.facts session)) (asks is 105 None)) }
+    ensures { IfOk result (λ l. l ≡ mode_line (prefix draft.now.facts session)
+        (title (nick draft.now.facts session)) (asks is 105 None)) }
 {
     let alloc = draft.alloc();
     let from = prefix_of(draft, session)?;
@@ -96,7 +99,8 @@ fn hide(draft: &mut Draft, session: SessionId, is: bool) -> Result<(), AllocErro
 fn take_own(draft: &mut Draft, session: SessionId, changes: &[ModeChange]) -> Result<(), AllocError>
     requires opened { IsOpened draft.old.facts session }
     requires first { draft.old.facts ≡ draft.old.base }
-    ensures { OnOk result (draft.new ≡ grown draft.old (takes_own draft.old.settings draft.old.facts session changes.now)) }
+    ensures { OnOk result (draft.new
+        ≡ grown draft.old (takes_own draft.old.settings draft.old.facts session changes.now)) }
 {
     let was = draft.before().is_invisible(session);
     tell_unknown(draft, session, changes)?;
@@ -106,7 +110,8 @@ fn take_own(draft: &mut Draft, session: SessionId, changes: &[ModeChange]) -> Re
 /// Tells a session its own modes.
 fn tell_own(draft: &mut Draft, session: SessionId) -> Result<(), AllocError>
     requires { draft.old.facts ≡ draft.old.base }
-    ensures { OnOk result (draft.new ≡ grown draft.old (tells draft.old.settings draft.old.facts session (UModeIs (modes_text (invisible draft.old.facts session))) ∷ [])) }
+    ensures { OnOk result (draft.new ≡ grown draft.old (tells draft.old.settings draft.old.facts
+        session (UModeIs (modes_text (invisible draft.old.facts session))) ∷ [])) }
 {
     let is = draft.before().is_invisible(session);
     let modes = Octets::copied(draft.alloc(), modes_text(is))?;
@@ -117,7 +122,8 @@ fn tell_own(draft: &mut Draft, session: SessionId) -> Result<(), AllocError>
 fn change_own(draft: &mut Draft, session: SessionId, letters: &[u8]) -> Result<(), AllocError>
     requires opened { IsOpened draft.old.facts session }
     requires first { draft.old.facts ≡ draft.old.base }
-    ensures { OnOk result (draft.new ≡ grown draft.old (takes_own draft.old.settings draft.old.facts session (asked_changes letters.now []))) }
+    ensures { OnOk result (draft.new ≡ grown draft.old
+        (takes_own draft.old.settings draft.old.facts session (asked_changes letters.now []))) }
 {
     let asked = asked_changes(draft.alloc(), letters, &[])?;
     take_own(draft, session, &asked)
@@ -131,7 +137,8 @@ pub(crate) fn own_modes(
 ) -> Result<(), AllocError>
     requires opened { IsOpened draft.old.facts session }
     requires first { draft.old.facts ≡ draft.old.base }
-    ensures { OnOk result (draft.new ≡ grown draft.old (own_modes draft.old.settings draft.old.facts session changes.now)) }
+    ensures { OnOk result (draft.new
+        ≡ grown draft.old (own_modes draft.old.settings draft.old.facts session changes.now)) }
 {
     match changes.split_first() {
         Some((letters, _)) => change_own(draft, session, letters.as_slice()),

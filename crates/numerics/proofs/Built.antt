@@ -1,5 +1,6 @@
 -- A line that was spelled word by word is spelled as its parts say.
-use Rattle.std.proofs.Common.{◌≡◌, ◌∙◌, ℕ, ◌-◌, List, [], ◌∷◌, ◌++◌, map, length, take, true, false, Option, Some, None, option_to_list, ap, sym, append_assoc, append-nil, arith, length-append}
+use Rattle.std.proofs.Common.{◌≡◌, ◌∙◌, ℕ, ◌-◌, List, [], ◌∷◌, ◌++◌, map, length, take, true, false, Option, Some}
+use Rattle.std.proofs.Common.{None, option_to_list, ap, sym, append_assoc, append-nil, arith, length-append}
 use Rattle.std.specs.List.{flat_map}
 use Rattle.std.proofs.Math.Seq.{take-length, drop-length, take-append_seam, drop-append_seam}
 use Rattle.std.proofs.lemmas.List.{length-take, map-append}
@@ -19,13 +20,17 @@ plain_params ps = rw (take-length ps) (rw (drop-length ps) (append-nil (after_sp
 text_params : (ps : List (List ℕ)) (t : List ℕ) → spelled_params (ps ++ t ∷ []) true ≡ after_spaces ps ++ 32 ∷ 58 ∷ t
 text_params ps t =
     let n : length (ps ++ t ∷ []) - 1 ≡ length ps = omega (arith, length-append ps (t ∷ [])) in
-    rw n (rw (take-append_seam ps (t ∷ [])) (rw (drop-append_seam ps (t ∷ [])) (ap (λ x. after_spaces ps ++ 32 ∷ 58 ∷ x) (append-nil t))))
+    rw n (rw (take-append_seam ps (t ∷ []))
+    (rw (drop-append_seam ps (t ∷ [])) (ap (λ x. after_spaces ps ++ 32 ∷ 58 ∷ x) (append-nil t))))
 
-pub built_words : (s c : List ℕ) (ps : List (List ℕ)) → (spelled_source (Some s) ++ c) ++ after_spaces ps ≡ spelled (line s c ps false)
+pub built_words : (s c : List ℕ) (ps : List (List ℕ)) → (spelled_source (Some s) ++ c) ++ after_spaces ps
+    ≡ spelled (line s c ps false)
 unfolding untagged
-built_words s c ps = append_assoc (spelled_source (Some s)) c (after_spaces ps) ∙ ap (λ x. spelled_source (Some s) ++ (c ++ x)) (sym (plain_params ps))
+built_words s c ps = append_assoc (spelled_source (Some s)) c (after_spaces ps) ∙ ap
+    (λ x. spelled_source (Some s) ++ (c ++ x)) (sym (plain_params ps))
 
-pub built_text : (s c : List ℕ) (ps : List (List ℕ)) (t : List ℕ) → ((spelled_source (Some s) ++ c) ++ after_spaces ps) ++ 32 ∷ 58 ∷ t ≡ spelled (line s c (ps ++ t ∷ []) true)
+pub built_text : (s c : List ℕ) (ps : List (List ℕ)) (t : List ℕ)
+    → ((spelled_source (Some s) ++ c) ++ after_spaces ps) ++ 32 ∷ 58 ∷ t ≡ spelled (line s c (ps ++ t ∷ []) true)
 unfolding untagged
 built_text s c ps t =
     append_assoc (spelled_source (Some s) ++ c) (after_spaces ps) (32 ∷ 58 ∷ t)
@@ -37,24 +42,29 @@ unfolding untagged
 built_nameless c w = ap (λ x. c ++ x) (sym (plain_params (w ∷ []) ∙ ap (λ x. 32 ∷ x) (append-nil w)))
 
 -- a numeric's line: whom it goes to, words, more words, and a text where there is one
-words_of_row : (front to : List ℕ) (ws more : List (List ℕ)) → ((front ++ 32 ∷ to) ++ after_spaces (map shown ws)) ++ after_spaces (map shown more) ≡ front ++ after_spaces (to ∷ map shown (ws ++ more))
+words_of_row : (front to : List ℕ) (ws more : List (List ℕ)) → ((front ++ 32 ∷ to) ++ after_spaces (map shown ws))
+    ++ after_spaces (map shown more) ≡ front ++ after_spaces (to ∷ map shown (ws ++ more))
 words_of_row front to ws more =
     let a = after_spaces (map shown ws) in let b = after_spaces (map shown more) in
     append_assoc (front ++ 32 ∷ to) a b
     ∙ append_assoc front (32 ∷ to) (a ++ b)
-    ∙ ap (λ x. front ++ 32 ∷ (to ++ x)) (sym (flat_map-append (λ w. 32 ∷ w) (map shown ws) (map shown more)) ∙ ap after_spaces (sym (map-append shown ws more)))
+    ∙ ap (λ x. front ++ 32 ∷ (to ++ x)) (sym (flat_map-append (λ w. 32 ∷ w) (map shown ws) (map shown more))
+    ∙ ap after_spaces (sym (map-append shown ws more)))
 
 pub built_row : (server to code : List ℕ) (ws more : List (List ℕ)) (text : Option (List ℕ)) →
-    ((((spelled_source (Some server) ++ code) ++ 32 ∷ to) ++ after_spaces (map shown ws)) ++ after_spaces (map shown more)) ++ flat_map (λ t. 32 ∷ 58 ∷ t) (option_to_list text)
+    ((((spelled_source (Some server) ++ code) ++ 32 ∷ to) ++ after_spaces (map shown ws))
+    ++ after_spaces (map shown more)) ++ flat_map (λ t. 32 ∷ 58 ∷ t) (option_to_list text)
     ≡ spelled (row_line server to (record { code = code; words = ws ++ more; text = text }))
 unfolding row_line
 built_row server to code ws more None =
     append-nil _ ∙ words_of_row (spelled_source (Some server) ++ code) to ws more
-    ∙ ap (λ x. (spelled_source (Some server) ++ code) ++ after_spaces (to ∷ x)) (sym (append-nil (map shown (ws ++ more))))
+    ∙ ap (λ x. (spelled_source (Some server) ++ code) ++ after_spaces (to ∷ x))
+    (sym (append-nil (map shown (ws ++ more))))
     ∙ built_words server code (to ∷ (map shown (ws ++ more) ++ []))
 built_row server to code ws more (Some t) =
     ap (λ x. x ++ 32 ∷ 58 ∷ (t ++ [])) (words_of_row (spelled_source (Some server) ++ code) to ws more)
-    ∙ ap (λ x. ((spelled_source (Some server) ++ code) ++ after_spaces (to ∷ map shown (ws ++ more))) ++ 32 ∷ 58 ∷ x) (append-nil t)
+    ∙ ap (λ x. ((spelled_source (Some server) ++ code) ++ after_spaces (to ∷ map shown (ws ++ more))) ++ 32 ∷ 58
+    ∷ x) (append-nil t)
     ∙ built_text server code (to ∷ map shown (ws ++ more)) t
 
 -- how many octets more a line may have, by what goes out of it

@@ -15,16 +15,24 @@ use Rattle.numerics.specs.CivilTime.{falls_in, civil_date, time_text}
 abbrev crlf : List ℕ
 crlf = 13 ∷ 10 ∷ []
 
-octets_of_a_join : octets (line (codes "al!a@h1") (codes "JOIN") (codes "#a" ∷ []) false) ≡ codes ":al!a@h1 JOIN #a" ++ crlf
+octets_of_a_join : octets (line (codes "al!a@h1") (codes "JOIN") (codes "#a" ∷ []) false)
+    ≡ codes ":al!a@h1 JOIN #a" ++ crlf
 unfolding octets untagged
 octets_of_a_join = refl
 
-octets_of_a_text : octets (line (codes "al!a@h1") (codes "PRIVMSG") (codes "#a" ∷ codes "hi there" ∷ []) true) ≡ codes ":al!a@h1 PRIVMSG #a :hi there" ++ crlf
+octets_of_a_text : octets (line (codes "al!a@h1") (codes "PRIVMSG") (codes "#a" ∷ codes "hi there" ∷ []) true)
+    ≡ codes ":al!a@h1 PRIVMSG #a :hi there" ++ crlf
 unfolding octets untagged
 octets_of_a_text = refl
 
 -- the client's tags aren't among them
-octets_without_a_source : octets (record { tags = codes "+k=b"; source = None; command = codes "ERROR"; params = codes "Client Quit" ∷ []; colon = true }) ≡ codes "ERROR :Client Quit" ++ crlf
+octets_without_a_source : octets (record {
+  tags = codes "+k=b";
+  source = None;
+  command = codes "ERROR";
+  params = codes "Client Quit" ∷ [];
+  colon = true;
+}) ≡ codes "ERROR :Client Quit" ++ crlf
 unfolding octets untagged
 octets_without_a_source = refl
 
@@ -43,13 +51,25 @@ greeting : shows (numeric.Welcome (codes "al!a@h1")) (codes ":s 001 al :Welcome 
 unfolding octets untagged numeric_line row_line
 greeting = (refl, refl, refl)
 
-support : shows (numeric.ISupport tokens) (codes ":s 005 al AWAYLEN=200 CASEMAPPING=rfc1459 CHANLIMIT=#&:20 CHANMODES=b,k,l,imnst CHANNELLEN=50 CHANTYPES=#& KICKLEN=200 MAXLIST=b:60 MODES=4 NICKLEN=30 PREFIX=(ov)@+ TOPICLEN=300 :are supported by this server")
+support : shows (numeric.ISupport tokens) (codes
+    ":s 005 al AWAYLEN=200 CASEMAPPING=rfc1459 CHANLIMIT=#&:20 CHANMODES=b,k,l,imnst CHANNELLEN=50 CHANTYPES=#& KICKLEN=200 MAXLIST=b:60 MODES=4 NICKLEN=30 PREFIX=(ov)@+ TOPICLEN=300 :are supported by this server")
 unfolding octets untagged numeric_line row_line
 support = refl
 
-queries : shows (numeric.WhoisUser (codes "bo") (codes "b") (codes "h2") (codes "Bo B")) (codes ":s 311 al bo b h2 * :Bo B")
-    × shows (numeric.ChannelModeIs (codes "#a") (codes "+klt") (codes "*" ∷ codes "5" ∷ [])) (codes ":s 324 al #a +klt * 5")
-    × shows (numeric.WhoReply (record { channel = codes "#a"; user = codes "b"; host = codes "h2"; nick = codes "bo"; away = true; prefix = Some Operator; real = codes "Bo B" })) (codes ":s 352 al #a b h2 s bo G@ :0 Bo B")
+queries : shows (numeric.WhoisUser (codes "bo") (codes "b") (codes "h2") (codes "Bo B"))
+    (codes ":s 311 al bo b h2 * :Bo B")
+    × shows (numeric.ChannelModeIs (codes "#a") (codes "+klt") (codes "*" ∷ codes "5" ∷ []))
+    (codes ":s 324 al #a +klt * 5")
+    × shows (numeric.WhoReply (record {
+      channel = codes "#a";
+      user = codes "b";
+      host = codes "h2";
+      nick = codes "bo";
+      away = true;
+      prefix = Some Operator;
+      real = codes "Bo B";
+    }))
+    (codes ":s 352 al #a b h2 s bo G@ :0 Bo B")
     × shows (numeric.NamReply false (codes "#a") (codes "@al" ∷ codes "bo" ∷ [])) (codes ":s 353 al = #a :@al bo")
     × shows numeric.MotdStart (codes ":s 375 al :- s Message of the day - ")
 unfolding octets untagged numeric_line row_line
@@ -68,7 +88,8 @@ errors = (refl, refl, refl, refl, refl, refl, refl)
 -- ---- lists cut into lines
 
 -- `bo cy` has five octets, and a line has three words at most
-lists : (cut 5 3 (codes "bo" ∷ codes "cy" ∷ codes "d" ∷ codes "e" ∷ codes "f" ∷ codes "g" ∷ []) ≡ (codes "bo" ∷ codes "cy" ∷ []) ∷ (codes "d" ∷ codes "e" ∷ codes "f" ∷ []) ∷ (codes "g" ∷ []) ∷ [])
+lists : (cut 5 3 (codes "bo" ∷ codes "cy" ∷ codes "d" ∷ codes "e" ∷ codes "f" ∷ codes "g" ∷ [])
+    ≡ (codes "bo" ∷ codes "cy" ∷ []) ∷ (codes "d" ∷ codes "e" ∷ codes "f" ∷ []) ∷ (codes "g" ∷ []) ∷ [])
     × (cut 4 3 (codes "bo" ∷ codes "cy" ∷ []) ≡ (codes "bo" ∷ []) ∷ (codes "cy" ∷ []) ∷ [])
     × (cut 5 3 [] ≡ [])
 unfolding cut

@@ -1,12 +1,18 @@
--- A moment as a date and a time of the day: RFC 3339, section 5.6, in UTC and to the millisecond, as IRCv3 server-time writes it. The calendar is Gregorian.
-use Rattle.std.specs.Prelude.{◌≡◌, ℕ, zero, suc, ◌+◌, ◌-◌, ◌/◌, ◌%◌, nat_lt, true, false, ℤ, pos, ◌<ℤ◌, ◌⊎◌, unsigned_abs, List, [], ◌∷◌, ◌++◌, codes}
+-- A moment as a date and a time of the day: RFC 3339, section 5.6, in UTC and to the millisecond, as IRCv3
+-- server-time writes it. The calendar is Gregorian.
+use Rattle.std.specs.Prelude.{◌≡◌, ℕ, zero, suc, ◌+◌, ◌-◌, ◌/◌, ◌%◌, nat_lt, true, false, ℤ, pos}
+use Rattle.std.specs.Prelude.{◌<ℤ◌, ◌⊎◌, unsigned_abs, List, [], ◌∷◌, ◌++◌, codes}
 use Rattle.jiff_core.specs.Calendar.{days_in_year, days_in_month}
 use Rattle.jiff_core.specs.declared.civil.date.Date.{Date}
 
--- in which of some periods in a row a day falls, and its place there from 0: the days are counted from the first day of the period `n`, a period `k` has `days k` days, and `more` periods may follow
+-- in which of some periods in a row a day falls, and its place there from 0: the days are counted from the first day
+-- of the period `n`, a period `k` has `days k` days, and `more` periods may follow
 unfoldable pub falls_in : (ℕ → ℕ) → ℕ → ℕ → ℕ → ℕ × ℕ
 falls_in days zero n day = (n, day)
-falls_in days (suc more) n day = elim (nat_lt day (days n)) [ true ↦ (n, day) | false ↦ falls_in days more (n + 1) (day - days n) ]
+falls_in days (suc more) n day = elim (nat_lt day (days n)) [
+  | true ↦ (n, day)
+  | false ↦ falls_in days more (n + 1) (day - days n)
+]
 
 pub record CivilDate : Type 0 where
   pub year : ℕ
@@ -49,7 +55,8 @@ date_text date = four date.year ++ (codes "-" ++ (two date.month ++ (codes "-" +
 
 -- hh:mm:ss.sss of the milliseconds of a day
 abbrev pub clock_text : ℕ → List ℕ
-clock_text t = two (t / 3_600_000) ++ (codes ":" ++ (two (t / 60_000 % 60) ++ (codes ":" ++ (two (t / 1_000 % 60) ++ (codes "." ++ three (t % 1_000))))))
+clock_text t = two (t / 3_600_000) ++ (codes ":"
+    ++ (two (t / 60_000 % 60) ++ (codes ":" ++ (two (t / 1_000 % 60) ++ (codes "." ++ three (t % 1_000))))))
 
 -- milliseconds since 1970, from there to the end of the year 9998
 abbrev pub LiesOutside : ℤ → Type 0

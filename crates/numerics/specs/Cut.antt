@@ -1,5 +1,7 @@
--- Words in lines, each filled before the next is begun: this project's own choice. A line has room for so many octets, with a space between each two words, and for so many words.
-use Rattle.std.specs.Prelude.{◌≡◌, ℕ, ◌<◌, ◌≤◌, Bool, true, false, ◌&&◌, nat_le, nat_lt, List, [], ◌∷◌, ◌++◌, length, slice_index_or}
+-- Words in lines, each filled before the next is begun: this project's own choice. A line has room for so many
+-- octets, with a space between each two words, and for so many words.
+use Rattle.std.specs.Prelude.{◌≡◌, ℕ, ◌<◌, ◌≤◌, Bool, true, false, ◌&&◌, nat_le, nat_lt}
+use Rattle.std.specs.Prelude.{List, [], ◌∷◌, ◌++◌, length, slice_index_or}
 use Rattle.numerics.specs.Numerics.{spaced}
 
 -- whether a line of these words has room for one more
@@ -9,14 +11,19 @@ takes room most line word = nat_lt (length line) most && nat_le (length (spaced 
 -- the lines of words that go on with this one
 abbrev pub filled : ℕ → ℕ → List (List ℕ) → List (List ℕ) → List (List (List ℕ))
 filled room most line [] = line ∷ []
-filled room most line (word ∷ words) = elim (takes room most line word) [ true ↦ filled room most (line ++ word ∷ []) words | false ↦ line ∷ filled room most (word ∷ []) words ]
+filled room most line (word ∷ words) = elim (takes room most line word) [
+  | true ↦ filled room most
+      (line ++ word ∷ []) words
+  | false ↦ line ∷ filled room most (word ∷ []) words
+]
 
 -- the lines of words: none where there is no word
 unfoldable pub cut : ℕ → ℕ → List (List ℕ) → List (List (List ℕ))
 cut room most [] = []
 cut room most (word ∷ words) = filled room most (word ∷ []) words
 
--- the most tokens of RPL_ISUPPORT in a line: with whom it tells and the text they are the 15 parameters that a line may have (RFC 2812, section 2.3.1)
+-- the most tokens of RPL_ISUPPORT in a line: with whom it tells and the text they are the 15 parameters that a line
+-- may have (RFC 2812, section 2.3.1)
 abbrev pub most_tokens : ℕ
 most_tokens = 13
 
@@ -30,4 +37,5 @@ pub record IsWithin (room most : ℕ) (line : List (List ℕ)) : Type 0 where
 abbrev pub AreFull : ℕ → ℕ → List (List (List ℕ)) → Type 0
 AreFull room most [] = Unit {0}
 AreFull room most (line ∷ []) = Unit {0}
-AreFull room most (line ∷ next ∷ lines) = (takes room most line (slice_index_or next 0 []) ≡ false) × AreFull room most (next ∷ lines)
+AreFull room most (line ∷ next ∷ lines) = (takes room most line (slice_index_or next 0 []) ≡ false)
+    × AreFull room most (next ∷ lines)

@@ -5,7 +5,13 @@ use Rattle.numerics.specs.declared.outgoing.Out.{Out}
 
 -- a line of these parts, without a client's tags
 abbrev pub line : List ℕ → List ℕ → List (List ℕ) → Bool → Out
-line source command params colon = record { tags = []; source = Some source; command = command; params = params; colon = colon }
+line source command params colon = record {
+  tags = [];
+  source = Some source;
+  command = command;
+  params = params;
+  colon = colon;
+}
 
 -- a line of a command and one word, which names nobody whom it comes from
 abbrev pub nameless : List ℕ → List ℕ → Out

@@ -1,4 +1,5 @@
--- What the server supports: RPL_ISUPPORT, as IRC servers tell it in tokens (in no RFC). The values are this project's own limits.
+-- What the server supports: RPL_ISUPPORT, as IRC servers tell it in tokens (in no RFC). The values are this
+-- project's own limits.
 use Rattle.std.specs.Prelude.{ℕ, List, [], ◌∷◌, codes}
 
 abbrev pub tokens : List (List ℕ)

@@ -58,7 +58,8 @@ fn date_of(day: u64) -> Date
 
 /// `YYYY-MM-DD`.
 fn date_octets(date: Date) -> [u8; 10]
-    ensures { result ≡ date_text (record { year = unsigned_abs date.year; month = date.month; day = date.day }) }
+    ensures { result
+        ≡ date_text (record { year = unsigned_abs date.year; month = date.month; day = date.day }) }
 {
     let year = u64::from(date.year.unsigned_abs());
     let month = u64::from(date.month);

@@ -23,7 +23,8 @@ pub fn split_names(
 ) -> Result<Vec<OctetsList>, AllocError>
     ensures lines { IfOk result (λ lines. lines.items ≡ cut room (length names.items) names.items) }
     ensures joined { IfOk result (λ lines. flat_map (λ line. line) lines.items ≡ names.items) }
-    ensures fit { All (λ name. length name ≤ room) names.items → IfOk result (λ lines. All (IsWithin room (length names.items)) lines.items) }
+    ensures fit { All (λ name. length name ≤ room) names.items
+        → IfOk result (λ lines. All (IsWithin room (length names.items)) lines.items) }
     ensures full { IfOk result (λ lines. AreFull room (length names.items) lines.items) }
 {
     let most = names.len();
@@ -61,7 +62,8 @@ impl Model for Line {
 
     ghost view = { λ a. a.words.items };
 
-    ghost invariant = { λ a. (a.octets ≡ length (spaced a.words.items)) × (0 < length a.words.items) };
+    ghost invariant = { λ a. (a.octets ≡ length (spaced a.words.items))
+        × (0 < length a.words.items) };
 }
 
 impl Line {

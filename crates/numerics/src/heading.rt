@@ -1,5 +1,6 @@
 //! Lines from a server to one user.
-ghost use Rattle.std.specs.Prelude.{◌≡◌, ◌∷◌, ◌++◌, [], map, codes, decimal, Option, Some, None, option_to_list, OnOk, IfOk};
+ghost use Rattle.std.specs.Prelude.{◌≡◌, ◌∷◌, ◌++◌, [], map, codes, decimal, Option};
+ghost use Rattle.std.specs.Prelude.{Some, None, option_to_list, OnOk, IfOk};
 ghost use Rattle.std.specs.List.{flat_map};
 ghost use Rattle.numerics.specs.Numerics.{flags, shown, spaced, row, row_line, says, lists};
 ghost use Rattle.numerics.specs.Trailing.{trailing};
@@ -49,7 +50,11 @@ impl<'a> Change<Out, RowParts<'a>> for OfRow {
     ghost use Rattle.numerics.specs.Numerics.{row_line};
     ghost use Rattle.numerics.specs.Trailing.{trailing};
 
-    ghost changed = { λ o r. row_line r.server.now r.to.now (record { code = r.code.now; words = map (λ w. w.now) r.words.now ++ r.more.now; text = trailing r.text }) };
+    ghost changed = { λ o r. row_line r.server.now r.to.now (record {
+      code = r.code.now;
+      words = map (λ w. w.now) r.words.now ++ r.more.now;
+      text = trailing r.text;
+    }) };
 }
 
 impl Heading<'_, '_> {
@@ -60,21 +65,24 @@ impl Heading<'_, '_> {
         words: &[&[u8]],
         text: &[u8],
     ) -> Result<Line, AllocError>
-        ensures { IfOk result (λ o. o ≡ row_line self.now.server.now self.now.to.now (says code.now (map (λ w. w.now) words.now) text.now)) }
+        ensures { IfOk result (λ o. o ≡ row_line self.now.server.now self.now.to.now
+            (says code.now (map (λ w. w.now) words.now) text.now)) }
     {
         self.line(code, words, &[], Trailing::Joined(&[text]))
     }
 
     /// A line of a text after a colon.
     pub(crate) fn saying(&self, code: &[u8], text: &[u8]) -> Result<Line, AllocError>
-        ensures { IfOk result (λ o. o ≡ row_line self.now.server.now self.now.to.now (says code.now [] text.now)) }
+        ensures { IfOk result
+            (λ o. o ≡ row_line self.now.server.now self.now.to.now (says code.now [] text.now)) }
     {
         self.telling(code, &[], text)
     }
 
     /// A line of a word, and a text after a colon.
     pub(crate) fn about(&self, code: &[u8], word: &Octets, text: &[u8]) -> Result<Line, AllocError>
-        ensures { IfOk result (λ o. o ≡ row_line self.now.server.now self.now.to.now (says code.now (word.now ∷ []) text.now)) }
+        ensures { IfOk result (λ o. o ≡ row_line self.now.server.now self.now.to.now
+            (says code.now (word.now ∷ []) text.now)) }
     {
         self.telling(code, &[word.as_slice()], text)
     }
@@ -86,7 +94,8 @@ impl Heading<'_, '_> {
         words: &[&[u8]],
         pieces: &[&[u8]],
     ) -> Result<Line, AllocError>
-        ensures { IfOk result (λ o. o ≡ row_line self.now.server.now self.now.to.now (says code.now (map (λ w. w.now) words.now) (flat_map (λ p. p.now) pieces.now))) }
+        ensures { IfOk result (λ o. o ≡ row_line self.now.server.now self.now.to.now
+            (says code.now (map (λ w. w.now) words.now) (flat_map (λ p. p.now) pieces.now))) }
     {
         self.line(code, words, &[], Trailing::Joined(pieces))
     }
@@ -98,7 +107,8 @@ impl Heading<'_, '_> {
         words: &[&[u8]],
         names: &[Octets],
     ) -> Result<Line, AllocError>
-        ensures { IfOk result (λ o. o ≡ row_line self.now.server.now self.now.to.now (says code.now (map (λ w. w.now) words.now) (spaced names.now))) }
+        ensures { IfOk result (λ o. o ≡ row_line self.now.server.now self.now.to.now
+            (says code.now (map (λ w. w.now) words.now) (spaced names.now))) }
     {
         self.line(code, words, &[], Trailing::Spaced(names))
     }
@@ -111,7 +121,8 @@ impl Heading<'_, '_> {
         second: &Octets,
         text: &[u8],
     ) -> Result<Line, AllocError>
-        ensures { IfOk result (λ o. o ≡ row_line self.now.server.now self.now.to.now (says code.now (first.now ∷ second.now ∷ []) text.now)) }
+        ensures { IfOk result (λ o. o ≡ row_line self.now.server.now self.now.to.now
+            (says code.now (first.now ∷ second.now ∷ []) text.now)) }
     {
         self.telling(code, &[first.as_slice(), second.as_slice()], text)
     }
@@ -123,28 +134,32 @@ impl Heading<'_, '_> {
         first: &Octets,
         second: &Octets,
     ) -> Result<Line, AllocError>
-        ensures { IfOk result (λ o. o ≡ row_line self.now.server.now self.now.to.now (lists code.now (first.now ∷ second.now ∷ []))) }
+        ensures { IfOk result (λ o. o ≡ row_line self.now.server.now self.now.to.now
+            (lists code.now (first.now ∷ second.now ∷ []))) }
     {
         self.listing(code, &[first.as_slice(), second.as_slice()])
     }
 
     /// A line of a text that ends with what is given.
     pub(crate) fn ending(&self, code: &[u8], text: &[u8], end: &Octets) -> Result<Line, AllocError>
-        ensures { IfOk result (λ o. o ≡ row_line self.now.server.now self.now.to.now (says code.now [] (text.now ++ end.now))) }
+        ensures { IfOk result (λ o. o ≡ row_line self.now.server.now self.now.to.now
+            (says code.now [] (text.now ++ end.now))) }
     {
         self.joining(code, &[], &[text, end.as_slice()])
     }
 
     /// The line that welcomes.
     pub(crate) fn welcome(&self, source: &Octets) -> Result<Line, AllocError>
-        ensures { IfOk result (λ o. o ≡ row_line self.now.server.now self.now.to.now (row self.now.server.now (Numeric.Welcome source.now))) }
+        ensures { IfOk result (λ o. o ≡ row_line self.now.server.now self.now.to.now
+            (row self.now.server.now (Numeric.Welcome source.now))) }
     {
         self.ending(b"001", b"Welcome to the Internet Relay Network ", source)
     }
 
     /// The line that tells what the server supports.
     pub(crate) fn isupport(&self, tokens: &OctetsList) -> Result<Line, AllocError>
-        ensures { IfOk result (λ o. o ≡ row_line self.now.server.now self.now.to.now (row self.now.server.now (Numeric.ISupport tokens.now))) }
+        ensures { IfOk result (λ o. o ≡ row_line self.now.server.now self.now.to.now
+            (row self.now.server.now (Numeric.ISupport tokens.now))) }
     {
         let text: &[u8] = b"are supported by this server";
         self.line(b"005", &[], tokens.as_slice(), Trailing::Joined(&[text]))
@@ -158,7 +173,8 @@ impl Heading<'_, '_> {
         host: &Octets,
         real: &Octets,
     ) -> Result<Line, AllocError>
-        ensures { IfOk result (λ o. o ≡ row_line self.now.server.now self.now.to.now (row self.now.server.now (Numeric.WhoisUser nick.now user.now host.now real.now))) }
+        ensures { IfOk result (λ o. o ≡ row_line self.now.server.now self.now.to.now
+            (row self.now.server.now (Numeric.WhoisUser nick.now user.now host.now real.now))) }
     {
         self.telling(
             b"311",
@@ -173,7 +189,8 @@ impl Heading<'_, '_> {
         nick: &Octets,
         channels: &OctetsList,
     ) -> Result<Line, AllocError>
-        ensures { IfOk result (λ o. o ≡ row_line self.now.server.now self.now.to.now (row self.now.server.now (Numeric.WhoisChannels nick.now channels.now))) }
+        ensures { IfOk result (λ o. o ≡ row_line self.now.server.now self.now.to.now
+            (row self.now.server.now (Numeric.WhoisChannels nick.now channels.now))) }
     {
         self.naming(b"319", &[nick.as_slice()], channels.as_slice())
     }
@@ -185,7 +202,8 @@ impl Heading<'_, '_> {
         modes: &Octets,
         params: &OctetsList,
     ) -> Result<Line, AllocError>
-        ensures { IfOk result (λ o. o ≡ row_line self.now.server.now self.now.to.now (row self.now.server.now (Numeric.ChannelModeIs channel.now modes.now params.now))) }
+        ensures { IfOk result (λ o. o ≡ row_line self.now.server.now self.now.to.now
+            (row self.now.server.now (Numeric.ChannelModeIs channel.now modes.now params.now))) }
     {
         self.line(
             b"324",
@@ -197,7 +215,8 @@ impl Heading<'_, '_> {
 
     /// The line that tells of a command that names nobody.
     pub(crate) fn no_recipient(&self, command: &Octets) -> Result<Line, AllocError>
-        ensures { IfOk result (λ o. o ≡ row_line self.now.server.now self.now.to.now (row self.now.server.now (Numeric.NoRecipient command.now))) }
+        ensures { IfOk result (λ o. o ≡ row_line self.now.server.now self.now.to.now
+            (row self.now.server.now (Numeric.NoRecipient command.now))) }
     {
         self.joining(
             b"411",
@@ -208,7 +227,8 @@ impl Heading<'_, '_> {
 
     /// The line that tells who is logged in.
     pub(crate) fn logged_in(&self, source: &Octets, account: &Octets) -> Result<Line, AllocError>
-        ensures { IfOk result (λ o. o ≡ row_line self.now.server.now self.now.to.now (row self.now.server.now (Numeric.LoggedIn source.now account.now))) }
+        ensures { IfOk result (λ o. o ≡ row_line self.now.server.now self.now.to.now
+            (row self.now.server.now (Numeric.LoggedIn source.now account.now))) }
     {
         self.joining(
             b"900",
@@ -224,7 +244,8 @@ impl Heading<'_, '_> {
         members: usize,
         topic: &Octets,
     ) -> Result<Line, AllocError>
-        ensures { IfOk result (λ o. o ≡ row_line self.now.server.now self.now.to.now (says (codes "322") (channel.now ∷ decimal members ∷ []) topic.now)) }
+        ensures { IfOk result (λ o. o ≡ row_line self.now.server.now self.now.to.now
+            (says (codes "322") (channel.now ∷ decimal members ∷ []) topic.now)) }
     {
         let members = decimal(self.alloc, members)?;
         self.telling(
@@ -236,7 +257,8 @@ impl Heading<'_, '_> {
 
     /// The line that tells of a letter that is no mode.
     pub(crate) fn unknown_mode(&self, letter: u8, channel: &Octets) -> Result<Line, AllocError>
-        ensures { IfOk result (λ o. o ≡ row_line self.now.server.now self.now.to.now (row self.now.server.now (Numeric.UnknownMode letter channel.now))) }
+        ensures { IfOk result (λ o. o ≡ row_line self.now.server.now self.now.to.now
+            (row self.now.server.now (Numeric.UnknownMode letter channel.now))) }
     {
         let letter = [letter];
         self.joining(
@@ -248,7 +270,8 @@ impl Heading<'_, '_> {
 
     /// The line that tells of the server and its version.
     pub(crate) fn your_host(&self, version: &Octets) -> Result<Line, AllocError>
-        ensures { IfOk result (λ o. o ≡ row_line self.now.server.now self.now.to.now (row self.now.server.now (Numeric.YourHost version.now))) }
+        ensures { IfOk result (λ o. o ≡ row_line self.now.server.now self.now.to.now
+            (row self.now.server.now (Numeric.YourHost version.now))) }
     {
         self.joining(
             b"002",
@@ -264,7 +287,8 @@ impl Heading<'_, '_> {
 
     /// The line that tells of the server, its version and its modes.
     pub(crate) fn my_info(&self, version: &Octets) -> Result<Line, AllocError>
-        ensures { IfOk result (λ o. o ≡ row_line self.now.server.now self.now.to.now (row self.now.server.now (Numeric.MyInfo version.now))) }
+        ensures { IfOk result (λ o. o ≡ row_line self.now.server.now self.now.to.now
+            (row self.now.server.now (Numeric.MyInfo version.now))) }
     {
         self.listing(
             b"004",
@@ -274,14 +298,16 @@ impl Heading<'_, '_> {
 
     /// The line that tells of the server that a user is on.
     pub(crate) fn whois_server(&self, nick: &Octets, info: &Octets) -> Result<Line, AllocError>
-        ensures { IfOk result (λ o. o ≡ row_line self.now.server.now self.now.to.now (row self.now.server.now (Numeric.WhoisServer nick.now info.now))) }
+        ensures { IfOk result (λ o. o ≡ row_line self.now.server.now self.now.to.now
+            (row self.now.server.now (Numeric.WhoisServer nick.now info.now))) }
     {
         self.telling(b"312", &[nick.as_slice(), self.server], info.as_slice())
     }
 
     /// The line that begins the message of the day.
     pub(crate) fn motd_start(&self) -> Result<Line, AllocError>
-        ensures { IfOk result (λ o. o ≡ row_line self.now.server.now self.now.to.now (row self.now.server.now Numeric.MotdStart)) }
+        ensures { IfOk result (λ o. o ≡ row_line self.now.server.now self.now.to.now
+            (row self.now.server.now Numeric.MotdStart)) }
     {
         self.joining(
             b"375",
@@ -297,7 +323,8 @@ impl Heading<'_, '_> {
         channel: &Octets,
         names: &OctetsList,
     ) -> Result<Line, AllocError>
-        ensures { IfOk result (λ o. o ≡ row_line self.now.server.now self.now.to.now (row self.now.server.now (Numeric.NamReply secret channel.now names.now))) }
+        ensures { IfOk result (λ o. o ≡ row_line self.now.server.now self.now.to.now
+            (row self.now.server.now (Numeric.NamReply secret channel.now names.now))) }
     {
         let sign: &[u8] = if secret { b"@" } else { b"=" };
         self.naming(b"353", &[sign, channel.as_slice()], names.as_slice())
@@ -305,7 +332,8 @@ impl Heading<'_, '_> {
 
     /// The line that tells of a member of a channel.
     pub(crate) fn who_reply(&self, who: &Who) -> Result<Line, AllocError>
-        ensures { IfOk result (λ o. o ≡ row_line self.now.server.now self.now.to.now (row self.now.server.now (Numeric.WhoReply who.now))) }
+        ensures { IfOk result (λ o. o ≡ row_line self.now.server.now self.now.to.now
+            (row self.now.server.now (Numeric.WhoReply who.now))) }
     {
         let flags = flags(self.alloc, who.away, who.prefix)?;
         self.joining(
@@ -324,7 +352,8 @@ impl Heading<'_, '_> {
 
     /// A line of words alone.
     pub(crate) fn listing(&self, code: &[u8], words: &[&[u8]]) -> Result<Line, AllocError>
-        ensures { IfOk result (λ o. o ≡ row_line self.now.server.now self.now.to.now (lists code.now (map (λ w. w.now) words.now))) }
+        ensures { IfOk result (λ o. o ≡ row_line self.now.server.now self.now.to.now
+            (lists code.now (map (λ w. w.now) words.now))) }
     {
         self.line(code, words, &[], Trailing::Nothing)
     }
@@ -338,7 +367,12 @@ impl Heading<'_, '_> {
         more: &[Octets],
         text: Trailing<'_>,
     ) -> Result<Line, AllocError>
-        ensures { IfOk result (λ o. o ≡ row_line self.now.server.now self.now.to.now (record { code = code.now; words = map (λ w. w.now) words.now ++ more.now; text = trailing text.entry })) }
+        ensures { IfOk result (λ o. o
+            ≡ row_line self.now.server.now self.now.to.now (record {
+              code = code.now;
+              words = map (λ w. w.now) words.now ++ more.now;
+              text = trailing text.entry;
+            })) }
     {
         let mut line = Vec::with_capacity(self.alloc, self.room_for(words, more, text))?;
         push_start(&mut line, self.server, code)?;
@@ -398,7 +432,8 @@ fn flags(alloc: Global, away: bool, prefix: Option<Prefix>) -> Result<Vec<u8>, A
 
 /// Adds words as middle parameters.
 fn push_shown(line: &mut Vec<u8>, words: &[&[u8]]) -> Result<(), AllocError>
-    ensures { OnOk result (line.new.items ≡ line.old.items ++ flat_map (λ w. 32 ∷ w) (map shown (map (λ w. w.now) words.now))) }
+    ensures { OnOk result (line.new.items ≡ line.old.items ++ flat_map
+        (λ w. 32 ∷ w) (map shown (map (λ w. w.now) words.now))) }
 {
     for word in words {
         push_word(line, shown(word))?;
@@ -408,7 +443,8 @@ fn push_shown(line: &mut Vec<u8>, words: &[&[u8]]) -> Result<(), AllocError>
 
 /// Adds words of a list as middle parameters.
 fn push_all_shown(line: &mut Vec<u8>, words: &[Octets]) -> Result<(), AllocError>
-    ensures { OnOk result (line.new.items ≡ line.old.items ++ flat_map (λ w. 32 ∷ w) (map shown words.now)) }
+    ensures { OnOk result
+        (line.new.items ≡ line.old.items ++ flat_map (λ w. 32 ∷ w) (map shown words.now)) }
 {
     for word in words {
         push_word(line, shown(word.as_slice()))?;
@@ -418,7 +454,8 @@ fn push_all_shown(line: &mut Vec<u8>, words: &[Octets]) -> Result<(), AllocError
 
 /// Adds what stands after a colon, where there is something.
 fn push_trailing(line: &mut Vec<u8>, text: Trailing<'_>) -> Result<(), AllocError>
-    ensures { OnOk result (line.new.items ≡ line.old.items ++ flat_map (λ t. 32 ∷ 58 ∷ t) (option_to_list (trailing text.entry))) }
+    ensures { OnOk result (line.new.items ≡ line.old.items ++ flat_map
+        (λ t. 32 ∷ 58 ∷ t) (option_to_list (trailing text.entry))) }
 {
     match text {
         Trailing::Nothing => Ok(()),

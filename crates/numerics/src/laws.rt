@@ -9,17 +9,21 @@ ghost use Rattle.numerics.specs.Outgoing.{room, spelled};
 /// whose names are within it.
 pub fn room_for_names()
     ensures room { (server to channel : List ℕ) (secret : Bool) →
-        room (numeric server to (NamReply secret channel [])) ≡ 510 - (length server + length to + length (shown channel) + 11) }
+        room (numeric server to (NamReply secret channel []))
+        ≡ 510 - (length server + length to + length (shown channel) + 11) }
     ensures whole { (server to channel : List ℕ) (secret : Bool) (names : List (List ℕ)) →
         let free = room (numeric server to (NamReply secret channel [])) in
-        0 < free → length (spaced names) ≤ free → length (spelled (numeric server to (NamReply secret channel names))) ≤ 510 }
+        0 < free → length (spaced names) ≤ free
+        → length (spelled (numeric server to (NamReply secret channel names))) ≤ 510 }
 {}
 
 /// The same of a [`WhoisChannels`](crate::Numeric::WhoisChannels) and the names of its channels.
 pub fn room_for_channels()
     ensures room { (server to nick : List ℕ) →
-        room (numeric server to (WhoisChannels nick [])) ≡ 510 - (length server + length to + length (shown nick) + 9) }
+        room (numeric server to (WhoisChannels nick []))
+        ≡ 510 - (length server + length to + length (shown nick) + 9) }
     ensures whole { (server to nick : List ℕ) (channels : List (List ℕ)) →
         let free = room (numeric server to (WhoisChannels nick [])) in
-        0 < free → length (spaced channels) ≤ free → length (spelled (numeric server to (WhoisChannels nick channels))) ≤ 510 }
+        0 < free → length (spaced channels) ≤ free
+        → length (spelled (numeric server to (WhoisChannels nick channels))) ≤ 510 }
 {}

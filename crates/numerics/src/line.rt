@@ -12,7 +12,8 @@ use std::marker::Model;
 /// Octets of an outgoing line without its tags and its CR LF (RFC 2812, section 2.3).
 const MAX_LINE: usize = 510;
 
-/// An outgoing line before its server's tags, as it goes out: its octets, and the client's tags. A clause sees its parts.
+/// An outgoing line before its server's tags, as it goes out: its octets, and the client's tags. A clause sees its
+/// parts.
 #[derive(Drop)]
 pub struct Line {
     tags: Octets,
@@ -58,7 +59,8 @@ impl<'a> Change<Out, Parts<'a>> for OfText {
     ghost use Rattle.std.specs.Prelude.{map, true, ◌++◌, ◌∷◌, []};
     ghost use Rattle.numerics.specs.Outgoing.{line};
 
-    ghost changed = { λ o p. line p.source.now p.command.now (map (λ w. w.now) p.words.now ++ p.text.now ∷ []) true };
+    ghost changed = { λ o p. line p.source.now p.command.now
+        (map (λ w. w.now) p.words.now ++ p.text.now ∷ []) true };
 }
 
 /// A source, a command and parameters that are borrowed.
@@ -133,7 +135,8 @@ impl Line {
         command: &[u8],
         words: &[&[u8]],
     ) -> Result<Line, AllocError>
-        ensures { IfOk result (λ l. l ≡ line source.now command.now (map (λ w. w.now) words.now) false) }
+        ensures { IfOk result
+            (λ l. l ≡ line source.now command.now (map (λ w. w.now) words.now) false) }
     {
         let mut text = text_for(alloc, source, command, words, b"")?;
         push_start(&mut text, source, command)?;
@@ -181,7 +184,8 @@ impl Line {
         words: &[&[u8]],
         text: &[u8],
     ) -> Result<Line, AllocError>
-        ensures { IfOk result (λ l. l ≡ line source.now command.now (map (λ w. w.now) words.now ++ text.now ∷ []) true) }
+        ensures { IfOk result (λ l. l
+            ≡ line source.now command.now (map (λ w. w.now) words.now ++ text.now ∷ []) true) }
     {
         let mut line = text_for(alloc, source, command, words, text)?;
         push_start(&mut line, source, command)?;

@@ -182,7 +182,8 @@ pub enum Numeric {
     UModeUnknownFlag,
     /// 502. Another user's modes.
     UsersDontMatch,
-    /// 900. Who is logged in, as `nick!user@host` with `*` for what isn't known, and to which account: IRCv3 SASL, as all below.
+    /// 900. Who is logged in, as `nick!user@host` with `*` for what isn't known, and to which account: IRCv3 SASL,
+    /// as all below.
     LoggedIn {
         source: Octets,
         account: Octets,

@@ -21,7 +21,8 @@ pub(crate) fn push_start(
     source: &[u8],
     command: &[u8],
 ) -> Result<(), AllocError>
-    ensures { OnOk result (text.new.items ≡ text.old.items ++ (spelled_source (Some source.now) ++ command.now)) }
+    ensures { OnOk result
+        (text.new.items ≡ text.old.items ++ (spelled_source (Some source.now) ++ command.now)) }
 {
     text.push(b':')?;
     text.extend_from_slice(source)?;
@@ -39,7 +40,8 @@ pub(crate) fn push_word(text: &mut Vec<u8>, word: &[u8]) -> Result<(), AllocErro
 
 /// Adds words, in order.
 pub(crate) fn push_words(text: &mut Vec<u8>, words: &[&[u8]]) -> Result<(), AllocError>
-    ensures { OnOk result (text.new.items ≡ text.old.items ++ flat_map (λ w. 32 ∷ w) (map (λ w. w.now) words.now)) }
+    ensures { OnOk result
+        (text.new.items ≡ text.old.items ++ flat_map (λ w. 32 ∷ w) (map (λ w. w.now) words.now)) }
 {
     for word in words {
         push_word(text, word)?;

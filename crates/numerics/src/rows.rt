@@ -18,7 +18,8 @@ impl Numeric {
 
 /// The table: the line of each numeric, one after the other.
 fn line_of(numeric: &Numeric, from: &Heading) -> Result<Line, AllocError>
-    ensures { IfOk result (λ o. o ≡ row_line from.now.server.now from.now.to.now (row from.now.server.now numeric.now)) }
+    ensures { IfOk result (λ o. o
+        ≡ row_line from.now.server.now from.now.to.now (row from.now.server.now numeric.now)) }
 {
     match numeric {
         Numeric::Welcome(source) => from.welcome(source),

@@ -28,7 +28,8 @@ pub(crate) fn joined(alloc: Global, pieces: &[&[u8]]) -> Result<Vec<u8>, AllocEr
 
 /// Adds words, each after a space.
 fn push_each_spaced(text: &mut Vec<u8>, words: &[Octets]) -> Result<(), AllocError>
-    ensures { OnOk result (text.new.items ≡ text.old.items ++ flat_map (λ word. 32 ∷ word) words.now) }
+    ensures { OnOk result
+        (text.new.items ≡ text.old.items ++ flat_map (λ word. 32 ∷ word) words.now) }
 {
     for word in words {
         text.push(b' ')?;

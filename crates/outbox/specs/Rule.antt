@@ -15,14 +15,18 @@ abbrev pub Chained : List Item → List Item → Type 0
 Chained before [] = Unit {0}
 Chained before (x ∷ xs) = Continues before x × Chained (before ++ x ∷ []) xs
 
--- a pass that may send is the sender's, and knows what was sent; a pass that may take is the receiver's, and knows what was taken
+-- a pass that may send is the sender's, and knows what was sent; a pass that may take is the receiver's, and knows
+-- what was taken
 abbrev pub Fits : ℕ → ℕ → List Item → List Item → ℕ → Log → Type 0
-Fits sender receiver sent got pass v = (v.sends ≡ true → (pass ≡ sender) × (v.sent ≡ sent)) × (v.takes ≡ true → (pass ≡ receiver) × (v.got ≡ got))
+Fits sender receiver sent got pass v = (v.sends ≡ true → (pass ≡ sender) × (v.sent ≡ sent))
+    × (v.takes ≡ true → (pass ≡ receiver) × (v.got ≡ got))
 
--- what the receiver took, followed by what the channel holds, is what the sender sent. That was owed, item by item: with each item it is
--- what the item's history owes the item's session, all items are of one session, and their histories grow
+-- what the receiver took, followed by what the channel holds, is what the sender sent. That was owed, item by item:
+-- with each item it is what the item's history owes the item's session, all items are of one session, and their
+-- histories grow
 abbrev pub Delivers : List Item → List Log → Type 0
-Delivers held passes = (sender : ℕ) × (receiver : ℕ) × (sent : List Item) × (got : List Item) × Chained [] sent × (sent ≡ got ++ held)
+Delivers held passes = (sender : ℕ) × (receiver : ℕ) × (sent : List Item) × (got : List Item) × Chained [] sent
+    × (sent ≡ got ++ held)
     × ((pass : ℕ) (v : Log) → get_elem? passes pass ≡ some v → Fits sender receiver sent got pass v)
 
 -- the channel is made with a pass for each end: one knows what was sent, the other what was taken
@@ -40,7 +44,8 @@ Puts v x w = w ≡ log v.sends v.takes (v.sent ++ x ∷ []) v.got
 abbrev pub EndsSent : Log → List Item → Type 0
 EndsSent v held = (got : List Item) × (v.sent ≡ got ++ held)
 
--- a take finds what the channel holds then: what was sent is what was taken and this, and each may come after those before it
+-- a take finds what the channel holds then: what was sent is what was taken and this, and each may come after those
+-- before it
 abbrev pub AreSent : Log → List Item → Type 0
 AreSent v held = (sent : List Item) × Chained [] sent × (sent ≡ v.got ++ held)
 

@@ -46,7 +46,11 @@ impl<R: Wait + Drop> Model for Sender<R> {
 
     ghost Value = { Puttings };
 
-    ghost view = { λ a. record { sent = (known a.pass).sent; cap = ruled_capacity (sends_on a.sender); channel = channel_of a.pass } };
+    ghost view = { λ a. record {
+      sent = (known a.pass).sent;
+      cap = ruled_capacity (sends_on a.sender);
+      channel = channel_of a.pass;
+    } };
 
     ghost invariant = { λ a. IsSeatAt (sends_on a.sender) a.pass × ((known a.pass).sends ≡ true) };
 }
@@ -70,7 +74,8 @@ impl Model for Writer {
 
     ghost view = { λ a. record { taken = (known a.pass).got; channel = channel_of a.pass } };
 
-    ghost invariant = { λ a. IsSeatAt (receives_on a.receiver) a.pass × ((known a.pass).takes ≡ true) };
+    ghost invariant = { λ a. IsSeatAt (receives_on a.receiver) a.pass
+        × ((known a.pass).takes ≡ true) };
 }
 
 /// A new outbox for at most `cap` items, by its two ends.
@@ -174,15 +179,19 @@ impl<R: Wait + Drop> Outbox for Sender<R> {
 }
 
 impl Writer {
-    /// Takes the item that waits longest, and waits for one where there is none. It is of the newest record of the history in which it
-    /// was put. There is none, and none comes, only where at a moment of the call all that was sent was taken.
+    /// Takes the item that waits longest, and waits for one where there is none. It is of the newest record of the
+    /// history in which it was put. There is none, and none comes, only where at a moment of the call all that was
+    /// sent was taken.
     pub fn take<R: Wait>(&mut self, rt: &R) -> Result<Item, Closed>
         ensures took { IfOk result (λ x. self.new ≡ with_item self.old x) }
         ensures owed { IfOk result (λ x. deliveries self.new.taken ≡ owed_by_front x) }
         ensures newest { IfOk result (λ x. number_of x.delivery ≡ length (front x)) }
-        ensures whose { IfOk result (λ x. All (λ (y : Delivered). y.session ≡ x.session) self.old.taken) }
-        ensures settings { IfOk result (λ x. All (λ (y : Delivered). y.settings ≡ x.settings) self.old.taken) }
-        ensures grows { IfOk result (λ x. All (λ (y : Delivered). Grows (front y) (front x)) self.old.taken) }
+        ensures whose { IfOk result
+            (λ x. All (λ (y : Delivered). y.session ≡ x.session) self.old.taken) }
+        ensures settings { IfOk result
+            (λ x. All (λ (y : Delivered). y.settings ≡ x.settings) self.old.taken) }
+        ensures grows { IfOk result
+            (λ x. All (λ (y : Delivered). Grows (front y) (front x)) self.old.taken) }
         ensures none { OnErr result (self.new ≡ self.old) }
         ensures all_taken { OnErr result (IsAllTaken self.old.taken) }
     {
@@ -192,15 +201,18 @@ impl Writer {
         }
     }
 
-    /// Takes the item that waits longest. It waits for none, and takes no memory. It is of the newest record of the history in which it
-    /// was put. There is none only where at a moment of the call all that was sent was taken.
+    /// Takes the item that waits longest. It waits for none, and takes no memory. It is of the newest record of the
+    /// history in which it was put. There is none only where at a moment of the call all that was sent was taken.
     pub fn take_now<R: Wait>(&mut self, rt: &R) -> Result<Item, Empty>
         ensures took { IfOk result (λ x. self.new ≡ with_item self.old x) }
         ensures owed { IfOk result (λ x. deliveries self.new.taken ≡ owed_by_front x) }
         ensures newest { IfOk result (λ x. number_of x.delivery ≡ length (front x)) }
-        ensures whose { IfOk result (λ x. All (λ (y : Delivered). y.session ≡ x.session) self.old.taken) }
-        ensures settings { IfOk result (λ x. All (λ (y : Delivered). y.settings ≡ x.settings) self.old.taken) }
-        ensures grows { IfOk result (λ x. All (λ (y : Delivered). Grows (front y) (front x)) self.old.taken) }
+        ensures whose { IfOk result
+            (λ x. All (λ (y : Delivered). y.session ≡ x.session) self.old.taken) }
+        ensures settings { IfOk result
+            (λ x. All (λ (y : Delivered). y.settings ≡ x.settings) self.old.taken) }
+        ensures grows { IfOk result
+            (λ x. All (λ (y : Delivered). Grows (front y) (front x)) self.old.taken) }
         ensures none { OnErr result (self.new ≡ self.old) }
         ensures all_taken { OnErr result (IsAllTaken self.old.taken) }
     {
@@ -220,7 +232,8 @@ impl Writer {
         &self.gauge
     }
 
-    /// Rests until the bell is rung, or for so long at most. There may be no item after it, so take again and rest again.
+    /// Rests until the bell is rung, or for so long at most. There may be no item after it, so take again and rest
+    /// again.
     pub fn rest<R: Wait>(&mut self, rt: &R, most: Duration)
         ensures { self.new ≡ self.old }
     {

@@ -15,8 +15,8 @@ struct Octets {
     gone: AtomicU64,
 }
 
-/// How many octets wait for a session: what was put into its outbox and hasn't gone out on its stream. Anybody may look. No clause
-/// says what one sees: others put and write meanwhile.
+/// How many octets wait for a session: what was put into its outbox and hasn't gone out on its stream. Anybody may
+/// look. No clause says what one sees: others put and write meanwhile.
 #[derive(Drop)]
 pub struct Gauge {
     octets: Arc<Octets>,

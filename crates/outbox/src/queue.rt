@@ -64,5 +64,6 @@ pub trait Outbox: Drop {
     /// Ends the outbox, and answers how many items are left in it. It takes no memory.
     fn close(self, taker: Self::Taker) -> u64
         requires { name self ≡ taker_of taker }
-        ensures { (left : List Item) × (sent self ≡ taken self taker ++ left) × (result ≡ length left) };
+        ensures { (left : List Item) × (sent self ≡ taken self taker ++ left)
+            × (result ≡ length left) };
 }

@@ -9,7 +9,8 @@ use std::alloc::{AllocError, Global};
 use std::collections::LinkedList;
 use std::marker::Model;
 
-/// An outbox of one thread, for a bounded number of items. A clause sees the items that wait, how many may, and all that were ever taken.
+/// An outbox of one thread, for a bounded number of items. A clause sees the items that wait, how many may, and all
+/// that were ever taken.
 #[derive(Drop)]
 pub struct Ring {
     items: HeapCircularBuffer<Item>,
@@ -21,7 +22,11 @@ impl Model for Ring {
 
     ghost Value = { Waiting };
 
-    ghost view = { λ a. record { queue = a.items.items; cap = a.items.capacity; taken = a.taken.value } };
+    ghost view = { λ a. record {
+      queue = a.items.items;
+      cap = a.items.capacity;
+      taken = a.taken.value;
+    } };
 }
 
 impl Ring {

@@ -1,5 +1,6 @@
 -- One delivery more of a history whose lines are all too long.
-use Rattle.std.proofs.Common.{◌≡◌, ◌∙◌, ℕ, pos, ◌+◌, Bool, false, List, [], ◌∷◌, ◌++◌, length, ap, sym, refl, subst, arith, cond, drop}
+use Rattle.std.proofs.Common.{◌≡◌, ◌∙◌, ℕ, pos, ◌+◌, Bool, false, List, [], ◌∷◌, ◌++◌}
+use Rattle.std.proofs.Common.{length, ap, sym, refl, subst, arith, cond, drop}
 use Rattle.std.specs.Prelude.{All, codes, nat_le, None}
 use Rattle.std.specs.List.{flat_map}
 use Rattle.std.proofs.lemmas.List.{map-append}
@@ -29,7 +30,8 @@ use Rattle.outbox_trials.specs.Fed.{says, next, server_name, line, IsFed, IsRead
 
 -- the line, as a server of this name spells it
 abbrev spelled_by : List ℕ → List ℕ
-spelled_by server = flat_map (spelled_line none_on (pos 0)) (tagged_as None (numeric server (codes "*") InputTooLong) ∷ [])
+spelled_by server = flat_map (spelled_line none_on (pos 0))
+    (tagged_as None (numeric server (codes "*") InputTooLong) ∷ [])
 
 spelled : spelled_by server_name ≡ line
 unfolding spelled_line numeric row_line octets untagged
@@ -39,20 +41,24 @@ text_line : (g : Settings) (n : ℕ) → g.server ≡ server_name → text g (de
 unfolding asked_of
 text_line g n server = ap spelled_by server ∙ spelled
 
-told_line : (sent : List Item) (g : Settings) (h : List Rec) (n : ℕ) → IsFed sent g h n → told g h says (pos 0) 1 ≡ line
+told_line : (sent : List Item) (g : Settings) (h : List Rec) (n : ℕ) → IsFed sent g h n
+    → told g h says (pos 0) 1 ≡ line
 told_line sent g h n fed =
-    ap (λ (q : ℕ × List Deed). cond (nat_le 1 q.0) (text g q.1 says (pos 0) (length h + 1) 1) []) (λ i. (fed.sessions i, fed.facts i)) ∙ text_line g (length h + 1) fed.server
+    ap (λ (q : ℕ × List Deed). cond (nat_le 1 q.0) (text g q.1 says (pos 0) (length h + 1) 1) [])
+    (λ i. (fed.sessions i, fed.facts i)) ∙ text_line g (length h + 1) fed.server
 
 same_facts : (g : Settings) (h : List Rec) → facts g (next h) ≡ facts g h
 unfolding asked_of
 same_facts g h = refl
 
-owed_next : (sent : List Item) (g : Settings) (h : List Rec) (n : ℕ) → IsFed sent g h n → owed g (next h) 1 ≡ owed g h 1 ++ Lines (n + 2) line ∷ []
+owed_next : (sent : List Item) (g : Settings) (h : List Rec) (n : ℕ) → IsFed sent g h n
+    → owed g (next h) 1 ≡ owed g h 1 ++ Lines (n + 2) line ∷ []
 unfolding is_quit
 owed_next sent g h n fed =
     let text : told g h says (pos 0) 1 ≡ line = told_line sent g h n fed in
     let number : length h + 1 ≡ n + 2 = (let e = fed.number in omega arith) in
-    ap (λ (q : Bool × ℕ × List ℕ). owed g h 1 ++ cond q.0 [] (item q.1 q.2)) (λ i. (fed.still_here i, number i, text i))
+    ap (λ (q : Bool × ℕ × List ℕ). owed g h 1 ++ cond q.0 [] (item q.1 q.2))
+    (λ i. (fed.still_here i, number i, text i))
 
 still_open : (h : List Rec) → shut h 1 ≡ false → shut (next h) 1 ≡ false
 unfolding is_quit
@@ -60,13 +66,17 @@ still_open h here = here
 
 -- the next delivery may be put after those that were, and then one more was sent
 feeds : (sent : List Item) (g : Settings) (h : List Rec) (n : ℕ) (x : Item) → IsFed sent g h n
-    → x.delivery ≡ Lines (n + 2) line → x.session ≡ 1 → x.settings ≡ g → front x ≡ next h → Continues sent x × IsFed (sent ++ x ∷ []) g (next h) (n + 1)
+    → x.delivery ≡ Lines (n + 2) line → x.session ≡ 1 → x.settings ≡ g → front x ≡ next h → Continues sent x
+    × IsFed (sent ++ x ∷ []) g (next h) (n + 1)
 feeds sent g h n x fed delivery session settings here =
     let all : deliveries (sent ++ x ∷ []) ≡ owed g (next h) 1 =
-    map-append (λ (y : Item). y.delivery) sent (x ∷ []) ∙ ap (λ (q : List Delivery × Delivery). q.0 ++ q.1 ∷ []) (λ i. (fed.owed i, delivery i)) ∙ sym (owed_next sent g h n fed) in
-    let mine : owed g (next h) 1 ≡ owed_by_front x = ap (λ (q : Settings × List Rec × ℕ). owed q.0 q.1 q.2) (λ i. (sym settings i, sym here i, sym session i)) in
+    map-append (λ (y : Item). y.delivery) sent (x ∷ []) ∙ ap (λ (q : List Delivery × Delivery). q.0 ++ q.1 ∷ [])
+    (λ i. (fed.owed i, delivery i)) ∙ sym (owed_next sent g h n fed) in
+    let mine : owed g (next h) 1 ≡ owed_by_front x = ap (λ (q : Settings × List Rec × ℕ). owed q.0 q.1 q.2)
+    (λ i. (sym settings i, sym here i, sym session i)) in
     let grown : All (λ (y : Item). Grows (front y) (next h)) sent =
-    All-weaker (λ (y : Item). Grows (front y) h) (λ (y : Item). Grows (front y) (next h)) (λ y p. grows_on (front y) h (next h) p (grows_by_one h (fresh_record h (pos 0) says))) sent fed.grows in
+    All-weaker (λ (y : Item). Grows (front y) h) (λ (y : Item). Grows (front y) (next h))
+    (λ y p. grows_on (front y) h (next h) p (grows_by_one h (fresh_record h (pos 0) says))) sent fed.grows in
     let longer : length (next h) ≡ n + 1 + 1 = (let e = fed.number in omega arith) in
     let second : n + 2 ≡ length (next h) = omega arith in (
       record {
@@ -85,13 +95,21 @@ feeds sent g h n x fed delivery session settings here =
         owed = all;
         whose = All-push (λ (y : Item). y.session ≡ 1) sent x fed.whose session;
         settings = All-push (λ (y : Item). y.settings ≡ g) sent x fed.settings settings;
-        grows = All-push (λ (y : Item). Grows (front y) (next h)) sent x grown (subst (λ (k : List Rec). Grows k (next h)) (sym here) (grows_to_itself (next h)));
+        grows = All-push (λ (y : Item). Grows (front y) (next h)) sent x grown
+            (subst (λ (k : List Rec). Grows k (next h)) (sym here) (grows_to_itself (next h)));
       },
     )
 
 -- the delivery that comes next may be put, and with one record more the one after it comes next
 pub ready_again : (sent : List Item) (g : Settings) (h : List Rec) (n : ℕ) (x : Item) → IsReady sent g h n
-    → x.delivery ≡ Lines (n + 2) line → x.session ≡ 1 → x.settings ≡ g → front x ≡ h → Continues sent x × IsReady (sent ++ x ∷ []) g (next h) (n + 1)
+    → x.delivery ≡ Lines (n + 2) line → x.session ≡ 1 → x.settings ≡ g → front x ≡ h → Continues sent x
+    × IsReady (sent ++ x ∷ []) g (next h) (n + 1)
 ready_again sent g h n x ready delivery session settings here =
-    let fed = feeds sent g (drop 1 h) n x ready.fed delivery session settings (here ∙ ready.newest) in
-    (fed.0, record { newest = refl; fed = subst (λ (k : List Rec). IsFed (sent ++ x ∷ []) g k (n + 1)) (sym ready.newest) fed.1 })
+    let fed = feeds sent g (drop 1 h) n x ready.fed delivery session settings (here ∙ ready.newest) in (
+      fed.0,
+      record {
+        newest = refl;
+        fed = subst (λ (k : List Rec). IsFed (sent ++ x ∷ []) g k (n + 1))
+            (sym ready.newest) fed.1;
+      },
+    )

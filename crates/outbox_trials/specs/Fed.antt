@@ -1,4 +1,5 @@
--- A history of one session whose lines are all too long. RFC 1459 and RFC 2812 have no numeric for that; 417 is the one in common use.
+-- A history of one session whose lines are all too long. RFC 1459 and RFC 2812 have no numeric for that; 417 is the
+-- one in common use.
 use Rattle.std.specs.Prelude.{◌≡◌, ℕ, pos, ◌+◌, false, List, [], ◌∷◌, ◌++◌, length, codes, drop, All}
 use Rattle.chronicle.specs.declared.record.Kind.{Kind}
 use Rattle.chronicle.specs.declared.record.Kind.TheVariants.{Opened, Said}

@@ -17,8 +17,8 @@ const SERVER: &[u8; 11] = b"irc.example";
 /// What a session is told that says a line which is too long.
 const TOLD: &[u8; 45] = b":irc.example 417 * :Input line was too long\r\n";
 
-/// An outbox, and the journal by which deliveries were put into it: of its newest record none was put yet. A clause sees the outbox
-/// and how many were put.
+/// An outbox, and the journal by which deliveries were put into it: of its newest record none was put yet. A clause
+/// sees the outbox and how many were put.
 #[derive(Drop)]
 pub struct Feed<O: Outbox> {
     outbox: O,
@@ -116,8 +116,8 @@ impl<O: Outbox> Feed<O> {
         self.outbox
     }
 
-    /// Puts the next delivery, whose number is two more than how many were put. It answers why it wasn't put: full also where
-    /// no number is left.
+    /// Puts the next delivery, whose number is two more than how many were put. It answers why it wasn't put: full
+    /// also where no number is left.
     pub fn feed(&mut self, alloc: Global) -> Result<Option<PutFault>, AllocError>
         ensures name { IfOk result (λ _. O.name self.new.0 ≡ O.name self.old.0) }
         ensures put { IfOk result (λ fault. fault ≡ None → self.new.1 ≡ self.old.1 + 1) }

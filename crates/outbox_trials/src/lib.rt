@@ -1,5 +1,5 @@
-//! Trials of outboxes: what comes out of one is what was put into it, over both kinds, in one thread and in two; and what goes out
-//! of a delivery.
+//! Trials of outboxes: what comes out of one is what was put into it, over both kinds, in one thread and in two; and
+//! what goes out of a delivery.
 #![tactic(auto)]
 
 #[cfg(test)]

@@ -3,8 +3,8 @@ use std::alloc::Global;
 use std::io;
 use std::io::{ErrorKind, Write};
 
-/// Counts what it is asked to write. It takes `most` octets in one write and `left` in all. Of each `period` writes it takes nothing in
-/// one, where that isn't 0. After what is left it takes none, or fails.
+/// Counts what it is asked to write. It takes `most` octets in one write and `left` in all. Of each `period` writes
+/// it takes nothing in one, where that isn't 0. After what is left it takes none, or fails.
 #[derive(Drop)]
 pub struct Narrow {
     pub octets: Vec<u8>,

@@ -18,5 +18,6 @@ none-misnamed n ps =
     either-line query_text n (str_eq_ignore_ascii_case n (codes "NAMES")) _ _ (λ e. e)
     (either-line query_text n (str_eq_ignore_ascii_case n (codes "LIST")) _ _ (λ e. e)
     (either-line query_text n (str_eq_ignore_ascii_case n (codes "WHO")) _ _ (λ e. e)
-    (either-line query_text n (str_eq_ignore_ascii_case n (codes "WHOIS")) _ _ (λ e. either-read query_text n (is_empty (nick_asked ps)) _ _ tt e)
+    (either-line query_text n (str_eq_ignore_ascii_case n (codes "WHOIS")) _ _
+    (λ e. either-read query_text n (is_empty (nick_asked ps)) _ _ tt e)
     (either-line query_text n (str_eq_ignore_ascii_case n (codes "MOTD")) _ _ (λ e. e) tt))))

@@ -1,5 +1,6 @@
 -- Who is on a channel, as it is told: RFC 2812, section 3.2.5 (NAMES, with which JOIN ends).
-use Rattle.std.specs.Prelude.{ℕ, List, [], ◌∷◌, ◌++◌, map, codes, length, Option, Some, None, Result, Ok, if◌then◌else◌}
+use Rattle.std.specs.Prelude.{ℕ, List, [], ◌∷◌, ◌++◌, map, codes, length, Option}
+use Rattle.std.specs.Prelude.{Some, None, Result, Ok, if◌then◌else◌}
 use Rattle.std.specs.List.{flat_map}
 use Rattle.channel_state.specs.State.{State, among}
 use Rattle.numerics.specs.declared.numeric.Numeric.{Numeric}

@@ -1,4 +1,5 @@
--- The commands that only ask: how each is named and read, and what each is told. RFC 2812, sections 3.2.5, 3.2.6, 3.4.1, 3.6.1 and 3.6.2.
+-- The commands that only ask: how each is named and read, and what each is told. RFC 2812, sections 3.2.5, 3.2.6,
+-- 3.4.1, 3.6.1 and 3.6.2.
 use Rattle.std.specs.Prelude.{◌≡◌, ℕ, true, List, codes, is_some, Option, Some, None, Result, if◌then◌else◌}
 use Rattle.std.specs.Str.{str_eq_ignore_ascii_case}
 use Rattle.numerics.specs.declared.numeric.Numeric.{Numeric}

@@ -1,4 +1,5 @@
--- What a session is let see of channels: RFC 2811, section 4.2.6 (secret channels), and RFC 2812, section 3.1.5 (user mode `i`).
+-- What a session is let see of channels: RFC 2811, section 4.2.6 (secret channels), and RFC 2812, section 3.1.5
+-- (user mode `i`).
 use Rattle.std.specs.Prelude.{ℕ, Bool, not, ◌||◌, List, [], filter, Option, Some, None, if◌then◌else◌}
 use Rattle.channel_state.specs.State.{State, among}
 use Rattle.roster.specs.declared.deed.Deed.{Deed}

@@ -19,7 +19,15 @@ who_query ps = Ok (query.Who (first_or_none ps))
 
 -- a member of a channel
 abbrev pub who_of : List Deed → Seen → ℕ → Who
-who_of fs k t = record { channel = k.name; user = title (user fs t); host = host fs t; nick = title (nick fs t); away = is_some (away fs t); prefix = rank_of k.state t; real = unwrap_or (real fs t) [] }
+who_of fs k t = record {
+  channel = k.name;
+  user = title (user fs t);
+  host = host fs t;
+  nick = title (nick fs t);
+  away = is_some (away fs t);
+  prefix = rank_of k.state t;
+  real = unwrap_or (real fs t) [];
+}
 
 -- names of users and masks find nobody; nothing tells a channel that isn't seen from one that isn't there
 abbrev pub who_seen : List Deed → ℕ → List ℕ → Option Seen → List Numeric

@@ -1,8 +1,10 @@
 -- Who has a nickname: RFC 2812, section 3.6.2 (WHOIS).
-use Rattle.std.specs.Prelude.{ℕ, cond, List, [], ◌∷◌, ◌++◌, map, length, unwrap_or, Option, Some, None, Result, Ok, Err}
+use Rattle.std.specs.Prelude.{ℕ, cond, List, [], ◌∷◌, ◌++◌, map, length, unwrap_or}
+use Rattle.std.specs.Prelude.{Option, Some, None, Result, Ok, Err}
 use Rattle.std.specs.List.{flat_map}
 use Rattle.numerics.specs.declared.numeric.Numeric.{Numeric}
-use Rattle.numerics.specs.declared.numeric.Numeric.TheVariants.{NoSuchNick, WhoisUser, WhoisChannels, WhoisServer, EndOfWhois, Away}
+use Rattle.numerics.specs.declared.numeric.Numeric.TheVariants.{NoSuchNick, WhoisUser, WhoisChannels}
+use Rattle.numerics.specs.declared.numeric.Numeric.TheVariants.{WhoisServer, EndOfWhois, Away}
 use Rattle.numerics.specs.Cut.{cut}
 use Rattle.numerics.specs.Numerics.{numeric, marks}
 use Rattle.numerics.specs.Outgoing.{room}

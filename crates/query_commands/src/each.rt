@@ -27,7 +27,8 @@ pub(crate) fn tell_of_each<T, R: TellsOf<T>>(
     telling: &mut Telling<'_>,
     ones: &[T],
 ) -> Result<(), AllocError>
-    ensures { OnOk result (telling.new ≡ telling_more telling.old (flat_map (R.told_of row.now) ones.now)) }
+    ensures { OnOk result
+        (telling.new ≡ telling_more telling.old (flat_map (R.told_of row.now) ones.now)) }
 {
     for one in ones {
         row.tell_of(telling, one)?;

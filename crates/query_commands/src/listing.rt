@@ -46,7 +46,8 @@ fn push_seen(
     name: &Octets,
     state: &ChannelState,
 ) -> Result<(), AllocError>
-    ensures { OnOk result (telling.new ≡ telling_more telling.old (listed_seen (seen_by session (Some (record { name = name.now; state = state.now.state }))))) }
+    ensures { OnOk result (telling.new ≡ telling_more telling.old (listed_seen
+        (seen_by session (Some (record { name = name.now; state = state.now.state }))))) }
 {
     if !sees(session, state) {
         return Ok(());
@@ -91,7 +92,8 @@ fn push_at(
     session: SessionId,
     place: usize,
 ) -> Result<(), AllocError>
-    ensures { OnOk result (telling.new ≡ telling_more telling.old (of_one (listed roster.now.facts session) (slice_get (all_channels roster.now.facts) place))) }
+    ensures { OnOk result (telling.new ≡ telling_more telling.old (of_one
+        (listed roster.now.facts session) (slice_get (all_channels roster.now.facts) place))) }
 {
     let Some((name, state)) = roster.nth_channel(place) else {
         return Ok(());
@@ -107,7 +109,8 @@ fn push_all(
     telling: &mut Telling<'_>,
     session: SessionId,
 ) -> Result<(), AllocError>
-    ensures { OnOk result (telling.new ≡ telling_more telling.old (flat_map (listed roster.now.facts session) (all_channels roster.now.facts))) }
+    ensures { OnOk result (telling.new ≡ telling_more telling.old
+        (flat_map (listed roster.now.facts session) (all_channels roster.now.facts))) }
 {
     telling.reserve(roster.channel_count())?;
     for place in 0..roster.channel_count() {
@@ -124,7 +127,8 @@ pub(crate) fn answer(
     session: SessionId,
     channels: &Option<OctetsList>,
 ) -> Result<(), AllocError>
-    ensures { OnOk result (telling.new ≡ telling_more telling.old (lists_told draft.now.base session (channels_asked draft.now.base channels.now))) }
+    ensures { OnOk result (telling.new ≡ telling_more telling.old
+        (lists_told draft.now.base session (channels_asked draft.now.base channels.now))) }
 {
     let (alloc, roster) = (draft.alloc(), draft.before());
     match channels {

@@ -55,7 +55,8 @@ pub(crate) fn answer(
     telling: &mut Telling<'_>,
     server: &Option<Octets>,
 ) -> Result<(), AllocError>
-    ensures { OnOk result (telling.new ≡ telling_more telling.old (motd_asked draft.now.settings server.now)) }
+    ensures { OnOk result
+        (telling.new ≡ telling_more telling.old (motd_asked draft.now.settings server.now)) }
 {
     let settings = draft.before().settings();
     match server {

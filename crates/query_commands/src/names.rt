@@ -7,7 +7,8 @@ ghost use Rattle.numerics.specs.Outgoing.{room};
 ghost use Rattle.channel_state.specs.State.{among};
 ghost use Rattle.command_params.specs.Params.{IsRead};
 ghost use Rattle.query_commands.specs.Telling.{telling_more};
-ghost use Rattle.query_commands.specs.Names.{rank_of, member_name, member_names, names_room, name_lines, all_told, names_told, with_members, names_of, names_asked, names_query};
+ghost use Rattle.query_commands.specs.Names.{rank_of, member_name, member_names, names_room, name_lines, all_told};
+ghost use Rattle.query_commands.specs.Names.{names_told, with_members, names_of, names_asked, names_query};
 
 use crate::Query;
 use crate::each::{TellsOf, tell_of_each};
@@ -67,7 +68,8 @@ fn names_in_order(
     state: &ChannelState,
     members: &[SessionId],
 ) -> Result<Vec<Octets>, AllocError>
-    ensures { IfOk result (λ v. v.items ≡ map (member_name roster.now.facts state.now.state) members.now) }
+    ensures { IfOk result
+        (λ v. v.items ≡ map (member_name roster.now.facts state.now.state) members.now) }
 {
     let mut names = Vec::with_capacity(alloc, members.len())?;
     for member in members {
@@ -107,7 +109,8 @@ fn names_room(
     session: SessionId,
     listed: &Listed<'_>,
 ) -> Result<usize, AllocError>
-    ensures { IfOk result (λ n. n ≡ names_room draft.now.settings draft.now.base session listed.now) }
+    ensures { IfOk result
+        (λ n. n ≡ names_room draft.now.settings draft.now.base session listed.now) }
 {
     let alloc = draft.alloc();
     let to = title_of(alloc, draft.before().nick_of(session))?;
@@ -131,7 +134,8 @@ fn push_lines(
     channel: &Octets,
     lines: Vec<OctetsList>,
 ) -> Result<(), AllocError>
-    ensures { OnOk result (telling.new ≡ telling_more telling.old (map (NamReply secret channel.now) lines.items)) }
+    ensures { OnOk result
+        (telling.new ≡ telling_more telling.old (map (NamReply secret channel.now) lines.items)) }
 {
     for names in lines {
         let channel = channel.clone()?;
@@ -152,7 +156,8 @@ fn push_names(
     names: Vec<Octets>,
     room: usize,
 ) -> Result<(), AllocError>
-    ensures { OnOk result (telling.new ≡ telling_more telling.old (name_lines listed.now room names.items)) }
+    ensures { OnOk result
+        (telling.new ≡ telling_more telling.old (name_lines listed.now room names.items)) }
 {
     let lines = split_names(alloc, names, room)?;
     push_lines(telling, listed.state.modes().secret, listed.name, lines)
@@ -167,7 +172,8 @@ fn push_all(
     listed: &Listed<'_>,
     names: Vec<Octets>,
 ) -> Result<(), AllocError>
-    ensures { OnOk result (telling.new ≡ telling_more telling.old (all_told draft.now.settings draft.now.base session listed.now names.items)) }
+    ensures { OnOk result (telling.new ≡ telling_more telling.old
+        (all_told draft.now.settings draft.now.base session listed.now names.items)) }
 {
     let room = names_room(draft, session, listed)?;
     push_names(draft.alloc(), telling, listed, names, room)?;
@@ -182,14 +188,15 @@ fn push_listed(
     session: SessionId,
     listed: &Listed<'_>,
 ) -> Result<(), AllocError>
-    ensures { OnOk result (telling.new ≡ telling_more telling.old (names_told draft.now.settings draft.now.base session listed.now)) }
+    ensures { OnOk result (telling.new ≡ telling_more telling.old
+        (names_told draft.now.settings draft.now.base session listed.now)) }
 {
     let names = member_names(draft.alloc(), draft.before(), session, listed.state)?;
     push_all(draft, telling, session, listed, names)
 }
 
-/// Adds who is on a channel, as a session that is one of them is told: 353 in as few lines as fit, and 366. The channel is this
-/// one but for its members. Nicknames are those before the record.
+/// Adds who is on a channel, as a session that is one of them is told: 353 in as few lines as fit, and 366. The
+/// channel is this one but for its members. Nicknames are those before the record.
 pub fn push_members(
     draft: &Draft<'_>,
     telling: &mut Telling<'_>,
@@ -199,7 +206,8 @@ pub fn push_members(
     members: &[SessionId],
 ) -> Result<(), AllocError>
     requires { among session members.now ≡ true }
-    ensures { OnOk result (telling.new ≡ telling_more telling.old (names_told draft.now.settings draft.now.base session (with_members name.now state.now.state members.now))) }
+    ensures { OnOk result (telling.new ≡ telling_more telling.old (names_told draft.now.settings
+        draft.now.base session (with_members name.now state.now.state members.now))) }
 {
     let names = names_in_order(draft.alloc(), draft.before(), state, members)?;
     push_all(draft, telling, session, &Listed { name, state }, names)
@@ -215,7 +223,8 @@ struct Asking<'a, 'b> {
 impl TellsOf<Octets> for Asking<'_, '_> {
     ghost use Rattle.query_commands.specs.Names.{names_of};
 
-    ghost told_of = { λ asking channel. names_of asking.draft.now.settings asking.draft.now.base asking.session channel };
+    ghost told_of = { λ asking channel. names_of asking.draft.now.settings asking.draft.now.base
+        asking.session channel };
 
     fn tell_of(&self, telling: &mut Telling<'_>, channel: &Octets) -> Result<(), AllocError> {
         match channel_for(self.draft.before(), self.session, channel.as_slice()) {
@@ -235,7 +244,8 @@ pub(crate) fn answer(
     session: SessionId,
     channels: &Option<OctetsList>,
 ) -> Result<(), AllocError>
-    ensures { OnOk result (telling.new ≡ telling_more telling.old (names_asked draft.now.settings draft.now.base session channels.now)) }
+    ensures { OnOk result (telling.new ≡ telling_more telling.old
+        (names_asked draft.now.settings draft.now.base session channels.now)) }
 {
     match channels {
         Some(channels) => tell_of_each(&Asking { draft, session }, telling, channels.as_slice()),

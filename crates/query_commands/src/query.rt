@@ -65,7 +65,8 @@ fn answer(
     session: SessionId,
     query: &Query,
 ) -> Result<(), AllocError>
-    ensures { OnOk result (telling.new ≡ telling_more telling.old (told draft.now.settings draft.now.base session query.now)) }
+    ensures { OnOk result (telling.new
+        ≡ telling_more telling.old (told draft.now.settings draft.now.base session query.now)) }
 {
     match query {
         Query::Names { channels } => names::answer(draft, telling, session, channels),
@@ -79,7 +80,8 @@ fn answer(
 /// Answers a query by the facts before the record.
 pub fn ask(draft: &mut Draft, session: SessionId, query: &Query) -> Result<(), AllocError>
     requires { draft.old.facts ≡ draft.old.base }
-    ensures { OnOk result (draft.new ≡ grown draft.old (queries draft.old.settings draft.old.facts session query.now)) }
+    ensures { OnOk result (draft.new
+        ≡ grown draft.old (queries draft.old.settings draft.old.facts session query.now)) }
 {
     let mut telling = Telling::new(draft, session)?;
     answer(draft, &mut telling, session, query)?;

@@ -52,7 +52,8 @@ pub(crate) fn channel_for<'a>(
 
 /// Adds a member that isn't hidden.
 fn push_shown(roster: &Roster, shown: &mut Sessions, member: SessionId) -> Result<(), AllocError>
-    ensures { OnOk result (shown.new ≡ shown.old ++ filter (λ t. not (invisible roster.now.facts t)) (member ∷ [])) }
+    ensures { OnOk result
+        (shown.new ≡ shown.old ++ filter (λ t. not (invisible roster.now.facts t)) (member ∷ [])) }
 {
     if roster.is_invisible(member) {
         return Ok(());

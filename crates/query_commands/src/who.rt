@@ -74,7 +74,8 @@ impl TellsOf<SessionId> for Members<'_, '_> {
     ghost use Rattle.numerics.specs.declared.numeric.Numeric.TheVariants.{WhoReply};
     ghost use Rattle.query_commands.specs.Who.{who_of};
 
-    ghost told_of = { λ of member. WhoReply (who_of of.roster.now.facts of.listed.now member) ∷ [] };
+    ghost told_of = { λ of member. WhoReply (who_of of.roster.now.facts of.listed.now member)
+        ∷ [] };
 
     fn tell_of(&self, telling: &mut Telling<'_>, member: &SessionId) -> Result<(), AllocError> {
         let who = who_of(self.alloc, self.roster, self.listed, *member)?;
@@ -91,7 +92,8 @@ fn push_members(
     listed: &Listed<'_>,
     members: &[SessionId],
 ) -> Result<(), AllocError>
-    ensures { OnOk result (telling.new ≡ telling_more telling.old (map (λ t. WhoReply (who_of roster.now.facts listed.now t)) members.now)) }
+    ensures { OnOk result (telling.new ≡ telling_more telling.old
+        (map (λ t. WhoReply (who_of roster.now.facts listed.now t)) members.now)) }
 {
     telling.reserve(members.len())?;
     let of = Members {
@@ -111,7 +113,8 @@ fn push_listed(
     session: SessionId,
     listed: &Listed<'_>,
 ) -> Result<(), AllocError>
-    ensures { OnOk result (telling.new ≡ telling_more telling.old (who_seen roster.now.facts session [] (Some listed.now))) }
+    ensures { OnOk result (telling.new
+        ≡ telling_more telling.old (who_seen roster.now.facts session [] (Some listed.now))) }
 {
     let members = members_for(alloc, roster, session, listed.state)?;
     push_members(alloc, roster, telling, listed, members.as_slice())?;
@@ -133,7 +136,8 @@ pub(crate) fn answer(
     session: SessionId,
     name: &Option<Octets>,
 ) -> Result<(), AllocError>
-    ensures { OnOk result (telling.new ≡ telling_more telling.old (who_asked draft.now.base session name.now)) }
+    ensures { OnOk result
+        (telling.new ≡ telling_more telling.old (who_asked draft.now.base session name.now)) }
 {
     let (alloc, roster) = (draft.alloc(), draft.before());
     let Some(name) = name else {

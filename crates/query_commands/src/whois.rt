@@ -1,13 +1,15 @@
 //! WHOIS (RFC 2812, section 3.6.2).
 ghost use Rattle.std.specs.Prelude.{◌≡◌, ◌∷◌, ◌++◌, [], map, option_copied, IfOk, OnOk};
 ghost use Rattle.std.specs.List.{flat_map};
-ghost use Rattle.numerics.specs.declared.numeric.Numeric.TheVariants.{EndOfWhois, NoSuchNick, WhoisChannels, WhoisServer};
+ghost use Rattle.numerics.specs.declared.numeric.Numeric.TheVariants.{EndOfWhois, NoSuchNick};
+ghost use Rattle.numerics.specs.declared.numeric.Numeric.TheVariants.{WhoisChannels, WhoisServer};
 ghost use Rattle.roster.specs.LookBack.{nick};
 ghost use Rattle.drafts.specs.Words.{title};
 ghost use Rattle.command_params.specs.Params.{IsRead};
 ghost use Rattle.query_commands.specs.Visible.{channel_for};
 ghost use Rattle.query_commands.specs.Telling.{telling_more};
-ghost use Rattle.query_commands.specs.Whois.{away_told, channel_titles, channels_room, channels_told, nick_asked, title_seen, user_line, user_told, whois_asked, whois_query};
+ghost use Rattle.query_commands.specs.Whois.{away_told, channel_titles, channels_room, channels_told, nick_asked};
+ghost use Rattle.query_commands.specs.Whois.{title_seen, user_line, user_told, whois_asked, whois_query};
 
 use crate::Query;
 use crate::names::{rank_of, room_of};
@@ -47,7 +49,8 @@ pub(crate) fn read(alloc: Global, params: &LineParameters<'_>) -> Result<Query, 
     Ok(Query::Whois { nick })
 }
 
-/// Adds a channel's name, as it was first spelled, with the mark of a user's rank there, where the session sees the channel.
+/// Adds a channel's name, as it was first spelled, with the mark of a user's rank there, where the session sees the
+/// channel.
 fn push_title(
     alloc: Global,
     roster: &Roster,
@@ -56,7 +59,8 @@ fn push_title(
     user: SessionId,
     channel: &Octets,
 ) -> Result<(), AllocError>
-    ensures { OnOk result (titles.new.items ≡ titles.old.items ++ title_seen user (channel_for roster.now.facts session channel.now)) }
+    ensures { OnOk result (titles.new.items
+        ≡ titles.old.items ++ title_seen user (channel_for roster.now.facts session channel.now)) }
 {
     if let Some(listed) = channel_for(roster, session, channel.as_slice()) {
         let mark = rank_of(listed.state, user);
@@ -74,7 +78,8 @@ fn push_titles(
     user: SessionId,
     channels: &[Octets],
 ) -> Result<(), AllocError>
-    ensures { OnOk result (titles.new.items ≡ titles.old.items ++ flat_map (λ c. title_seen user (channel_for roster.now.facts session c)) channels.now) }
+    ensures { OnOk result (titles.new.items ≡ titles.old.items ++ flat_map
+        (λ c. title_seen user (channel_for roster.now.facts session c)) channels.now) }
 {
     for channel in channels {
         push_title(alloc, roster, titles, session, user, channel)?;
@@ -99,7 +104,8 @@ fn titles_of(
 
 /// How many octets of channels a line has room for.
 fn channels_room(draft: &Draft<'_>, session: SessionId, nick: &Octets) -> Result<usize, AllocError>
-    ensures { IfOk result (λ n. n ≡ channels_room draft.now.settings draft.now.base session nick.now) }
+    ensures { IfOk result
+        (λ n. n ≡ channels_room draft.now.settings draft.now.base session nick.now) }
 {
     let alloc = draft.alloc();
     let to = title_of(alloc, draft.before().nick_of(session))?;
@@ -117,7 +123,8 @@ fn push_lines(
     nick: &Octets,
     lines: Vec<OctetsList>,
 ) -> Result<(), AllocError>
-    ensures { OnOk result (telling.new ≡ telling_more telling.old (map (WhoisChannels nick.now) lines.items)) }
+    ensures { OnOk result
+        (telling.new ≡ telling_more telling.old (map (WhoisChannels nick.now) lines.items)) }
 {
     for channels in lines {
         let nick = nick.clone()?;
@@ -134,7 +141,8 @@ fn push_channels(
     user: SessionId,
     nick: &Octets,
 ) -> Result<(), AllocError>
-    ensures { OnOk result (telling.new ≡ telling_more telling.old (channels_told draft.now.settings draft.now.base session user nick.now)) }
+    ensures { OnOk result (telling.new ≡ telling_more telling.old
+        (channels_told draft.now.settings draft.now.base session user nick.now)) }
 {
     let room = channels_room(draft, session, nick)?;
     let titles = titles_of(draft.alloc(), draft.before(), session, user)?;
@@ -150,7 +158,8 @@ fn push_user(
     user: SessionId,
     nick: &Octets,
 ) -> Result<(), AllocError>
-    ensures { OnOk result (telling.new ≡ telling_more telling.old (user_line roster.now.facts user nick.now ∷ [])) }
+    ensures { OnOk result
+        (telling.new ≡ telling_more telling.old (user_line roster.now.facts user nick.now ∷ [])) }
 {
     let nick = nick.clone()?;
     let host = Octets::copied(alloc, roster.host_of(user))?;
@@ -170,7 +179,8 @@ fn push_away(
     nick: &Octets,
     away: Option<&Octets>,
 ) -> Result<(), AllocError>
-    ensures { OnOk result (telling.new ≡ telling_more telling.old (away_told nick.now (option_copied away.entry))) }
+    ensures { OnOk result
+        (telling.new ≡ telling_more telling.old (away_told nick.now (option_copied away.entry))) }
 {
     if let Some(text) = away {
         let nick = nick.clone()?;
@@ -182,7 +192,8 @@ fn push_away(
 
 /// Adds which server a user is on.
 fn push_server(telling: &mut Telling<'_>, nick: &Octets, info: &Octets) -> Result<(), AllocError>
-    ensures { OnOk result (telling.new ≡ telling_more telling.old (WhoisServer nick.now info.now ∷ [])) }
+    ensures { OnOk result
+        (telling.new ≡ telling_more telling.old (WhoisServer nick.now info.now ∷ [])) }
 {
     let nick = nick.clone()?;
     let info = info.clone()?;
@@ -204,7 +215,8 @@ fn push_found(
     session: SessionId,
     user: SessionId,
 ) -> Result<(), AllocError>
-    ensures { OnOk result (telling.new ≡ telling_more telling.old (user_told draft.now.settings draft.now.base session user (title (nick draft.now.base user)))) }
+    ensures { OnOk result (telling.new ≡ telling_more telling.old (user_told draft.now.settings
+        draft.now.base session user (title (nick draft.now.base user)))) }
 {
     let alloc = draft.alloc();
     let roster = draft.before();
@@ -219,7 +231,8 @@ fn push_found(
 /// Adds what a session is told of a nickname that no user has.
 #[tactic(auto, using(crate::proofs::Told::more_more))]
 fn push_nobody(telling: &mut Telling<'_>, nick: &Octets) -> Result<(), AllocError>
-    ensures { OnOk result (telling.new ≡ telling_more telling.old (NoSuchNick nick.now ∷ EndOfWhois nick.now ∷ [])) }
+    ensures { OnOk result
+        (telling.new ≡ telling_more telling.old (NoSuchNick nick.now ∷ EndOfWhois nick.now ∷ [])) }
 {
     telling.push(Numeric::NoSuchNick(nick.clone()?))?;
     push_end(telling, nick)
@@ -232,7 +245,8 @@ pub(crate) fn answer(
     session: SessionId,
     nick: &Octets,
 ) -> Result<(), AllocError>
-    ensures { OnOk result (telling.new ≡ telling_more telling.old (whois_asked draft.now.settings draft.now.base session nick.now)) }
+    ensures { OnOk result (telling.new ≡ telling_more telling.old
+        (whois_asked draft.now.settings draft.now.base session nick.now)) }
 {
     match draft.before().find(nick.as_slice()) {
         Some(user) => push_found(draft, telling, session, user),

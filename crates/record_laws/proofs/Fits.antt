@@ -1,5 +1,6 @@
 -- What every effect keeps: its line is no BATCH, its hearers stand once each, and it opens no session.
-use Rattle.std.proofs.Common.{◌≡◌, ℕ, ◌+◌, ◌==◌, Bool, true, false, cond, List, [], ◌∷◌, ◌++◌, codes, length, map, Option, Some, None, refl}
+use Rattle.std.proofs.Common.{◌≡◌, ℕ, ◌+◌, ◌==◌, Bool, true, false, cond, List, [], ◌∷◌, ◌++◌}
+use Rattle.std.proofs.Common.{codes, length, map, Option, Some, None, refl}
 use Rattle.std.specs.Bool.{if◌then◌else◌}
 use Rattle.std.specs.List.{flat_map}
 use Rattle.std.specs.Str.{bytes_eq}
@@ -62,20 +63,27 @@ either false xs ys f g = g
 
 pub some_shown : (hearers : List ℕ) (l : Out) → IsEachOnce hearers → is_batch l ≡ false → Fit (shown hearers l)
 unfolding shown
-some_shown hearers l once p = either (length hearers == 0) [] (Show hearers l ∷ []) none (only (Show hearers l) (once, p))
+some_shown hearers l once p = either (length hearers == 0) [] (Show hearers l ∷ []) none
+    (only (Show hearers l) (once, p))
 
 pub of_all : {A : Type 0} (f : A → List Effect) → ((x : A) → Fit (f x)) → (xs : List A) → Fit (flat_map f xs)
 of_all f fits [] = none
 of_all f fits (x ∷ xs) = joined (f x) (flat_map f xs) (fits x) (of_all f fits xs)
 
-pub in_turn : {A : Type 0} (row : List Deed → A → List Effect) → ((fs : List Deed) (x : A) → Fit (row fs x)) → (fs : List Deed) (xs : List A) → Fit (each row fs xs)
+pub in_turn : {A : Type 0} (row : List Deed → A → List Effect) → ((fs : List Deed) (x : A) → Fit (row fs x))
+    → (fs : List Deed) (xs : List A) → Fit (each row fs xs)
 in_turn row fits fs [] = none
-in_turn row fits fs (x ∷ xs) = let later = after fs (deeds_of (row fs x)) in joined (row fs x) (each row later xs) (fits fs x) (in_turn row fits later xs)
+in_turn row fits fs (x ∷ xs) = let later = after fs (deeds_of (row fs x)) in
+    joined (row fs x) (each row later xs) (fits fs x) (in_turn row fits later xs)
 
-pub in_turn_counted : {A : Type 0} (row : List Deed → ℕ → A → List Effect) → ((fs : List Deed) (n : ℕ) (x : A) → Fit (row fs n x)) → (fs : List Deed) (n : ℕ) (xs : List A) → Fit (each_counted row fs n xs)
+pub in_turn_counted : {A : Type 0} (row : List Deed → ℕ → A → List Effect)
+    → ((fs : List Deed) (n : ℕ) (x : A) → Fit (row fs n x)) → (fs : List Deed) (n : ℕ) (xs : List A)
+    → Fit (each_counted row fs n xs)
 in_turn_counted row fits fs n [] = none
 in_turn_counted row fits fs n (x ∷ xs) =
-    let ds = deeds_of (row fs n x) in joined (row fs n x) (each_counted row (after fs ds) (n + length ds) xs) (fits fs n x) (in_turn_counted row fits (after fs ds) (n + length ds) xs)
+    let ds = deeds_of (row fs n x) in
+    joined (row fs n x) (each_counted row (after fs ds) (n + length ds) xs) (fits fs n x)
+    (in_turn_counted row fits (after fs ds) (n + length ds) xs)
 
 -- ---- numerics
 

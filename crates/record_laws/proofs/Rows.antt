@@ -1,5 +1,6 @@
 -- What the effects of any record show, and to whom.
-use Rattle.std.proofs.Common.{◌≡◌, ◌≢◌, ℕ, ◌<◌, Bool, true, false, not, ◌&&◌, ◌==◌, cond, List, [], ◌∷◌, ◌++◌, codes, map, filter, length, Option, Some, None, refl, sym, ap, ◌∙◌, arith}
+use Rattle.std.proofs.Common.{◌≡◌, ◌≢◌, ℕ, ◌<◌, Bool, true, false, not, ◌&&◌, ◌==◌, cond, List, [], ◌∷◌, ◌++◌}
+use Rattle.std.proofs.Common.{codes, map, filter, length, Option, Some, None, refl, sym, ap, ◌∙◌, arith}
 use Rattle.std.specs.Bool.{if◌then◌else◌}
 use Rattle.std.specs.List.{All}
 use Rattle.std.proofs.lemmas.List.Elements.{All-cons, All-append}
@@ -37,16 +38,21 @@ use Rattle.drafts.specs.Replies.{tells}
 use Rattle.deeds.specs.Deeds.{effects}
 use Rattle.deeds.specs.Departure.{departs}
 use Rattle.session_commands.specs.Registration.{completed}
-use Rattle.deeds.specs.Rows.{asked, fault_numeric, is_for_registered, is_silent, of_asked, of_command, refused, served, turned_away}
+use Rattle.deeds.specs.Rows.{asked, fault_numeric, is_for_registered, is_silent}
+use Rattle.deeds.specs.Rows.{of_asked, of_command, refused, served, turned_away}
 use Rattle.talk_commands.specs.declared.verb.Verb.TheVariants as verb
-use Rattle.record_laws.specs.Laws.{AllShowOnce, HearersStandOnce, IsEachOnce, NoLineOpensABatch, RecordsOpenNoOthers, ShowsOnce}
+use Rattle.record_laws.specs.Laws.{AllShowOnce, HearersStandOnce, IsEachOnce}
+use Rattle.record_laws.specs.Laws.{NoLineOpensABatch, RecordsOpenNoOthers, ShowsOnce}
 use Rattle.record_laws.proofs.Times.{once-sharers}
-use Rattle.record_laws.proofs.Fits.{AllFit, Fit, Fits, either, is_batch, joined, more, none, only, opens_session, told_all, told_only}
-use Rattle.record_laws.proofs.Sessions.{authenticating, completing, introducing, negotiating, passing, quitting, taking_nick}
+use Rattle.record_laws.proofs.Fits.{AllFit, Fit, Fits, either, is_batch, joined, more, none}
+use Rattle.record_laws.proofs.Fits.{only, opens_session, told_all, told_only}
+use Rattle.record_laws.proofs.Sessions.{authenticating, completing, introducing}
+use Rattle.record_laws.proofs.Sessions.{negotiating, passing, quitting, taking_nick}
 use Rattle.record_laws.proofs.Channels.{inviting, joining, kicking, moding, parting, topic}
 use Rattle.record_laws.proofs.Talks.{gone_away, sent}
 
-of_session : (g : Settings) (fs : List Deed) (s : ℕ) (k : SessionCommand) → IsEachOnce (opened fs) → Fit (serves_session g fs s k)
+of_session : (g : Settings) (fs : List Deed) (s : ℕ) (k : SessionCommand) → IsEachOnce (opened fs)
+    → Fit (serves_session g fs s k)
 of_session g fs s (session.Cap subcommand) once = negotiating g fs s subcommand
 of_session g fs s (session.Authenticate piece) once = authenticating g fs s piece
 of_session g fs s session.Pass once = passing g fs s
@@ -63,10 +69,14 @@ of_channel g fs s (channel.Kick channel nicks text) = kicking g fs s channel nic
 of_channel g fs s (channel.Invite nick channel) = inviting g fs s nick channel
 of_channel g fs s (channel.Topic channel text) = topic g fs s channel text
 
-of_talk : (g : Settings) (fs : List Deed) (s : ℕ) (k : TalkCommand) → IsEachOnce (opened fs) → Fit (serves_talk g fs s k)
-of_talk g fs s (talk.Privmsg targets text tags) once = sent g fs s (record { verb = verb.Privmsg; text = Some text; tags = tags }) targets
-of_talk g fs s (talk.Notice targets text tags) once = sent g fs s (record { verb = verb.Notice; text = Some text; tags = tags }) targets
-of_talk g fs s (talk.Tagmsg targets tags) once = sent g fs s (record { verb = verb.Tagmsg; text = None; tags = tags }) targets
+of_talk : (g : Settings) (fs : List Deed) (s : ℕ) (k : TalkCommand) → IsEachOnce (opened fs)
+    → Fit (serves_talk g fs s k)
+of_talk g fs s (talk.Privmsg targets text tags) once = sent g fs s
+    (record { verb = verb.Privmsg; text = Some text; tags = tags }) targets
+of_talk g fs s (talk.Notice targets text tags) once = sent g fs s
+    (record { verb = verb.Notice; text = Some text; tags = tags }) targets
+of_talk g fs s (talk.Tagmsg targets tags) once = sent g fs s
+    (record { verb = verb.Tagmsg; text = None; tags = tags }) targets
 of_talk g fs s (talk.Away text) once = gone_away g fs s text once
 
 -- a query does nothing but tell, whatever it tells
@@ -78,13 +88,16 @@ serving g fs s (Talk k) once = of_talk g fs s k once
 serving g fs s (Query k) once = told_all g fs s (query_told g fs s k)
 
 turning_away : (g : Settings) (fs : List Deed) (s : ℕ) (k : Command) → Fit (turned_away g fs s k)
-turning_away g fs s k = either (is_silent k) [] (tells g fs s numeric.NotRegistered ∷ []) none (told_only g fs s numeric.NotRegistered)
+turning_away g fs s k = either (is_silent k) [] (tells g fs s numeric.NotRegistered ∷ []) none
+    (told_only g fs s numeric.NotRegistered)
 
 asking : (g : Settings) (fs : List Deed) (s : ℕ) (k : Command) → IsEachOnce (opened fs) → Fit (asked g fs s k)
-asking g fs s k once = either (is_for_registered k && not (registered fs s)) (turned_away g fs s k) (served g fs s k) (turning_away g fs s k) (serving g fs s k once)
+asking g fs s k once = either (is_for_registered k && not (registered fs s)) (turned_away g fs s k)
+    (served g fs s k) (turning_away g fs s k) (serving g fs s k once)
 
 commanding : (g : Settings) (fs : List Deed) (s : ℕ) (k : Command) → IsEachOnce (opened fs) → Fit (of_command g fs s k)
-commanding g fs s k once = let later = after fs (deeds_of (asked g fs s k)) in joined (asked g fs s k) (completed g later s) (asking g fs s k once) (completing g later s)
+commanding g fs s k once = let later = after fs (deeds_of (asked g fs s k)) in
+    joined (asked g fs s k) (completed g later s) (asking g fs s k once) (completing g later s)
 
 refusing : (g : Settings) (fs : List Deed) (s : ℕ) (o : Option Numeric) → Fit (refused g fs s o)
 refusing g fs s None = none
@@ -112,8 +125,10 @@ all_show_once [] f = λ k d below. absurd (omega arith)
 all_show_once (e ∷ es) f = All-cons ShowsOnce e es (shows_once e f.0) (all_show_once es f.1)
 
 pub hearers-once : HearersStandOnce
-hearers-once g fs (kind.Opened s host) once = All-cons ShowsOnce (Establish (deed.Opened s host)) [] tt (all_show_once [] tt)
-hearers-once g fs (kind.Said s i piece) once = all_show_once (of_asked g fs s (asked_of piece)) (of_any g fs s (asked_of piece) once).all
+hearers-once g fs (kind.Opened s host) once = All-cons ShowsOnce (Establish (deed.Opened s host)) [] tt
+    (all_show_once [] tt)
+hearers-once g fs (kind.Said s i piece) once = all_show_once (of_asked g fs s (asked_of piece))
+    (of_any g fs s (asked_of piece) once).all
 hearers-once g fs (kind.Hung s why) once = all_show_once (Establish (deed.Ended s why []) ∷ []) (refl, tt)
 hearers-once g fs (kind.Gone s) once = all_show_once (departs fs s) (departing fs s once).all
 hearers-once g fs kind.Ticked once = all_show_once [] tt
@@ -124,7 +139,8 @@ abbrev IsNoBatch : Out → Type 0
 IsNoBatch l = l.command ≢ codes "BATCH"
 
 no_batch : (l : Out) → is_batch l ≡ false → IsNoBatch l
-no_batch l f e = let yes : is_batch l ≡ true = (bytes_eq-Decides l.command (codes "BATCH")).1 e in let g : true ≡ false = sym yes ∙ f in absurd (cc)
+no_batch l f e = let yes : is_batch l ≡ true = (bytes_eq-Decides l.command (codes "BATCH")).1 e in
+    let g : true ≡ false = sym yes ∙ f in absurd (cc)
 
 all_none : All IsNoBatch []
 all_none = λ k d below. absurd (omega arith)
@@ -161,7 +177,8 @@ all_kept (Copy l ∷ es) fs f = all_kept es fs f.1
 
 pub opens-no-others : RecordsOpenNoOthers
 opens-no-others g fs (kind.Opened s host) once shut = absurd (let e : true ≡ false = shut in cc)
-opens-no-others g fs (kind.Said s i piece) once shut = all_kept (of_asked g fs s (asked_of piece)) fs (of_any g fs s (asked_of piece) once).all
+opens-no-others g fs (kind.Said s i piece) once shut = all_kept (of_asked g fs s (asked_of piece)) fs
+    (of_any g fs s (asked_of piece) once).all
 opens-no-others g fs (kind.Hung s why) once shut = refl
 opens-no-others g fs (kind.Gone s) once shut = all_kept (departs fs s) fs (departing fs s once).all
 opens-no-others g fs kind.Ticked once shut = refl

@@ -1,12 +1,16 @@
 -- How often a session is in a list.
-use Rattle.std.proofs.Common.{◌≡◌, ℕ, suc, ◌+◌, ◌≤◌, ◌==◌, Bool, true, false, not, ◌&&◌, cond, List, [], ◌∷◌, ◌++◌, filter, arith, refl, sym, ap, ◌∙◌, lit≤, eq-eqb, eqb-true}
+use Rattle.std.proofs.Common.{◌≡◌, ℕ, suc, ◌+◌, ◌≤◌, ◌==◌, Bool, true, false, not, ◌&&◌, cond, List, [], ◌∷◌}
+use Rattle.std.proofs.Common.{◌++◌, filter, arith, refl, sym, ap, ◌∙◌, lit≤, eq-eqb, eqb-true}
 use Rattle.casemapping.specs.Fold.{is_same}
 use Rattle.channel_state.specs.declared.change.Change.{Change}
 use Rattle.channel_state.specs.declared.change.Change.TheVariants as change
 use Rattle.channel_state.specs.declared.change.Rank.TheVariants.{Operator, Voice}
-use Rattle.channel_state.specs.State.{State, changed, departed, is_some_one, lasting, made_by, nothing, with_last, without}
+use Rattle.channel_state.specs.State.{State, changed, departed, is_some_one, lasting}
+use Rattle.channel_state.specs.State.{made_by, nothing, with_last, without}
 use Rattle.roster.specs.declared.deed.Deed.{Deed}
-use Rattle.roster.specs.declared.deed.Deed.TheVariants.{Opened, NickSet, UserSet, HoldSet, CapsSet, ExchangeSet, LoggedIn, Enrolled, AwaySet, InvisibleSet, ChannelMade, Changed, Ended, Gone}
+use Rattle.roster.specs.declared.deed.Deed.TheVariants.{Opened, NickSet, UserSet, HoldSet, CapsSet}
+use Rattle.roster.specs.declared.deed.Deed.TheVariants.{ExchangeSet, LoggedIn, Enrolled, AwaySet}
+use Rattle.roster.specs.declared.deed.Deed.TheVariants.{InvisibleSet, ChannelMade, Changed, Ended, Gone}
 use Rattle.roster.specs.LookBack.{opened, share, sharers, state}
 use Rattle.record_laws.specs.Laws.{IsEachOnce, times}
 
@@ -24,19 +28,23 @@ at_most true false n m le = omega arith
 at_most false true n m le = le
 at_most false false n m le = le
 
-spread : (p : Bool) (x t : ℕ) (xs : List ℕ) → times (cond p (x ∷ xs) xs) t ≡ cond p (cond (x == t) (suc (times xs t)) (times xs t)) (times xs t)
+spread : (p : Bool) (x t : ℕ) (xs : List ℕ) → times (cond p (x ∷ xs) xs) t
+    ≡ cond p (cond (x == t) (suc (times xs t)) (times xs t)) (times xs t)
 spread true x t xs = refl
 spread false x t xs = refl
 
 -- a filter leaves no more
 pub times-filter : (p : ℕ → Bool) (ts : List ℕ) (t : ℕ) → times (filter p ts) t ≤ times ts t
 times-filter p [] t = lit≤ tt
-times-filter p (x ∷ xs) t = rw (spread (p x) x t (filter p xs)) (at_most (x == t) (p x) (times (filter p xs) t) (times xs t) (times-filter p xs t))
+times-filter p (x ∷ xs) t = rw (spread (p x) x t (filter p xs))
+    (at_most (x == t) (p x) (times (filter p xs) t) (times xs t) (times-filter p xs t))
 
 -- what a filter doesn't let through isn't there
-pub times-filter_none : (p : ℕ → Bool) (ts : List ℕ) (s : ℕ) → ((u : ℕ) → (u == s) ≡ true → p u ≡ false) → times (filter p ts) s ≡ 0
+pub times-filter_none : (p : ℕ → Bool) (ts : List ℕ) (s : ℕ) → ((u : ℕ) → (u == s) ≡ true → p u ≡ false)
+    → times (filter p ts) s ≡ 0
 times-filter_none p [] s none = refl
-times-filter_none p (x ∷ xs) s none = spread (p x) x s (filter p xs) ∙ gone (x == s) (p x) (none x) (times (filter p xs) s) (times-filter_none p xs s none)
+times-filter_none p (x ∷ xs) s none = spread (p x) x s (filter p xs) ∙ gone (x == s) (p x) (none x)
+    (times (filter p xs) s) (times-filter_none p xs s none)
   where
     gone : (b q : Bool) → (b ≡ true → q ≡ false) → (n : ℕ) → n ≡ 0 → cond q (cond b (suc n) n) n ≡ 0
     gone b false h n e = e
@@ -60,7 +68,8 @@ once-filter p ts once t = let less = times-filter p ts t in let most = once t in
 
 -- one more, which isn't there
 pub once-last : (ts : List ℕ) (s : ℕ) → IsEachOnce ts → times ts s ≡ 0 → IsEachOnce (ts ++ s ∷ [])
-once-last ts s once none t = rw (times-append ts (s ∷ []) t) (bounded (s == t) (times ts t) (once t) (λ same. ap (times ts) (sym (eqb-true s t same)) ∙ none))
+once-last ts s once none t = rw (times-append ts (s ∷ []) t)
+    (bounded (s == t) (times ts t) (once t) (λ same. ap (times ts) (sym (eqb-true s t same)) ∙ none))
   where
     bounded : (b : Bool) (n : ℕ) → n ≤ 1 → (b ≡ true → n ≡ 0) → n + cond b (suc 0) 0 ≤ 1
     bounded true n le zero = let e = zero refl in omega arith
@@ -91,7 +100,10 @@ once-changed (change.RankSet t Voice on) k once = once
 once-changed _ k once = once
 
 once-lasting : (k : State) → Once k → Once (lasting k)
-once-lasting k once = elim (is_some_one k.members) as (λ b. Once (cond b k nothing)) [ true ↦ once | false ↦ once-nothing ]
+once-lasting k once = elim (is_some_one k.members) as (λ b. Once (cond b k nothing)) [
+  | true ↦ once
+  | false ↦ once-nothing
+]
 
 either : (b : Bool) (k l : State) → Once k → Once l → Once (cond b k l)
 either true k l f g = f
@@ -101,8 +113,11 @@ pub once-state : (fs : List Deed) (c : List ℕ) → Once (state fs c)
 once-state [] c = once-nothing
 once-state (ChannelMade t k ∷ fs) c = either (is_same k c) (made_by t) (state fs c) (once-one t) (once-state fs c)
 once-state (Changed k x ∷ fs) c =
-    let before = once-state fs c in either (is_same k c) (lasting (changed x (state fs c))) (state fs c) (once-lasting (changed x (state fs c)) (once-changed x (state fs c) before)) before
-once-state (Gone t ∷ fs) c = once-lasting (departed t (state fs c)) (once-without t (state fs c).members (once-state fs c))
+    let before = once-state fs c in
+    either (is_same k c) (lasting (changed x (state fs c))) (state fs c)
+    (once-lasting (changed x (state fs c)) (once-changed x (state fs c) before)) before
+once-state (Gone t ∷ fs) c = once-lasting (departed t (state fs c))
+    (once-without t (state fs c).members (once-state fs c))
 once-state (_ ∷ fs) c = once-state fs c
 
 -- ---- sharers
@@ -115,7 +130,8 @@ same s u e = eq-eqb s u (sym (eqb-true u s e))
 
 -- and never the session itself
 pub sharers-others : (fs : List Deed) (s : ℕ) → times (sharers fs s) s ≡ 0
-sharers-others fs s = times-filter_none (λ t. share fs s t && not (s == t)) (opened fs) s (λ u is. ap (λ b. share fs s u && not b) (same s u is) ∙ never (share fs s u))
+sharers-others fs s = times-filter_none (λ t. share fs s t && not (s == t)) (opened fs) s
+    (λ u is. ap (λ b. share fs s u && not b) (same s u is) ∙ never (share fs s u))
   where
     never : (b : Bool) → (b && false) ≡ false
     never true = refl

@@ -42,8 +42,10 @@ opens (kind.Opened s host) = true
 opens k = false
 
 abbrev pub RecordsOpenNoOthers : Type 0
-RecordsOpenNoOthers = (g : Settings) (fs : List Deed) (k : Kind) → IsEachOnce (opened fs) → opens k ≡ false → opened (after fs (deeds g fs k)) ≡ opened fs
+RecordsOpenNoOthers = (g : Settings) (fs : List Deed) (k : Kind) → IsEachOnce (opened fs) → opens k ≡ false
+    → opened (after fs (deeds g fs k)) ≡ opened fs
 
 -- the lines that answer a session's line
 abbrev pub NoLineOpensABatch : Type 0
-NoLineOpensABatch = (g : Settings) (fs : List Deed) (s : ℕ) (asked : Asked) → IsEachOnce (opened fs) → All (λ l. l.command ≢ codes "BATCH") (reply s (of_asked g fs s asked))
+NoLineOpensABatch = (g : Settings) (fs : List Deed) (s : ℕ) (asked : Asked) → IsEachOnce (opened fs)
+    → All (λ l. l.command ≢ codes "BATCH") (reply s (of_asked g fs s asked))

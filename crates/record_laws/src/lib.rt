@@ -1,5 +1,5 @@
-//! What follows from the definitions of what records do, for whoever is told of them. These functions do nothing: each states
-//! a law.
+//! What follows from the definitions of what records do, for whoever is told of them. These functions do nothing:
+//! each states a law.
 #![tactic(auto)]
 
 ghost use Rattle.record_laws.specs.Laws.{HearersStandOnce, NoLineOpensABatch, RecordsOpenNoOthers};

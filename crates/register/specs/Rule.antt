@@ -23,13 +23,14 @@ module _ {N : Type 0} where
   abbrev pub IsStub : List (Row N) → (ℕ → ℕ) → ℕ → StubClaim N → Type 0
   IsStub rows stub_of by n = (stub_of n.session ≡ by) × (outbox_at rows n.session ≡ Some n.outbox)
 
-  -- the register's own seat shows all rows; a mark's seat shows one session and its pieces, a stub's one session and its
-  -- outbox. A session has one mark and one stub at most. A spent seat shows nothing
+  -- the register's own seat shows all rows; a mark's seat shows one session and its pieces, a stub's one session and
+  -- its outbox. A session has one mark and one stub at most. A spent seat shows nothing
   abbrev pub Fits : ℕ → List (Row N) → (ℕ → ℕ) → (ℕ → ℕ) → ℕ → Known N → Type 0
-  Fits own rows mark_of stub_of by v = IfSome v.rows (λ xs. (by ≡ own) × (xs ≡ rows)) × IfSome v.mark (IsMark rows mark_of by) × IfSome v.stub (IsStub rows stub_of by)
+  Fits own rows mark_of stub_of by v = IfSome v.rows (λ xs. (by ≡ own) × (xs ≡ rows))
+      × IfSome v.mark (IsMark rows mark_of by) × IfSome v.stub (IsStub rows stub_of by)
 
-  -- the rule: there are rows, a seat that is the register's own, and a seat for each session's mark and for its stub, and all
-  -- views fit these
+  -- the rule: there are rows, a seat that is the register's own, and a seat for each session's mark and for its
+  -- stub, and all views fit these
   pub record Kept (views : List (Known N)) : Type 0 where
     pub own : ℕ
     pub rows : List (Row N)
@@ -62,7 +63,11 @@ module _ {N : Type 0} where
   -- the register's own seat lets a session in: it has the row and the stub, and the mark is split off
   abbrev pub letting_in : Row N → Option (List (Row N)) → Known N → Known N
   letting_in r None v = v
-  letting_in r (Some xs) v = record { rows = Some (r ∷ xs); mark = v.mark; stub = Some (record { session = r.session; outbox = r.outbox }) }
+  letting_in r (Some xs) v = record {
+    rows = Some (r ∷ xs);
+    mark = v.mark;
+    stub = Some (record { session = r.session; outbox = r.outbox });
+  }
 
   abbrev pub admitting : Option (Row N) → Known N → Known N
   admitting None v = v
@@ -102,4 +107,5 @@ module _ {N : Type 0} where
 
   -- what the register's own seat has taken in is what stands in its rows
   abbrev pub Learns : Known N → Type 0
-  Learns v = IfSome v.rows (λ xs. IfSome v.mark (λ m. pieces_at xs m.session ≡ Some m.pieces) × IfSome v.stub (λ n. outbox_at xs n.session ≡ Some n.outbox))
+  Learns v = IfSome v.rows (λ xs. IfSome v.mark (λ m. pieces_at xs m.session ≡ Some m.pieces)
+      × IfSome v.stub (λ n. outbox_at xs n.session ≡ Some n.outbox))

@@ -15,8 +15,8 @@ use std::alloc::{AllocError, Global};
 use std::marker::{Brand, Model, PhantomData};
 use std::mem;
 
-/// What stands of each session. It takes memory when it is made, and none later, for its rows exist in proofs alone: so it has
-/// no bound on sessions but that each has a number of its own.
+/// What stands of each session. It takes memory when it is made, and none later, for its rows exist in proofs alone:
+/// so it has no bound on sessions but that each has a number of its own.
 #[derive(Drop)]
 pub struct Register<N> {
     table: Table<(), Known<N>, (), OfSessions, Global>,
@@ -32,7 +32,8 @@ impl<N> Model for Register<N> {
 
     ghost view = { λ r. record { table = r.seat.table_id; rows = rows_of r.seat.me.0 } };
 
-    ghost invariant = { λ r. (r.seat.table_id ≡ r.table.shared.table_id) × (r.table.shared.table_id.words ≡ 1) × (r.seat.me ≡ (keeper (rows_of r.seat.me.0), [])) };
+    ghost invariant = { λ r. (r.seat.table_id ≡ r.table.shared.table_id)
+        × (r.table.shared.table_id.words ≡ 1) × (r.seat.me ≡ (keeper (rows_of r.seat.me.0), [])) };
 }
 
 impl<N> Register<N> {
@@ -44,8 +45,8 @@ impl<N> Register<N> {
         Ok(Register { table, seat })
     }
 
-    /// Lets a new session in, with its outbox, and gives its one mark and its one stub. It takes no memory and waits for
-    /// nobody.
+    /// Lets a new session in, with its outbox, and gives its one mark and its one stub. It takes no memory and waits
+    /// for nobody.
     pub fn admit<L: Naming, O: Outbox<Name = N>>(
         &mut self,
         session: SessionId,
@@ -87,8 +88,8 @@ impl<N> Register<N> {
         mark.seat = turn::<Brand, N>(&table.shared, &mut self.seat, session, seat, piece);
     }
 
-    /// Takes back the mark and the stub of a session, which stood for what the register has of it. It takes no memory and
-    /// waits for nobody.
+    /// Takes back the mark and the stub of a session, which stood for what the register has of it. It takes no
+    /// memory and waits for nobody.
     pub fn retire<L: Naming>(&mut self, mark: Mark<L, N>, stub: Stub<L, N>)
         requires named { self.old.table ≡ L.table }
         requires one { mark.session ≡ stub.session }

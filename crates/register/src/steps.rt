@@ -26,10 +26,13 @@ pub(crate) fn let_in<W: LetsIn<N>, N, O: Outbox<Name = N>>(
     requires own { own.old.me ≡ (keeper (rows_of own.old.me.0), []) }
     requires new { outbox_at (rows_of own.old.me.0) session ≡ None }
     requires entry { W.entry ≡ Some (new_row session (O.name outbox.now)) }
-    ensures table { (own.new.table_id ≡ own.old.table_id) × (result.0.table_id ≡ own.old.table_id) × (result.1.table_id ≡ own.old.table_id) }
-    ensures own { own.new.me ≡ (keeper (new_row session (O.name outbox.now) ∷ rows_of own.old.me.0), []) }
+    ensures table { (own.new.table_id ≡ own.old.table_id) × (result.0.table_id ≡ own.old.table_id)
+        × (result.1.table_id ≡ own.old.table_id) }
+    ensures own { own.new.me
+        ≡ (keeper (new_row session (O.name outbox.now) ∷ rows_of own.old.me.0), []) }
     ensures mark { result.0.me ≡ (only_mark (Some (new_mark session)), []) }
-    ensures stub { result.1.me ≡ (only_stub (Some (record { session = session; outbox = O.name outbox.now })), []) }
+    ensures stub { result.1.me
+        ≡ (only_stub (Some (record { session = session; outbox = O.name outbox.now })), []) }
 {
     let _ = session;
     let _ = outbox;
@@ -55,13 +58,19 @@ pub(crate) fn turn<W: Done, N>(
     mark: Seat<(), Known<N>>,
     piece: &Piece,
 ) -> Seat<(), Known<N>>
-    requires table { (own.old.table_id ≡ sheet.now.table_id) × (mark.table_id ≡ sheet.now.table_id) × (sheet.now.table_id.words ≡ 1) }
+    requires table { (own.old.table_id ≡ sheet.now.table_id) × (mark.table_id ≡ sheet.now.table_id)
+        × (sheet.now.table_id.words ≡ 1) }
     requires own { own.old.me ≡ (keeper (rows_of own.old.me.0), []) }
-    requires mark { mark.me ≡ (only_mark (Some (record { session = session; pieces = pieces_of mark.me.0 })), []) }
+    requires mark { mark.me
+        ≡ (only_mark (Some (record { session = session; pieces = pieces_of mark.me.0 })), []) }
     requires piece { W.piece ≡ Some piece.now }
     ensures table { (own.new.table_id ≡ own.old.table_id) × (result.table_id ≡ own.old.table_id) }
     ensures own { own.new.me ≡ (keeper (with_piece (rows_of own.old.me.0) session piece.now), []) }
-    ensures mark { result.me ≡ (only_mark (Some (record { session = session; pieces = pieces_of mark.me.0 ++ piece.now ∷ [] })), []) }
+    ensures mark { result.me ≡ (
+      only_mark
+          (Some (record { session = session; pieces = pieces_of mark.me.0 ++ piece.now ∷ [] })),
+      [],
+    ) }
     ensures knew { pieces_at (rows_of own.old.me.0) session ≡ Some (pieces_of mark.me.0) }
 {
     let _ = session;
@@ -79,10 +88,13 @@ pub(crate) fn settle<N>(
     mark: Seat<(), Known<N>>,
     stub: Seat<(), Known<N>>,
 )
-    requires table { (own.old.table_id ≡ sheet.now.table_id) × (mark.table_id ≡ sheet.now.table_id) × (stub.table_id ≡ sheet.now.table_id) × (sheet.now.table_id.words ≡ 1) }
+    requires table { (own.old.table_id ≡ sheet.now.table_id) × (mark.table_id ≡ sheet.now.table_id)
+        × (stub.table_id ≡ sheet.now.table_id) × (sheet.now.table_id.words ≡ 1) }
     requires own { own.old.me ≡ (keeper (rows_of own.old.me.0), []) }
-    requires mark { mark.me ≡ (only_mark (Some (record { session = session; pieces = pieces_of mark.me.0 })), []) }
-    requires stub { (stub.me ≡ (only_stub stub.me.0.stub, [])) × (stub_session stub.me.0 ≡ Some session) }
+    requires mark { mark.me
+        ≡ (only_mark (Some (record { session = session; pieces = pieces_of mark.me.0 })), []) }
+    requires stub { (stub.me ≡ (only_stub stub.me.0.stub, []))
+        × (stub_session stub.me.0 ≡ Some session) }
     ensures table { own.new.table_id ≡ own.old.table_id }
     ensures own { own.new.me ≡ own.old.me }
     ensures pieces { pieces_at (rows_of own.old.me.0) session ≡ Some (pieces_of mark.me.0) }

@@ -16,7 +16,15 @@ pub trait Naming {
 impl Naming for Brand {
     ghost use Rattle.std.specs.Prelude.{[]};
 
-    ghost table = { record { words = 0; slots = 0; views_name = 0; atom = 0; block = 0; offset = 0; slot_names = [] } };
+    ghost table = { record {
+      words = 0;
+      slots = 0;
+      views_name = 0;
+      atom = 0;
+      block = 0;
+      offset = 0;
+      slot_names = [];
+    } };
 }
 
 /// Who has it knows which pieces of its session are done. A session has one, made by `Register::admit` alone.
@@ -37,7 +45,11 @@ impl<L: Naming, N> Model for Mark<L, N> {
 
     ghost view = { λ m. record { session = m.session; pieces = pieces_of m.seat.me.0 } };
 
-    ghost invariant = { λ m. (m.seat.table_id ≡ L.table) × (m.seat.me ≡ (only_mark (Some (record { session = m.session; pieces = pieces_of m.seat.me.0 })), [])) };
+    ghost invariant = { λ m. (m.seat.table_id ≡ L.table) × (m.seat.me ≡ (
+      only_mark
+          (Some (record { session = m.session; pieces = pieces_of m.seat.me.0 })),
+      [],
+    )) };
 }
 
 impl<L: Naming, N> Mark<L, N> {
@@ -66,7 +78,9 @@ impl<L: Naming, N> Model for Stub<L, N> {
 
     ghost view = { λ m. record { session = m.session; outbox = outbox_of m.seat.me.0 } };
 
-    ghost invariant = { λ m. (m.seat.table_id ≡ L.table) × (m.seat.me ≡ (only_stub m.seat.me.0.stub, [])) × (stub_session m.seat.me.0 ≡ Some m.session) };
+    ghost invariant = { λ m. (m.seat.table_id ≡ L.table)
+        × (m.seat.me ≡ (only_stub m.seat.me.0.stub, []))
+        × (stub_session m.seat.me.0 ≡ Some m.session) };
 }
 
 impl<L: Naming, N> Stub<L, N> {

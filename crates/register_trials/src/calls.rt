@@ -43,7 +43,8 @@ pub fn close_up<L: Naming, O: Outbox>(
     requires taker { stub.outbox ≡ Some (O.taker_of taker) }
     ensures register { register.new ≡ register.old }
     ensures pieces { pieces_at register.old.rows mark.session ≡ Some mark.pieces }
-    ensures left { (left : List Item) × (O.sent outbox ≡ O.taken outbox taker ++ left) × (result ≡ length left) }
+    ensures left { (left : List Item) × (O.sent outbox ≡ O.taken outbox taker ++ left)
+        × (result ≡ length left) }
 {
     register.retire(mark, stub);
     outbox.close(taker)

@@ -54,7 +54,8 @@ pub fn say<L: Naming, N>(roll: &mut Roll<L, N>, journal: &mut Journal, baton: &m
     roll.finish(baton, &Piece::TooLong, journal);
 }
 
-/// Ends a session, of which just the pieces are done that the journal accepts; hands its tokens back where they aren't of one.
+/// Ends a session, of which just the pieces are done that the journal accepts; hands its tokens back where they
+/// aren't of one.
 pub fn leave<L: Naming, N>(
     roll: &mut Roll<L, N>,
     journal: &Journal,

@@ -1,5 +1,6 @@
 -- Digests that are the same octet by octet.
-use Rattle.std.proofs.Common.{◌≡◌, ℕ, ◌+◌, Bool, true, false, not, ◌&&◌, cond, eqb, List, [], ◌∷◌, length, refl, ap, sym, ◌∙◌, zero-add, inl, inr, arith, count_by}
+use Rattle.std.proofs.Common.{◌≡◌, ℕ, ◌+◌, Bool, true, false, not, ◌&&◌, cond, eqb, List, [], ◌∷◌}
+use Rattle.std.proofs.Common.{length, refl, ap, sym, ◌∙◌, zero-add, inl, inr, arith, count_by}
 use Rattle.std.specs.List.{zip}
 use Rattle.std.specs.Str.{bytes_eq}
 use Rattle.std.proofs.lemmas.List.Sums.{sum_by-cons}
@@ -19,4 +20,5 @@ no_differences [] [] e = refl
 no_differences [] (y ∷ ys) e = absurd (omega arith)
 no_differences (x ∷ xs) [] e = absurd (omega arith)
 no_differences (x ∷ xs) (y ∷ ys) e =
-    ap (λ n. eqb n 0) (sum_by-cons (λ (pair : ℕ × ℕ). cond (differs pair) 1 0) (x, y) (zip xs ys)) ∙ one_more (eqb x y) (bytes_eq xs ys) (count_by differs (zip xs ys)) (no_differences xs ys (omega arith))
+    ap (λ n. eqb n 0) (sum_by-cons (λ (pair : ℕ × ℕ). cond (differs pair) 1 0) (x, y) (zip xs ys))
+    ∙ one_more (eqb x y) (bytes_eq xs ys) (count_by differs (zip xs ys)) (no_differences xs ys (omega arith))

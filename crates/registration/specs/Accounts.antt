@@ -1,5 +1,7 @@
--- The accounts of a server, as its file has them (this project's own format), and what a password is checked against (FIPS 180-4, SHA-256).
-use Rattle.std.specs.Prelude.{ℕ, ◌<◌, ◌≤◌, length, take, IsOk, Bool, ◌+◌, ◌&&◌, cond, List, [], ◌∷◌, ◌++◌, Option, Some, None, option_and_then, Result, Ok, Err}
+-- The accounts of a server, as its file has them (this project's own format), and what a password is checked against
+-- (FIPS 180-4, SHA-256).
+use Rattle.std.specs.Prelude.{ℕ, ◌<◌, ◌≤◌, length, take, IsOk, Bool, ◌+◌, ◌&&◌, cond, List, [], ◌∷◌}
+use Rattle.std.specs.Prelude.{◌++◌, Option, Some, None, option_and_then, Result, Ok, Err}
 use Rattle.std.specs.List.{find, list_any}
 use Rattle.std.specs.Str.{bytes_eq}
 use Rattle.casemapping.specs.Names.{nick_shape}
@@ -21,11 +23,13 @@ with_digest name salt (Err fault) = Err BadDigest
 -- each of three parts is a word: none is empty
 abbrev pub words_of : Option (List ℕ × List ℕ × List ℕ) → Option (List ℕ × List ℕ × List ℕ)
 words_of None = None
-words_of (Some (name, salt, digest)) = cond (is_present name && is_present salt && is_present digest) (Some (name, salt, digest)) None
+words_of (Some (name, salt, digest)) = cond (is_present name && is_present salt && is_present digest)
+    (Some (name, salt, digest)) None
 
 abbrev pub account_from : Option (List ℕ × List ℕ × List ℕ) → Result Account AccountFault
 account_from None = Err Shape
-account_from (Some (name, salt, digest)) = cond (nick_shape name) (with_digest name salt (decode_sized digest 32)) (Err BadName)
+account_from (Some (name, salt, digest)) = cond (nick_shape name) (with_digest name salt (decode_sized digest 32))
+    (Err BadName)
 
 -- a name, a salt and a digest, parted by single spaces
 abbrev pub account_of : List ℕ → Result Account AccountFault
@@ -43,13 +47,15 @@ abbrev pub with_line : List Account → List ℕ → Result (List Account) Accou
 with_line accounts line = cond (is_empty line) (Ok accounts) (with_account accounts (account_of line))
 
 -- the first fault ends the reading, with the number of its line
-abbrev pub unless_fault : ℕ → (List Account → Result (List Account) (ℕ × AccountFault)) → Result (List Account) AccountFault → Result (List Account) (ℕ × AccountFault)
+abbrev pub unless_fault : ℕ → (List Account → Result (List Account) (ℕ × AccountFault))
+    → Result (List Account) AccountFault → Result (List Account) (ℕ × AccountFault)
 unless_fault number next (Ok accounts) = next accounts
 unless_fault number next (Err fault) = Err (number, fault)
 
 abbrev pub accounts_from : List (List ℕ) → ℕ → List Account → Result (List Account) (ℕ × AccountFault)
 accounts_from [] number accounts = Ok accounts
-accounts_from (line ∷ lines) number accounts = unless_fault number (accounts_from lines (number + 1)) (with_line accounts line)
+accounts_from (line ∷ lines) number accounts = unless_fault number (accounts_from lines (number + 1))
+    (with_line accounts line)
 
 -- the accounts of a file. Its lines are counted from 1, and each ends at a line feed
 unfoldable pub accounts_in : List ℕ → Result (List Account) (ℕ × AccountFault)
@@ -64,4 +70,5 @@ abbrev pub name_by : List ℕ → Account → Option (List ℕ)
 name_by password account = cond (bytes_eq (sha256 (account.salt ++ password)) account.digest) (Some account.name) None
 
 unfoldable pub logged_in : List Account → List ℕ → List ℕ → Option (List ℕ)
-logged_in accounts user password = option_and_then (name_by password) (find (λ account. is_same account.name user) accounts)
+logged_in accounts user password = option_and_then (name_by password)
+    (find (λ account. is_same account.name user) accounts)

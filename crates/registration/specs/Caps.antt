@@ -1,9 +1,12 @@
--- Capabilities: IRCv3 Capability Negotiation. Those that are known are away-notify, batch, echo-message, extended-join, labeled-response, message-tags, sasl and server-time.
-use Rattle.std.specs.Prelude.{◌≡◌, ℕ, Bool, true, false, ◌==◌, slice_index_or, slice_set, replicate, is_some, cond, List, [], ◌∷◌, length, fold, codes, Option, Some, None}
+-- Capabilities: IRCv3 Capability Negotiation. Those that are known are away-notify, batch, echo-message,
+-- extended-join, labeled-response, message-tags, sasl and server-time.
+use Rattle.std.specs.Prelude.{◌≡◌, ℕ, Bool, true, false, ◌==◌, slice_index_or, slice_set, replicate, is_some}
+use Rattle.std.specs.Prelude.{cond, List, [], ◌∷◌, length, fold, codes, Option, Some, None}
 use Rattle.std.specs.List.{find, filter, list_all, position_or_len}
 use Rattle.std.specs.Str.{bytes_eq}
 use Rattle.registration.specs.declared.caps.Cap.{Cap}
-use Rattle.registration.specs.declared.caps.Cap.TheVariants.{AwayNotify, Batch, EchoMessage, ExtendedJoin, LabeledResponse, MessageTags, Sasl, ServerTime}
+use Rattle.registration.specs.declared.caps.Cap.TheVariants.{AwayNotify, Batch, EchoMessage, ExtendedJoin}
+use Rattle.registration.specs.declared.caps.Cap.TheVariants.{LabeledResponse, MessageTags, Sasl, ServerTime}
 use Rattle.registration.specs.declared.caps.Caps.{Caps}
 
 abbrev pub cap_name : Cap → List ℕ

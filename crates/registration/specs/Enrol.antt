@@ -1,5 +1,7 @@
--- What is known of a session while it registers, and what its commands are answered by that alone: RFC 2812, section 3.1; IRCv3 Capability Negotiation and SASL 3.1.
-use Rattle.std.specs.Prelude.{ℕ, ◌+◌, ◌==◌, nat_lt, Bool, true, false, not, ◌&&◌, ◌||◌, if◌then◌else◌, List, [], ◌∷◌, ◌++◌, length, codes, Option, Some, None, option_copied}
+-- What is known of a session while it registers, and what its commands are answered by that alone: RFC 2812, section
+-- 3.1; IRCv3 Capability Negotiation and SASL 3.1.
+use Rattle.std.specs.Prelude.{ℕ, ◌+◌, ◌==◌, nat_lt, Bool, true, false, not, ◌&&◌, ◌||◌, if◌then◌else◌, List}
+use Rattle.std.specs.Prelude.{[], ◌∷◌, ◌++◌, length, codes, Option, Some, None, option_copied}
 use Rattle.std.specs.Option.{is_some}
 use Rattle.std.specs.Str.{bytes_eq}
 use Rattle.casemapping.specs.Names.{nick_shape}
@@ -14,7 +16,8 @@ use Rattle.registration.specs.declared.enrol.UserAnswer.TheVariants.{Accepted, A
 use Rattle.registration.specs.declared.enrol.CapAnswer.{CapAnswer}
 use Rattle.registration.specs.declared.enrol.CapAnswer.TheVariants.{Acknowledged, Refused}
 use Rattle.registration.specs.declared.enrol.SaslAnswer.{SaslAnswer}
-use Rattle.registration.specs.declared.enrol.SaslAnswer.TheVariants.{AlreadyLoggedIn, Failed, Opened, UnknownMechanism, Aborted, TooLong, Waits, LoggedIn}
+use Rattle.registration.specs.declared.enrol.SaslAnswer.TheVariants.{AlreadyLoggedIn, Failed, Opened, UnknownMechanism}
+use Rattle.registration.specs.declared.enrol.SaslAnswer.TheVariants.{Aborted, TooLong, Waits, LoggedIn}
 use Rattle.registration.specs.declared.sasl.Credentials.{Credentials}
 use Rattle.registration.specs.Accounts.{logged_in}
 use Rattle.registration.specs.Caps.{after_request, is_on}
@@ -32,7 +35,15 @@ pub record Enrolment : Type 0 where
   pub registered : Bool
 
 abbrev pub enrolment : Enrol → Enrolment
-enrolment e = record { nick = option_copied e.nick; user = option_copied e.user; hold = e.hold; caps = e.caps; exchange = option_copied e.exchange; account = option_copied e.account; registered = e.registered }
+enrolment e = record {
+  nick = option_copied e.nick;
+  user = option_copied e.user;
+  hold = e.hold;
+  caps = e.caps;
+  exchange = option_copied e.exchange;
+  account = option_copied e.account;
+  registered = e.registered;
+}
 
 -- RFC 2812, section 3.1.2: the very same spelling changes nothing
 abbrev pub is_own : Option (List ℕ) → List ℕ → Bool
@@ -87,12 +98,14 @@ ended_by (Some account) = LoggedIn account
 -- a piece of 400 octets is followed by another
 abbrev pub gone_on : List Account → List ℕ → List ℕ → SaslAnswer
 gone_on accounts so_far octets =
-    if is_too_long so_far octets then TooLong else (if length octets == 400 then Waits (so_far ++ octets) else ended_by (account_by accounts (credentials_of (so_far ++ octets))))
+    if is_too_long so_far octets then TooLong else (if length octets == 400 then Waits (so_far ++ octets)
+    else ended_by (account_by accounts (credentials_of (so_far ++ octets))))
 
 -- 42 is `*`, which ends an exchange
 abbrev pub sasl_step : List Account → Option (List ℕ) → List ℕ → SaslAnswer
 sasl_step accounts None piece = begun piece
-sasl_step accounts (Some so_far) piece = if bytes_eq piece (42 ∷ []) then Aborted else gone_on accounts so_far (added piece)
+sasl_step accounts (Some so_far) piece = if bytes_eq piece (42 ∷ []) then Aborted
+    else gone_on accounts so_far (added piece)
 
 -- whether a text is kept from then on: what was sent, or by which account the session is logged in
 abbrev pub keeps_text : SaslAnswer → Bool
@@ -103,4 +116,5 @@ keeps_text answer = false
 -- SASL 3.1, "Numerics used by this extension"
 unfoldable pub sasl_answer : List Account → Enrolment → List ℕ → SaslAnswer
 sasl_answer accounts e piece =
-    if is_some e.account then AlreadyLoggedIn else (if is_on e.caps Sasl then sasl_step accounts e.exchange piece else Failed)
+    if is_some e.account then AlreadyLoggedIn
+    else (if is_on e.caps Sasl then sasl_step accounts e.exchange piece else Failed)

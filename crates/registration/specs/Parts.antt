@@ -1,4 +1,5 @@
--- A text of three parts, as a line of the file of accounts and what SASL PLAIN sends have them: this project's own choice, and RFC 4616, section 2.
+-- A text of three parts, as a line of the file of accounts and what SASL PLAIN sends have them: this project's own
+-- choice, and RFC 4616, section 2.
 use Rattle.std.specs.Prelude.{ℕ, List, [], ◌∷◌, Option, Some, None}
 
 -- the parts, where there are just three

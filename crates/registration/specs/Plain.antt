@@ -1,5 +1,7 @@
--- The PLAIN mechanism: RFC 4616, section 2, in the standard alphabet of RFC 4648, section 4, with padding. The limits of an exchange are no part of it.
-use Rattle.std.specs.Prelude.{◌≡◌, ℕ, true, ◌||◌, ◌&&◌, Bool, cond, List, ◌∷◌, ◌++◌, Option, Some, None, Result, Ok, Err}
+-- The PLAIN mechanism: RFC 4616, section 2, in the standard alphabet of RFC 4648, section 4, with padding. The
+-- limits of an exchange are no part of it.
+use Rattle.std.specs.Prelude.{◌≡◌, ℕ, true, ◌||◌, ◌&&◌, Bool, cond, List, ◌∷◌, ◌++◌}
+use Rattle.std.specs.Prelude.{Option, Some, None, Result, Ok, Err}
 use Rattle.base64.specs.Engines.{standard}
 use Rattle.base64.specs.GeneralPurpose.{decode_of, encode_of}
 use Rattle.base64.specs.declared.decode.DecodeError.{DecodeError}

@@ -1,5 +1,6 @@
 -- The limits of what a server is told when it starts: this project's own choice.
-use Rattle.std.specs.Prelude.{◌≡◌, ℕ, pos, ◌≤ℤ◌, ◌≤◌, nat_le, Bool, true, not, ◌&&◌, List, [], length, Option, Some, None}
+use Rattle.std.specs.Prelude.{◌≡◌, ℕ, pos, ◌≤ℤ◌, ◌≤◌, nat_le, Bool, true, not, ◌&&◌}
+use Rattle.std.specs.Prelude.{List, [], length, Option, Some, None}
 use Rattle.std.specs.List.{list_all}
 use Rattle.line_grammar.specs.Spelling.{is_text_octet, needs_colon}
 use Rattle.casemapping.specs.Names.{host_shape}

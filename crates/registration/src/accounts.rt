@@ -1,5 +1,6 @@
 //! The accounts of users, which log in by SASL (IRCv3 SASL 3.1).
-ghost use Rattle.std.specs.Prelude.{◌≡◌, ◌⊎◌, ◌↔◌, ◌++◌, ◌∷◌, ◌==◌, [], count_by, length, not, IfOk, IfErr, IsTrue, IsErr, IsErrOf, IsOk, IsSome, OnOk, OnErr};
+ghost use Rattle.std.specs.Prelude.{◌≡◌, ◌⊎◌, ◌↔◌, ◌++◌, ◌∷◌, ◌==◌, [], count_by, length, not, IfOk};
+ghost use Rattle.std.specs.Prelude.{IfErr, IsTrue, IsErr, IsErrOf, IsOk, IsSome, OnOk, OnErr};
 ghost use Rattle.std.specs.List.{find, zip};
 ghost use Rattle.std.specs.Option.{option_copied, option_map};
 ghost use Rattle.std.specs.Result.{result_ok};
@@ -78,7 +79,8 @@ fn is_known(accounts: &[Account], name: &[u8]) -> bool
 
 /// The three words of a line.
 fn three_words(line: &[u8]) -> Option<(&[u8], &[u8], &[u8])>
-    ensures { option_map (λ found. (found.0.now, found.1.now, found.2.now)) result ≡ words_of (three_of (parts 32 line.now)) }
+    ensures { option_map (λ found. (found.0.now, found.1.now, found.2.now)) result
+        ≡ words_of (three_of (parts 32 line.now)) }
 {
     let (name, salt, digest) = three_parts(line, b' ')?;
     if name.is_empty() || salt.is_empty() || digest.is_empty() {
@@ -97,9 +99,12 @@ fn read_digest(digits: &[u8]) -> Option<[u8; 32]>
 
 /// The account of a line that isn't empty, after those that are known.
 fn read_account(alloc: Global, known: &[Account], line: &[u8]) -> Result<Account, AccountFault>
-    ensures ok { IfOk result (λ account. with_account known.now (account_of line.now) ≡ Ok (known.now ++ account ∷ [])) }
-    ensures err { IfErr result (λ fault. (fault ≡ AccountFault.Memory) ⊎ (with_account known.now (account_of line.now) ≡ Err fault)) }
-    ensures memory { IsErrOf result AccountFault.Memory → IsOk (with_account known.now (account_of line.now)) }
+    ensures ok { IfOk result
+        (λ account. with_account known.now (account_of line.now) ≡ Ok (known.now ++ account ∷ [])) }
+    ensures err { IfErr result (λ fault. (fault ≡ AccountFault.Memory)
+        ⊎ (with_account known.now (account_of line.now) ≡ Err fault)) }
+    ensures memory { IsErrOf result AccountFault.Memory
+        → IsOk (with_account known.now (account_of line.now)) }
 {
     let (name, salt, digest) = three_words(line).ok_or(AccountFault::Shape)?;
     if !is_nick(name) {
@@ -155,10 +160,12 @@ impl Accounts {
     #[tactic(auto, unfolding(crate::specs::Accounts::accounts_in))]
     pub fn read(alloc: Global, file: &[u8]) -> Result<Accounts, (u64, AccountFault)>
         ensures ok { IfOk result (λ accounts. accounts_in file.now ≡ Ok accounts) }
-        ensures err { IfErr result (λ fault. (fault.1 ≡ AccountFault.Memory) ⊎ (accounts_in file.now ≡ Err fault)) }
+        ensures err { IfErr result
+            (λ fault. (fault.1 ≡ AccountFault.Memory) ⊎ (accounts_in file.now ≡ Err fault)) }
 
         // Memory is wanting only where neither its line nor one before it has a fault.
-        ensures memory { IfErr result (λ fault. fault.1 ≡ AccountFault.Memory → IsReadTo file.now fault.0) }
+        ensures memory { IfErr result
+            (λ fault. fault.1 ≡ AccountFault.Memory → IsReadTo file.now fault.0) }
     {
         let mut accounts = Accounts::new(alloc);
         let mut rest = Some(file);
@@ -177,7 +184,8 @@ impl Accounts {
     /// Reads one line more. An empty one counts for nothing.
     pub fn read_line(&mut self, alloc: Global, line: &[u8]) -> Result<(), AccountFault>
         ensures ok { OnOk result (with_line self.old line.now ≡ Ok self.new) }
-        ensures err { IfErr result (λ fault. (fault ≡ AccountFault.Memory) ⊎ (with_line self.old line.now ≡ Err fault)) }
+        ensures err { IfErr result
+            (λ fault. (fault ≡ AccountFault.Memory) ⊎ (with_line self.old line.now ≡ Err fault)) }
 
         // Memory is wanting only where there is no other fault.
         ensures memory { IsErrOf result AccountFault.Memory → IsOk (with_line self.old line.now) }

@@ -1,6 +1,7 @@
 //! Capabilities (IRCv3 Capability Negotiation).
 ghost use Rattle.std.specs.Prelude.{◌≡◌, IfOk, true, false, cond, Some, None};
-ghost use Rattle.registration.specs.Caps.{EachCapIsKnown, after_request, after_word, all_caps, cap_name, cap_named, is_known, is_on, list_of, none_on, turned};
+ghost use Rattle.registration.specs.Caps.{EachCapIsKnown, after_request, after_word, all_caps, cap_name};
+ghost use Rattle.registration.specs.Caps.{cap_named, is_known, is_on, list_of, none_on, turned};
 
 use line_grammar::Octets;
 use std::alloc::{AllocError, Global};

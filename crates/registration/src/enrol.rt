@@ -1,6 +1,8 @@
 //! What is known of a session while it registers, and what its commands are answered by that alone.
 ghost use Rattle.std.specs.Prelude.{◌≡◌, ◌+◌, ◌≤◌, ◌++◌, length, take, true, option_copied, IfOk, IsErr};
-ghost use Rattle.registration.specs.Enrol.{account_by, added, begun, cap_answer, ended_by, enrolment, gone_on, holds, is_own, is_ready, is_too_long, keeps_text, nick_answer, sasl_answer, user_answer};
+ghost use Rattle.registration.specs.Enrol.{account_by, added, begun, cap_answer, ended_by, enrolment};
+ghost use Rattle.registration.specs.Enrol.{gone_on, holds, is_own, is_ready, is_too_long, keeps_text};
+ghost use Rattle.registration.specs.Enrol.{nick_answer, sasl_answer, user_answer};
 ghost use Rattle.registration.specs.Plain.{credentials_of};
 
 use crate::sasl::{EXCHANGELEN, account_by};
@@ -144,10 +146,12 @@ impl Enrol<'_> {
         accounts: &Accounts,
         piece: &[u8],
     ) -> Result<SaslAnswer, AllocError>
-        ensures answer { IfOk result (λ answer. answer ≡ sasl_answer accounts.now (enrolment self.now) piece.now) }
+        ensures answer { IfOk result
+            (λ answer. answer ≡ sasl_answer accounts.now (enrolment self.now) piece.now) }
 
         // Memory is wanting only where the exchange goes on or the session is logged in.
-        ensures memory { IsErr result → keeps_text (sasl_answer accounts.now (enrolment self.now) piece.now) ≡ true }
+        ensures memory { IsErr result
+            → keeps_text (sasl_answer accounts.now (enrolment self.now) piece.now) ≡ true }
     {
         if self.account.is_some() {
             return Ok(SaslAnswer::AlreadyLoggedIn);
@@ -216,8 +220,10 @@ fn join_into(room: &mut [u8], so_far: &[u8], octets: &[u8]) -> usize
 
 fn end(accounts: &Accounts, payload: &[u8]) -> Result<SaslAnswer, AllocError>
     requires { length payload.now ≤ 1200 }
-    ensures answer { IfOk result (λ answer. answer ≡ ended_by (account_by accounts.now (credentials_of payload.now))) }
-    ensures memory { IsErr result → keeps_text (ended_by (account_by accounts.now (credentials_of payload.now))) ≡ true }
+    ensures answer { IfOk result
+        (λ answer. answer ≡ ended_by (account_by accounts.now (credentials_of payload.now))) }
+    ensures memory { IsErr result
+        → keeps_text (ended_by (account_by accounts.now (credentials_of payload.now))) ≡ true }
 {
     match account_by(accounts, payload)? {
         Some(account) => Ok(SaslAnswer::LoggedIn { account }),

@@ -42,7 +42,8 @@ fn is_own(identity: &[u8], user: &[u8]) -> bool
 
 /// The user and the password that a message tells, where it tells them.
 fn told_in(message: &[u8]) -> Option<(&[u8], &[u8])>
-    ensures { option_map (λ told. credentials told.0.now told.1.now) result ≡ credentials_from (three_of (parts 0 message.now)) }
+    ensures { option_map (λ told. credentials told.0.now told.1.now) result
+        ≡ credentials_from (three_of (parts 0 message.now)) }
 {
     let (identity, user, password) = three_parts(message, 0)?;
     if user.is_empty() || password.is_empty() || !is_own(identity, user) {
@@ -55,7 +56,8 @@ fn told_in(message: &[u8]) -> Option<(&[u8], &[u8])>
 /// the front of the room. `None` where it is anything else.
 fn decode_into(payload: &[u8], room: &mut [u8]) -> Option<usize>
     requires { decoded_estimate (length payload.now) ≤ length room.old }
-    ensures found { option_map (λ len. take len room.new) result ≡ result_ok (decode_of standard payload.now) }
+    ensures found { option_map (λ len. take len room.new) result
+        ≡ result_ok (decode_of standard payload.now) }
     ensures within { IfSome result (λ len. len ≤ length room.new) }
     ensures exact { IfSome result (λ len. payload.now ≡ encode_of standard (take len room.new)) }
 {
@@ -64,7 +66,8 @@ fn decode_into(payload: &[u8], room: &mut [u8]) -> Option<usize>
 
 /// The credentials that a message tells.
 fn credentials_from(alloc: Global, message: &[u8]) -> Result<Option<Credentials>, AllocError>
-    ensures found { IfOk result (λ found. found ≡ credentials_from (three_of (parts 0 message.now))) }
+    ensures found { IfOk result
+        (λ found. found ≡ credentials_from (three_of (parts 0 message.now))) }
     ensures memory { IsErr result → IsSome (credentials_from (three_of (parts 0 message.now))) }
 {
     let Some((user, password)) = told_in(message) else {
@@ -101,7 +104,8 @@ pub fn plain(alloc: Global, payload: &[u8]) -> Result<Option<Credentials>, Alloc
     ensures spelled { IfOk result (λ found. IfSome found (λ c. Spells payload.now c)) }
 
     // A payload as long as an exchange may be is decoded in room that takes no memory.
-    ensures memory { length payload.now ≤ 1200 → IsErr result → IsSome (credentials_of payload.now) }
+    ensures memory { length payload.now ≤ 1200 → IsErr result
+        → IsSome (credentials_of payload.now) }
 {
     if payload.len() <= EXCHANGELEN {
         return plain_in(alloc, payload, &mut [0; MESSAGELEN]);
@@ -114,7 +118,8 @@ pub fn plain(alloc: Global, payload: &[u8]) -> Result<Option<Credentials>, Alloc
 #[tactic(auto, unfolding(crate::specs::Plain::credentials_of))]
 pub(crate) fn account_by(accounts: &Accounts, payload: &[u8]) -> Result<Option<Octets>, AllocError>
     requires { length payload.now ≤ 1200 }
-    ensures account { IfOk result (λ account. account ≡ account_by accounts.now (credentials_of payload.now)) }
+    ensures account { IfOk result
+        (λ account. account ≡ account_by accounts.now (credentials_of payload.now)) }
     ensures memory { IsErr result → IsSome (account_by accounts.now (credentials_of payload.now)) }
 {
     let mut room = [0; MESSAGELEN];

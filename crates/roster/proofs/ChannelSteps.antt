@@ -1,8 +1,11 @@
 -- The table of channels stands for the facts after each of them.
-use Rattle.std.proofs.Common.{◌≡◌, inl, inr, ℕ, Bool, true, false, cond, List, [], ◌∷◌, ◌++◌, filter, unwrap_or, Option, Some, None, refl, sym, ap, ◌∙◌, subst}
+use Rattle.std.proofs.Common.{◌≡◌, inl, inr, ℕ, Bool, true, false, cond, List, [], ◌∷◌, ◌++◌, filter}
+use Rattle.std.proofs.Common.{unwrap_or, Option, Some, None, refl, sym, ap, ◌∙◌, subst}
 use Rattle.std.specs.Option.{is_some, option_map, option_map_or}
 use Rattle.roster.specs.declared.deed.Deed.{Deed}
-use Rattle.roster.specs.declared.deed.Deed.TheVariants.{Opened, NickSet, UserSet, HoldSet, CapsSet, ExchangeSet, LoggedIn, Enrolled, AwaySet, InvisibleSet, ChannelMade, Changed, Ended, Gone}
+use Rattle.roster.specs.declared.deed.Deed.TheVariants.{Opened, NickSet, UserSet, HoldSet, CapsSet}
+use Rattle.roster.specs.declared.deed.Deed.TheVariants.{ExchangeSet, LoggedIn, Enrolled, AwaySet}
+use Rattle.roster.specs.declared.deed.Deed.TheVariants.{InvisibleSet, ChannelMade, Changed, Ended, Gone}
 use Rattle.roster.specs.declared.tables.Channel.{Channel}
 use Rattle.casemapping.specs.Fold.{is_same}
 use Rattle.channel_state.specs.declared.change.Change.{Change}
@@ -13,24 +16,93 @@ use Rattle.roster.specs.Tables.{channel_of, state_in, name_in, names_of, Reholds
 use Rattle.roster.specs.Stands.{AreApart, AreHeld, HoldChannels}
 use Rattle.roster.proofs.Bools.{either}
 use Rattle.roster.proofs.OnChannels.{state-same, state-lasts, members-lasting}
-use Rattle.roster.proofs.ChannelTable.{channel_of-same, reheld, channel_of-with, channel_of-push, channel_of-push_other, apart-with, apart-push, apart-populated, kept, channel_of-populated}
+use Rattle.roster.proofs.ChannelTable.{channel_of-same, reheld, channel_of-with, channel_of-push}
+use Rattle.roster.proofs.ChannelTable.{channel_of-push_other, apart-with, apart-push}
+use Rattle.roster.proofs.ChannelTable.{apart-populated, kept, channel_of-populated}
 use Rattle.roster.proofs.ChannelNames.{names_of-push, names_of-with, names_of-populated, held-push, held-populated}
 
 -- a fact that tells of no channel
-pub channels_plain : (d : Deed) (ks : List Channel) (fs : List Deed) → is_tame d ≡ true → HoldChannels ks fs → HoldChannels ks (d ∷ fs)
-channels_plain (Opened u h) ks fs p i = record { states = i.states; names = i.names; channels = i.channels; apart = i.apart; held = i.held }
-channels_plain (NickSet u n) ks fs p i = record { states = i.states; names = i.names; channels = i.channels; apart = i.apart; held = i.held }
-channels_plain (UserSet u n r) ks fs p i = record { states = i.states; names = i.names; channels = i.channels; apart = i.apart; held = i.held }
-channels_plain (HoldSet u x) ks fs p i = record { states = i.states; names = i.names; channels = i.channels; apart = i.apart; held = i.held }
-channels_plain (CapsSet u x) ks fs p i = record { states = i.states; names = i.names; channels = i.channels; apart = i.apart; held = i.held }
-channels_plain (ExchangeSet u x) ks fs p i = record { states = i.states; names = i.names; channels = i.channels; apart = i.apart; held = i.held }
-channels_plain (LoggedIn u x) ks fs p i = record { states = i.states; names = i.names; channels = i.channels; apart = i.apart; held = i.held }
-channels_plain (Enrolled u) ks fs p i = record { states = i.states; names = i.names; channels = i.channels; apart = i.apart; held = i.held }
-channels_plain (AwaySet u x) ks fs p i = record { states = i.states; names = i.names; channels = i.channels; apart = i.apart; held = i.held }
-channels_plain (InvisibleSet u x) ks fs p i = record { states = i.states; names = i.names; channels = i.channels; apart = i.apart; held = i.held }
+pub channels_plain : (d : Deed) (ks : List Channel) (fs : List Deed) → is_tame d ≡ true → HoldChannels ks fs
+    → HoldChannels ks (d ∷ fs)
+channels_plain (Opened u h) ks fs p i = record {
+  states = i.states;
+  names = i.names;
+  channels = i.channels;
+  apart = i.apart;
+  held = i.held;
+}
+channels_plain (NickSet u n) ks fs p i = record {
+  states = i.states;
+  names = i.names;
+  channels = i.channels;
+  apart = i.apart;
+  held = i.held;
+}
+channels_plain (UserSet u n r) ks fs p i = record {
+  states = i.states;
+  names = i.names;
+  channels = i.channels;
+  apart = i.apart;
+  held = i.held;
+}
+channels_plain (HoldSet u x) ks fs p i = record {
+  states = i.states;
+  names = i.names;
+  channels = i.channels;
+  apart = i.apart;
+  held = i.held;
+}
+channels_plain (CapsSet u x) ks fs p i = record {
+  states = i.states;
+  names = i.names;
+  channels = i.channels;
+  apart = i.apart;
+  held = i.held;
+}
+channels_plain (ExchangeSet u x) ks fs p i = record {
+  states = i.states;
+  names = i.names;
+  channels = i.channels;
+  apart = i.apart;
+  held = i.held;
+}
+channels_plain (LoggedIn u x) ks fs p i = record {
+  states = i.states;
+  names = i.names;
+  channels = i.channels;
+  apart = i.apart;
+  held = i.held;
+}
+channels_plain (Enrolled u) ks fs p i = record {
+  states = i.states;
+  names = i.names;
+  channels = i.channels;
+  apart = i.apart;
+  held = i.held;
+}
+channels_plain (AwaySet u x) ks fs p i = record {
+  states = i.states;
+  names = i.names;
+  channels = i.channels;
+  apart = i.apart;
+  held = i.held;
+}
+channels_plain (InvisibleSet u x) ks fs p i = record {
+  states = i.states;
+  names = i.names;
+  channels = i.channels;
+  apart = i.apart;
+  held = i.held;
+}
 channels_plain (ChannelMade u k) ks fs p i = absurd (let f : false ≡ true = p in cc)
 channels_plain (Changed k x) ks fs p i = absurd (let f : false ≡ true = p in cc)
-channels_plain (Ended u w x) ks fs p i = record { states = i.states; names = i.names; channels = i.channels; apart = i.apart; held = i.held }
+channels_plain (Ended u w x) ks fs p i = record {
+  states = i.states;
+  names = i.names;
+  channels = i.channels;
+  apart = i.apart;
+  held = i.held;
+}
 channels_plain (Gone u) ks fs p i = absurd (let f : false ≡ true = p in cc)
 
 -- ---- a channel
@@ -46,7 +118,8 @@ pub name_reheld : (o : Option Channel) (m : Held) → name_at (option_map (rehel
 name_reheld None m = refl
 name_reheld (Some k) m = refl
 
-state_reheld : (o : Option Channel) (m : Held) → is_some (name_at o) ≡ true → found_state (option_map (reheld m) o) ≡ m.state
+state_reheld : (o : Option Channel) (m : Held) → is_some (name_at o) ≡ true
+    → found_state (option_map (reheld m) o) ≡ m.state
 state_reheld None m e = absurd (let f : false ≡ true = e in cc)
 state_reheld (Some k) m e = refl
 
@@ -56,14 +129,17 @@ none_at (Some k) e = absurd (let f : Some k.name ≡ None = e in cc)
 
 pub kept_name : (o : Option Channel) → name_at (kept o) ≡ cond (is_some_one (found_state o).members) (name_at o) None
 kept_name None = refl
-kept_name (Some k) = elim (is_some_one k.held.state.members) as (λ b. name_at (cond b (Some k) None) ≡ cond b (Some k.name) None) [ true ↦ refl | false ↦ refl ]
+kept_name (Some k) = elim (is_some_one k.held.state.members) as
+    (λ b. name_at (cond b (Some k) None) ≡ cond b (Some k.name) None) [ true ↦ refl | false ↦ refl ]
 
 pub kept_state : (o : Option Channel) → found_state (kept o) ≡ lasting (found_state o)
 kept_state None = refl
-kept_state (Some k) = elim (is_some_one k.held.state.members) as (λ b. found_state (cond b (Some k) None) ≡ cond b k.held.state nothing) [ true ↦ refl | false ↦ refl ]
+kept_state (Some k) = elim (is_some_one k.held.state.members) as
+    (λ b. found_state (cond b (Some k) None) ≡ cond b k.held.state nothing) [ true ↦ refl | false ↦ refl ]
 
 -- a channel that is there now has the name that it had
-pub named_now : (now was : Bool) (n : List ℕ) → (now ≡ true → was ≡ true) → cond now (cond was (Some n) None) None ≡ cond now (Some n) None
+pub named_now : (now was : Bool) (n : List ℕ) → (now ≡ true → was ≡ true) → cond now (cond was (Some n) None) None
+    ≡ cond now (Some n) None
 named_now true was n h = ap (λ b. cond b (Some n) None) (h refl)
 named_now false was n h = refl
 
@@ -78,14 +154,17 @@ module _ (ks : List Channel) (fs : List Deed) (i : HoldChannels ks fs) where
 
   -- ---- a channel changes
 
-  module _ (mid : List Channel) (n : List ℕ) (x : Change) (there : has_member fs n ≡ true) (r : Reholds ks mid n (changed x (state_in ks n)) 1) where
+  module _ (mid : List Channel) (n : List ℕ) (x : Change) (there : has_member fs n ≡ true)
+      (r : Reholds ks mid n (changed x (state_in ks n)) 1) where
     here : (c : List ℕ) → is_same n c ≡ true → has_member fs c ≡ true
     here c e = ap (λ (st : State). is_some_one st.members) (sym (state-same fs n c e)) ∙ there
 
     names_stay : (c : List ℕ) → name_in mid c ≡ name_in ks c
     names_stay c =
         ap (λ (xs : List Channel). name_in xs c) r.changed ∙ ap name_at (channel_of-with ks n c r.held)
-        ∙ elim (is_same n c) as (λ b. name_at (cond b (option_map (reheld r.held) (channel_of ks c)) (channel_of ks c)) ≡ name_at (channel_of ks c)) [ true ↦ name_reheld (channel_of ks c) r.held | false ↦ refl ]
+        ∙ elim (is_same n c) as
+        (λ b. name_at (cond b (option_map (reheld r.held) (channel_of ks c)) (channel_of ks c))
+        ≡ name_at (channel_of ks c)) [ true ↦ name_reheld (channel_of ks c) r.held | false ↦ refl ]
 
     state_now : (c : List ℕ) → state_in mid c ≡ cond (is_same n c) (changed x (state fs c)) (state fs c)
     state_now c =
@@ -107,7 +186,8 @@ module _ (ks : List Channel) (fs : List Deed) (i : HoldChannels ks fs) where
 
     -- the channel after it, where it ends with its last member
     reshaped_now : (c : List ℕ) → lasting (state_in mid c) ≡ state (Changed n x ∷ fs) c
-    reshaped_now c = ap lasting (state_now c) ∙ lasting_by (is_same n c) (changed x (state fs c)) (state fs c) (state-lasts fs c)
+    reshaped_now c = ap lasting (state_now c) ∙ lasting_by (is_same n c) (changed x (state fs c)) (state fs c)
+        (state-lasts fs c)
 
     members_now : (c : List ℕ) → (state_in mid c).members ≡ members (Changed n x ∷ fs) c
     members_now c = sym (members-lasting (state_in mid c)) ∙ ap (λ (st : State). st.members) (reshaped_now c)
@@ -115,53 +195,68 @@ module _ (ks : List Channel) (fs : List Deed) (i : HoldChannels ks fs) where
     had : (c : List ℕ) → has_member (Changed n x ∷ fs) c ≡ true → has_member fs c ≡ true
     had c e = elim (either (is_same n c)) [
       | inl same ↦ here c same
-      | inr other ↦ sym (ap (λ b. is_some_one (cond b (lasting (changed x (state fs c))) (state fs c)).members) other) ∙ e
+      | inr other ↦ sym
+          (ap (λ b. is_some_one (cond b (lasting (changed x (state fs c))) (state fs c)).members) other) ∙ e
     ]
 
     apart_mid : AreApart mid
     apart_mid = subst AreApart (sym r.changed) (apart-with ks n r.held i.apart)
 
-  pub channels_changed : (ls : List Channel) (n : List ℕ) (x : Change) → has_member fs n ≡ true → Changes ks ls n x → HoldChannels ls (Changed n x ∷ fs)
+  pub channels_changed : (ls : List Channel) (n : List ℕ) (x : Change) → has_member fs n ≡ true → Changes ks ls n x
+      → HoldChannels ls (Changed n x ∷ fs)
   channels_changed ls n x was v =
-      let mid = v.between in let r = v.reholds in let there = has_member (Changed n x ∷ fs) in let apart = apart_mid mid n x was r in
+      let mid = v.between in
+      let r = v.reholds in let there = has_member (Changed n x ∷ fs) in let apart = apart_mid mid n x was r in
       record {
-        states = λ c. ap (λ (xs : List Channel). state_in xs c) v.ended ∙ ap found_state (channel_of-populated mid c apart) ∙ kept_state (channel_of mid c) ∙ reshaped_now mid n x was r c;
+        states = λ c. ap (λ (xs : List Channel). state_in xs c) v.ended ∙ ap found_state
+            (channel_of-populated mid c apart) ∙ kept_state (channel_of mid c) ∙ reshaped_now mid n x was r c;
         names = λ c.
-            ap (λ (xs : List Channel). name_in xs c) v.ended ∙ ap name_at (channel_of-populated mid c apart) ∙ kept_name (channel_of mid c)
+            ap (λ (xs : List Channel). name_in xs c) v.ended ∙ ap name_at (channel_of-populated mid c apart)
+            ∙ kept_name (channel_of mid c)
             ∙ ap (λ ms. cond (is_some_one ms) (name_in mid c) None) (members_now mid n x was r c)
             ∙ ap (λ o. cond (there c) o None) (names_stay mid n x was r c ∙ i.names c)
             ∙ named_now (there c) (has_member fs c) (name fs c) (had mid n x was r c);
         channels =
             ap (filter there) (i.channels ∙ sym (ap names_of r.changed ∙ names_of-with ks n r.held))
-            ∙ sym (names_of-populated mid there apart (λ c. ap is_some_one (members_now mid n x was r c))) ∙ ap names_of (sym v.ended);
+            ∙ sym (names_of-populated mid there apart (λ c. ap is_some_one (members_now mid n x was r c)))
+            ∙ ap names_of (sym v.ended);
         apart = subst AreApart (sym v.ended) (apart-populated mid apart);
         held = subst AreHeld (sym v.ended) (held-populated mid);
       }
 
   -- ---- a channel is made
 
-  pub channels_made : (ls : List Channel) (t room : ℕ) (n : List ℕ) → has_member fs n ≡ false → Makes ks ls n t room → HoldChannels ls (ChannelMade t n ∷ fs)
+  pub channels_made : (ls : List Channel) (t room : ℕ) (n : List ℕ) → has_member fs n ≡ false → Makes ks ls n t room
+      → HoldChannels ls (ChannelMade t n ∷ fs)
   channels_made ls t room n none m =
       let k : Channel = record { name = n; held = m.held } in
-      let absent : (c : List ℕ) → is_same n c ≡ true → channel_of ks c ≡ None = λ c e. sym (channel_of-same ks n c e) ∙ unfound n none in
+      let absent : (c : List ℕ) → is_same n c ≡ true → channel_of ks c
+      ≡ None = λ c e. sym (channel_of-same ks n c e) ∙ unfound n none in
       let new : (c : List ℕ) → channel_of ls c ≡ cond (is_same n c) (Some k) (channel_of ks c) = λ c.
       ap (λ (xs : List Channel). channel_of xs c) m.added ∙ elim (either (is_same n c)) [
-        | inl same ↦ channel_of-push ks k c (absent c same) ∙ ap (λ b. cond b (Some k) None) same ∙ sym (ap (λ b. cond b (Some k) (channel_of ks c)) same)
+        | inl same ↦ channel_of-push ks k c (absent c same) ∙ ap (λ b. cond b (Some k) None) same
+            ∙ sym (ap (λ b. cond b (Some k) (channel_of ks c)) same)
         | inr other ↦ channel_of-push_other ks k c other ∙ sym (ap (λ b. cond b (Some k) (channel_of ks c)) other)
       ] in
       record {
         states = λ c.
-            ap found_state (new c) ∙ elim (is_same n c) as (λ b. found_state (cond b (Some k) (channel_of ks c)) ≡ cond b (made_by t) (state fs c)) [ true ↦ m.state | false ↦ i.states c ];
+            ap found_state (new c) ∙ elim (is_same n c) as (λ b. found_state (cond b (Some k) (channel_of ks c))
+            ≡ cond b (made_by t) (state fs c)) [ true ↦ m.state | false ↦ i.states c ];
         names = λ c.
             ap name_at (new c) ∙ made_name c (is_same n c) refl;
         channels = ap (λ cs. cs ++ n ∷ []) i.channels ∙ sym (ap names_of m.added ∙ names_of-push ks k);
         apart = subst AreApart (sym m.added) (apart-push ks k i.apart (unfound n none));
-        held = subst AreHeld (sym m.added) (held-push ks k i.held (ap (λ (st : State). is_some_one st.members) m.state));
+        held = subst AreHeld (sym m.added)
+            (held-push ks k i.held (ap (λ (st : State). is_some_one st.members) m.state));
       }
     where
-      made_by_test : (c : List ℕ) (b : Bool) → name_at (cond b (Some (record { name = n; held = m.held })) (channel_of ks c)) ≡ cond (is_some_one (cond b (made_by t) (state fs c)).members) (Some (unwrap_or (cond b (Some n) None) (name fs c))) None
+      made_by_test : (c : List ℕ) (b : Bool)
+          → name_at (cond b (Some (record { name = n; held = m.held })) (channel_of ks c)) ≡ cond (is_some_one
+          (cond b (made_by t) (state fs c)).members) (Some (unwrap_or (cond b (Some n) None) (name fs c))) None
       made_by_test c true = refl
       made_by_test c false = i.names c
 
-      made_name : (c : List ℕ) (b : Bool) → is_same n c ≡ b → name_at (cond b (Some (record { name = n; held = m.held })) (channel_of ks c)) ≡ name_of (ChannelMade t n ∷ fs) c
-      made_name c b e = made_by_test c b ∙ sym (ap (λ x. cond (is_some_one (cond x (made_by t) (state fs c)).members) (Some (unwrap_or (cond x (Some n) None) (name fs c))) None) e)
+      made_name : (c : List ℕ) (b : Bool) → is_same n c ≡ b → name_at
+          (cond b (Some (record { name = n; held = m.held })) (channel_of ks c)) ≡ name_of (ChannelMade t n ∷ fs) c
+      made_name c b e = made_by_test c b ∙ sym (ap (λ x. cond (is_some_one
+          (cond x (made_by t) (state fs c)).members) (Some (unwrap_or (cond x (Some n) None) (name fs c))) None) e)

@@ -1,24 +1,32 @@
 -- What a channel has is what the newest fact tells of it.
 use Rattle.std.proofs.lemmas.List.Folds.{list_any-append}
 use Rattle.std.proofs.lemmas.Bool.Decides.{eqb_tells}
-use Rattle.std.proofs.Common.{◌≡◌, inl, inr, ℕ, Bool, true, false, not, ◌||◌, ◌==◌, cond, List, [], ◌∷◌, ◌++◌, filter, unwrap_or, Option, Some, None, refl, sym, ap, ◌∙◌, subst}
+use Rattle.std.proofs.Common.{◌≡◌, inl, inr, ℕ, Bool, true, false, not, ◌||◌, ◌==◌, cond, List, [], ◌∷◌, ◌++◌}
+use Rattle.std.proofs.Common.{filter, unwrap_or, Option, Some, None, refl, sym, ap, ◌∙◌, subst}
 use Rattle.std.specs.List.{list_any}
 use Rattle.casemapping.specs.Fold.{is_same}
 use Rattle.casemapping.proofs.SameNames.{is_same-left, is_same-sym}
 use Rattle.channel_state.specs.declared.change.Change.{Change}
-use Rattle.channel_state.specs.declared.change.Change.TheVariants.{Joined, Left, RankSet, FlagSet, KeySet, LimitSet, TopicSet, BanSet, BanLifted, Invited}
+use Rattle.channel_state.specs.declared.change.Change.TheVariants.{Joined, Left, RankSet, FlagSet, KeySet, LimitSet}
+use Rattle.channel_state.specs.declared.change.Change.TheVariants.{TopicSet, BanSet, BanLifted, Invited}
 use Rattle.channel_state.specs.declared.change.Rank.TheVariants.{Operator, Voice}
 use Rattle.channel_state.specs.declared.modes.Flag.{Flag}
 use Rattle.channel_state.specs.declared.modes.Flag.TheVariants.{InviteOnly, Moderated, NoOutside, Secret, TopicLocked}
-use Rattle.channel_state.specs.State.{State, among, without, with_last, ranked, is_some_one, is_set, flagged, nothing, made_by, changed, departed, lasting}
+use Rattle.channel_state.specs.State.{State, among, without, with_last, ranked, is_some_one, is_set}
+use Rattle.channel_state.specs.State.{flagged, nothing, made_by, changed, departed, lasting}
 use Rattle.roster.specs.declared.deed.Deed.{Deed}
-use Rattle.roster.specs.declared.deed.Deed.TheVariants.{Opened, NickSet, UserSet, HoldSet, CapsSet, ExchangeSet, LoggedIn, Enrolled, AwaySet, InvisibleSet, ChannelMade, Changed, Ended, Gone}
+use Rattle.roster.specs.declared.deed.Deed.TheVariants.{Opened, NickSet, UserSet, HoldSet, CapsSet}
+use Rattle.roster.specs.declared.deed.Deed.TheVariants.{ExchangeSet, LoggedIn, Enrolled, AwaySet}
+use Rattle.roster.specs.declared.deed.Deed.TheVariants.{InvisibleSet, ChannelMade, Changed, Ended, Gone}
 use Rattle.roster.specs.LookBack.{newest, state, has_member}
 use Rattle.roster.specs.Legal.{IsFit, AreLegal}
-use Rattle.roster.specs.Told.{tells_of, topic_told, flag_made, flag_told, key_told, limit_told, ban_told, gone_told, operator_told, voice_told, invited_told, pardoned_told}
-use Rattle.roster.specs.Laws.{MembersAreOnIt, TopicsAreTheLast, FlagsAreTheLast, KeysAreTheLast, LimitsAreTheLast, BansAreTheLast, OperatorsAreTheLast, VoicesAreTheLast, InvitationsAreTheLast}
+use Rattle.roster.specs.Told.{tells_of, topic_told, flag_made, flag_told, key_told, limit_told, ban_told}
+use Rattle.roster.specs.Told.{gone_told, operator_told, voice_told, invited_told, pardoned_told}
+use Rattle.roster.specs.Laws.{MembersAreOnIt, TopicsAreTheLast, FlagsAreTheLast, KeysAreTheLast, LimitsAreTheLast}
+use Rattle.roster.specs.Laws.{BansAreTheLast, OperatorsAreTheLast, VoicesAreTheLast, InvitationsAreTheLast}
 use Rattle.roster.proofs.Bools.{either, or-true, or-false}
-use Rattle.roster.proofs.OnChannels.{among-push, among-without, among-members, members-lasting, state-same, someone-without}
+use Rattle.roster.proofs.OnChannels.{among-push, among-without, among-members}
+use Rattle.roster.proofs.OnChannels.{members-lasting, state-same, someone-without}
 
 pub members_on : MembersAreOnIt
 members_on fs s c = among-members fs s c
@@ -26,13 +34,15 @@ members_on fs s c = among-members fs s c
 -- ---- who has a rank is on the channel, and whom bans don't stop is invited
 
 abbrev pub HaveRanks : State → Type 0
-HaveRanks k = (u : ℕ) → (among u k.operators ≡ true → among u k.members ≡ true) × (among u k.voices ≡ true → among u k.members ≡ true) × (among u k.pardoned ≡ true → among u k.invited ≡ true)
+HaveRanks k = (u : ℕ) → (among u k.operators ≡ true → among u k.members ≡ true)
+    × (among u k.voices ≡ true → among u k.members ≡ true) × (among u k.pardoned ≡ true → among u k.invited ≡ true)
 
 none_true : {A : Type 0} → false ≡ true → A
 none_true e = absurd (let f : false ≡ true = e in cc)
 
 -- whoever is kept was there, and isn't the one that is taken out
-kept_of : (t u : ℕ) (ts ms : List ℕ) → (among u ts ≡ true → among u ms ≡ true) → among u (without t ts) ≡ true → among u (without t ms) ≡ true
+kept_of : (t u : ℕ) (ts ms : List ℕ) → (among u ts ≡ true → among u ms ≡ true) → among u (without t ts) ≡ true
+    → among u (without t ms) ≡ true
 kept_of t u ts ms h e = elim (eqb_tells t u) [
   | inl it ↦ none_true (sym (ap (λ b. cond b false (among u ts)) it.0) ∙ sym (among-without u t ts) ∙ e)
   | inr other ↦
@@ -50,29 +60,44 @@ was_there t u ts e = elim (eqb_tells t u) [
 -- whoever was there still is when one is put at the end
 still_there : (t u : ℕ) (ms : List ℕ) → among u ms ≡ true → among u (with_last t ms) ≡ true
 still_there t u ms e = elim (eqb_tells t u) [
-  | inl it ↦ among-push u t (without t ms) ∙ ap (λ b. among u (without t ms) || b) it.0 ∙ or-true (among u (without t ms))
-  | inr other ↦ among-push u t (without t ms) ∙ ap (λ b. among u (without t ms) || b) other.0 ∙ or-false (among u (without t ms)) ∙ among-without u t ms ∙ ap (λ b. cond b false (among u ms)) other.0 ∙ e
+  | inl it ↦ among-push u t (without t ms) ∙ ap (λ b. among u (without t ms) || b) it.0
+      ∙ or-true (among u (without t ms))
+  | inr other ↦ among-push u t (without t ms) ∙ ap (λ b. among u (without t ms) || b) other.0
+      ∙ or-false (among u (without t ms)) ∙ among-without u t ms ∙ ap (λ b. cond b false (among u ms)) other.0 ∙ e
 ]
 
 -- who is ranked is a member, or was ranked
-ranked_of : (t u : ℕ) (on : Bool) (ts ms : List ℕ) → among t ms ≡ true → (among u ts ≡ true → among u ms ≡ true) → among u (ranked t on ts) ≡ true → among u ms ≡ true
+ranked_of : (t u : ℕ) (on : Bool) (ts ms : List ℕ) → among t ms ≡ true → (among u ts ≡ true → among u ms ≡ true)
+    → among u (ranked t on ts) ≡ true → among u ms ≡ true
 ranked_of t u false ts ms it h e = h (was_there t u ts e)
 ranked_of t u true ts ms it h e = elim (eqb_tells t u) [
   | inl same ↦ ap (λ (v : ℕ). among v ms) (sym same.1) ∙ it
-  | inr other ↦ h (was_there t u ts (sym (or-false (among u (without t ts))) ∙ sym (ap (λ b. among u (without t ts) || b) other.0) ∙ sym (among-push u t (without t ts)) ∙ e))
+  | inr other ↦ h (was_there t u ts (sym (or-false (among u (without t ts)))
+      ∙ sym (ap (λ b. among u (without t ts) || b) other.0) ∙ sym (among-push u t (without t ts)) ∙ e))
 ]
 
 -- who is invited stays so, and whoever is pardoned then is among them
-pardoned_of : (t u : ℕ) (on : Bool) (ps is : List ℕ) → (among u ps ≡ true → among u is ≡ true) → among u (ranked t on ps) ≡ true → among u (with_last t is) ≡ true
+pardoned_of : (t u : ℕ) (on : Bool) (ps is : List ℕ) → (among u ps ≡ true → among u is ≡ true)
+    → among u (ranked t on ps) ≡ true → among u (with_last t is) ≡ true
 pardoned_of t u false ps is h e = still_there t u is (h (was_there t u ps e))
 pardoned_of t u true ps is h e = elim (eqb_tells t u) [
-  | inl same ↦ among-push u t (without t is) ∙ ap (λ b. among u (without t is) || b) same.0 ∙ or-true (among u (without t is))
-  | inr other ↦ still_there t u is (h (was_there t u ps (sym (or-false (among u (without t ps))) ∙ sym (ap (λ b. among u (without t ps) || b) other.0) ∙ sym (among-push u t (without t ps)) ∙ e)))
+  | inl same ↦ among-push u t (without t is) ∙ ap (λ b. among u (without t is) || b) same.0
+      ∙ or-true (among u (without t is))
+  | inr other ↦ still_there t u is (h (was_there t u ps (sym (or-false (among u (without t ps)))
+      ∙ sym (ap (λ b. among u (without t ps) || b) other.0) ∙ sym (among-push u t (without t ps)) ∙ e)))
 ]
 
 ranks_changed : (x : Change) (k : State) → HaveRanks k → IsFit k x → HaveRanks (changed x k)
-ranks_changed (Joined t) k r f u = (λ e. still_there t u k.members ((r u).0 e), λ e. still_there t u k.members ((r u).1 e), kept_of t u k.pardoned k.invited (r u).2)
-ranks_changed (Left t) k r f u = (kept_of t u k.operators k.members (r u).0, kept_of t u k.voices k.members (r u).1, (r u).2)
+ranks_changed (Joined t) k r f u = (
+  λ e. still_there t u k.members ((r u).0 e),
+  λ e. still_there t u k.members ((r u).1 e),
+  kept_of t u k.pardoned k.invited (r u).2,
+)
+ranks_changed (Left t) k r f u = (
+  kept_of t u k.operators k.members (r u).0,
+  kept_of t u k.voices k.members (r u).1,
+  (r u).2,
+)
 ranks_changed (RankSet t Operator on) k r f u = (ranked_of t u on k.operators k.members f (r u).0, (r u).1, (r u).2)
 ranks_changed (RankSet t Voice on) k r f u = ((r u).0, ranked_of t u on k.voices k.members f (r u).1, (r u).2)
 ranks_changed (FlagSet g on) k r f u = r u
@@ -84,7 +109,11 @@ ranks_changed (BanLifted b) k r f u = r u
 ranks_changed (Invited t op) k r f u = ((r u).0, (r u).1, pardoned_of t u op k.pardoned k.invited (r u).2)
 
 ranks_departed : (t : ℕ) (k : State) → HaveRanks k → HaveRanks (departed t k)
-ranks_departed t k r u = (kept_of t u k.operators k.members (r u).0, kept_of t u k.voices k.members (r u).1, kept_of t u k.pardoned k.invited (r u).2)
+ranks_departed t k r u = (
+  kept_of t u k.operators k.members (r u).0,
+  kept_of t u k.voices k.members (r u).1,
+  kept_of t u k.pardoned k.invited (r u).2,
+)
 
 ranks_nothing : HaveRanks nothing
 ranks_nothing u = (none_true, none_true, none_true)
@@ -96,7 +125,8 @@ ranks_by false k l r q = q
 ranks_lasting : (k : State) → HaveRanks k → HaveRanks (lasting k)
 ranks_lasting k r = ranks_by (is_some_one k.members) k nothing r ranks_nothing
 
-fit_there : (fs : List Deed) (k c : List ℕ) (x : Change) → is_same k c ≡ true → IsFit (state fs k) x → IsFit (state fs c) x
+fit_there : (fs : List Deed) (k c : List ℕ) (x : Change) → is_same k c ≡ true → IsFit (state fs k) x
+    → IsFit (state fs c) x
 fit_there fs k c x same f = subst (λ (st : State). IsFit st x) (state-same fs k c same) f
 
 ranks_if : (b : Bool) (k l : State) → (b ≡ true → HaveRanks k) → HaveRanks l → HaveRanks (cond b k l)
@@ -116,8 +146,11 @@ ranks (Enrolled t ∷ fs) c l = ranks fs c l.1
 ranks (AwaySet t x ∷ fs) c l = ranks fs c l.1
 ranks (InvisibleSet t v ∷ fs) c l = ranks fs c l.1
 ranks (Ended t w x ∷ fs) c l = ranks fs c l.1
-ranks (ChannelMade t k ∷ fs) c l = ranks_by (is_same k c) (made_by t) (state fs c) (λ u. ((λ e. e), none_true, none_true)) (ranks fs c l.1)
-ranks (Changed k x ∷ fs) c l = ranks_if (is_same k c) (lasting (changed x (state fs c))) (state fs c) (λ same. ranks_lasting (changed x (state fs c)) (ranks_changed x (state fs c) (ranks fs c l.1) (fit_there fs k c x same l.0.1))) (ranks fs c l.1)
+ranks (ChannelMade t k ∷ fs) c l = ranks_by (is_same k c) (made_by t) (state fs c)
+    (λ u. ((λ e. e), none_true, none_true)) (ranks fs c l.1)
+ranks (Changed k x ∷ fs) c l = ranks_if (is_same k c) (lasting (changed x (state fs c))) (state fs c)
+    (λ same. ranks_lasting (changed x (state fs c))
+    (ranks_changed x (state fs c) (ranks fs c l.1) (fit_there fs k c x same l.0.1))) (ranks fs c l.1)
 ranks (Gone t ∷ fs) c l = ranks_lasting (departed t (state fs c)) (ranks_departed t (state fs c) (ranks fs c l.1))
 
 -- ---- each thing that a channel has
@@ -125,9 +158,12 @@ ranks (Gone t ∷ fs) c l = ranks_lasting (departed t (state fs c)) (ranks_depar
 lasts : (k : State) → is_some_one (lasting k).members ≡ true → lasting k ≡ k
 lasts k e = ap (λ b. cond b k nothing) (sym (ap is_some_one (members-lasting k)) ∙ e)
 
-module _ {A : Type 0} (field : State → A) (made : ℕ → A) (told : Change → Option A) (gone : ℕ → Option A) (none : A) (at_making : (t : ℕ) → field (made_by t) ≡ made t)
-    (at_change : (k : State) (x : Change) → HaveRanks k → IsFit k x → field (changed x k) ≡ unwrap_or (told x) (field k)) (at_going : (k : State) (t : ℕ) → field (departed t k) ≡ unwrap_or (gone t) (field k)) where
-  last : (fs : List Deed) (c : List ℕ) → AreLegal fs → has_member fs c ≡ true → field (state fs c) ≡ newest (tells_of made told gone c) none fs
+module _ {A : Type 0} (field : State → A) (made : ℕ → A) (told : Change → Option A) (gone : ℕ → Option A) (none : A)
+    (at_making : (t : ℕ) → field (made_by t) ≡ made t)
+    (at_change : (k : State) (x : Change) → HaveRanks k → IsFit k x → field (changed x k) ≡ unwrap_or (told x)
+    (field k)) (at_going : (k : State) (t : ℕ) → field (departed t k) ≡ unwrap_or (gone t) (field k)) where
+  last : (fs : List Deed) (c : List ℕ) → AreLegal fs → has_member fs c ≡ true
+      → field (state fs c) ≡ newest (tells_of made told gone c) none fs
   last [] c l e = none_true e
   last (Opened t h ∷ fs) c l e = last fs c l.1 e
   last (NickSet t n ∷ fs) c l e = last fs c l.1 e
@@ -143,7 +179,8 @@ module _ {A : Type 0} (field : State → A) (made : ℕ → A) (told : Change �
   last (ChannelMade t k ∷ fs) c l e =
       let before = newest (tells_of made told gone c) none fs in
       elim (either (is_same k c)) [
-        | inl same ↦ ap (λ b. field (cond b (made_by t) (state fs c))) same ∙ at_making t ∙ sym (ap (λ b. unwrap_or (cond b (Some (made t)) None) before) same)
+        | inl same ↦ ap (λ b. field (cond b (made_by t) (state fs c))) same ∙ at_making t
+            ∙ sym (ap (λ b. unwrap_or (cond b (Some (made t)) None) before) same)
         | inr other ↦
             ap (λ b. field (cond b (made_by t) (state fs c))) other
             ∙ last fs c l.1 (sym (ap (λ b. is_some_one (cond b (made_by t) (state fs c)).members) other) ∙ e)
@@ -153,8 +190,10 @@ module _ {A : Type 0} (field : State → A) (made : ℕ → A) (told : Change �
       let before = newest (tells_of made told gone c) none fs in let was = state fs c in let now = changed x was in
       elim (either (is_same k c)) [
         | inl same ↦
-            let there : has_member fs c ≡ true = ap (λ (st : State). is_some_one st.members) (sym (state-same fs k c same)) ∙ l.0.0 in
-            let lives : lasting now ≡ now = lasts now (sym (ap (λ b. is_some_one (cond b (lasting now) was).members) same) ∙ e) in
+            let there : has_member fs c ≡ true = ap (λ (st : State). is_some_one st.members)
+            (sym (state-same fs k c same)) ∙ l.0.0 in
+            let lives : lasting now
+            ≡ now = lasts now (sym (ap (λ b. is_some_one (cond b (lasting now) was).members) same) ∙ e) in
             ap (λ b. field (cond b (lasting now) was)) same ∙ ap field lives
             ∙ at_change was x (ranks fs c l.1) (fit_there fs k c x same l.0.1)
             ∙ ap (unwrap_or (told x)) (last fs c l.1 there)
@@ -175,7 +214,8 @@ module _ {A : Type 0} (field : State → A) (made : ℕ → A) (told : Change �
 
 -- ---- topic, flags, key and limit
 
-topic_step : (k : State) (x : Change) → HaveRanks k → IsFit k x → (changed x k).topic ≡ unwrap_or (topic_told x) k.topic
+topic_step : (k : State) (x : Change) → HaveRanks k → IsFit k x → (changed x k).topic
+    ≡ unwrap_or (topic_told x) k.topic
 topic_step k (Joined t) r x = refl
 topic_step k (Left t) r x = refl
 topic_step k (RankSet t Operator on) r x = refl
@@ -191,7 +231,8 @@ topic_step k (Invited t op) r x = refl
 pub topics : TopicsAreTheLast
 topics = last (λ k. k.topic) (λ t. None) topic_told (λ t. None) None (λ t. refl) topic_step (λ k t. refl)
 
-flag_step : (f : Flag) (k : State) (x : Change) → HaveRanks k → IsFit k x → is_set f (changed x k).modes ≡ unwrap_or (flag_told f x) (is_set f k.modes)
+flag_step : (f : Flag) (k : State) (x : Change) → HaveRanks k → IsFit k x → is_set f (changed x k).modes
+    ≡ unwrap_or (flag_told f x) (is_set f k.modes)
 flag_step InviteOnly k (FlagSet InviteOnly on) r x = refl
 flag_step InviteOnly k (FlagSet Moderated on) r x = refl
 flag_step InviteOnly k (FlagSet NoOutside on) r x = refl
@@ -276,7 +317,8 @@ flag_at_making Secret t = refl
 flag_at_making TopicLocked t = refl
 
 pub flags : FlagsAreTheLast
-flags f = last (λ k. is_set f k.modes) (λ t. flag_made f) (flag_told f) (λ t. None) false (flag_at_making f) (flag_step f) (λ k t. refl)
+flags f = last (λ k. is_set f k.modes) (λ t. flag_made f) (flag_told f)
+    (λ t. None) false (flag_at_making f) (flag_step f) (λ k t. refl)
 
 key_flag : (f : Flag) (on : Bool) (k : State) → (flagged f on k.modes).key ≡ k.modes.key
 key_flag InviteOnly on k = refl
@@ -292,7 +334,8 @@ limit_flag NoOutside on k = refl
 limit_flag Secret on k = refl
 limit_flag TopicLocked on k = refl
 
-key_step : (k : State) (x : Change) → HaveRanks k → IsFit k x → (changed x k).modes.key ≡ unwrap_or (key_told x) k.modes.key
+key_step : (k : State) (x : Change) → HaveRanks k → IsFit k x → (changed x k).modes.key
+    ≡ unwrap_or (key_told x) k.modes.key
 key_step k (Joined t) r x = refl
 key_step k (Left t) r x = refl
 key_step k (RankSet t Operator on) r x = refl
@@ -308,7 +351,8 @@ key_step k (Invited t op) r x = refl
 pub keys : KeysAreTheLast
 keys = last (λ k. k.modes.key) (λ t. None) key_told (λ t. None) None (λ t. refl) key_step (λ k t. refl)
 
-limit_step : (k : State) (x : Change) → HaveRanks k → IsFit k x → (changed x k).modes.limit ≡ unwrap_or (limit_told x) k.modes.limit
+limit_step : (k : State) (x : Change) → HaveRanks k → IsFit k x → (changed x k).modes.limit
+    ≡ unwrap_or (limit_told x) k.modes.limit
 limit_step k (Joined t) r x = refl
 limit_step k (Left t) r x = refl
 limit_step k (RankSet t Operator on) r x = refl
@@ -332,11 +376,13 @@ banned m bs = list_any (λ b. is_same b m) bs
 abbrev unlifted : List ℕ → List (List ℕ) → List (List ℕ)
 unlifted l bs = filter (λ b. not (is_same b l)) bs
 
-banned_set : (m b : List ℕ) (bs : List (List ℕ)) → banned m (bs ++ b ∷ []) ≡ unwrap_or (cond (is_same b m) (Some true) None) (banned m bs)
-banned_set m b bs = list_any-append (λ x. is_same x m) bs (b ∷ []) ∙ elim (is_same b m) as (λ y. (banned m bs || (y || false)) ≡ unwrap_or (cond y (Some true) None) (banned m bs)) [
-  | true ↦ or-true (banned m bs)
-  | false ↦ or-false (banned m bs)
-]
+banned_set : (m b : List ℕ) (bs : List (List ℕ)) → banned m (bs ++ b ∷ [])
+    ≡ unwrap_or (cond (is_same b m) (Some true) None) (banned m bs)
+banned_set m b bs = list_any-append (λ x. is_same x m) bs (b ∷ []) ∙ elim (is_same b m) as
+    (λ y. (banned m bs || (y || false)) ≡ unwrap_or (cond y (Some true) None) (banned m bs)) [
+      | true ↦ or-true (banned m bs)
+      | false ↦ or-false (banned m bs)
+    ]
 
 banned_lifted : (m l : List ℕ) (bs : List (List ℕ)) → banned m (unlifted l bs) ≡ cond (is_same l m) false (banned m bs)
 banned_lifted m l [] = elim (is_same l m) as (λ y. false ≡ cond y false false) [ true ↦ refl | false ↦ refl ]
@@ -346,7 +392,8 @@ banned_lifted m l (b ∷ bs) =
       | inl gone ↦
           ap (λ y. banned m (cond (not y) (b ∷ unlifted l bs) (unlifted l bs))) gone ∙ ih
           ∙ elim (either (is_same l m)) [
-            | inl it ↦ ap (λ y. cond y false (banned m bs)) it ∙ sym (ap (λ y. cond y false (is_same b m || banned m bs)) it)
+            | inl it ↦ ap (λ y. cond y false (banned m bs)) it
+                ∙ sym (ap (λ y. cond y false (is_same b m || banned m bs)) it)
             | inr miss ↦
                 let away : is_same b m ≡ false = is_same-left b l m gone ∙ miss in
                 sym (ap (λ y. cond (is_same l m) false (y || banned m bs)) away)
@@ -356,9 +403,12 @@ banned_lifted m l (b ∷ bs) =
           ∙ ap (λ y. is_same b m || y) ih
           ∙ elim (either (is_same l m)) [
             | inl it ↦
-                let away : is_same b m ≡ false = is_same-sym b m ∙ sym (is_same-left l m b it) ∙ is_same-sym l b ∙ kept in
-                ap (λ y. y || cond (is_same l m) false (banned m bs)) away ∙ ap (λ y. cond y false (banned m bs)) it ∙ sym (ap (λ y. cond y false (is_same b m || banned m bs)) it)
-            | inr miss ↦ ap (λ y. is_same b m || cond y false (banned m bs)) miss ∙ sym (ap (λ y. cond y false (is_same b m || banned m bs)) miss)
+                let away : is_same b m ≡ false = is_same-sym b m ∙ sym (is_same-left l m b it)
+                ∙ is_same-sym l b ∙ kept in
+                ap (λ y. y || cond (is_same l m) false (banned m bs)) away ∙ ap (λ y. cond y false (banned m bs)) it
+                ∙ sym (ap (λ y. cond y false (is_same b m || banned m bs)) it)
+            | inr miss ↦ ap (λ y. is_same b m || cond y false (banned m bs)) miss
+                ∙ sym (ap (λ y. cond y false (is_same b m || banned m bs)) miss)
           ]
     ]
 
@@ -366,7 +416,8 @@ lifted_told : (y p : Bool) → cond y false p ≡ unwrap_or (cond y (Some false)
 lifted_told true p = refl
 lifted_told false p = refl
 
-ban_step : (m : List ℕ) (k : State) (x : Change) → HaveRanks k → IsFit k x → banned m (changed x k).bans ≡ unwrap_or (ban_told m x) (banned m k.bans)
+ban_step : (m : List ℕ) (k : State) (x : Change) → HaveRanks k → IsFit k x → banned m (changed x k).bans
+    ≡ unwrap_or (ban_told m x) (banned m k.bans)
 ban_step m k (Joined t) r x = refl
 ban_step m k (Left t) r x = refl
 ban_step m k (RankSet t Operator on) r x = refl
@@ -380,7 +431,8 @@ ban_step m k (BanLifted b) r x = banned_lifted m b k.bans ∙ lifted_told (is_sa
 ban_step m k (Invited t op) r x = refl
 
 pub bans_last : BansAreTheLast
-bans_last m = last (λ k. banned m k.bans) (λ t. false) (ban_told m) (λ t. None) false (λ t. refl) (ban_step m) (λ k t. refl)
+bans_last m = last (λ k. banned m k.bans) (λ t. false) (ban_told m) (λ t. None) false (λ t. refl) (ban_step m)
+    (λ k t. refl)
 
 -- ---- operators and voices
 
@@ -389,18 +441,23 @@ left_told s t ts = among-without s t ts ∙ lifted_told (t == s) (among s ts)
 
 put_told : (s t : ℕ) (ts : List ℕ) → among s (with_last t ts) ≡ unwrap_or (cond (t == s) (Some true) None) (among s ts)
 put_told s t ts = elim (eqb_tells t s) [
-  | inl it ↦ among-push s t (without t ts) ∙ ap (λ b. among s (without t ts) || b) it.0 ∙ or-true (among s (without t ts)) ∙ sym (ap (λ b. unwrap_or (cond b (Some true) None) (among s ts)) it.0)
+  | inl it ↦ among-push s t (without t ts) ∙ ap (λ b. among s (without t ts) || b) it.0
+      ∙ or-true (among s (without t ts)) ∙ sym (ap (λ b. unwrap_or (cond b (Some true) None) (among s ts)) it.0)
   | inr other ↦
-      among-push s t (without t ts) ∙ ap (λ b. among s (without t ts) || b) other.0 ∙ or-false (among s (without t ts)) ∙ among-without s t ts
-      ∙ ap (λ b. cond b false (among s ts)) other.0 ∙ sym (ap (λ b. unwrap_or (cond b (Some true) None) (among s ts)) other.0)
+      among-push s t (without t ts) ∙ ap (λ b. among s (without t ts) || b) other.0
+      ∙ or-false (among s (without t ts)) ∙ among-without s t ts
+      ∙ ap (λ b. cond b false (among s ts)) other.0
+      ∙ sym (ap (λ b. unwrap_or (cond b (Some true) None) (among s ts)) other.0)
 ]
 
-ranked_told : (s t : ℕ) (on : Bool) (ts : List ℕ) → among s (ranked t on ts) ≡ unwrap_or (cond (t == s) (Some on) None) (among s ts)
+ranked_told : (s t : ℕ) (on : Bool) (ts : List ℕ) → among s (ranked t on ts)
+    ≡ unwrap_or (cond (t == s) (Some on) None) (among s ts)
 ranked_told s t true ts = put_told s t ts
 ranked_told s t false ts = left_told s t ts
 
 -- who joins has no rank yet
-joined_told : (s t : ℕ) (ts ms : List ℕ) → (among s ts ≡ true → among s ms ≡ true) → among t ms ≡ false → among s ts ≡ unwrap_or (cond (t == s) (Some false) None) (among s ts)
+joined_told : (s t : ℕ) (ts ms : List ℕ) → (among s ts ≡ true → among s ms ≡ true) → among t ms ≡ false
+    → among s ts ≡ unwrap_or (cond (t == s) (Some false) None) (among s ts)
 joined_told s t ts ms h out = elim (eqb_tells t s) [
   | inl it ↦
       let unranked : among s ts ≡ false = elim (either (among s ts)) [
@@ -411,7 +468,8 @@ joined_told s t ts ms h out = elim (eqb_tells t s) [
   | inr other ↦ sym (ap (λ b. unwrap_or (cond b (Some false) None) (among s ts)) other.0)
 ]
 
-operator_step : (s : ℕ) (k : State) (x : Change) → HaveRanks k → IsFit k x → among s (changed x k).operators ≡ unwrap_or (operator_told s x) (among s k.operators)
+operator_step : (s : ℕ) (k : State) (x : Change) → HaveRanks k → IsFit k x → among s (changed x k).operators
+    ≡ unwrap_or (operator_told s x) (among s k.operators)
 operator_step s k (Joined t) r x = joined_told s t k.operators k.members (r s).0 x
 operator_step s k (Left t) r x = left_told s t k.operators
 operator_step s k (RankSet t Operator on) r x = ranked_told s t on k.operators
@@ -425,9 +483,11 @@ operator_step s k (BanLifted b) r x = refl
 operator_step s k (Invited t op) r x = refl
 
 pub operators : OperatorsAreTheLast
-operators s = last (λ k. among s k.operators) (λ t. t == s) (operator_told s) (gone_told s) false (λ t. or-false (t == s)) (operator_step s) (λ k t. left_told s t k.operators)
+operators s = last (λ k. among s k.operators) (λ t. t == s) (operator_told s) (gone_told s) false
+    (λ t. or-false (t == s)) (operator_step s) (λ k t. left_told s t k.operators)
 
-voice_step : (s : ℕ) (k : State) (x : Change) → HaveRanks k → IsFit k x → among s (changed x k).voices ≡ unwrap_or (voice_told s x) (among s k.voices)
+voice_step : (s : ℕ) (k : State) (x : Change) → HaveRanks k → IsFit k x → among s (changed x k).voices
+    ≡ unwrap_or (voice_told s x) (among s k.voices)
 voice_step s k (Joined t) r x = joined_told s t k.voices k.members (r s).1 x
 voice_step s k (Left t) r x = left_told s t k.voices
 voice_step s k (RankSet t Operator on) r x = refl
@@ -441,11 +501,13 @@ voice_step s k (BanLifted b) r x = refl
 voice_step s k (Invited t op) r x = refl
 
 pub voices : VoicesAreTheLast
-voices s = last (λ k. among s k.voices) (λ t. false) (voice_told s) (gone_told s) false (λ t. refl) (voice_step s) (λ k t. left_told s t k.voices)
+voices s = last (λ k. among s k.voices) (λ t. false) (voice_told s) (gone_told s) false (λ t. refl) (voice_step s)
+    (λ k t. left_told s t k.voices)
 
 -- ---- invitations
 
-invited_step : (s : ℕ) (k : State) (x : Change) → HaveRanks k → IsFit k x → among s (changed x k).invited ≡ unwrap_or (invited_told s x) (among s k.invited)
+invited_step : (s : ℕ) (k : State) (x : Change) → HaveRanks k → IsFit k x → among s (changed x k).invited
+    ≡ unwrap_or (invited_told s x) (among s k.invited)
 invited_step s k (Joined t) r x = left_told s t k.invited
 invited_step s k (Left t) r x = refl
 invited_step s k (RankSet t Operator on) r x = refl
@@ -458,7 +520,8 @@ invited_step s k (BanSet b) r x = refl
 invited_step s k (BanLifted b) r x = refl
 invited_step s k (Invited t op) r x = put_told s t k.invited
 
-pardoned_step : (s : ℕ) (k : State) (x : Change) → HaveRanks k → IsFit k x → among s (changed x k).pardoned ≡ unwrap_or (pardoned_told s x) (among s k.pardoned)
+pardoned_step : (s : ℕ) (k : State) (x : Change) → HaveRanks k → IsFit k x → among s (changed x k).pardoned
+    ≡ unwrap_or (pardoned_told s x) (among s k.pardoned)
 pardoned_step s k (Joined t) r x = left_told s t k.pardoned
 pardoned_step s k (Left t) r x = refl
 pardoned_step s k (RankSet t Operator on) r x = refl
@@ -473,6 +536,8 @@ pardoned_step s k (Invited t op) r x = ranked_told s t op k.pardoned
 
 pub invitations : InvitationsAreTheLast
 invitations s fs c l e = (
-  last (λ k. among s k.invited) (λ t. false) (invited_told s) (gone_told s) false (λ t. refl) (invited_step s) (λ k t. left_told s t k.invited) fs c l e,
-  last (λ k. among s k.pardoned) (λ t. false) (pardoned_told s) (gone_told s) false (λ t. refl) (pardoned_step s) (λ k t. left_told s t k.pardoned) fs c l e,
+  last (λ k. among s k.invited) (λ t. false) (invited_told s) (gone_told s) false (λ t. refl) (invited_step s)
+      (λ k t. left_told s t k.invited) fs c l e,
+  last (λ k. among s k.pardoned) (λ t. false) (pardoned_told s) (gone_told s) false (λ t. refl) (pardoned_step s)
+      (λ k t. left_told s t k.pardoned) fs c l e,
 )

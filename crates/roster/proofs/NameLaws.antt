@@ -1,6 +1,8 @@
 -- What follows of names of channels.
 use Rattle.std.proofs.Common.{inl, inr, [], ◌∷◌}
-use Rattle.roster.specs.declared.deed.Deed.TheVariants.{Opened, NickSet, UserSet, HoldSet, CapsSet, ExchangeSet, LoggedIn, Enrolled, AwaySet, InvisibleSet, ChannelMade, Changed, Ended, Gone}
+use Rattle.roster.specs.declared.deed.Deed.TheVariants.{Opened, NickSet, UserSet, HoldSet, CapsSet}
+use Rattle.roster.specs.declared.deed.Deed.TheVariants.{ExchangeSet, LoggedIn, Enrolled, AwaySet}
+use Rattle.roster.specs.declared.deed.Deed.TheVariants.{InvisibleSet, ChannelMade, Changed, Ended, Gone}
 use Rattle.casemapping.specs.Fold.{is_same}
 use Rattle.roster.specs.Laws.{ChannelsHaveOneName, SpelledNamesAreNames}
 use Rattle.roster.proofs.Bools.{either}
@@ -20,7 +22,10 @@ spelled (CapsSet t n ∷ fs) c = spelled fs c
 spelled (ExchangeSet t n ∷ fs) c = spelled fs c
 spelled (LoggedIn t n ∷ fs) c = spelled fs c
 spelled (Enrolled t ∷ fs) c = spelled fs c
-spelled (ChannelMade t k ∷ fs) c = elim (either (is_same k c)) [ inl same ↦ rw same same | inr other ↦ rw other (spelled fs c) ]
+spelled (ChannelMade t k ∷ fs) c = elim (either (is_same k c)) [
+  | inl same ↦ rw same same
+  | inr other ↦ rw other (spelled fs c)
+]
 spelled (AwaySet t x ∷ fs) c = spelled fs c
 spelled (InvisibleSet t x ∷ fs) c = spelled fs c
 spelled (Changed k x ∷ fs) c = spelled fs c

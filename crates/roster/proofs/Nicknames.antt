@@ -12,7 +12,9 @@ nick_test k n e = ap (bytes_eq (folded n)) (sym e) ∙ sym (same_is n k) ∙ is_
 
 module _ (s t : List (List ℕ × ℕ)) (k n : List ℕ) (x : ℕ) (first : s ≡ (k, x) ∷ t) (low : folded k ≡ k) where
   pub passed : is_same k n ≡ false → held_by s (folded n) ≡ held_by t (folded n)
-  passed miss = ap (λ es. held_by es (folded n)) first ∙ ap (λ b. cond b (Some x) (held_by t (folded n))) (nick_test k n low ∙ miss)
+  passed miss = ap (λ es. held_by es (folded n)) first ∙ ap
+      (λ b. cond b (Some x) (held_by t (folded n))) (nick_test k n low ∙ miss)
 
   pub hit : is_same k n ≡ true → held_by s (folded n) ≡ Some x
-  hit it = ap (λ es. held_by es (folded n)) first ∙ ap (λ b. cond b (Some x) (held_by t (folded n))) (nick_test k n low ∙ it)
+  hit it = ap (λ es. held_by es (folded n)) first ∙ ap (λ b. cond b (Some x) (held_by t (folded n)))
+      (nick_test k n low ∙ it)

@@ -2,15 +2,19 @@
 use Rattle.std.proofs.lemmas.Bool.Decides.{eqb_tells}
 use Rattle.std.proofs.lemmas.List.Folds.{list_any-append}
 use Rattle.std.proofs.lemmas.Map.Views.{any-filter_same}
-use Rattle.std.proofs.Common.{◌≡◌, inl, inr, ℕ, Bool, true, false, not, ◌&&◌, ◌||◌, ◌==◌, cond, List, [], ◌∷◌, filter, sym, ap, ◌∙◌}
+use Rattle.std.proofs.Common.{◌≡◌, inl, inr, ℕ, Bool, true, false, not, ◌&&◌, ◌||◌, ◌==◌}
+use Rattle.std.proofs.Common.{cond, List, [], ◌∷◌, filter, sym, ap, ◌∙◌}
 use Rattle.casemapping.specs.Fold.{is_same}
 use Rattle.casemapping.proofs.SameNames.{is_same-sym, is_same-left}
 use Rattle.channel_state.specs.declared.change.Change.{Change}
-use Rattle.channel_state.specs.declared.change.Change.TheVariants.{Joined, Left, RankSet, FlagSet, KeySet, LimitSet, TopicSet, BanSet, BanLifted, Invited}
+use Rattle.channel_state.specs.declared.change.Change.TheVariants.{Joined, Left, RankSet, FlagSet, KeySet, LimitSet}
+use Rattle.channel_state.specs.declared.change.Change.TheVariants.{TopicSet, BanSet, BanLifted, Invited}
 use Rattle.channel_state.specs.declared.change.Rank.TheVariants.{Operator, Voice}
 use Rattle.channel_state.specs.State.{State, among, without, is_some_one, nothing, made_by, changed, departed, lasting}
 use Rattle.roster.specs.declared.deed.Deed.{Deed}
-use Rattle.roster.specs.declared.deed.Deed.TheVariants.{Opened, NickSet, UserSet, HoldSet, CapsSet, ExchangeSet, LoggedIn, Enrolled, AwaySet, InvisibleSet, ChannelMade, Changed, Ended, Gone}
+use Rattle.roster.specs.declared.deed.Deed.TheVariants.{Opened, NickSet, UserSet, HoldSet, CapsSet}
+use Rattle.roster.specs.declared.deed.Deed.TheVariants.{ExchangeSet, LoggedIn, Enrolled, AwaySet}
+use Rattle.roster.specs.declared.deed.Deed.TheVariants.{InvisibleSet, ChannelMade, Changed, Ended, Gone}
 use Rattle.roster.specs.LookBack.{state, without_name, with_last_name}
 use Rattle.roster.specs.Lists.{seat_of, noted, renoted}
 use Rattle.roster.specs.Tables.{state_in, holds_name}
@@ -23,26 +27,35 @@ use Rattle.roster.proofs.FieldLaws.{was_there}
 
 -- ---- names among others
 
-pub has-last : (c k : List ℕ) (ks : List (List ℕ)) → holds_name c (with_last_name k ks) ≡ (holds_name c (without_name k ks) || is_same k c)
-has-last c k ks = list_any-append (λ x. is_same x c) (without_name k ks) (k ∷ []) ∙ ap (λ b. holds_name c (without_name k ks) || b) (or-false (is_same k c))
+pub has-last : (c k : List ℕ) (ks : List (List ℕ)) → holds_name c (with_last_name k ks)
+    ≡ (holds_name c (without_name k ks) || is_same k c)
+has-last c k ks = list_any-append (λ x. is_same x c) (without_name k ks) (k ∷ []) ∙ ap
+    (λ b. holds_name c (without_name k ks) || b) (or-false (is_same k c))
 
-pub has-without : (c k : List ℕ) (ks : List (List ℕ)) → holds_name c (without_name k ks) ≡ (not (is_same c k) && holds_name c ks)
-has-without c k ks = any-filter_same (λ x. is_same x c) (λ x. not (is_same x k)) (not (is_same c k)) (λ x e. ap not (is_same-left x c k e)) ks
+pub has-without : (c k : List ℕ) (ks : List (List ℕ)) → holds_name c (without_name k ks)
+    ≡ (not (is_same c k) && holds_name c ks)
+has-without c k ks = any-filter_same (λ x. is_same x c) (λ x. not (is_same x k)) (not (is_same c k))
+    (λ x e. ap not (is_same-left x c k e)) ks
 
 has_new : (c k : List ℕ) (ks : List (List ℕ)) → is_same k c ≡ true → holds_name c (with_last_name k ks) ≡ true
-has_new c k ks same = has-last c k ks ∙ ap (λ b. holds_name c (without_name k ks) || b) same ∙ or-true (holds_name c (without_name k ks))
+has_new c k ks same = has-last c k ks ∙ ap (λ b. holds_name c (without_name k ks) || b) same
+    ∙ or-true (holds_name c (without_name k ks))
 
 has_still : (c k : List ℕ) (ks : List (List ℕ)) → holds_name c ks ≡ true → holds_name c (with_last_name k ks) ≡ true
 has_still c k ks e = elim (either (is_same k c)) [
   | inl same ↦ has_new c k ks same
   | inr miss ↦
-      has-last c k ks ∙ ap (λ b. b || is_same k c) (has-without c k ks ∙ ap (λ b. not b && holds_name c ks) (is_same-sym c k ∙ miss) ∙ e)
+      has-last c k ks ∙ ap (λ b. b || is_same k c)
+      (has-without c k ks ∙ ap (λ b. not b && holds_name c ks) (is_same-sym c k ∙ miss) ∙ e)
 ]
 
 -- a note stays where its channel still invites the session
-pub kept_note : (ks : List Channel) (s : ℕ) (c : List ℕ) (ns : List (List ℕ)) → among s (state_in ks c).invited ≡ true → holds_name c ns ≡ true → holds_name c (filter (λ k. among s (state_in ks k).invited) ns) ≡ true
+pub kept_note : (ks : List Channel) (s : ℕ) (c : List ℕ) (ns : List (List ℕ)) → among s (state_in ks c).invited
+    ≡ true → holds_name c ns ≡ true → holds_name c (filter (λ k. among s (state_in ks k).invited) ns) ≡ true
 kept_note ks s c ns it e =
-    any-filter_same (λ k. is_same k c) (λ k. among s (state_in ks k).invited) true (λ k same. ap (λ o. among s (option_map_or (λ (x : Channel). x.held.state) o nothing).invited) (channel_of-same ks k c same) ∙ it) ns ∙ e
+    any-filter_same (λ k. is_same k c) (λ k. among s (state_in ks k).invited) true
+    (λ k same. ap (λ o. among s (option_map_or (λ (x : Channel). x.held.state) o nothing).invited)
+    (channel_of-same ks k c same) ∙ it) ns ∙ e
 
 -- ---- who is invited
 
@@ -57,7 +70,9 @@ not_made : (b : Bool) (t s : ℕ) (k : State) → among s (cond b (made_by t) k)
 not_made true t s k e = absurd (let f : false ≡ true = e in cc)
 not_made false t s k e = e
 
-noted_new : (x : Change) (s : ℕ) (k : State) (n c : List ℕ) (ns : List (List ℕ)) → is_same n c ≡ true → (among s k.invited ≡ true → holds_name c ns ≡ true) → among s (changed x k).invited ≡ true → holds_name c (noted s n (seat_of x) ns) ≡ true
+noted_new : (x : Change) (s : ℕ) (k : State) (n c : List ℕ) (ns : List (List ℕ)) → is_same n c ≡ true
+    → (among s k.invited ≡ true → holds_name c ns ≡ true) → among s (changed x k).invited ≡ true
+    → holds_name c (noted s n (seat_of x) ns) ≡ true
 noted_new (Joined t) s k n c ns same h e = h (was_there t s k.invited e)
 noted_new (Left t) s k n c ns same h e = h e
 noted_new (RankSet t Operator on) s k n c ns same h e = h e
@@ -71,11 +86,13 @@ noted_new (BanLifted x) s k n c ns same h e = h e
 noted_new (Invited t op) s k n c ns same h e = elim (eqb_tells t s) [
   | inl it ↦ ap (λ b. holds_name c (cond b (with_last_name n ns) ns)) it.0 ∙ has_new c n ns same
   | inr other ↦
-      let was = was_there t s k.invited (sym (or-false (among s (without t k.invited))) ∙ sym (ap (λ b. among s (without t k.invited) || b) other.0) ∙ sym (among-push s t (without t k.invited)) ∙ e) in
+      let was = was_there t s k.invited (sym (or-false (among s (without t k.invited))) ∙ sym (ap
+      (λ b. among s (without t k.invited) || b) other.0) ∙ sym (among-push s t (without t k.invited)) ∙ e) in
       ap (λ b. holds_name c (cond b (with_last_name n ns) ns)) other.0 ∙ h was
 ]
 
-noted_still : (x : Change) (s : ℕ) (n c : List ℕ) (ns : List (List ℕ)) → holds_name c ns ≡ true → holds_name c (noted s n (seat_of x) ns) ≡ true
+noted_still : (x : Change) (s : ℕ) (n c : List ℕ) (ns : List (List ℕ)) → holds_name c ns ≡ true
+    → holds_name c (noted s n (seat_of x) ns) ≡ true
 noted_still (Joined t) s n c ns e = e
 noted_still (Left t) s n c ns e = e
 noted_still (RankSet t rank on) s n c ns e = e
@@ -85,10 +102,13 @@ noted_still (LimitSet x) s n c ns e = e
 noted_still (TopicSet x) s n c ns e = e
 noted_still (BanSet x) s n c ns e = e
 noted_still (BanLifted x) s n c ns e = e
-noted_still (Invited t op) s n c ns e = elim (t == s) as (λ b. holds_name c (cond b (with_last_name n ns) ns) ≡ true) [ true ↦ has_still c n ns e | false ↦ e ]
+noted_still (Invited t op) s n c ns e = elim (t == s) as
+    (λ b. holds_name c (cond b (with_last_name n ns) ns) ≡ true) [ true ↦ has_still c n ns e | false ↦ e ]
 
 -- each channel that invites s after a fact is noted then
-pub noted_after : (d : Deed) (fs : List Deed) (s : ℕ) (c : List ℕ) (ns : List (List ℕ)) → (among s (state fs c).invited ≡ true → holds_name c ns ≡ true) → among s (state (d ∷ fs) c).invited ≡ true → holds_name c (renoted s d ns) ≡ true
+pub noted_after : (d : Deed) (fs : List Deed) (s : ℕ) (c : List ℕ) (ns : List (List ℕ))
+    → (among s (state fs c).invited ≡ true → holds_name c ns ≡ true) → among s (state (d ∷ fs) c).invited ≡ true
+    → holds_name c (renoted s d ns) ≡ true
 noted_after (Opened t h) fs s c ns i e = i e
 noted_after (NickSet t n) fs s c ns i e = i e
 noted_after (UserSet t u r) fs s c ns i e = i e
@@ -102,16 +122,19 @@ noted_after (InvisibleSet t v) fs s c ns i e = i e
 noted_after (ChannelMade t k) fs s c ns i e = i (not_made (is_same k c) t s (state fs c) e)
 noted_after (Changed k x) fs s c ns i e = elim (either (is_same k c)) [
   | inl same ↦
-      let now : among s (lasting (changed x (state fs c))).invited ≡ true = sym (ap (λ b. among s (cond b (lasting (changed x (state fs c))) (state fs c)).invited) same) ∙ e in
+      let now : among s (lasting (changed x (state fs c))).invited ≡ true = sym
+      (ap (λ b. among s (cond b (lasting (changed x (state fs c))) (state fs c)).invited) same) ∙ e in
       noted_new x s (state fs c) k c ns same i (invited_lasting (changed x (state fs c)) s now)
   | inr other ↦
-      let was : among s (state fs c).invited ≡ true = sym (ap (λ b. among s (cond b (lasting (changed x (state fs c))) (state fs c)).invited) other) ∙ e in
+      let was : among s (state fs c).invited ≡ true = sym
+      (ap (λ b. among s (cond b (lasting (changed x (state fs c))) (state fs c)).invited) other) ∙ e in
       noted_still x s k c ns (i was)
 ]
 noted_after (Ended t w x) fs s c ns i e = i e
 noted_after (Gone t) fs s c ns i e =
     let kept = invited_lasting (departed t (state fs c)) s e in
     elim (eqb_tells t s) [
-      | inl same ↦ absurd (let f : false ≡ true = sym (ap (λ b. cond b false (among s (state fs c).invited)) same.0) ∙ sym (among-without s t (state fs c).invited) ∙ kept in cc)
+      | inl same ↦ absurd (let f : false ≡ true = sym (ap (λ b. cond b false (among s (state fs c).invited)) same.0)
+          ∙ sym (among-without s t (state fs c).invited) ∙ kept in cc)
       | inr other ↦ ap (λ b. holds_name c (cond b [] ns)) other.0 ∙ i (was_there t s (state fs c).invited kept)
     ]

@@ -1,15 +1,20 @@
 -- A channel, by the facts.
 use Rattle.std.proofs.lemmas.List.Folds.{list_any-append}
 use Rattle.std.proofs.lemmas.Bool.Decides.{eqb_tells}
-use Rattle.std.proofs.Common.{◌≡◌, inl, inr, ℕ, Bool, true, false, ◌||◌, ◌==◌, cond, List, [], ◌∷◌, ◌++◌, unwrap_or, Some, None, refl, sym, ap, ◌∙◌, ne_eqb}
+use Rattle.std.proofs.Common.{◌≡◌, inl, inr, ℕ, Bool, true, false, ◌||◌, ◌==◌, cond, List, [], ◌∷◌}
+use Rattle.std.proofs.Common.{◌++◌, unwrap_or, Some, None, refl, sym, ap, ◌∙◌, ne_eqb}
 use Rattle.casemapping.specs.Fold.{is_same}
 use Rattle.casemapping.proofs.SameNames.{is_same-right}
 use Rattle.channel_state.specs.declared.change.Rank.TheVariants.{Operator, Voice}
 use Rattle.channel_state.specs.declared.change.Change.{Change}
-use Rattle.channel_state.specs.declared.change.Change.TheVariants.{Joined, Left, RankSet, FlagSet, KeySet, LimitSet, TopicSet, BanSet, BanLifted, Invited}
-use Rattle.channel_state.specs.State.{State, among, without, with_last, is_some_one, nothing, made_by, changed, departed, lasting}
+use Rattle.channel_state.specs.declared.change.Change.TheVariants.{Joined, Left, RankSet, FlagSet, KeySet, LimitSet}
+use Rattle.channel_state.specs.declared.change.Change.TheVariants.{TopicSet, BanSet, BanLifted, Invited}
+use Rattle.channel_state.specs.State.{State, among, without, with_last, is_some_one, nothing}
+use Rattle.channel_state.specs.State.{made_by, changed, departed, lasting}
 use Rattle.roster.specs.declared.deed.Deed.{Deed}
-use Rattle.roster.specs.declared.deed.Deed.TheVariants.{Opened, NickSet, UserSet, HoldSet, CapsSet, ExchangeSet, LoggedIn, Enrolled, AwaySet, InvisibleSet, ChannelMade, Changed, Ended, Gone}
+use Rattle.roster.specs.declared.deed.Deed.TheVariants.{Opened, NickSet, UserSet, HoldSet, CapsSet}
+use Rattle.roster.specs.declared.deed.Deed.TheVariants.{ExchangeSet, LoggedIn, Enrolled, AwaySet}
+use Rattle.roster.specs.declared.deed.Deed.TheVariants.{InvisibleSet, ChannelMade, Changed, Ended, Gone}
 use Rattle.roster.specs.LookBack.{tells_seat, on, state, members, reshaped}
 use Rattle.roster.proofs.Bools.{or-true, or-false}
 
@@ -23,7 +28,8 @@ among-without t s (u ∷ ts) =
     elim (eqb_tells u s) [
       | inl same ↦ rw same.0 (ih ∙ elim (eqb_tells s t) [
         | inl it ↦ rw it.0 refl
-        | inr other ↦ let away : (u == t) ≡ false = ne_eqb u t (λ e. other.1 (sym same.1 ∙ e)) in rw (other.0, away) refl
+        | inr other ↦ let away : (u == t) ≡ false = ne_eqb u t (λ e. other.1 (sym same.1 ∙ e)) in
+            rw (other.0, away) refl
       ])
       | inr other ↦ rw other.0 (ap (λ b. u == t || b) ih ∙ elim (eqb_tells s t) [
         | inl it ↦ let away : (u == t) ≡ false = ne_eqb u t (λ e. other.1 (e ∙ sym it.1)) in rw (it.0, away) refl
@@ -33,19 +39,25 @@ among-without t s (u ∷ ts) =
 
 -- ---- a fact that says who is on a channel
 
-joined : (e : Bool) (t u : ℕ) (ms : List ℕ) → (u == t) ≡ e → among t (with_last u ms) ≡ unwrap_or (cond e (Some true) None) (among t ms)
-joined true t u ms eq = among-push t u (without u ms) ∙ ap (λ x. among t (without u ms) || x) eq ∙ or-true (among t (without u ms))
-joined false t u ms eq = among-push t u (without u ms) ∙ ap (λ x. among t (without u ms) || x) eq ∙ or-false (among t (without u ms)) ∙ among-without t u ms ∙ ap (λ x. cond x false (among t ms)) eq
+joined : (e : Bool) (t u : ℕ) (ms : List ℕ) → (u == t) ≡ e → among t (with_last u ms)
+    ≡ unwrap_or (cond e (Some true) None) (among t ms)
+joined true t u ms eq = among-push t u (without u ms) ∙ ap (λ x. among t (without u ms) || x) eq
+    ∙ or-true (among t (without u ms))
+joined false t u ms eq = among-push t u (without u ms) ∙ ap (λ x. among t (without u ms) || x) eq
+    ∙ or-false (among t (without u ms)) ∙ among-without t u ms ∙ ap (λ x. cond x false (among t ms)) eq
 
-made : (b : Bool) (t u : ℕ) (k : State) → among t (cond b (made_by u) k).members ≡ unwrap_or (cond b (Some (u == t)) None) (among t k.members)
+made : (b : Bool) (t u : ℕ) (k : State) → among t (cond b (made_by u) k).members
+    ≡ unwrap_or (cond b (Some (u == t)) None) (among t k.members)
 made true t u k = or-false (u == t)
 made false t u k = refl
 
-gone : (e : Bool) (t u : ℕ) (ms : List ℕ) → (u == t) ≡ e → among t (without u ms) ≡ unwrap_or (cond e (Some false) None) (among t ms)
+gone : (e : Bool) (t u : ℕ) (ms : List ℕ) → (u == t) ≡ e → among t (without u ms)
+    ≡ unwrap_or (cond e (Some false) None) (among t ms)
 gone true t u ms eq = among-without t u ms ∙ ap (λ x. cond x false (among t ms)) eq
 gone false t u ms eq = among-without t u ms ∙ ap (λ x. cond x false (among t ms)) eq
 
-among-changed : (x : Change) (t : ℕ) (k : State) → among t (changed x k).members ≡ unwrap_or (tells_seat t x) (among t k.members)
+among-changed : (x : Change) (t : ℕ) (k : State) → among t (changed x k).members
+    ≡ unwrap_or (tells_seat t x) (among t k.members)
 among-changed (Joined u) t k = joined (u == t) t u k.members refl
 among-changed (Left u) t k = gone (u == t) t u k.members refl
 among-changed (RankSet u Operator is) t k = refl
@@ -59,7 +71,8 @@ among-changed (BanLifted x) t k = refl
 among-changed (Invited u x) t k = refl
 
 -- a channel that ends had no member
-members_of_none : (ms : List ℕ) (k : State) → (cond (is_some_one ms) k nothing).members ≡ cond (is_some_one ms) k.members []
+members_of_none : (ms : List ℕ) (k : State) → (cond (is_some_one ms) k nothing).members
+    ≡ cond (is_some_one ms) k.members []
 members_of_none [] k = refl
 members_of_none (m ∷ ms) k = refl
 
@@ -70,7 +83,8 @@ some_or_none (m ∷ ms) = refl
 pub members-lasting : (k : State) → (lasting k).members ≡ k.members
 members-lasting k = members_of_none k.members k ∙ some_or_none k.members
 
-changes_to : (b : Bool) (x : Change) (t : ℕ) (k : State) → among t (cond b (lasting (changed x k)) k).members ≡ unwrap_or (cond b (tells_seat t x) None) (among t k.members)
+changes_to : (b : Bool) (x : Change) (t : ℕ) (k : State) → among t (cond b (lasting (changed x k)) k).members
+    ≡ unwrap_or (cond b (tells_seat t x) None) (among t k.members)
 changes_to true x t k = ap (among t) (members-lasting (changed x k)) ∙ among-changed x t k
 changes_to false x t k = refl
 
@@ -88,9 +102,12 @@ among-members (Enrolled u ∷ fs) t c = among-members fs t c
 among-members (AwaySet u x ∷ fs) t c = among-members fs t c
 among-members (InvisibleSet u x ∷ fs) t c = among-members fs t c
 among-members (Ended u w x ∷ fs) t c = among-members fs t c
-among-members (ChannelMade u k ∷ fs) t c = made (is_same k c) t u (state fs c) ∙ ap (unwrap_or (cond (is_same k c) (Some (u == t)) None)) (among-members fs t c)
-among-members (Changed k x ∷ fs) t c = changes_to (is_same k c) x t (state fs c) ∙ ap (unwrap_or (cond (is_same k c) (tells_seat t x) None)) (among-members fs t c)
-among-members (Gone u ∷ fs) t c = ap (among t) (members-lasting (departed u (state fs c))) ∙ gone (u == t) t u (members fs c) refl ∙ ap (unwrap_or (cond (u == t) (Some false) None)) (among-members fs t c)
+among-members (ChannelMade u k ∷ fs) t c = made (is_same k c) t u (state fs c)
+    ∙ ap (unwrap_or (cond (is_same k c) (Some (u == t)) None)) (among-members fs t c)
+among-members (Changed k x ∷ fs) t c = changes_to (is_same k c) x t (state fs c)
+    ∙ ap (unwrap_or (cond (is_same k c) (tells_seat t x) None)) (among-members fs t c)
+among-members (Gone u ∷ fs) t c = ap (among t) (members-lasting (departed u (state fs c))) ∙ gone (u == t) t u
+    (members fs c) refl ∙ ap (unwrap_or (cond (u == t) (Some false) None)) (among-members fs t c)
 
 -- ---- one name is one channel
 
@@ -116,14 +133,16 @@ state-same (d ∷ fs) c e s = ap (reshaped d c) (state-same fs c e s) ∙ reshap
 
 -- the same name has the same sessions on it
 pub on-same : (fs : List Deed) (s : ℕ) (c d : List ℕ) → is_same c d ≡ true → on fs s c ≡ on fs s d
-on-same fs s c d e = sym (among-members fs s c) ∙ ap (λ (k : State). among s k.members) (state-same fs c d e) ∙ among-members fs s d
+on-same fs s c d e = sym (among-members fs s c) ∙ ap (λ (k : State). among s k.members) (state-same fs c d e)
+    ∙ among-members fs s d
 
 -- ---- a channel lasts while somebody is on it
 
 lasting_once : (ms : List ℕ) (k : State) → k.members ≡ ms → lasting k ≡ cond (is_some_one ms) k nothing
 lasting_once ms k e = ap (λ xs. cond (is_some_one xs) k nothing) e
 
-lasting_twice : (ms : List ℕ) (k : State) → k.members ≡ ms → lasting (cond (is_some_one ms) k nothing) ≡ cond (is_some_one ms) k nothing
+lasting_twice : (ms : List ℕ) (k : State) → k.members ≡ ms → lasting (cond (is_some_one ms) k nothing)
+    ≡ cond (is_some_one ms) k nothing
 lasting_twice [] k e = refl
 lasting_twice (m ∷ ms) k e = lasting_once (m ∷ ms) k e
 
@@ -148,7 +167,8 @@ state-lasts (AwaySet u x ∷ fs) c = state-lasts fs c
 state-lasts (InvisibleSet u x ∷ fs) c = state-lasts fs c
 state-lasts (Ended u w x ∷ fs) c = state-lasts fs c
 state-lasts (ChannelMade u k ∷ fs) c = lasts_by (is_same k c) (made_by u) (state fs c) refl (state-lasts fs c)
-state-lasts (Changed k x ∷ fs) c = lasts_by (is_same k c) (lasting (changed x (state fs c))) (state fs c) (lasting-lasting (changed x (state fs c))) (state-lasts fs c)
+state-lasts (Changed k x ∷ fs) c = lasts_by (is_same k c) (lasting (changed x (state fs c))) (state fs c)
+    (lasting-lasting (changed x (state fs c))) (state-lasts fs c)
 state-lasts (Gone u ∷ fs) c = lasting-lasting (departed u (state fs c))
 
 -- ---- somebody who is among them is somebody

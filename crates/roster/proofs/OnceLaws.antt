@@ -1,14 +1,19 @@
 -- Members, sharers and a session's channels are there once each.
 use Rattle.std.proofs.lemmas.Bool.Decides.{eqb_tells}
-use Rattle.std.proofs.Common.{◌≡◌, inl, inr, ℕ, suc, ◌+◌, ◌<◌, ◌≤◌, Bool, true, false, not, ◌&&◌, ◌==◌, cond, List, [], ◌∷◌, ◌++◌, filter, length, arith, refl, sym, ap, ◌∙◌, ne_eqb, eq-eqb, length-append, subst}
+use Rattle.std.proofs.Common.{◌≡◌, inl, inr, ℕ, suc, ◌+◌, ◌<◌, ◌≤◌, Bool, true, false, not, ◌&&◌}
+use Rattle.std.proofs.Common.{◌==◌, cond, List, [], ◌∷◌, ◌++◌, filter, length, arith, refl, sym}
+use Rattle.std.proofs.Common.{ap, ◌∙◌, ne_eqb, eq-eqb, length-append, subst}
 use Rattle.std.specs.List.{IsDistinct, AllByRecursion}
 use Rattle.casemapping.specs.Fold.{is_same}
 use Rattle.channel_state.specs.declared.change.Change.{Change}
-use Rattle.channel_state.specs.declared.change.Change.TheVariants.{Joined, Left, RankSet, FlagSet, KeySet, LimitSet, TopicSet, BanSet, BanLifted, Invited}
+use Rattle.channel_state.specs.declared.change.Change.TheVariants.{Joined, Left, RankSet, FlagSet, KeySet, LimitSet}
+use Rattle.channel_state.specs.declared.change.Change.TheVariants.{TopicSet, BanSet, BanLifted, Invited}
 use Rattle.channel_state.specs.declared.change.Rank.TheVariants.{Operator, Voice}
 use Rattle.channel_state.specs.State.{State, among, made_by, changed, departed, lasting}
 use Rattle.roster.specs.declared.deed.Deed.{Deed}
-use Rattle.roster.specs.declared.deed.Deed.TheVariants.{Opened, NickSet, UserSet, HoldSet, CapsSet, ExchangeSet, LoggedIn, Enrolled, AwaySet, InvisibleSet, ChannelMade, Changed, Ended, Gone}
+use Rattle.roster.specs.declared.deed.Deed.TheVariants.{Opened, NickSet, UserSet, HoldSet, CapsSet}
+use Rattle.roster.specs.declared.deed.Deed.TheVariants.{ExchangeSet, LoggedIn, Enrolled, AwaySet}
+use Rattle.roster.specs.declared.deed.Deed.TheVariants.{InvisibleSet, ChannelMade, Changed, Ended, Gone}
 use Rattle.roster.specs.LookBack.{opened, on, state, members, is_join, joins, with_last_name, share}
 use Rattle.roster.specs.Legal.{AreLegal}
 use Rattle.roster.specs.Laws.{MembersAreThereOnce, SharersAreThereOnce, OwnChannelsAreThereOnce}
@@ -18,12 +23,14 @@ use Rattle.roster.proofs.OnChannels.{members-lasting}
 -- ---- what is taken out of a list leaves the others apart
 
 module _ {A : Type 0} (e : A → A → Bool) where
-  all-filter : (p : A → Bool) (x : A) (xs : List A) → AllByRecursion (λ y. e x y ≡ false) xs → AllByRecursion (λ y. e x y ≡ false) (filter p xs)
+  all-filter : (p : A → Bool) (x : A) (xs : List A) → AllByRecursion (λ y. e x y ≡ false) xs
+      → AllByRecursion (λ y. e x y ≡ false) (filter p xs)
   all-filter p x [] a = a
-  all-filter p x (y ∷ ys) a = elim (p y) as (λ b. AllByRecursion (λ z. e x z ≡ false) (cond b (y ∷ filter p ys) (filter p ys))) [
-    | true ↦ (a.0, all-filter p x ys a.1)
-    | false ↦ all-filter p x ys a.1
-  ]
+  all-filter p x (y ∷ ys) a = elim (p y) as
+      (λ b. AllByRecursion (λ z. e x z ≡ false) (cond b (y ∷ filter p ys) (filter p ys))) [
+        | true ↦ (a.0, all-filter p x ys a.1)
+        | false ↦ all-filter p x ys a.1
+      ]
 
   distinct-filter : (p : A → Bool) (xs : List A) → IsDistinct e xs → IsDistinct e (filter p xs)
   unfolding IsDistinct
@@ -33,11 +40,13 @@ module _ {A : Type 0} (e : A → A → Bool) where
     | false ↦ distinct-filter p xs d.1
   ]
 
-  all-push : (x z : A) (xs : List A) → AllByRecursion (λ y. e x y ≡ false) xs → e x z ≡ false → AllByRecursion (λ y. e x y ≡ false) (xs ++ z ∷ [])
+  all-push : (x z : A) (xs : List A) → AllByRecursion (λ y. e x y ≡ false) xs → e x z ≡ false
+      → AllByRecursion (λ y. e x y ≡ false) (xs ++ z ∷ [])
   all-push x z [] a f = (f, tt)
   all-push x z (y ∷ ys) a f = (a.0, all-push x z ys a.1 f)
 
-  distinct-push : (z : A) (xs : List A) → IsDistinct e xs → AllByRecursion (λ y. e y z ≡ false) xs → IsDistinct e (xs ++ z ∷ [])
+  distinct-push : (z : A) (xs : List A) → IsDistinct e xs → AllByRecursion (λ y. e y z ≡ false) xs
+      → IsDistinct e (xs ++ z ∷ [])
   unfolding IsDistinct
   distinct-push z [] d a = (tt, d)
   distinct-push z (x ∷ xs) d a = (all-push x z xs d.0 a.0, distinct-push z xs d.1 a.1)
@@ -59,7 +68,8 @@ module _ {A : Type 0} (e : A → A → Bool) where
   ]
 
   distinct-last : (z : A) (xs : List A) → IsDistinct e xs → IsDistinct e (filter (λ y. not (e y z)) xs ++ z ∷ [])
-  distinct-last z xs d = distinct-push z (filter (λ y. not (e y z)) xs) (distinct-filter (λ y. not (e y z)) xs d) (apart z xs)
+  distinct-last z xs d = distinct-push z (filter (λ y. not (e y z)) xs) (distinct-filter (λ y. not (e y z)) xs d)
+      (apart z xs)
 
   distinct-by : (b : Bool) (xs ys : List A) → IsDistinct e xs → IsDistinct e ys → IsDistinct e (cond b xs ys)
   distinct-by true xs ys d f = d
@@ -86,7 +96,8 @@ once_changed (Invited t op) k d = d
 once_lasting : (k : State) → IsDistinct eq k.members → IsDistinct eq (lasting k).members
 once_lasting k d = subst (IsDistinct eq) (sym (members-lasting k)) d
 
-once_by : (b : Bool) (k l : State) → IsDistinct eq k.members → IsDistinct eq l.members → IsDistinct eq (cond b k l).members
+once_by : (b : Bool) (k l : State) → IsDistinct eq k.members → IsDistinct eq l.members
+    → IsDistinct eq (cond b k l).members
 once_by true k l d f = d
 once_by false k l d f = f
 
@@ -103,9 +114,12 @@ members_once (Enrolled t ∷ fs) c = members_once fs c
 members_once (AwaySet t x ∷ fs) c = members_once fs c
 members_once (InvisibleSet t v ∷ fs) c = members_once fs c
 members_once (Ended t w x ∷ fs) c = members_once fs c
-members_once (ChannelMade t k ∷ fs) c = once_by (is_same k c) (made_by t) (state fs c) (distinct-one eq t) (members_once fs c)
-members_once (Changed k x ∷ fs) c = once_by (is_same k c) (lasting (changed x (state fs c))) (state fs c) (once_lasting (changed x (state fs c)) (once_changed x (state fs c) (members_once fs c))) (members_once fs c)
-members_once (Gone t ∷ fs) c = once_lasting (departed t (state fs c)) (distinct-filter eq (λ y. not (y == t)) (members fs c) (members_once fs c))
+members_once (ChannelMade t k ∷ fs) c = once_by (is_same k c) (made_by t) (state fs c) (distinct-one eq t)
+    (members_once fs c)
+members_once (Changed k x ∷ fs) c = once_by (is_same k c) (lasting (changed x (state fs c))) (state fs c)
+    (once_lasting (changed x (state fs c)) (once_changed x (state fs c) (members_once fs c))) (members_once fs c)
+members_once (Gone t ∷ fs) c = once_lasting (departed t (state fs c))
+    (distinct-filter eq (λ y. not (y == t)) (members fs c) (members_once fs c))
 
 -- ---- a session's channels
 
@@ -122,8 +136,10 @@ joins_once (Enrolled t ∷ fs) s = joins_once fs s
 joins_once (AwaySet t x ∷ fs) s = joins_once fs s
 joins_once (InvisibleSet t v ∷ fs) s = joins_once fs s
 joins_once (Ended t w x ∷ fs) s = joins_once fs s
-joins_once (ChannelMade t k ∷ fs) s = distinct-by is_same (t == s) (with_last_name k (joins fs s)) (joins fs s) (distinct-last is_same k (joins fs s) (joins_once fs s)) (joins_once fs s)
-joins_once (Changed k x ∷ fs) s = distinct-by is_same (is_join s x) (with_last_name k (joins fs s)) (joins fs s) (distinct-last is_same k (joins fs s) (joins_once fs s)) (joins_once fs s)
+joins_once (ChannelMade t k ∷ fs) s = distinct-by is_same (t == s) (with_last_name k (joins fs s)) (joins fs s)
+    (distinct-last is_same k (joins fs s) (joins_once fs s)) (joins_once fs s)
+joins_once (Changed k x ∷ fs) s = distinct-by is_same (is_join s x) (with_last_name k (joins fs s)) (joins fs s)
+    (distinct-last is_same k (joins fs s) (joins_once fs s)) (joins_once fs s)
 joins_once (Gone t ∷ fs) s = joins_once fs s
 
 pub own_once : OwnChannelsAreThereOnce
@@ -136,19 +152,23 @@ below-more : (n m : ℕ) (xs : List ℕ) → n ≤ m → AllByRecursion (λ y. y
 below-more n m [] l a = tt
 below-more n m (x ∷ xs) l a = ((let h = a.0 in omega arith), below-more n m xs l a.1)
 
-below-push : (n : ℕ) (xs : List ℕ) (z : ℕ) → AllByRecursion (λ y. y ≤ n) xs → z ≤ n → AllByRecursion (λ y. y ≤ n) (xs ++ z ∷ [])
+below-push : (n : ℕ) (xs : List ℕ) (z : ℕ) → AllByRecursion (λ y. y ≤ n) xs → z ≤ n
+    → AllByRecursion (λ y. y ≤ n) (xs ++ z ∷ [])
 below-push n [] z a l = (l, tt)
 below-push n (x ∷ xs) z a l = (a.0, below-push n xs z a.1 l)
 
-below-apart : (n z : ℕ) (xs : List ℕ) → n < z → AllByRecursion (λ y. y ≤ n) xs → AllByRecursion (λ y. eq y z ≡ false) xs
+below-apart : (n z : ℕ) (xs : List ℕ) → n < z → AllByRecursion (λ y. y ≤ n) xs
+    → AllByRecursion (λ y. eq y z ≡ false) xs
 below-apart n z [] l a = tt
 below-apart n z (x ∷ xs) l a = (ne_eqb x z (let h = a.0 in omega arith), below-apart n z xs l a.1)
 
 opened_below : (fs : List Deed) → AreLegal fs → AllByRecursion (λ y. y ≤ length (opened fs)) (opened fs)
 opened_below [] l = tt
 opened_below (Opened t h ∷ fs) l =
-    let n = length (opened fs) in let more : length (opened fs ++ t ∷ []) ≡ n + 1 = length-append (opened fs) (t ∷ []) in let is : t ≡ suc n = l.0 in
-    below-push (length (opened fs ++ t ∷ [])) (opened fs) t (below-more n (length (opened fs ++ t ∷ [])) (opened fs) (omega arith) (opened_below fs l.1)) (omega arith)
+    let n = length (opened fs) in
+    let more : length (opened fs ++ t ∷ []) ≡ n + 1 = length-append (opened fs) (t ∷ []) in let is : t ≡ suc n = l.0 in
+    below-push (length (opened fs ++ t ∷ [])) (opened fs) t
+    (below-more n (length (opened fs ++ t ∷ [])) (opened fs) (omega arith) (opened_below fs l.1)) (omega arith)
 opened_below (NickSet t n ∷ fs) l = opened_below fs l.1
 opened_below (UserSet t u r ∷ fs) l = opened_below fs l.1
 opened_below (HoldSet t v ∷ fs) l = opened_below fs l.1
@@ -167,7 +187,8 @@ opened_once : (fs : List Deed) → AreLegal fs → IsDistinct eq (opened fs)
 opened_once [] l = distinct-none eq
 opened_once (Opened t h ∷ fs) l =
     let is : t ≡ suc (length (opened fs)) = l.0 in
-    distinct-push eq t (opened fs) (opened_once fs l.1) (below-apart (length (opened fs)) t (opened fs) (omega arith) (opened_below fs l.1))
+    distinct-push eq t (opened fs) (opened_once fs l.1)
+    (below-apart (length (opened fs)) t (opened fs) (omega arith) (opened_below fs l.1))
 opened_once (NickSet t n ∷ fs) l = opened_once fs l.1
 opened_once (UserSet t u r ∷ fs) l = opened_once fs l.1
 opened_once (HoldSet t v ∷ fs) l = opened_once fs l.1

@@ -1,16 +1,21 @@
 -- A session's channels: it is on just those, and as many.
 use Rattle.std.proofs.lemmas.Map.Views.{any-filter_same}
-use Rattle.std.proofs.Common.{◌≡◌, inl, inr, ℕ, suc, Bool, true, false, not, ◌&&◌, ◌||◌, ◌==◌, cond, List, [], ◌∷◌, filter, length, unwrap_or, Option, Some, None, is_some, refl, sym, ap, ◌∙◌, subst}
+use Rattle.std.proofs.Common.{◌≡◌, inl, inr, ℕ, suc, Bool, true, false, not, ◌&&◌, ◌||◌, ◌==◌, cond, List, [], ◌∷◌}
+use Rattle.std.proofs.Common.{filter, length, unwrap_or, Option, Some, None, is_some, refl, sym, ap, ◌∙◌, subst}
 use Rattle.std.specs.List.{list_any, IsDistinct, AllByRecursion}
 use Rattle.casemapping.specs.Fold.{is_same}
 use Rattle.casemapping.proofs.SameNames.{is_same-refl, is_same-sym, is_same-right}
 use Rattle.channel_state.specs.declared.change.Change.{Change}
-use Rattle.channel_state.specs.declared.change.Change.TheVariants.{Joined, Left, RankSet, FlagSet, KeySet, LimitSet, TopicSet, BanSet, BanLifted, Invited}
+use Rattle.channel_state.specs.declared.change.Change.TheVariants.{Joined, Left, RankSet, FlagSet, KeySet, LimitSet}
+use Rattle.channel_state.specs.declared.change.Change.TheVariants.{TopicSet, BanSet, BanLifted, Invited}
 use Rattle.channel_state.specs.State.{State, among}
 use Rattle.roster.specs.declared.deed.Deed.{Deed}
-use Rattle.roster.specs.declared.deed.Deed.TheVariants.{Opened, NickSet, UserSet, HoldSet, CapsSet, ExchangeSet, LoggedIn, Enrolled, AwaySet, InvisibleSet, ChannelMade, Changed, Ended, Gone}
+use Rattle.roster.specs.declared.deed.Deed.TheVariants.{Opened, NickSet, UserSet, HoldSet, CapsSet}
+use Rattle.roster.specs.declared.deed.Deed.TheVariants.{ExchangeSet, LoggedIn, Enrolled, AwaySet}
+use Rattle.roster.specs.declared.deed.Deed.TheVariants.{InvisibleSet, ChannelMade, Changed, Ended, Gone}
 use Rattle.roster.specs.declared.tables.Channel.{Channel}
-use Rattle.roster.specs.LookBack.{numbers, opened, on, members, has_member, channels, tells_seat, is_join, joins, channels_on, channel_count, without_name, with_last_name, share, sharers}
+use Rattle.roster.specs.LookBack.{numbers, opened, on, members, has_member, channels, tells_seat, is_join, joins}
+use Rattle.roster.specs.LookBack.{channels_on, channel_count, without_name, with_last_name, share, sharers}
 use Rattle.roster.specs.Tables.{name_in, names_of, members_in, mates}
 use Rattle.roster.specs.Stands.{AreApart, HoldChannels}
 use Rattle.roster.proofs.Bools.{either, or-none, or-true}
@@ -29,29 +34,41 @@ has c ks = list_any (λ k. is_same k c) ks
 
 -- ---- who is on a channel joined it
 
-joined_by : (fs : List Deed) (s : ℕ) (c k : List ℕ) (told : Option Bool) (j : Bool) → (told ≡ Some true → j ≡ true) → unwrap_or (cond (is_same k c) told None) (on fs s c) ≡ true
-    → (on fs s c ≡ true → has c (joins fs s) ≡ true) → has c (cond j (with_last_name k (joins fs s)) (joins fs s)) ≡ true
+joined_by : (fs : List Deed) (s : ℕ) (c k : List ℕ) (told : Option Bool) (j : Bool) → (told ≡ Some true → j ≡ true)
+    → unwrap_or (cond (is_same k c) told None) (on fs s c) ≡ true
+    → (on fs s c ≡ true → has c (joins fs s) ≡ true)
+    → has c (cond j (with_last_name k (joins fs s)) (joins fs s)) ≡ true
 joined_by fs s c k told j h e ih = elim (either (is_same k c)) [
   | inl same ↦ by told refl same
   | inr miss ↦ kept miss (sym (ap (λ b. unwrap_or (cond b told None) (on fs s c)) miss) ∙ e) j
 ]
   where
     last : is_same k c ≡ true → has c (with_last_name k (joins fs s)) ≡ true
-    last same = has-last c k (joins fs s) ∙ ap (λ b. has c (without_name k (joins fs s)) || b) same ∙ or-true (has c (without_name k (joins fs s)))
+    last same = has-last c k (joins fs s) ∙ ap (λ b. has c (without_name k (joins fs s)) || b) same
+        ∙ or-true (has c (without_name k (joins fs s)))
 
-    kept : is_same k c ≡ false → on fs s c ≡ true → (b : Bool) → has c (cond b (with_last_name k (joins fs s)) (joins fs s)) ≡ true
+    kept : is_same k c ≡ false → on fs s c ≡ true → (b : Bool)
+        → has c (cond b (with_last_name k (joins fs s)) (joins fs s)) ≡ true
     kept miss was true =
         let other = is_same-sym c k ∙ miss in
-        has-last c k (joins fs s) ∙ ap (λ b. b || is_same k c) (has-without c k (joins fs s) ∙ ap (λ b. not b && has c (joins fs s)) other ∙ ih was)
+        has-last c k (joins fs s) ∙ ap (λ b. b || is_same k c)
+        (has-without c k (joins fs s) ∙ ap (λ b. not b && has c (joins fs s)) other ∙ ih was)
     kept miss was false = ih was
 
-    by : (o : Option Bool) → told ≡ o → is_same k c ≡ true → has c (cond j (with_last_name k (joins fs s)) (joins fs s)) ≡ true
+    by : (o : Option Bool) → told ≡ o → is_same k c ≡ true
+        → has c (cond j (with_last_name k (joins fs s)) (joins fs s)) ≡ true
     by (Some b) t same =
-        let now : b ≡ true = sym (ap (λ x. unwrap_or (cond x told None) (on fs s c)) same ∙ ap (λ o. unwrap_or o (on fs s c)) t) ∙ e in
-        ap (λ b. has c (cond b (with_last_name k (joins fs s)) (joins fs s))) (h (t ∙ ap (λ x. Some x) now)) ∙ last same
+        let now : b ≡ true = sym (ap (λ x. unwrap_or (cond x told None) (on fs s c)) same ∙ ap
+        (λ o. unwrap_or o (on fs s c)) t) ∙ e in
+        ap (λ b. has c (cond b (with_last_name k (joins fs s)) (joins fs s)))
+        (h (t ∙ ap (λ x. Some x) now)) ∙ last same
     by None t same =
-        let was : on fs s c ≡ true = sym (ap (λ x. unwrap_or (cond x told None) (on fs s c)) same ∙ ap (λ o. unwrap_or o (on fs s c)) t) ∙ e in
-        elim j as (λ b. has c (cond b (with_last_name k (joins fs s)) (joins fs s)) ≡ true) [ true ↦ last same | false ↦ ih was ]
+        let was : on fs s c ≡ true = sym (ap (λ x. unwrap_or (cond x told None) (on fs s c)) same ∙ ap
+        (λ o. unwrap_or o (on fs s c)) t) ∙ e in
+        elim j as (λ b. has c (cond b (with_last_name k (joins fs s)) (joins fs s)) ≡ true) [
+          | true ↦ last same
+          | false ↦ ih was
+        ]
 
 joins_by : (s : ℕ) (x : Change) → tells_seat s x ≡ Some true → is_join s x ≡ true
 joins_by s (Joined t) e = elim (either (t == s)) [
@@ -59,7 +76,8 @@ joins_by s (Joined t) e = elim (either (t == s)) [
   | inr miss ↦ absurd (let f : None ≡ Some true = sym (ap (λ b. cond b (Some true) None) miss) ∙ e in cc)
 ]
 joins_by s (Left t) e = elim (either (t == s)) [
-  | inl it ↦ absurd (let f : Some false ≡ Some true = sym (ap (λ b. cond b (Some false) None) it) ∙ e in let g = some_same false true f in let h : false ≡ true = g in cc)
+  | inl it ↦ absurd (let f : Some false ≡ Some true = sym (ap (λ b. cond b (Some false) None) it) ∙ e in
+      let g = some_same false true f in let h : false ≡ true = g in cc)
   | inr miss ↦ absurd (let f : None ≡ Some true = sym (ap (λ b. cond b (Some false) None) miss) ∙ e in cc)
 ]
 joins_by s (RankSet t rank is) e = absurd (let f : ◌≡◌ {A = Option Bool} None (Some true) = e in cc)
@@ -83,11 +101,14 @@ joined_on (LoggedIn u y ∷ fs) s c e = joined_on fs s c e
 joined_on (Enrolled u ∷ fs) s c e = joined_on fs s c e
 joined_on (AwaySet u y ∷ fs) s c e = joined_on fs s c e
 joined_on (InvisibleSet u y ∷ fs) s c e = joined_on fs s c e
-joined_on (ChannelMade t k ∷ fs) s c e = joined_by fs s c k (Some (t == s)) (t == s) (λ f. some_same (t == s) true f) e (joined_on fs s c)
-joined_on (Changed k x ∷ fs) s c e = joined_by fs s c k (tells_seat s x) (is_join s x) (joins_by s x) e (joined_on fs s c)
+joined_on (ChannelMade t k ∷ fs) s c e = joined_by fs s c k (Some (t == s)) (t == s)
+    (λ f. some_same (t == s) true f) e (joined_on fs s c)
+joined_on (Changed k x ∷ fs) s c e = joined_by fs s c k (tells_seat s x) (is_join s x) (joins_by s x) e
+    (joined_on fs s c)
 joined_on (Ended u w y ∷ fs) s c e = joined_on fs s c e
 joined_on (Gone t ∷ fs) s c e = elim (either (t == s)) [
-  | inl it ↦ absurd (let f : false ≡ true = sym (ap (λ b. unwrap_or (cond b (Some false) None) (on fs s c)) it) ∙ e in cc)
+  | inl it ↦ absurd
+      (let f : false ≡ true = sym (ap (λ b. unwrap_or (cond b (Some false) None) (on fs s c)) it) ∙ e in cc)
   | inr miss ↦ joined_on fs s c (sym (ap (λ b. unwrap_or (cond b (Some false) None) (on fs s c)) miss) ∙ e)
 ]
 
@@ -97,7 +118,8 @@ and_true false b h = refl
 
 -- a session is on a channel where that is among its own
 pub own_any : (fs : List Deed) (s : ℕ) (c : List ℕ) → has c (channels_on fs s) ≡ on fs s c
-own_any fs s c = any-filter_same (λ k. is_same k c) (on fs s) (on fs s c) (λ k e. on-same fs s k c e) (joins fs s) ∙ and_true (on fs s c) (has c (joins fs s)) (joined_on fs s c)
+own_any fs s c = any-filter_same (λ k. is_same k c) (on fs s) (on fs s c) (λ k e. on-same fs s k c e) (joins fs s)
+    ∙ and_true (on fs s c) (has c (joins fs s)) (joined_on fs s c)
 
 -- ---- a channel that has a member is there
 
@@ -124,14 +146,16 @@ module _ (ks : List Channel) (fs : List Deed) (i : HoldChannels ks fs) where
   same_bool false true f g = g refl
   same_bool false false f g = refl
 
-  any_into : {X : Type 0} (p : X → Bool) (b : Bool) → ((x : X) → p x ≡ true → b ≡ true) → (xs : List X) → list_any p xs ≡ true → b ≡ true
+  any_into : {X : Type 0} (p : X → Bool) (b : Bool) → ((x : X) → p x ≡ true → b ≡ true) → (xs : List X)
+      → list_any p xs ≡ true → b ≡ true
   any_into p b h [] e = absurd (let f : false ≡ true = e in cc)
   any_into p b h (x ∷ xs) e = elim (either (p x)) [
     | inl it ↦ h x it
     | inr miss ↦ any_into p b h xs (sym (ap (λ q. q || list_any p xs) miss) ∙ e)
   ]
 
-  any_mono : {X : Type 0} (p q : X → Bool) → ((x : X) → p x ≡ true → q x ≡ true) → (xs : List X) → list_any p xs ≡ true → list_any q xs ≡ true
+  any_mono : {X : Type 0} (p q : X → Bool) → ((x : X) → p x ≡ true → q x ≡ true) → (xs : List X)
+      → list_any p xs ≡ true → list_any q xs ≡ true
   any_mono p q h [] e = e
   any_mono p q h (x ∷ xs) e = elim (either (p x)) [
     | inl it ↦ ap (λ b. b || list_any q xs) (h x it)
@@ -140,10 +164,11 @@ module _ (ks : List Channel) (fs : List Deed) (i : HoldChannels ks fs) where
 
   any-filter : {X : Type 0} (p q : X → Bool) (xs : List X) → list_any q (filter p xs) ≡ list_any (λ x. p x && q x) xs
   any-filter p q [] = refl
-  any-filter p q (x ∷ xs) = elim (p x) as (λ b. list_any q (cond b (x ∷ filter p xs) (filter p xs)) ≡ ((b && q x) || list_any (λ y. p y && q y) xs)) [
-    | true ↦ ap (λ b. q x || b) (any-filter p q xs)
-    | false ↦ any-filter p q xs
-  ]
+  any-filter p q (x ∷ xs) = elim (p x) as
+      (λ b. list_any q (cond b (x ∷ filter p xs) (filter p xs)) ≡ ((b && q x) || list_any (λ y. p y && q y) xs)) [
+        | true ↦ ap (λ b. q x || b) (any-filter p q xs)
+        | false ↦ any-filter p q xs
+      ]
 
   and_left : (a b : Bool) → (a && b) ≡ true → (a ≡ true) × (b ≡ true)
   and_left true b e = (refl, e)
@@ -156,10 +181,12 @@ module _ (ks : List Channel) (fs : List Deed) (i : HoldChannels ks fs) where
       ∙ same_bool (list_any both (joins fs s)) (share fs s t)
       (any_into both (share fs s t) (λ k e.
       let p = and_left (on fs s k) (on fs t k) e in
-      any_mono (λ c. is_same c k) both (λ c same. ap (λ b. b && on fs t c) (on-same fs s c k same ∙ p.0) ∙ on-same fs t c k same ∙ p.1) (channels fs) (on_there s k p.0)) (joins fs s))
+      any_mono (λ c. is_same c k) both (λ c same. ap (λ b. b && on fs t c) (on-same fs s c k same ∙ p.0)
+      ∙ on-same fs t c k same ∙ p.1) (channels fs) (on_there s k p.0)) (joins fs s))
       (any_into both (list_any both (joins fs s)) (λ c e.
       let p = and_left (on fs s c) (on fs t c) e in
-      any_mono (λ k. is_same k c) both (λ k same. ap (λ b. b && on fs t k) (on-same fs s k c same ∙ p.0) ∙ on-same fs t k c same ∙ p.1) (joins fs s) (joined_on fs s c p.0)) (channels fs))
+      any_mono (λ k. is_same k c) both (λ k same. ap (λ b. b && on fs t k) (on-same fs s k c same ∙ p.0)
+      ∙ on-same fs t k c same ∙ p.1) (joins fs s) (joined_on fs s c p.0)) (channels fs))
 
   any_as : {X : Type 0} (p q : X → Bool) → ((x : X) → p x ≡ q x) → (xs : List X) → list_any p xs ≡ list_any q xs
   any_as p q h [] = refl
@@ -168,8 +195,10 @@ module _ (ks : List Channel) (fs : List Deed) (i : HoldChannels ks fs) where
   pub sharers_are : (s n : ℕ) → opened fs ≡ numbers 1 n → mates ks (channels_on fs s) s n ≡ sharers fs s
   sharers_are s n e =
       let mine = λ (t : ℕ). list_any (λ c. among t (members_in ks c)) (channels_on fs s) in
-      let is : (t : ℕ) → mine t ≡ share fs s t = λ t. any_as (λ c. among t (members_in ks c)) (on fs t) (λ c. ap (λ (k : State). among t k.members) (i.states c) ∙ among-members fs t c) (channels_on fs s) ∙ shared s t in
-      filter_as (λ t. share fs s t && not (s == t)) (λ t. mine t && not (s == t)) (λ t. ap (λ b. b && not (s == t)) (is t)) (numbers 1 n)
+      let is : (t : ℕ) → mine t ≡ share fs s t = λ t. any_as (λ c. among t (members_in ks c)) (on fs t) (λ c. ap
+      (λ (k : State). among t k.members) (i.states c) ∙ among-members fs t c) (channels_on fs s) ∙ shared s t in
+      filter_as (λ t. share fs s t && not (s == t)) (λ t. mine t && not (s == t))
+      (λ t. ap (λ b. b && not (s == t)) (is t)) (numbers 1 n)
       ∙ ap (filter (λ t. share fs s t && not (s == t))) (sym e)
 
   -- ---- as many
@@ -182,7 +211,8 @@ module _ (ks : List Channel) (fs : List Deed) (i : HoldChannels ks fs) where
   apart_names [] a = tt
   apart_names (l ∷ ls) a = (other l.name ls ∙ a.0, apart_names ls a.1)
     where
-      other : (c : List ℕ) (ms : List Channel) → list_any (λ k. is_same c k) (names_of ms) ≡ list_any (λ (l : Channel). is_same c l.name) ms
+      other : (c : List ℕ) (ms : List Channel) → list_any (λ k. is_same c k) (names_of ms)
+          ≡ list_any (λ (l : Channel). is_same c l.name) ms
       other c [] = refl
       other c (m ∷ ms) = ap (λ b. is_same c m.name || b) (other c ms)
 
@@ -202,7 +232,8 @@ module _ (ks : List Channel) (fs : List Deed) (i : HoldChannels ks fs) where
     | false ↦ apart-filter p xs a.1
   ]
 
-  none_of : (x : List ℕ) (xs : List (List ℕ)) → AllByRecursion (λ y. is_same x y ≡ false) xs → list_any (λ k. is_same x k) xs ≡ false
+  none_of : (x : List ℕ) (xs : List (List ℕ)) → AllByRecursion (λ y. is_same x y ≡ false) xs
+      → list_any (λ k. is_same x k) xs ≡ false
   none_of x [] a = refl
   none_of x (y ∷ ys) a = ap (λ b. b || list_any (λ k. is_same x k) ys) a.0 ∙ none_of x ys a.1
 
@@ -222,35 +253,44 @@ module _ (ks : List Channel) (fs : List Deed) (i : HoldChannels ks fs) where
   kept_all x [] e = refl
   kept_all x (y ∷ ys) e =
       let parts = or-none (is_same y x) (has x ys) e in
-      ap (λ b. cond (not b) (y ∷ without_name x ys) (without_name x ys)) parts.0 ∙ ap (λ zs. y ∷ zs) (kept_all x ys parts.1)
+      ap (λ b. cond (not b) (y ∷ without_name x ys) (without_name x ys)) parts.0 ∙ ap
+      (λ zs. y ∷ zs) (kept_all x ys parts.1)
 
-  one_out : (x : List ℕ) (xs : List (List ℕ)) → Apart xs → has x xs ≡ true → length xs ≡ suc (length (without_name x xs))
+  one_out : (x : List ℕ) (xs : List (List ℕ)) → Apart xs → has x xs ≡ true
+      → length xs ≡ suc (length (without_name x xs))
   one_out x [] a e = absurd (let f : false ≡ true = e in cc)
   one_out x (y ∷ ys) a e = elim (either (is_same y x)) [
     | inl it ↦
         let none : has x ys ≡ false = sym (has-same y x ys it) ∙ sym (turned y ys) ∙ a.0 in
-        ap suc (sym (ap length (ap (λ b. cond (not b) (y ∷ without_name x ys) (without_name x ys)) it ∙ kept_all x ys none)))
+        ap suc (sym (ap length (ap (λ b. cond (not b) (y ∷ without_name x ys) (without_name x ys)) it
+        ∙ kept_all x ys none)))
     | inr miss ↦
         ap suc (one_out x ys a.1 (sym (ap (λ b. b || has x ys) miss) ∙ e))
         ∙ sym (ap (λ zs. suc (length zs)) (ap (λ b. cond (not b) (y ∷ without_name x ys) (without_name x ys)) miss))
   ]
 
   -- names apart that are the same names are as many
-  as_many : (xs ys : List (List ℕ)) → Apart xs → Apart ys → ((c : List ℕ) → has c xs ≡ has c ys) → length xs ≡ length ys
+  as_many : (xs ys : List (List ℕ)) → Apart xs → Apart ys → ((c : List ℕ) → has c xs ≡ has c ys)
+      → length xs ≡ length ys
   as_many [] [] a b h = refl
   as_many [] (y ∷ ys) a b h = absurd (let f : false ≡ true = h y ∙ ap (λ q. q || has y ys) (is_same-refl y) in cc)
   as_many (x ∷ xs) ys a b h =
       let it : has x ys ≡ true = sym (h x) ∙ ap (λ q. q || has x xs) (is_same-refl x) in
       let rest : (c : List ℕ) → has c xs ≡ has c (without_name x ys) = λ c. elim (either (is_same x c)) [
         | inl same ↦
-            sym (has-same x c xs same) ∙ sym (turned x xs) ∙ a.0 ∙ sym (has-without c x ys ∙ ap (λ q. not q && has c ys) (is_same-sym c x ∙ same))
+            sym (has-same x c xs same) ∙ sym (turned x xs) ∙ a.0
+            ∙ sym (has-without c x ys ∙ ap (λ q. not q && has c ys) (is_same-sym c x ∙ same))
         | inr miss ↦
-            sym (ap (λ q. q || has c xs) miss) ∙ h c ∙ sym (has-without c x ys ∙ ap (λ q. not q && has c ys) (is_same-sym c x ∙ miss))
+            sym (ap (λ q. q || has c xs) miss) ∙ h c
+            ∙ sym (has-without c x ys ∙ ap (λ q. not q && has c ys) (is_same-sym c x ∙ miss))
       ] in
-      ap suc (as_many xs (without_name x ys) a.1 (apart-filter (λ k. not (is_same k x)) ys b) rest) ∙ sym (one_out x ys b it)
+      ap suc (as_many xs (without_name x ys) a.1 (apart-filter (λ k. not (is_same k x)) ys b) rest)
+      ∙ sym (one_out x ys b it)
 
   -- a session is on as many channels as are its own
   pub count_is : (s : ℕ) → length (channels_on fs s) ≡ channel_count fs s
-  count_is s = as_many (channels_on fs s) (filter (on fs s) (channels fs)) (apart_of (channels_on fs s) (own_once fs s))
+  count_is s = as_many (channels_on fs s) (filter (on fs s) (channels fs))
+      (apart_of (channels_on fs s) (own_once fs s))
       (apart-filter (on fs s) (channels fs) (subst Apart (sym i.channels) (apart_names ks i.apart)))
-      (λ c. own_any fs s c ∙ sym (any-filter_same (λ k. is_same k c) (on fs s) (on fs s c) (λ k e. on-same fs s k c e) (channels fs) ∙ and_true (on fs s c) (has c (channels fs)) (on_there s c)))
+      (λ c. own_any fs s c ∙ sym (any-filter_same (λ k. is_same k c) (on fs s) (on fs s c)
+      (λ k e. on-same fs s k c e) (channels fs) ∙ and_true (on fs s c) (has c (channels fs)) (on_there s c)))

@@ -15,7 +15,9 @@ states_alike [] (l ∷ ls) c a = absurd a
 states_alike (k ∷ ks) [] c a = absurd a
 states_alike (k ∷ ks) (l ∷ ls) c a =
     ap (λ n. option_map_or (λ (x : Channel). x.held.state) (cond (is_same n c) (Some l) (channel_of ls c)) nothing) a.0
-    ∙ elim (is_same k.name c) as (λ b. option_map_or (λ (x : Channel). x.held.state) (cond b (Some l) (channel_of ls c)) nothing ≡ option_map_or (λ (x : Channel). x.held.state) (cond b (Some k) (channel_of ks c)) nothing) [
+    ∙ elim (is_same k.name c) as
+    (λ b. option_map_or (λ (x : Channel). x.held.state) (cond b (Some l) (channel_of ls c)) nothing
+    ≡ option_map_or (λ (x : Channel). x.held.state) (cond b (Some k) (channel_of ks c)) nothing) [
       | true ↦ a.1
       | false ↦ states_alike ks ls c a.2
     ]
@@ -26,22 +28,29 @@ names_alike [] (l ∷ ls) c a = absurd a
 names_alike (k ∷ ks) [] c a = absurd a
 names_alike (k ∷ ks) (l ∷ ls) c a =
     ap (λ n. option_map (λ (x : Channel). x.name) (cond (is_same n c) (Some l) (channel_of ls c))) a.0
-    ∙ elim (is_same k.name c) as (λ b. option_map (λ (x : Channel). x.name) (cond b (Some l) (channel_of ls c)) ≡ option_map (λ (x : Channel). x.name) (cond b (Some k) (channel_of ks c))) [
+    ∙ elim (is_same k.name c) as (λ b. option_map (λ (x : Channel). x.name) (cond b (Some l) (channel_of ls c))
+    ≡ option_map (λ (x : Channel). x.name) (cond b (Some k) (channel_of ks c))) [
       | true ↦ ap (λ n. Some n) a.0
       | false ↦ names_alike ks ls c a.2
     ]
 
-any_alike : (ks ls : List Channel) (c : List ℕ) → Alike ks ls → list_any (λ (l : Channel). is_same c l.name) ls ≡ list_any (λ (l : Channel). is_same c l.name) ks
+any_alike : (ks ls : List Channel) (c : List ℕ) → Alike ks ls → list_any (λ (l : Channel). is_same c l.name) ls
+    ≡ list_any (λ (l : Channel). is_same c l.name) ks
 any_alike [] [] c a = refl
 any_alike [] (l ∷ ls) c a = absurd a
 any_alike (k ∷ ks) [] c a = absurd a
-any_alike (k ∷ ks) (l ∷ ls) c a = ap (λ n. is_same c n || list_any (λ (x : Channel). is_same c x.name) ls) a.0 ∙ ap (λ b. is_same c k.name || b) (any_alike ks ls c a.2)
+any_alike (k ∷ ks) (l ∷ ls) c a = ap (λ n. is_same c n || list_any (λ (x : Channel). is_same c x.name) ls) a.0 ∙ ap
+    (λ b. is_same c k.name || b) (any_alike ks ls c a.2)
 
 apart_alike : (ks ls : List Channel) → Alike ks ls → AreApart ks → AreApart ls
 apart_alike [] [] a h = tt
 apart_alike [] (l ∷ ls) a h = absurd a
 apart_alike (k ∷ ks) [] a h = absurd a
-apart_alike (k ∷ ks) (l ∷ ls) a h = (ap (λ n. list_any (λ (x : Channel). is_same n x.name) ls) a.0 ∙ any_alike ks ls k.name a.2 ∙ h.0, apart_alike ks ls a.2 h.1)
+apart_alike (k ∷ ks) (l ∷ ls) a h = (
+  ap (λ n. list_any (λ (x : Channel). is_same n x.name) ls) a.0
+      ∙ any_alike ks ls k.name a.2 ∙ h.0,
+  apart_alike ks ls a.2 h.1,
+)
 
 names_of_alike : (ks ls : List Channel) → Alike ks ls → names_of ls ≡ names_of ks
 names_of_alike [] [] a = refl

@@ -1,4 +1,5 @@
--- What follows for every list of facts: RFC 2812, section 2.2 (names that differ in case alone are one), and RFC 2811, sections 2 to 4.
+-- What follows for every list of facts: RFC 2812, section 2.2 (names that differ in case alone are one), and RFC
+-- 2811, sections 2 to 4.
 use Rattle.std.specs.Prelude.{◌≡◌, ℕ, true, false, ◌==◌, List}
 use Rattle.std.specs.List.{IsDistinct, list_any}
 use Rattle.channel_state.specs.State.{among, is_set}
@@ -6,12 +7,15 @@ use Rattle.channel_state.specs.declared.modes.Flag.{Flag}
 use Rattle.roster.specs.declared.deed.Deed.{Deed}
 use Rattle.casemapping.specs.Fold.{is_same}
 use Rattle.roster.specs.Legal.{AreLegal}
-use Rattle.roster.specs.LookBack.{on, state, name, members, has_member, is_operator, has_voice, invited, pardoned, mode, topic, bans, channels_on, sharers}
-use Rattle.roster.specs.Told.{last_topic, last_flag, last_key, last_limit, last_ban, last_operator, last_voice, last_invited, last_pardoned}
+use Rattle.roster.specs.LookBack.{on, state, name, members, has_member, is_operator, has_voice}
+use Rattle.roster.specs.LookBack.{invited, pardoned, mode, topic, bans, channels_on, sharers}
+use Rattle.roster.specs.Told.{last_topic, last_flag, last_key, last_limit, last_ban}
+use Rattle.roster.specs.Told.{last_operator, last_voice, last_invited, last_pardoned}
 
 -- one name, however it is spelled, is the same channel
 abbrev pub ChannelsHaveOneName : Type 0
-ChannelsHaveOneName = (fs : List Deed) (c d : List ℕ) → is_same c d ≡ true → (state fs c ≡ state fs d) × ((s : ℕ) → on fs s c ≡ on fs s d)
+ChannelsHaveOneName = (fs : List Deed) (c d : List ℕ) → is_same c d ≡ true → (state fs c ≡ state fs d)
+    × ((s : ℕ) → on fs s c ≡ on fs s d)
 
 -- a channel's name as it was first spelled is its name
 abbrev pub SpelledNamesAreNames : Type 0
@@ -49,7 +53,8 @@ abbrev pub VoicesAreTheLast : Type 0
 VoicesAreTheLast = (s : ℕ) → OfChannels (λ fs c. has_voice fs s c ≡ last_voice fs s c)
 
 abbrev pub InvitationsAreTheLast : Type 0
-InvitationsAreTheLast = (s : ℕ) → OfChannels (λ fs c. (invited fs s c ≡ last_invited fs s c) × (pardoned fs s c ≡ last_pardoned fs s c))
+InvitationsAreTheLast = (s : ℕ)
+    → OfChannels (λ fs c. (invited fs s c ≡ last_invited fs s c) × (pardoned fs s c ≡ last_pardoned fs s c))
 
 -- ---- each once
 
@@ -58,7 +63,8 @@ MembersAreThereOnce = (fs : List Deed) (c : List ℕ) → IsDistinct (λ s t. s 
 
 -- and without the session itself
 abbrev pub SharersAreThereOnce : Type 0
-SharersAreThereOnce = (fs : List Deed) (s : ℕ) → AreLegal fs → IsDistinct (λ t u. t == u) (sharers fs s) × (among s (sharers fs s) ≡ false)
+SharersAreThereOnce = (fs : List Deed) (s : ℕ) → AreLegal fs → IsDistinct (λ t u. t == u) (sharers fs s)
+    × (among s (sharers fs s) ≡ false)
 
 -- however they are spelled
 abbrev pub OwnChannelsAreThereOnce : Type 0

@@ -80,7 +80,8 @@ keyed_name (Changed k x) = folded k ∷ []
 keyed_name d = []
 
 -- each list becomes another; those of whom that is told have room for one less at most
-pub record Relists (old new : List (ℕ × Card)) (list note : ℕ → List (List ℕ) → List (List ℕ)) (joins : ℕ → Bool) : Type 0 where
+pub record Relists (old new : List (ℕ × Card)) (list note : ℕ → List (List ℕ) → List (List ℕ))
+    (joins : ℕ → Bool) : Type 0 where
   pub lists : (s : ℕ) → (row_of new s).list ≡ list s (row_of old s).list
   pub notes : (s : ℕ) → (row_of new s).notes ≡ note s (row_of old s).notes
   pub rooms : (s : ℕ) → (row_of old s).room ≤ (row_of new s).room + cond (joins s) 1 0
@@ -94,7 +95,8 @@ pub record Widens (old new : List (ℕ × Card)) : Type 0 where
 -- the same, where notes of channels that don't invite a session may be gone
 pub record Refits (ks : List Channel) (old new : List (ℕ × Card)) : Type 0 where
   pub lists : (s : ℕ) → (row_of new s).list ≡ (row_of old s).list
-  pub notes : (s : ℕ) (c : List ℕ) → among s (state_in ks c).invited ≡ true → holds_name c (row_of old s).notes ≡ true → holds_name c (row_of new s).notes ≡ true
+  pub notes : (s : ℕ) (c : List ℕ) → among s (state_in ks c).invited ≡ true → holds_name c (row_of old s).notes
+      ≡ true → holds_name c (row_of new s).notes ≡ true
   pub rooms : (s : ℕ) → (row_of old s).room ≤ (row_of new s).room
 
 -- names begin with these

@@ -1,5 +1,8 @@
--- What holds of sessions and channels, each looked up backwards in a list of facts, the newest first: RFC 2812, section 1.2 (clients), RFC 2811, section 2 (channels), IRCv3 Capability Negotiation and SASL 3.1. What a session had is given back when it is gone.
-use Rattle.std.specs.Prelude.{ℕ, zero, suc, ◌+◌, Bool, true, false, not, ◌&&◌, ◌==◌, cond, List, [], ◌∷◌, ◌++◌, filter, length, unwrap_or, Option, Some, None}
+-- What holds of sessions and channels, each looked up backwards in a list of facts, the newest first: RFC 2812,
+-- section 1.2 (clients), RFC 2811, section 2 (channels), IRCv3 Capability Negotiation and SASL 3.1. What a session
+-- had is given back when it is gone.
+use Rattle.std.specs.Prelude.{ℕ, zero, suc, ◌+◌, Bool, true, false, not, ◌&&◌, ◌==◌, cond, List, []}
+use Rattle.std.specs.Prelude.{◌∷◌, ◌++◌, filter, length, unwrap_or, Option, Some, None}
 use Rattle.std.specs.List.{find, list_any}
 use Rattle.casemapping.specs.Fold.{is_same}
 use Rattle.channel_state.specs.declared.change.Change.{Change}
@@ -9,7 +12,9 @@ use Rattle.channel_state.specs.State.{State, among, is_some_one, nothing, made_b
 use Rattle.chronicle.specs.declared.why.Why.{Why}
 use Rattle.chronicle.specs.declared.why.Why.TheVariants.{SendQ}
 use Rattle.roster.specs.declared.deed.Deed.{Deed}
-use Rattle.roster.specs.declared.deed.Deed.TheVariants.{Opened, NickSet, UserSet, HoldSet, CapsSet, ExchangeSet, LoggedIn, Enrolled, AwaySet, InvisibleSet, ChannelMade, Changed, Ended, Gone}
+use Rattle.roster.specs.declared.deed.Deed.TheVariants.{Opened, NickSet, UserSet, HoldSet, CapsSet}
+use Rattle.roster.specs.declared.deed.Deed.TheVariants.{ExchangeSet, LoggedIn, Enrolled, AwaySet}
+use Rattle.roster.specs.declared.deed.Deed.TheVariants.{InvisibleSet, ChannelMade, Changed, Ended, Gone}
 use Rattle.registration.specs.declared.caps.Caps.{Caps}
 use Rattle.registration.specs.Caps.{none_on}
 use Rattle.registration.specs.Enrol.{Enrolment}
@@ -143,7 +148,15 @@ invisible fs s = newest (tells_invisible s) false fs
 
 -- what is known of it while it registers
 abbrev pub enrol : List Deed → ℕ → Enrolment
-enrol fs s = record { nick = nick fs s; user = user fs s; hold = held fs s; caps = caps fs s; exchange = exchange fs s; account = account fs s; registered = registered fs s }
+enrol fs s = record {
+  nick = nick fs s;
+  user = user fs s;
+  hold = held fs s;
+  caps = caps fs s;
+  exchange = exchange fs s;
+  account = account fs s;
+  registered = registered fs s;
+}
 
 -- the same after one fact more
 abbrev pub enrolled : ℕ → Deed → Enrolment → Enrolment

@@ -1,5 +1,6 @@
 -- How tables stand for a list of facts, and are ready for deeds.
-use Rattle.std.specs.Prelude.{◌≡◌, ℕ, ◌≤◌, Bool, true, false, cond, List, [], ◌∷◌, filter, length, count_by, Option, Some, None}
+use Rattle.std.specs.Prelude.{◌≡◌, ℕ, ◌≤◌, Bool, true, false, cond, List, [], ◌∷◌}
+use Rattle.std.specs.Prelude.{filter, length, count_by, Option, Some, None}
 use Rattle.std.specs.List.{list_any, flat_map}
 use Rattle.chronicle.specs.declared.why.Why.{Why}
 use Rattle.roster.specs.declared.deed.Deed.{Deed}
@@ -10,15 +11,30 @@ use Rattle.roster.specs.declared.tables.Channel.{Channel}
 use Rattle.casemapping.specs.Fold.{folded, is_same}
 use Rattle.channel_state.specs.State.{nothing, is_some_one, departed, lasting}
 use Rattle.channel_state.specs.Held.{Held}
-use Rattle.roster.specs.LookBack.{numbers, opened, host, nick, user, real, held, caps, exchange, account, registered, away, invisible, why, parting, is_named, state, name_of, channels}
+use Rattle.roster.specs.LookBack.{numbers, opened, host, nick, user, real, held, caps, exchange, account, registered}
+use Rattle.roster.specs.LookBack.{away, invisible, why, parting, is_named, state, name_of, channels}
 use Rattle.roster.specs.Legal.{IsOpened, AreNext, AreLegal}
 use Rattle.roster.specs.Table.{Table}
-use Rattle.roster.specs.Tables.{person_at, why_at, held_by, state_in, name_in, names_of, with_held, is_populated, holds_name}
+use Rattle.roster.specs.Tables.{person_at, why_at, held_by, state_in, name_in}
+use Rattle.roster.specs.Tables.{names_of, with_held, is_populated, holds_name}
 use Rattle.roster.specs.Lists.{keyed_name, BeginWith}
 
 -- what facts say of a session
 abbrev pub person : List Deed → ℕ → Person
-person fs s = record { host = host fs s; nick = nick fs s; user = user fs s; real = real fs s; held = held fs s; caps = caps fs s; exchange = exchange fs s; account = account fs s; registered = registered fs s; away = away fs s; invisible = invisible fs s; parting = parting fs s }
+person fs s = record {
+  host = host fs s;
+  nick = nick fs s;
+  user = user fs s;
+  real = real fs s;
+  held = held fs s;
+  caps = caps fs s;
+  exchange = exchange fs s;
+  account = account fs s;
+  registered = registered fs s;
+  away = away fs s;
+  invisible = invisible fs s;
+  parting = parting fs s;
+}
 
 -- no two channels have one name
 abbrev pub AreApart : List Channel → Type 0
@@ -33,7 +49,8 @@ AreHeld (k ∷ ks) = (is_populated k ≡ true) × AreHeld ks
 -- each but the channel of a name has one, and that has none
 abbrev pub AreHeldBut : List ℕ → List Channel → Type 0
 AreHeldBut c [] = Unit {0}
-AreHeldBut c (k ∷ ks) = (is_same k.name c ≡ true → (is_populated k ≡ false) × AreHeld ks) × (is_same k.name c ≡ false → (is_populated k ≡ true) × AreHeldBut c ks)
+AreHeldBut c (k ∷ ks) = (is_same k.name c ≡ true → (is_populated k ≡ false) × AreHeld ks)
+    × (is_same k.name c ≡ false → (is_populated k ≡ true) × AreHeldBut c ks)
 
 -- the index of nicknames: whoever has one is found by it, and nobody else
 pub record AreHolders (hs : List (List ℕ × ℕ)) (fs : List Deed) : Type 0 where
@@ -75,7 +92,8 @@ HaveSeats ds (k ∷ ks) = (changes k.name ds ≤ k.held.room) × HaveSeats ds ks
 
 -- a session leaves the channels of names, and those end where no member is left
 pub record LeavesThose (old new : List Channel) (cs : List (List ℕ)) (t : ℕ) : Type 0 where
-  pub states : (c : List ℕ) → state_in new c ≡ cond (holds_name c cs) (lasting (departed t (state_in old c))) (state_in old c)
+  pub states : (c : List ℕ) → state_in new c ≡ cond (holds_name c cs) (lasting (departed t (state_in old c)))
+      (state_in old c)
   pub names : (c : List ℕ) → name_in new c ≡ cond (is_some_one (state_in new c).members) (name_in old c) None
   pub channels : names_of new ≡ filter (λ c. is_some_one (state_in new c).members) (names_of old)
   pub apart : AreApart new
@@ -115,7 +133,8 @@ is_making (ChannelMade t k) = true
 is_making d = false
 
 -- there is room for these deeds, and their names stand ready
-pub record HasRoom (es : Table (ℕ × Card)) (ws : Table Why) (hs : Table (List ℕ × ℕ)) (ks : Table Channel) (spare : List Held) (folds : List (List ℕ)) (ds : List Deed) : Type 0 where
+pub record HasRoom (es : Table (ℕ × Card)) (ws : Table Why) (hs : Table (List ℕ × ℕ)) (ks : Table Channel)
+    (spare : List Held) (folds : List (List ℕ)) (ds : List Deed) : Type 0 where
   pub people : length ds ≤ es.room
   pub whys : length ds ≤ ws.room
   pub nicks : length ds ≤ hs.room
@@ -126,7 +145,8 @@ pub record HasRoom (es : Table (ℕ × Card)) (ws : Table Why) (hs : Table (List
   pub keys : BeginWith (flat_map keyed_name ds) folds
 
 -- what holds of every roster
-pub record IsKept (es : Table (ℕ × Card)) (ws : Table Why) (hs : Table (List ℕ × ℕ)) (ks : Table Channel) (spare : List Held) (folds : List (List ℕ)) (fs ds : List Deed) : Type 0 where
+pub record IsKept (es : Table (ℕ × Card)) (ws : Table Why) (hs : Table (List ℕ × ℕ)) (ks : Table Channel)
+    (spare : List Held) (folds : List (List ℕ)) (fs ds : List Deed) : Type 0 where
   pub people : HoldPeople es.list ws.list hs.list fs
   pub channels : HoldChannels ks.list fs
   pub legal : AreLegal fs

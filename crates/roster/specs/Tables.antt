@@ -1,5 +1,7 @@
 -- What the tables of sessions and channels hold: words of the private contracts.
-use Rattle.std.specs.Prelude.{◌≡◌, ℕ, zero, suc, ◌+◌, ◌≤◌, ◌<◌, Bool, true, false, not, ◌&&◌, cond, nat_eq, nat_le, List, [], ◌∷◌, ◌++◌, slice_index_or, slice_get, filter, Option, Some, None, ◌==◌, unwrap_or}
+use Rattle.std.specs.Prelude.{◌≡◌, ℕ, zero, suc, ◌+◌, ◌≤◌, ◌<◌, Bool, true, false, not, ◌&&◌}
+use Rattle.std.specs.Prelude.{cond, nat_eq, nat_le, List, [], ◌∷◌, ◌++◌, slice_index_or}
+use Rattle.std.specs.Prelude.{slice_get, filter, Option, Some, None, ◌==◌, unwrap_or}
 use Rattle.std.specs.Option.{option_map_or, option_map}
 use Rattle.std.specs.List.{find, list_any}
 use Rattle.std.specs.Map.{lookup}
@@ -9,7 +11,9 @@ use Rattle.chronicle.specs.declared.why.Why.TheVariants.{SendQ}
 use Rattle.registration.specs.Caps.{none_on}
 use Rattle.registration.specs.Enrol.{Enrolment}
 use Rattle.roster.specs.declared.deed.Deed.{Deed}
-use Rattle.roster.specs.declared.deed.Deed.TheVariants.{Opened, NickSet, UserSet, HoldSet, CapsSet, ExchangeSet, LoggedIn, Enrolled, AwaySet, InvisibleSet, ChannelMade, Changed, Ended, Gone}
+use Rattle.roster.specs.declared.deed.Deed.TheVariants.{Opened, NickSet, UserSet, HoldSet, CapsSet}
+use Rattle.roster.specs.declared.deed.Deed.TheVariants.{ExchangeSet, LoggedIn, Enrolled, AwaySet}
+use Rattle.roster.specs.declared.deed.Deed.TheVariants.{InvisibleSet, ChannelMade, Changed, Ended, Gone}
 use Rattle.roster.specs.declared.tables.Person.{Person}
 use Rattle.roster.specs.declared.tables.Card.{Card}
 use Rattle.roster.specs.declared.tables.Channel.{Channel}
@@ -22,11 +26,32 @@ use Rattle.roster.specs.LookBack.{numbers}
 -- ---- sessions
 
 abbrev pub nobody : Person
-nobody = record { host = []; nick = None; user = None; real = None; held = false; caps = none_on; exchange = None; account = None; registered = false; away = None; invisible = false; parting = [] }
+nobody = record {
+  host = [];
+  nick = None;
+  user = None;
+  real = None;
+  held = false;
+  caps = none_on;
+  exchange = None;
+  account = None;
+  registered = false;
+  away = None;
+  invisible = false;
+  parting = [];
+}
 
 -- what is known of a person while it registers
 abbrev pub enrolment_in : Person → Enrolment
-enrolment_in p = record { nick = p.nick; user = p.user; hold = p.held; caps = p.caps; exchange = p.exchange; account = p.account; registered = p.registered }
+enrolment_in p = record {
+  nick = p.nick;
+  user = p.user;
+  hold = p.held;
+  caps = p.caps;
+  exchange = p.exchange;
+  account = p.account;
+  registered = p.registered;
+}
 
 -- the session of which a deed tells what is known of it
 abbrev pub subject : Deed → Option ℕ

@@ -1,8 +1,10 @@
--- What a channel has, each by the newest fact that tells of it, read back no further than the fact that made the channel: RFC 2811, sections 2 to 4.
+-- What a channel has, each by the newest fact that tells of it, read back no further than the fact that made the
+-- channel: RFC 2811, sections 2 to 4.
 use Rattle.std.specs.Prelude.{ℕ, Bool, true, false, ◌==◌, cond, List, Option, Some, None}
 use Rattle.casemapping.specs.Fold.{is_same}
 use Rattle.channel_state.specs.declared.change.Change.{Change}
-use Rattle.channel_state.specs.declared.change.Change.TheVariants.{Joined, Left, RankSet, FlagSet, KeySet, LimitSet, TopicSet, BanSet, BanLifted, Invited}
+use Rattle.channel_state.specs.declared.change.Change.TheVariants.{Joined, Left, RankSet, FlagSet, KeySet, LimitSet}
+use Rattle.channel_state.specs.declared.change.Change.TheVariants.{TopicSet, BanSet, BanLifted, Invited}
 use Rattle.channel_state.specs.declared.change.Rank.TheVariants.{Operator, Voice}
 use Rattle.channel_state.specs.declared.modes.Flag.{Flag}
 use Rattle.channel_state.specs.declared.modes.Flag.TheVariants.{InviteOnly, Moderated, NoOutside, Secret, TopicLocked}

@@ -3,7 +3,8 @@ ghost use Rattle.std.specs.List.{remove};
 ghost use Rattle.std.specs.Map.{lookup, remove_entry};
 ghost use Rattle.std.specs.Str.{bytes_eq};
 ghost use Rattle.indexmap.specs.IndexMap.{spare};
-ghost use Rattle.std.specs.Prelude.{◌≡◌, ◌+◌, ◌<◌, ◌≤◌, ◌++◌, ◌∷◌, ℕ, suc, true, false, [], Some, None, length, option_copied, slice_get, IfOk, OnOk};
+ghost use Rattle.std.specs.Prelude.{◌≡◌, ◌+◌, ◌<◌, ◌≤◌, ◌++◌, ◌∷◌, ℕ, suc, true, false, [], Some};
+ghost use Rattle.std.specs.Prelude.{None, length, option_copied, slice_get, IfOk, OnOk};
 ghost use Rattle.casemapping.specs.Fold.{folded, is_same};
 ghost use Rattle.channel_state.specs.State.{among, changed, departed};
 ghost use Rattle.roster.specs.Tables.{channel_of, state_in, room_in, Reholds, Makes, Changes, IsPlace, Departs};
@@ -173,7 +174,8 @@ impl Channels {
         requires room { 0 < self.old.room }
         requires spare { 0 < length spare.old.items }
         requires empty { AreSpare 1 spare.old.items }
-        ensures made { (n : ℕ) → AreSpare (suc n) spare.old.items → Makes self.old.list self.new.list name session n × AreSpare n spare.new.items }
+        ensures made { (n : ℕ) → AreSpare (suc n) spare.old.items
+            → Makes self.old.list self.new.list name session n × AreSpare n spare.new.items }
         ensures fewer { length spare.new.items + 1 ≡ length spare.old.items }
         ensures room { self.old.room ≤ self.new.room + 1 }
     {
@@ -183,12 +185,14 @@ impl Channels {
         }
     }
 
-    /// Changes the channel of a folded name, which has room for that. It takes no memory, and tells whether nobody is on it.
+    /// Changes the channel of a folded name, which has room for that. It takes no memory, and tells whether nobody
+    /// is on it.
     fn change_keyed(&mut self, key: &Folded, name: &[u8], change: Change) -> bool
         requires key { key.now ≡ folded name.now }
         requires held { AreHeld self.old.list }
         requires room { 0 < room_in self.old.list name.now }
-        ensures reholds { Reholds self.old.list self.new.list name.now (changed change (state_in self.old.list name.now)) 1 }
+        ensures reholds { Reholds self.old.list self.new.list name.now
+            (changed change (state_in self.old.list name.now)) 1 }
         ensures ended { result ≡ true → AreHeldBut name.now self.new.list }
         ensures held { result ≡ false → AreHeld self.new.list }
         ensures room { self.new.room ≡ self.old.room }
@@ -241,7 +245,8 @@ impl Channels {
         requires at { IsPlace self.old.list name.now (Some place) }
         requires apart { AreApart self.old.list }
         requires held { AreHeld self.old.list }
-        ensures reholds { Reholds self.old.list self.new.list name.now (departed session (state_in self.old.list name.now)) 0 }
+        ensures reholds { Reholds self.old.list self.new.list name.now
+            (departed session (state_in self.old.list name.now)) 0 }
         ensures ended { result ≡ true → AreHeldBut name.now self.new.list }
         ensures held { result ≡ false → AreHeld self.new.list }
         ensures room { self.new.room ≡ self.old.room }

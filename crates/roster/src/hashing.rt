@@ -1,5 +1,5 @@
-//! How names are hashed. Clients choose them: SipHash, whose keys nobody outside knows, so that nobody can choose names that fall
-//! into one place.
+//! How names are hashed. Clients choose them: SipHash, whose keys nobody outside knows, so that nobody can choose
+//! names that fall into one place.
 use std::hash::{BuildHasher, DefaultHasher, RandomState};
 
 /// What makes a hash for each name, by its keys.

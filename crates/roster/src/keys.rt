@@ -1,5 +1,6 @@
 //! The folded names of deeds, which stand ready before these are applied.
-ghost use Rattle.std.specs.Prelude.{◌≡◌, ◌+◌, ◌<◌, ◌≤◌, ◌++◌, ℕ, List, suc, cond, drop, length, slice_get, Some, None, OnOk};
+ghost use Rattle.std.specs.Prelude.{◌≡◌, ◌+◌, ◌<◌, ◌≤◌, ◌++◌, ℕ, List, suc, cond, drop};
+ghost use Rattle.std.specs.Prelude.{length, slice_get, Some, None, OnOk};
 ghost use Rattle.std.specs.List.{flat_map};
 ghost use Rattle.std.specs.Str.{bytes_eq};
 ghost use Rattle.casemapping.specs.Fold.{folded};
@@ -59,7 +60,8 @@ pub(crate) fn make(
     requires room { 0 < channels.old.room }
     requires spare { 0 < length spare.old.items }
     requires empty { AreSpare 1 spare.old.items }
-    ensures made { (n : ℕ) → AreSpare (suc n) spare.old.items → Makes channels.old.list channels.new.list name session n × AreSpare n spare.new.items }
+    ensures made { (n : ℕ) → AreSpare (suc n) spare.old.items
+        → Makes channels.old.list channels.new.list name session n × AreSpare n spare.new.items }
     ensures fewer { length spare.new.items + 1 ≡ length spare.old.items }
     ensures room { channels.old.room ≤ channels.new.room + 1 }
     ensures keys { keys.new.items ≡ drop 1 keys.old.items }
@@ -92,7 +94,8 @@ pub(crate) fn change(
 pub(crate) fn take(nicks: &mut Nicks, keys: &mut VecDeque<Folded>, session: SessionId)
     requires key { 0 < length keys.old.items }
     requires room { 0 < nicks.old.room }
-    ensures taken { (n : List ℕ) → slice_get keys.old.items 0 ≡ Some n → (k : List ℕ) → held_by nicks.new.list k ≡ cond (bytes_eq n k) (Some session) (held_by nicks.old.list k) }
+    ensures taken { (n : List ℕ) → slice_get keys.old.items 0 ≡ Some n → (k : List ℕ)
+        → held_by nicks.new.list k ≡ cond (bytes_eq n k) (Some session) (held_by nicks.old.list k) }
     ensures room { nicks.old.room ≤ nicks.new.room + 1 }
     ensures keys { keys.new.items ≡ drop 1 keys.old.items }
 {

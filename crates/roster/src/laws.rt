@@ -1,5 +1,8 @@
 //! What follows of facts, as functions that do nothing.
-ghost use Rattle.roster.specs.Laws.{ChannelsHaveOneName, SpelledNamesAreNames, MembersAreOnIt, TopicsAreTheLast, FlagsAreTheLast, KeysAreTheLast, LimitsAreTheLast, BansAreTheLast, OperatorsAreTheLast, VoicesAreTheLast, InvitationsAreTheLast, MembersAreThereOnce, SharersAreThereOnce, OwnChannelsAreThereOnce};
+ghost use Rattle.roster.specs.Laws.{ChannelsHaveOneName, SpelledNamesAreNames, MembersAreOnIt, TopicsAreTheLast};
+ghost use Rattle.roster.specs.Laws.{FlagsAreTheLast, KeysAreTheLast, LimitsAreTheLast, BansAreTheLast};
+ghost use Rattle.roster.specs.Laws.{OperatorsAreTheLast, VoicesAreTheLast, InvitationsAreTheLast};
+ghost use Rattle.roster.specs.Laws.{MembersAreThereOnce, SharersAreThereOnce, OwnChannelsAreThereOnce};
 
 /// One name, however it is spelled, is the same channel (RFC 2812, section 2.2).
 pub fn channels_have_one_name()

@@ -1,12 +1,14 @@
 //! The channels of each session, in lists.
 ghost use Rattle.std.specs.Option.{option_map_or};
-ghost use Rattle.std.specs.Prelude.{◌≡◌, ℕ, List, true, false, ◌==◌, cond, ◌<◌, ◌≤◌, ◌-◌, ◌++◌, [], filter, length, drop, slice_get, Some, OnOk};
+ghost use Rattle.std.specs.Prelude.{◌≡◌, ℕ, List, true, false, ◌==◌, cond, ◌<◌, ◌≤◌, ◌-◌, ◌++◌, []};
+ghost use Rattle.std.specs.Prelude.{filter, length, drop, slice_get, Some, OnOk};
 ghost use Rattle.std.specs.List.{flat_map, list_any};
 ghost use Rattle.casemapping.specs.Fold.{is_same};
 ghost use Rattle.roster.specs.LookBack.{with_last_name, without_name};
 ghost use Rattle.channel_state.specs.State.{among};
 ghost use Rattle.roster.specs.Tables.{person_at, state_in, holds_name};
-ghost use Rattle.roster.specs.Lists.{row_of, seat_of, is_taken, reseated, noted, is_joining, joinings, made_name, Relists, Refits};
+ghost use Rattle.roster.specs.Lists.{row_of, seat_of, is_taken, reseated, noted, is_joining};
+ghost use Rattle.roster.specs.Lists.{joinings, made_name, Relists, Refits};
 
 use crate::channels::Channels;
 use crate::deed::Deed;
@@ -33,7 +35,12 @@ impl Model for Names {
 
     ghost Value = { Row };
 
-    ghost view = { λ a. record { list = a.names.items; notes = a.notes.items; room = min (vec_capacity a.names - vec_len a.names) (vec_capacity a.notes - vec_len a.notes) } };
+    ghost view = { λ a. record {
+      list = a.names.items;
+      notes = a.notes.items;
+      room = min
+          (vec_capacity a.names - vec_len a.names) (vec_capacity a.notes - vec_len a.notes);
+    } };
 }
 
 impl Clone for Names {
@@ -72,7 +79,8 @@ impl Names {
     /// Keeps the notes of channels that invite a session. It takes no memory.
     fn prune(&mut self, channels: &Channels, session: SessionId)
         ensures list { self.new.list ≡ self.old.list }
-        ensures notes { self.new.notes ≡ filter (λ c. among session (state_in channels.now.list c).invited) self.old.notes }
+        ensures notes { self.new.notes
+            ≡ filter (λ c. among session (state_in channels.now.list c).invited) self.old.notes }
         ensures room { self.old.room ≤ self.new.room }
     {
         self.notes
@@ -82,7 +90,8 @@ impl Names {
     /// Where there is no room for so many more, the notes are taken out whose channels invite a session no more.
     fn thin(&mut self, channels: &Channels, session: SessionId, more: usize)
         ensures list { self.new.list ≡ self.old.list }
-        ensures notes { (c : List ℕ) → among session (state_in channels.now.list c).invited ≡ true → holds_name c self.old.notes ≡ true → holds_name c self.new.notes ≡ true }
+        ensures notes { (c : List ℕ) → among session (state_in channels.now.list c).invited ≡ true
+            → holds_name c self.old.notes ≡ true → holds_name c self.new.notes ≡ true }
         ensures room { self.old.room ≤ self.new.room }
     {
         if self.notes.capacity() - self.notes.len() >= more {
@@ -99,7 +108,8 @@ impl Names {
         more: usize,
     ) -> Result<(), AllocError>
         ensures list { self.new.list ≡ self.old.list }
-        ensures notes { (c : List ℕ) → among session (state_in channels.now.list c).invited ≡ true → holds_name c self.old.notes ≡ true → holds_name c self.new.notes ≡ true }
+        ensures notes { (c : List ℕ) → among session (state_in channels.now.list c).invited ≡ true
+            → holds_name c self.old.notes ≡ true → holds_name c self.new.notes ≡ true }
         ensures room { self.old.room ≤ self.new.room }
         ensures made { OnOk result (more ≤ self.new.room) }
     {
@@ -203,7 +213,8 @@ pub(crate) fn seat_of(change: &Change) -> Seat
 pub(crate) fn reseat(people: &mut People, seat: Seat, name: Octets)
     requires { (s : ℕ) → is_taken s seat ≡ true → 0 < (row_of people.old.list s).room }
     ensures people { (t : ℕ) → person_at people.new.list t ≡ person_at people.old.list t }
-    ensures lists { Relists people.old.list people.new.list (λ s. reseated s name seat) (λ s. noted s name seat) (λ s. is_taken s seat) }
+    ensures lists { Relists people.old.list people.new.list (λ s. reseated s name seat)
+        (λ s. noted s name seat) (λ s. is_taken s seat) }
     ensures room { people.new.room ≡ people.old.room }
 {
     match seat {
@@ -219,7 +230,9 @@ pub(crate) fn join_made(people: &mut People, copies: &mut VecDeque<Octets>, sess
     requires room { 0 < (row_of people.old.list session).room }
     requires copied { 0 < length copies.old.items }
     ensures people { (t : ℕ) → person_at people.new.list t ≡ person_at people.old.list t }
-    ensures joined { (n : List ℕ) → slice_get copies.old.items 0 ≡ Some n → Relists people.old.list people.new.list (λ s cs. cond (session == s) (with_last_name n cs) cs) (λ s ns. ns) (λ s. session == s) }
+    ensures joined { (n : List ℕ) → slice_get copies.old.items 0 ≡ Some n
+        → Relists people.old.list people.new.list
+        (λ s cs. cond (session == s) (with_last_name n cs) cs) (λ s ns. ns) (λ s. session == s) }
     ensures copies { copies.new.items ≡ drop 1 copies.old.items }
     ensures room { people.new.room ≡ people.old.room }
 {
@@ -257,7 +270,8 @@ fn reserve_for(
     ensures marks { marks.new ≡ marks.old }
     ensures people { (t : ℕ) → person_at people.new.list t ≡ person_at people.old.list t }
     ensures kept { Refits channels.now.list people.old.list people.new.list }
-    ensures room { OnOk result ((s : ℕ) → is_joining s deed.now ≡ true → more ≤ (row_of people.new.list s).room) }
+    ensures room { OnOk result ((s : ℕ) → is_joining s deed.now ≡ true
+        → more ≤ (row_of people.new.list s).room) }
 {
     match joiner_of(deed) {
         Some(session) => people.reserve_names(marks, channels, session, more),

@@ -1,5 +1,6 @@
 //! What is kept of each session that ever came: why it ended, and where its card is.
-ghost use Rattle.std.specs.Prelude.{◌≡◌, ◌+◌, ◌-◌, ◌<◌, ◌≤◌, ◌^◌, ◌++◌, ◌∷◌, ◌==◌, ℕ, [], cond, length, unwrap_or, IfOk, OnOk};
+ghost use Rattle.std.specs.Prelude.{◌≡◌, ◌+◌, ◌-◌, ◌<◌, ◌≤◌, ◌^◌, ◌++◌, ◌∷◌, ◌==◌, ℕ, []};
+ghost use Rattle.std.specs.Prelude.{cond, length, unwrap_or, IfOk, OnOk};
 ghost use Rattle.chronicle.specs.declared.why.Why.TheVariants.{SendQ};
 ghost use Rattle.roster.specs.LookBack.{tells_why};
 ghost use Rattle.roster.specs.Tables.{is_opening, why_at, IsOf};
@@ -69,8 +70,9 @@ impl Mark {
     }
 }
 
-/// What is kept of each session that was opened, by their numbers: why it ended, since a server may find only afterwards that
-/// it did, and the place of its card while it has one, so that a look-up needs no hash. Each takes four octets.
+/// What is kept of each session that was opened, by their numbers: why it ended, since a server may find only
+/// afterwards that it did, and the place of its card while it has one, so that a look-up needs no hash. Each takes
+/// four octets.
 #[derive(Drop)]
 pub(crate) struct Marks {
     marks: Vec<Mark>,
@@ -83,7 +85,10 @@ impl Model for Marks {
 
     ghost Value = { Table Why };
 
-    ghost view = { λ a. record { list = a.marks.items; room = vec_capacity a.marks - vec_len a.marks } };
+    ghost view = { λ a. record {
+      list = a.marks.items;
+      room = vec_capacity a.marks - vec_len a.marks;
+    } };
 }
 
 impl Marks {
@@ -148,7 +153,8 @@ impl Marks {
     pub(crate) fn set(&mut self, session: SessionId, why: Why)
         requires from_1 { 0 < session }
         requires opened { session ≤ length self.old.list }
-        ensures whys { (t : ℕ) → why_at self.new.list t ≡ cond (session == t) why (why_at self.old.list t) }
+        ensures whys { (t : ℕ) → why_at self.new.list t
+            ≡ cond (session == t) why (why_at self.old.list t) }
         ensures count { length self.new.list ≡ length self.old.list }
         ensures room { self.new.room ≡ self.old.room }
     {
@@ -167,7 +173,8 @@ impl Marks {
         }
     }
 
-    /// The card of a session was put at a place, which is kept if the session was opened and the place is below 65,536.
+    /// The card of a session was put at a place, which is kept if the session was opened and the place is below
+    /// 65,536.
     pub(crate) fn put(&mut self, session: SessionId, place: usize)
         ensures { self.new ≡ self.old }
     {
@@ -184,8 +191,10 @@ impl Marks {
     pub(crate) fn hear(&mut self, deed: &Deed)
         requires of { IsOf (length self.old.list) deed.now }
         requires room { 0 < self.old.room }
-        ensures whys { (t : ℕ) → why_at self.new.list t ≡ unwrap_or (tells_why t deed.now) (why_at self.old.list t) }
-        ensures count { length self.new.list ≡ length self.old.list + cond (is_opening deed.now) 1 0 }
+        ensures whys { (t : ℕ) → why_at self.new.list t
+            ≡ unwrap_or (tells_why t deed.now) (why_at self.old.list t) }
+        ensures count { length self.new.list
+            ≡ length self.old.list + cond (is_opening deed.now) 1 0 }
         ensures room { self.old.room - 1 ≤ self.new.room }
     {
         match deed {

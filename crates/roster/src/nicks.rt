@@ -95,7 +95,8 @@ impl Nicks {
     /// A session has a nickname from now on, which is folded. There has to be room for it, and it takes no memory.
     pub(crate) fn take(&mut self, key: Folded, session: SessionId)
         requires { 0 < self.old.room }
-        ensures taken { (k : List ℕ) → held_by self.new.list k ≡ cond (bytes_eq key k) (Some session) (held_by self.old.list k) }
+        ensures taken { (k : List ℕ) → held_by self.new.list k
+            ≡ cond (bytes_eq key k) (Some session) (held_by self.old.list k) }
         ensures room { self.old.room ≤ self.new.room + 1 }
     {
         let _ = self.holders.insert(key, session).unwrap();

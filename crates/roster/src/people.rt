@@ -1,5 +1,6 @@
 //! The table of sessions.
-ghost use Rattle.std.specs.Prelude.{◌≡◌, ◌+◌, ◌<◌, ◌≤◌, ◌==◌, ℕ, [], cond, false, option_copied, unwrap_or, is_some, Some, IsSome, IfOk, IfSome, OnOk};
+ghost use Rattle.std.specs.Prelude.{◌≡◌, ◌+◌, ◌<◌, ◌≤◌, ◌==◌, ℕ, [], cond, false, option_copied};
+ghost use Rattle.std.specs.Prelude.{unwrap_or, is_some, Some, IsSome, IfOk, IfSome, OnOk};
 ghost use Rattle.registration.specs.Enrol.{enrolment};
 ghost use Rattle.roster.specs.LookBack.{with_last_name, without_name};
 ghost use Rattle.roster.specs.Tables.{nobody, enrolment_in, heard, subject, is_about, card_in, person_at};
@@ -166,9 +167,12 @@ impl People {
 
     /// A copy, with room for no more.
     pub(crate) fn copied(&self) -> Result<People, AllocError>
-        ensures people { IfOk result (λ r. (t : ℕ) → person_at r.list t ≡ person_at self.now.list t) }
-        ensures lists { IfOk result (λ r. (t : ℕ) → (row_of r.list t).list ≡ (row_of self.now.list t).list) }
-        ensures notes { IfOk result (λ r. (t : ℕ) → (row_of r.list t).notes ≡ (row_of self.now.list t).notes) }
+        ensures people { IfOk result
+            (λ r. (t : ℕ) → person_at r.list t ≡ person_at self.now.list t) }
+        ensures lists { IfOk result
+            (λ r. (t : ℕ) → (row_of r.list t).list ≡ (row_of self.now.list t).list) }
+        ensures notes { IfOk result
+            (λ r. (t : ℕ) → (row_of r.list t).notes ≡ (row_of self.now.list t).notes) }
     {
         Ok(People {
             alloc: self.alloc,
@@ -265,7 +269,8 @@ impl People {
     /// What is known of a session that has a card changes by a deed of it.
     fn update(&mut self, session: SessionId, deed: Deed)
         requires { IsSome (card_in self.old.list session) }
-        ensures people { (t : ℕ) → person_at self.new.list t ≡ cond (session == t) (heard deed (person_at self.old.list t)) (person_at self.old.list t) }
+        ensures people { (t : ℕ) → person_at self.new.list t ≡ cond (session == t)
+            (heard deed (person_at self.old.list t)) (person_at self.old.list t) }
         ensures lists { Widens self.old.list self.new.list }
         ensures room { self.new.room ≡ self.old.room }
     {
@@ -279,7 +284,8 @@ impl People {
     pub(crate) fn tell(&mut self, marks: &mut Marks, deed: Deed)
         requires { 0 < self.old.room }
         ensures marks { marks.new ≡ marks.old }
-        ensures people { (t : ℕ) → person_at self.new.list t ≡ cond (is_about t deed) (heard deed (person_at self.old.list t)) (person_at self.old.list t) }
+        ensures people { (t : ℕ) → person_at self.new.list t ≡ cond (is_about t deed)
+            (heard deed (person_at self.old.list t)) (person_at self.old.list t) }
         ensures lists { Widens self.old.list self.new.list }
         ensures room { self.old.room ≤ self.new.room + 1 }
     {
@@ -293,7 +299,8 @@ impl People {
     /// The nickname of a session that has a card becomes another. It returns the one before.
     fn change_nick(&mut self, session: SessionId, nick: Octets) -> Option<Octets>
         requires { IsSome (card_in self.old.list session) }
-        ensures people { (t : ℕ) → person_at self.new.list t ≡ cond (session == t) (record (person_at self.old.list t) { nick = Some nick }) (person_at self.old.list t) }
+        ensures people { (t : ℕ) → person_at self.new.list t ≡ cond (session == t)
+            (record (person_at self.old.list t) { nick = Some nick }) (person_at self.old.list t) }
         ensures nick { result ≡ (person_at self.old.list session).nick }
         ensures lists { Widens self.old.list self.new.list }
         ensures room { self.new.room ≡ self.old.room }
@@ -304,7 +311,8 @@ impl People {
         card.person.nick.replace(nick)
     }
 
-    /// A session has this nickname from now on. It returns the one before. There has to be room for a card, and it takes no memory.
+    /// A session has this nickname from now on. It returns the one before. There has to be room for a card, and it
+    /// takes no memory.
     pub(crate) fn rename(
         &mut self,
         marks: &mut Marks,
@@ -313,7 +321,8 @@ impl People {
     ) -> Option<Octets>
         requires { 0 < self.old.room }
         ensures marks { marks.new ≡ marks.old }
-        ensures people { (t : ℕ) → person_at self.new.list t ≡ cond (session == t) (record (person_at self.old.list t) { nick = Some nick }) (person_at self.old.list t) }
+        ensures people { (t : ℕ) → person_at self.new.list t ≡ cond (session == t)
+            (record (person_at self.old.list t) { nick = Some nick }) (person_at self.old.list t) }
         ensures nick { result ≡ (person_at self.old.list session).nick }
         ensures lists { Widens self.old.list self.new.list }
         ensures room { self.old.room ≤ self.new.room + 1 }
@@ -324,7 +333,8 @@ impl People {
 
     /// A session's client gave no text when it ended.
     pub(crate) fn part(&mut self, session: SessionId)
-        ensures people { (t : ℕ) → person_at self.new.list t ≡ cond (session == t) (record (person_at self.old.list t) { parting = [] }) (person_at self.old.list t) }
+        ensures people { (t : ℕ) → person_at self.new.list t ≡ cond (session == t)
+            (record (person_at self.old.list t) { parting = [] }) (person_at self.old.list t) }
         ensures lists { Widens self.old.list self.new.list }
         ensures room { self.new.room ≡ self.old.room }
     {
@@ -334,11 +344,14 @@ impl People {
         }
     }
 
-    /// Nothing is known of a session any more, and it is on no channel. Its card stays, with the room for names that it has.
+    /// Nothing is known of a session any more, and it is on no channel. Its card stays, with the room for names that
+    /// it has.
     fn empty(&mut self, session: SessionId) -> Option<Octets>
-        ensures people { (t : ℕ) → person_at self.new.list t ≡ cond (session == t) nobody (person_at self.old.list t) }
+        ensures people { (t : ℕ) → person_at self.new.list t
+            ≡ cond (session == t) nobody (person_at self.old.list t) }
         ensures nick { result ≡ (person_at self.old.list session).nick }
-        ensures lists { Relists self.old.list self.new.list (λ s cs. cond (session == s) [] cs) (λ s ns. cond (session == s) [] ns) (λ s. false) }
+        ensures lists { Relists self.old.list self.new.list (λ s cs. cond (session == s) [] cs)
+            (λ s ns. cond (session == s) [] ns) (λ s. false) }
         ensures room { self.new.room ≡ self.old.room }
     {
         let stranger = nobody(self.alloc);
@@ -362,9 +375,11 @@ impl People {
     /// The card of a session is taken out.
     fn remove(&mut self, marks: &mut Marks, session: SessionId) -> Option<Octets>
         ensures marks { marks.new ≡ marks.old }
-        ensures people { (t : ℕ) → person_at self.new.list t ≡ cond (session == t) nobody (person_at self.old.list t) }
+        ensures people { (t : ℕ) → person_at self.new.list t
+            ≡ cond (session == t) nobody (person_at self.old.list t) }
         ensures nick { result ≡ (person_at self.old.list session).nick }
-        ensures lists { (t : ℕ) → row_of self.new.list t ≡ cond (session == t) (record { list = []; notes = []; room = 0 }) (row_of self.old.list t) }
+        ensures lists { (t : ℕ) → row_of self.new.list t ≡ cond (session == t)
+            (record { list = []; notes = []; room = 0 }) (row_of self.old.list t) }
         ensures room { self.old.room ≤ self.new.room }
     {
         let (place, _, card) = self.cards.swap_remove_full(&session.number())?;
@@ -373,8 +388,8 @@ impl People {
         person.nick
     }
 
-    /// Nothing is known of a session any more, and it is on no channel. Its card is taken out, but where room for names in it may
-    /// still be wanted. It returns the nickname that it had, and takes no memory.
+    /// Nothing is known of a session any more, and it is on no channel. Its card is taken out, but where room for
+    /// names in it may still be wanted. It returns the nickname that it had, and takes no memory.
     pub(crate) fn forget(
         &mut self,
         marks: &mut Marks,
@@ -382,11 +397,15 @@ impl People {
         is_last: bool,
     ) -> Option<Octets>
         ensures marks { marks.new ≡ marks.old }
-        ensures people { (t : ℕ) → person_at self.new.list t ≡ cond (session == t) nobody (person_at self.old.list t) }
+        ensures people { (t : ℕ) → person_at self.new.list t
+            ≡ cond (session == t) nobody (person_at self.old.list t) }
         ensures nick { result ≡ (person_at self.old.list session).nick }
-        ensures lists { (t : ℕ) → (row_of self.new.list t).list ≡ cond (session == t) [] (row_of self.old.list t).list }
-        ensures notes { (t : ℕ) → (row_of self.new.list t).notes ≡ cond (session == t) [] (row_of self.old.list t).notes }
-        ensures rooms { is_last ≡ false → (t : ℕ) → (row_of self.old.list t).room ≤ (row_of self.new.list t).room }
+        ensures lists { (t : ℕ) → (row_of self.new.list t).list
+            ≡ cond (session == t) [] (row_of self.old.list t).list }
+        ensures notes { (t : ℕ) → (row_of self.new.list t).notes
+            ≡ cond (session == t) [] (row_of self.old.list t).notes }
+        ensures rooms { is_last ≡ false → (t : ℕ)
+            → (row_of self.old.list t).room ≤ (row_of self.new.list t).room }
         ensures room { self.old.room ≤ self.new.room }
     {
         if is_last {
@@ -400,7 +419,9 @@ impl People {
     pub(crate) fn join(&mut self, session: SessionId, name: Octets)
         requires { 0 < (row_of self.old.list session).room }
         ensures people { (t : ℕ) → person_at self.new.list t ≡ person_at self.old.list t }
-        ensures lists { Relists self.old.list self.new.list (λ s cs. cond (session == s) (with_last_name name cs) cs) (λ s ns. ns) (λ s. session == s) }
+        ensures lists { Relists self.old.list self.new.list
+            (λ s cs. cond (session == s) (with_last_name name cs) cs) (λ s ns. ns)
+            (λ s. session == s) }
         ensures room { self.new.room ≡ self.old.room }
     {
         let Some(card) = self.cards.get_mut(&session.number()) else {
@@ -412,7 +433,8 @@ impl People {
     /// A session leaves a channel. It takes no memory.
     pub(crate) fn leave(&mut self, session: SessionId, name: &[u8])
         ensures people { (t : ℕ) → person_at self.new.list t ≡ person_at self.old.list t }
-        ensures lists { Relists self.old.list self.new.list (λ s cs. cond (session == s) (without_name name.now cs) cs) (λ s ns. ns) (λ s. false) }
+        ensures lists { Relists self.old.list self.new.list
+            (λ s cs. cond (session == s) (without_name name.now cs) cs) (λ s ns. ns) (λ s. false) }
         ensures room { self.new.room ≡ self.old.room }
     {
         if let Some(card) = self.cards.get_mut(&session.number()) {
@@ -424,7 +446,8 @@ impl People {
     pub(crate) fn note(&mut self, session: SessionId, name: Octets)
         requires { 0 < (row_of self.old.list session).room }
         ensures people { (t : ℕ) → person_at self.new.list t ≡ person_at self.old.list t }
-        ensures lists { Relists self.old.list self.new.list (λ s cs. cs) (λ s ns. cond (session == s) (with_last_name name ns) ns) (λ s. session == s) }
+        ensures lists { Relists self.old.list self.new.list (λ s cs. cs)
+            (λ s ns. cond (session == s) (with_last_name name ns) ns) (λ s. session == s) }
         ensures room { self.new.room ≡ self.old.room }
     {
         let Some(card) = self.cards.get_mut(&session.number()) else {
@@ -442,7 +465,8 @@ impl People {
     ) -> Result<(), AllocError>
         ensures people { (t : ℕ) → person_at self.new.list t ≡ person_at self.old.list t }
         ensures lists { Refits channels.now.list self.old.list self.new.list }
-        ensures names { OnOk result (IsSome (card_in self.old.list session) → more ≤ (row_of self.new.list session).room) }
+        ensures names { OnOk result (IsSome (card_in self.old.list session)
+            → more ≤ (row_of self.new.list session).room) }
         ensures room { self.new.room ≡ self.old.room }
     {
         let Some(card) = self.cards.get_mut(&session.number()) else {
@@ -451,8 +475,8 @@ impl People {
         card.names.refit(channels, session, more)
     }
 
-    /// Makes room for names of channels of a session, and for its card. Before its notes grow those are taken out whose channels
-    /// invite it no more.
+    /// Makes room for names of channels of a session, and for its card. Before its notes grow those are taken out
+    /// whose channels invite it no more.
     pub(crate) fn reserve_names(
         &mut self,
         marks: &mut Marks,

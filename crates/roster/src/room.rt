@@ -24,7 +24,8 @@ fn changed_name(deed: &Deed) -> Option<&Octets>
 /// Makes room for so many changes in the channel that a deed changes.
 fn reserve_for(channels: &mut Channels, deed: &Deed, changes: usize) -> Result<(), AllocError>
     ensures alike { Alike channels.old.list channels.new.list }
-    ensures reserved { OnOk result (ReservesBy (changed_name deed.now) channels.old.list channels.new.list changes) }
+    ensures reserved { OnOk result
+        (ReservesBy (changed_name deed.now) channels.old.list channels.new.list changes) }
     ensures room { channels.new.room ≡ channels.old.room }
 {
     match changed_name(deed) {

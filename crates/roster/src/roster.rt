@@ -1,6 +1,7 @@
 //! The roster: a list of facts, kept in tables.
 ghost use Rattle.std.specs.Option.{option_map, option_map_or};
-ghost use Rattle.std.specs.Prelude.{◌≡◌, ◌<◌, ◌^◌, ◌∷◌, [], Some, None, drop, length, slice_get, option_copied, unwrap_or, IfOk, IfSome, OnOk, OnErr};
+ghost use Rattle.std.specs.Prelude.{◌≡◌, ◌<◌, ◌^◌, ◌∷◌, [], Some, None, drop, length, slice_get};
+ghost use Rattle.std.specs.Prelude.{option_copied, unwrap_or, IfOk, IfSome, OnOk, OnErr};
 ghost use Rattle.roster.specs.declared.deed.Deed.TheVariants.{Ended};
 
 use crate::boxed::Boxed;
@@ -28,8 +29,8 @@ use std::collections::{LinkedList, VecDeque};
 use std::hash::RandomState;
 use std::marker::Model;
 
-/// What is known of sessions and channels, by all facts that were ever established. A clause sees it as the list of these,
-/// with the server's settings and the facts that it is ready for.
+/// What is known of sessions and channels, by all facts that were ever established. A clause sees it as the list of
+/// these, with the server's settings and the facts that it is ready for.
 #[derive(Drop)]
 pub struct Roster {
     alloc: Global,
@@ -55,9 +56,15 @@ impl Model for Roster {
 
     ghost Value = { Known };
 
-    ghost view = { λ a. record { settings = a.given; facts = a.facts.value; ready = a.ready.value } };
+    ghost view = { λ a. record {
+      settings = a.given;
+      facts = a.facts.value;
+      ready = a.ready.value;
+    } };
 
-    ghost invariant = { λ a. IsKept a.people a.marks a.nicks a.channels a.spare.items a.keys.items a.facts.value a.ready.value × AreListed a.people.list a.copies.items a.facts.value a.ready.value };
+    ghost invariant = { λ a. IsKept a.people a.marks a.nicks a.channels
+        a.spare.items a.keys.items a.facts.value a.ready.value
+        × AreListed a.people.list a.copies.items a.facts.value a.ready.value };
 }
 
 // A fact is added, as the newest.
@@ -78,11 +85,14 @@ impl Roster {
     ghost use Rattle.registration.specs.Settings.{IsWellSet};
     ghost use Rattle.roster.specs.Legal.{IsOpened, AreNext};
     ghost use Rattle.registration.specs.Enrol.{enrolment};
-    ghost use Rattle.roster.specs.LookBack.{opened, host, nick, user, real, caps, enrol, registered, away, invisible, why, parting, holder, found, on, state, members, name_of, channels, channel_count, channels_on, sharers};
+    ghost use Rattle.roster.specs.LookBack.{opened, host, nick, user, real, caps, enrol, registered, away};
+    ghost use Rattle.roster.specs.LookBack.{invisible, why, parting, holder, found, on, state, members, name_of};
+    ghost use Rattle.roster.specs.LookBack.{channels, channel_count, channels_on, sharers};
     ghost use Rattle.channel_state.specs.State.{nothing};
 
-    /// The roster of no facts, on a server whose settings are within their limits. Names are looked up by a hash that everybody
-    /// can compute: it is for servers whose clients choose no names that fall into one place, as those of scripts.
+    /// The roster of no facts, on a server whose settings are within their limits. Names are looked up by a hash
+    /// that everybody can compute: it is for servers whose clients choose no names that fall into one place, as
+    /// those of scripts.
     pub fn new(alloc: Global, settings: Settings) -> Roster
         requires { IsWellSet settings }
         ensures { result ≡ record { settings = settings; facts = []; ready = [] } }
@@ -90,8 +100,8 @@ impl Roster {
         Roster::hashed(alloc, settings, NameHashing::fixed())
     }
 
-    /// The same, where names are looked up by a hash that has the keys of a state, which nobody outside knows. No answer depends
-    /// on these.
+    /// The same, where names are looked up by a hash that has the keys of a state, which nobody outside knows. No
+    /// answer depends on these.
     pub fn with_hasher(alloc: Global, settings: Settings, state: RandomState) -> Roster
         requires { IsWellSet settings }
         ensures { result ≡ record { settings = settings; facts = []; ready = [] } }
@@ -121,7 +131,8 @@ impl Roster {
 
     /// A copy, by which each look-up is answered as by this one. It is ready for no facts.
     pub fn copy(&self) -> Result<Roster, AllocError>
-        ensures { IfOk result (λ r. r ≡ record { settings = self.now.settings; facts = self.now.facts; ready = [] }) }
+        ensures { IfOk result
+            (λ r. r ≡ record { settings = self.now.settings; facts = self.now.facts; ready = [] }) }
     {
         Ok(Roster {
             alloc: self.alloc,
@@ -211,8 +222,8 @@ impl Roster {
         }
     }
 
-    /// Establishes that the server ended a session, for which no room is needed. It takes no memory, and is ready for no
-    /// facts after it.
+    /// Establishes that the server ended a session, for which no room is needed. It takes no memory, and is ready
+    /// for no facts after it.
     pub fn end(&mut self, session: SessionId, reason: Why)
         requires { IsOpened self.old.facts session }
         ensures settings { self.new.settings ≡ self.old.settings }
@@ -373,9 +384,11 @@ impl Roster {
         }
     }
 
-    /// A channel, with who is on it and with which rank, its modes, topic and bans, and who is invited. `None` where it isn't there.
+    /// A channel, with who is on it and with which rank, its modes, topic and bans, and who is invited. `None` where
+    /// it isn't there.
     pub fn state_of(&self, channel: &[u8]) -> Option<&ChannelState>
-        ensures { option_map_or (λ k. k.now.state) result nothing ≡ state self.now.facts channel.now }
+        ensures { option_map_or (λ k. k.now.state) result nothing
+            ≡ state self.now.facts channel.now }
     {
         match self.channels.find(channel) {
             Some(channel) => Some(channel.held.get()),
@@ -386,7 +399,8 @@ impl Roster {
     /// A channel that is there: its name as it was first spelled, and the channel, by one look-up.
     pub fn channel(&self, spelled: &[u8]) -> Option<(&Octets, &ChannelState)>
         ensures name { option_map (λ k. k.0.now) result ≡ name_of self.now.facts spelled.now }
-        ensures state { option_map_or (λ k. k.1.now.state) result nothing ≡ state self.now.facts spelled.now }
+        ensures state { option_map_or (λ k. k.1.now.state) result nothing
+            ≡ state self.now.facts spelled.now }
     {
         match self.channels.find(spelled) {
             Some(found) => Some((&found.name, found.held.get())),
@@ -454,7 +468,8 @@ impl Roster {
 
     /// The channel at a place, from 0, in the order of making: its name as it was first spelled, and the channel.
     pub fn nth_channel(&self, place: usize) -> Option<(&Octets, &ChannelState)>
-        ensures name { option_map (λ k. k.0.now) result ≡ slice_get (channels self.now.facts) place }
+        ensures name { option_map (λ k. k.0.now) result
+            ≡ slice_get (channels self.now.facts) place }
         ensures spelled { IfSome result (λ k. name_of self.now.facts k.0.now ≡ Some k.0.now) }
         ensures state { IfSome result (λ k. k.1.now.state ≡ state self.now.facts k.0.now) }
     {

@@ -24,7 +24,8 @@ fn push_numbers(numbers: &mut Vec<u64>, sessions: &[SessionId]) -> Result<(), Al
 
 /// Adds the numbers of those on a channel, where it is there.
 fn push_members(numbers: &mut Vec<u64>, channels: &Channels, name: &[u8]) -> Result<(), AllocError>
-    ensures { OnOk result (numbers.new.items ≡ numbers.old.items ++ members_in channels.now.list name.now) }
+    ensures { OnOk result
+        (numbers.new.items ≡ numbers.old.items ++ members_in channels.now.list name.now) }
 {
     match channels.find(name) {
         Some(channel) => push_numbers(numbers, channel.held.get().members()),
@@ -50,7 +51,8 @@ fn push_mate(
     session: SessionId,
     count: usize,
 ) -> Result<(), AllocError>
-    ensures { OnOk result (mates.new ≡ mates.old ++ cond (is_mate session count number) (number ∷ []) []) }
+    ensures { OnOk result
+        (mates.new ≡ mates.old ++ cond (is_mate session count number) (number ∷ []) []) }
 {
     let mate = SessionId::new(number);
     if 1 <= number && number <= count as u64 && mate != session {
@@ -84,7 +86,8 @@ pub(crate) fn find_sharers(
     session: SessionId,
     count: usize,
 ) -> Result<Sessions, AllocError>
-    ensures { IfOk result (λ v. v ≡ mates channels.now.list (row_of people.now.list session).list session count) }
+    ensures { IfOk result
+        (λ v. v ≡ mates channels.now.list (row_of people.now.list session).list session count) }
 {
     let mut numbers = numbers_on(alloc, channels, people.names(marks, session))?;
     numbers.sort_unstable();

@@ -60,7 +60,8 @@ pub(crate) struct Card {
 
 // A copy may have room for other numbers of names.
 impl Clone for Card {
-    ghost is_clone = { λ a b. (b.person ≡ a.person) × (b.names.list ≡ a.names.list) × (b.names.notes ≡ a.names.notes) };
+    ghost is_clone = { λ a b. (b.person ≡ a.person) × (b.names.list ≡ a.names.list)
+        × (b.names.notes ≡ a.names.notes) };
 
     fn clone(&self) -> Result<Card, AllocError> {
         Ok(Card {

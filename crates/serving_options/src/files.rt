@@ -76,7 +76,8 @@ pub fn motd_of(alloc: Global, file: &[u8]) -> Result<OctetsList, AllocError>
 /// The accounts of a file.
 pub fn accounts_of(alloc: Global, file: &[u8]) -> Result<Accounts, FileFault>
     ensures ok { IfOk result (λ accounts. accounts_in file.now ≡ Ok accounts) }
-    ensures fault { IfErr result (λ fault. (n : ℕ) (why : AccountFault) → fault ≡ Account n why → accounts_in file.now ≡ Err (n, why)) }
+    ensures fault { IfErr result (λ fault. (n : ℕ) (why : AccountFault) → fault ≡ Account n why
+        → accounts_in file.now ≡ Err (n, why)) }
     ensures memory { IfErr result (λ fault. fault ≡ Memory → (n : ℕ) × IsReadTo file.now n) }
 {
     match Accounts::read(alloc, file) {

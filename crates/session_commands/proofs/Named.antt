@@ -8,8 +8,11 @@ use Rattle.command_params.specs.Params.{HasName, first_or_empty}
 use Rattle.command_params.proofs.Named.{either-read}
 use Rattle.session_commands.specs.declared.session.SessionCommand.{SessionCommand}
 use Rattle.session_commands.specs.declared.session.SessionName.{SessionName}
-use Rattle.session_commands.specs.declared.session.SessionName.TheVariants.{Cap, Authenticate, Pass, Nick, User, Ping, Pong, Quit}
-use Rattle.session_commands.specs.Session.{EachSessionIsNamed, NoSessionIsMisnamed, cap_req, cap_subcommand, name_of, named_or_not, session_named, session_names, session_of, session_text, user_command, user_name}
+use Rattle.session_commands.specs.declared.session.SessionName.TheVariants.{Cap, Authenticate, Pass, Nick, User}
+use Rattle.session_commands.specs.declared.session.SessionName.TheVariants.{Ping, Pong, Quit}
+use Rattle.session_commands.specs.Session.{EachSessionIsNamed, NoSessionIsMisnamed, cap_req, cap_subcommand}
+use Rattle.session_commands.specs.Session.{name_of, named_or_not, session_named, session_names, session_of}
+use Rattle.session_commands.specs.Session.{session_text, user_command, user_name}
 
 pub each-session : EachSessionIsNamed
 unfolding session_named
@@ -28,7 +31,8 @@ own_req : (n : List ℕ) → is n Cap ≡ true → (ps : List (List ℕ)) → Ha
 own_req n e [] = tt
 own_req n e (list ∷ ps) = e
 
-own_cap : (n : List ℕ) → is n Cap ≡ true → (sub : List ℕ) (ps : List (List ℕ)) → HasName text n (Some (cap_subcommand sub ps))
+own_cap : (n : List ℕ) → is n Cap ≡ true → (sub : List ℕ) (ps : List (List ℕ))
+    → HasName text n (Some (cap_subcommand sub ps))
 own_cap n e sub ps =
     let sub_is : List ℕ → Bool = str_eq_ignore_ascii_case sub in
     either-read text n (sub_is (codes "LS")) _ _ e
@@ -43,7 +47,8 @@ own_user n e (u ∷ m ∷ []) = tt
 own_user n e (u ∷ m ∷ v ∷ []) = tt
 own_user n e (u ∷ m ∷ v ∷ r ∷ ps) = either-read text n (is_empty (user_name u)) _ _ tt e
 
-own : (n : List ℕ) (name : SessionName) → is n name ≡ true → (ps : List (List ℕ)) → HasName text n (Some (session_of name ps))
+own : (n : List ℕ) (name : SessionName) → is n name ≡ true → (ps : List (List ℕ))
+    → HasName text n (Some (session_of name ps))
 unfolding session_of
 own n Cap e [] = tt
 own n Cap e (sub ∷ ps) = own_cap n e sub ps
@@ -57,9 +62,13 @@ own n Ping e ps = either-read text n (is_empty (first_or_empty ps)) _ _ tt e
 own n Pong e ps = e
 own n Quit e ps = e
 
-found : (n : List ℕ) (names : List SessionName) (ps : List (List ℕ)) → HasName text n (named_or_not (find (is n) names) ps)
+found : (n : List ℕ) (names : List SessionName) (ps : List (List ℕ))
+    → HasName text n (named_or_not (find (is n) names) ps)
 found n [] ps = tt
-found n (name ∷ names) ps = elim (cases_Bool (is n name)) [ inl same ↦ rw same (own n name same ps) | inr other ↦ rw other (found n names ps) ]
+found n (name ∷ names) ps = elim (cases_Bool (is n name)) [
+  | inl same ↦ rw same (own n name same ps)
+  | inr other ↦ rw other (found n names ps)
+]
 
 pub none-misnamed : NoSessionIsMisnamed
 unfolding session_named

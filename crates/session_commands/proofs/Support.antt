@@ -16,11 +16,13 @@ one_line : support_numerics ≡ ISupport tokens ∷ []
 unfolding cut
 one_line = refl
 
-length-line : (server nick : List ℕ) → length (spelled (numeric server nick (ISupport tokens))) ≤ length server + length nick + 400
+length-line : (server nick : List ℕ) → length (spelled (numeric server nick (ISupport tokens)))
+    ≤ length server + length nick + 400
 unfolding numeric row_line untagged
 length-line server nick = simp length-append (omega arith)
 
-pub whole : (server nick : List ℕ) → length server ≤ 63 → length nick ≤ 30 → All (λ n. length (spelled (numeric server nick n)) ≤ 510) support_numerics
+pub whole : (server nick : List ℕ) → length server ≤ 63 → length nick ≤ 30
+    → All (λ n. length (spelled (numeric server nick n)) ≤ 510) support_numerics
 whole server nick s n =
     let P : Numeric → Type 0 = λ n. length (spelled (numeric server nick n)) ≤ 510 in
     let here : P (ISupport tokens) = omega (arith, length-line server nick) in

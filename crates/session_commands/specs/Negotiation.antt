@@ -8,7 +8,8 @@ use Rattle.registration.specs.declared.caps.Cap.TheVariants.{Sasl}
 use Rattle.registration.specs.declared.enrol.CapAnswer.{CapAnswer}
 use Rattle.registration.specs.declared.enrol.CapAnswer.TheVariants.{Acknowledged, Refused}
 use Rattle.registration.specs.declared.enrol.SaslAnswer.{SaslAnswer}
-use Rattle.registration.specs.declared.enrol.SaslAnswer.TheVariants.{AlreadyLoggedIn, Failed, Opened, UnknownMechanism, Aborted, TooLong, Waits, LoggedIn}
+use Rattle.registration.specs.declared.enrol.SaslAnswer.TheVariants.{AlreadyLoggedIn, Failed, Opened, UnknownMechanism}
+use Rattle.registration.specs.declared.enrol.SaslAnswer.TheVariants.{Aborted, TooLong, Waits, LoggedIn}
 use Rattle.registration.specs.Caps.{all_caps, cap_name, list_of}
 use Rattle.registration.specs.Enrol.{cap_answer, holds, sasl_answer}
 use Rattle.session_commands.specs.declared.session.CapSubcommand.{CapSubcommand}
@@ -40,7 +41,8 @@ abbrev pub waits : List Deed → ℕ → List Effect
 waits fs s = if holds (enrol fs s) then Establish (deed.HoldSet s true) ∷ [] else []
 
 abbrev pub requested : Settings → List Deed → ℕ → List (List ℕ) → CapAnswer → List Effect
-requested g fs s words (Acknowledged new) = lists g fs s (codes "ACK") (spaced words) ∷ Establish (deed.CapsSet s new) ∷ []
+requested g fs s words (Acknowledged new) = lists g fs s (codes "ACK") (spaced words)
+    ∷ Establish (deed.CapsSet s new) ∷ []
 requested g fs s words Refused = lists g fs s (codes "NAK") (spaced words) ∷ []
 
 abbrev pub negotiates : Settings → List Deed → ℕ → CapSubcommand → List Effect
@@ -63,7 +65,8 @@ sasl_answered g fs s UnknownMechanism = tells g fs s numeric.SaslMechs ∷ tells
 sasl_answered g fs s Aborted = tells g fs s numeric.SaslAborted ∷ closes s ∷ []
 sasl_answered g fs s TooLong = tells g fs s numeric.SaslTooLong ∷ closes s ∷ []
 sasl_answered g fs s (Waits so_far) = Establish (deed.ExchangeSet s (Some so_far)) ∷ []
-sasl_answered g fs s (LoggedIn account) = tells g fs s (numeric.LoggedIn (prefix fs s) account) ∷ tells g fs s numeric.SaslSuccess ∷ Establish (deed.LoggedIn s account) ∷ closes s ∷ []
+sasl_answered g fs s (LoggedIn account) = tells g fs s (numeric.LoggedIn (prefix fs s) account)
+    ∷ tells g fs s numeric.SaslSuccess ∷ Establish (deed.LoggedIn s account) ∷ closes s ∷ []
 
 abbrev pub authenticates : Settings → List Deed → ℕ → List ℕ → List Effect
 authenticates g fs s piece = sasl_answered g fs s (sasl_answer g.accounts (enrol fs s) piece)

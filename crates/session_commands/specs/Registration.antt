@@ -1,7 +1,9 @@
--- What NICK, USER, PASS and QUIT do, and when a session is registered: RFC 2812, sections 3.1, 3.1.1 to 3.1.3 and 3.1.7.
+-- What NICK, USER, PASS and QUIT do, and when a session is registered: RFC 2812, sections 3.1, 3.1.1 to 3.1.3 and
+-- 3.1.7.
 use Rattle.std.specs.Prelude.{ℕ, Bool, false, not, ◌==◌, List, [], ◌∷◌, ◌++◌, Option, Some, None, if◌then◌else◌}
 use Rattle.chronicle.specs.declared.why.Why.TheVariants.{Quit}
-use Rattle.numerics.specs.declared.numeric.Numeric.TheVariants.{ErroneousNickname, NicknameInUse, AlreadyRegistered, SaslAborted}
+use Rattle.numerics.specs.declared.numeric.Numeric.TheVariants.{ErroneousNickname, NicknameInUse}
+use Rattle.numerics.specs.declared.numeric.Numeric.TheVariants.{AlreadyRegistered, SaslAborted}
 use Rattle.registration.specs.declared.settings.Settings.{Settings}
 use Rattle.registration.specs.declared.enrol.NickAnswer.{NickAnswer}
 use Rattle.registration.specs.declared.enrol.NickAnswer.TheVariants.{Erroneous, InUse, Same, Taken}
@@ -34,7 +36,8 @@ shows_nick fs s n = Show (sharers fs s ++ s ∷ []) (nick_line (prefix fs s) n)
 
 -- a change is shown once the session is registered
 abbrev pub renames : List Deed → ℕ → List ℕ → List Effect
-renames fs s n = if registered fs s then shows_nick fs s n ∷ Establish (NickSet s n) ∷ [] else Establish (NickSet s n) ∷ []
+renames fs s n = if registered fs s then shows_nick fs s n ∷ Establish (NickSet s n) ∷ []
+    else Establish (NickSet s n) ∷ []
 
 abbrev pub nick_answered : Settings → List Deed → ℕ → List ℕ → NickAnswer → List Effect
 nick_answered g fs s n Erroneous = tells g fs s (ErroneousNickname n) ∷ []

@@ -1,11 +1,14 @@
--- The commands of a session's own: how each is named and read, and what it does. RFC 2812, sections 3.1.1 to 3.1.3, 3.1.7, 3.7.2 and 3.7.3, IRCv3 Capability Negotiation and SASL 3.1.
-use Rattle.std.specs.Prelude.{◌≡◌, ℕ, ◌+◌, ◌-◌, ◌*◌, ◌==◌, nat_le, Bool, not, ◌&&◌, cond, List, [], ◌∷◌, filter, fold, take, codes, Result, Ok, Err, Option, Some, None}
+-- The commands of a session's own: how each is named and read, and what it does. RFC 2812, sections 3.1.1 to 3.1.3,
+-- 3.1.7, 3.7.2 and 3.7.3, IRCv3 Capability Negotiation and SASL 3.1.
+use Rattle.std.specs.Prelude.{◌≡◌, ℕ, ◌+◌, ◌-◌, ◌*◌, ◌==◌, nat_le, Bool, not, ◌&&◌, cond, List, [], ◌∷◌}
+use Rattle.std.specs.Prelude.{filter, fold, take, codes, Result, Ok, Err, Option, Some, None}
 use Rattle.std.specs.List.{find, list_all}
 use Rattle.std.specs.Str.{str_eq_ignore_ascii_case}
 use Rattle.casemapping.specs.Names.{is_digit}
 use Rattle.session_commands.specs.declared.session.CapSubcommand.TheVariants as cap
 use Rattle.session_commands.specs.declared.session.SessionCommand.{SessionCommand}
-use Rattle.session_commands.specs.declared.session.SessionCommand.TheVariants.{Cap, Authenticate, Pass, Nick, User, Ping, Pong, Quit}
+use Rattle.session_commands.specs.declared.session.SessionCommand.TheVariants.{Cap, Authenticate, Pass, Nick, User}
+use Rattle.session_commands.specs.declared.session.SessionCommand.TheVariants.{Ping, Pong, Quit}
 use Rattle.session_commands.specs.declared.session.SessionName.{SessionName}
 use Rattle.session_commands.specs.declared.session.SessionName.TheVariants as name
 use Rattle.command_params.specs.declared.fault.ReadFault.{ReadFault}
@@ -96,7 +99,8 @@ session_text name.Ping = codes "PING"
 session_text name.Pong = codes "PONG"
 
 abbrev pub session_names : List SessionName
-session_names = name.Quit ∷ name.Cap ∷ name.Authenticate ∷ name.Pass ∷ name.Nick ∷ name.User ∷ name.Ping ∷ name.Pong ∷ []
+session_names = name.Quit ∷ name.Cap ∷ name.Authenticate ∷ name.Pass ∷ name.Nick ∷ name.User ∷ name.Ping
+    ∷ name.Pong ∷ []
 
 -- the command of a name, which is taken in either case
 unfoldable pub session_named : List ℕ → Option SessionName
@@ -137,7 +141,8 @@ name_of (Quit text) = name.Quit
 
 -- none is read by another's name
 abbrev pub NoSessionIsMisnamed : Type 0
-NoSessionIsMisnamed = (n : List ℕ) (ps : List (List ℕ)) → HasName (λ k. session_text (name_of k)) n (session_by_name n ps)
+NoSessionIsMisnamed = (n : List ℕ) (ps : List (List ℕ))
+    → HasName (λ k. session_text (name_of k)) n (session_by_name n ps)
 
 -- ---- what each does
 

@@ -14,4 +14,5 @@ support_numerics = map ISupport (cut 370 most_tokens tokens)
 
 -- who registered is welcomed
 abbrev pub welcome_numerics : Settings → List ℕ → List Numeric
-welcome_numerics g source = Welcome source ∷ YourHost g.version ∷ Created (time_text g.created) ∷ MyInfo g.version ∷ support_numerics ++ motd_numerics g.motd
+welcome_numerics g source = Welcome source ∷ YourHost g.version ∷ Created (time_text g.created) ∷ MyInfo g.version
+    ∷ support_numerics ++ motd_numerics g.motd

@@ -4,7 +4,8 @@ ghost use Rattle.roster.specs.LookBack.{exchange};
 ghost use Rattle.roster.specs.Legal.{IsFree, IsOpened};
 ghost use Rattle.drafts.specs.Words.{grown, prefix, tells_all};
 ghost use Rattle.session_commands.specs.Welcome.{welcome_numerics};
-ghost use Rattle.session_commands.specs.Registration.{is_held, shows_nick, renames, takes_nick, introduces, passes, quits, aborts, enrolls, registers, completed};
+ghost use Rattle.session_commands.specs.Registration.{is_held, shows_nick, renames, takes_nick, introduces, passes};
+ghost use Rattle.session_commands.specs.Registration.{quits, aborts, enrolls, registers, completed};
 
 use crate::welcome::welcome;
 use chronicle::{SessionId, Why};
@@ -31,7 +32,8 @@ fn is_held(roster: &Roster, session: SessionId, nick: &[u8]) -> bool
 /// Shows a change of nickname to the session and to each that shares a channel with it.
 fn show_nick(draft: &mut Draft, session: SessionId, nick: &Octets) -> Result<(), AllocError>
     requires first { draft.old.facts ≡ draft.old.base }
-    ensures { OnOk result (draft.new ≡ grown draft.old (shows_nick draft.old.facts session nick.now ∷ [])) }
+    ensures { OnOk result
+        (draft.new ≡ grown draft.old (shows_nick draft.old.facts session nick.now ∷ [])) }
 {
     let from = prefix_of(draft, session)?;
     let line = nick_line(draft.alloc(), from.as_slice(), nick.as_slice())?;
@@ -63,7 +65,8 @@ pub(crate) fn take_nick(
 ) -> Result<(), AllocError>
     requires opened { IsOpened draft.old.facts session }
     requires first { draft.old.facts ≡ draft.old.base }
-    ensures { OnOk result (draft.new ≡ grown draft.old (takes_nick draft.old.settings draft.old.facts session nick.now)) }
+    ensures { OnOk result (draft.new
+        ≡ grown draft.old (takes_nick draft.old.settings draft.old.facts session nick.now)) }
 {
     let is_held = is_held(draft.before(), session, nick.as_slice());
     match draft.enrol_of(session).nick(nick.as_slice(), is_held) {
@@ -90,7 +93,8 @@ pub(crate) fn introduce(
     real: &Octets,
 ) -> Result<(), AllocError>
     requires { IsOpened draft.old.facts session }
-    ensures { OnOk result (draft.new ≡ grown draft.old (introduces draft.old.settings draft.old.facts session user.now real.now)) }
+    ensures { OnOk result (draft.new ≡ grown draft.old
+        (introduces draft.old.settings draft.old.facts session user.now real.now)) }
 {
     match draft.enrol_of(session).user() {
         UserAnswer::AlreadyTold => tell(draft, session, Numeric::AlreadyRegistered),
@@ -108,7 +112,8 @@ pub(crate) fn introduce(
 
 /// A session tells a password, which isn't looked at.
 pub(crate) fn pass(draft: &mut Draft, session: SessionId) -> Result<(), AllocError>
-    ensures { OnOk result (draft.new ≡ grown draft.old (passes draft.old.settings draft.old.facts session)) }
+    ensures { OnOk result
+        (draft.new ≡ grown draft.old (passes draft.old.settings draft.old.facts session)) }
 {
     if draft.is_registered(session) {
         return tell(draft, session, Numeric::AlreadyRegistered);
@@ -135,7 +140,8 @@ pub(crate) fn quit(draft: &mut Draft, session: SessionId, text: &Octets) -> Resu
 #[tactic(auto, using(drafts::proofs::Replay::grown_grown))]
 fn abort(draft: &mut Draft, session: SessionId) -> Result<(), AllocError>
     requires { IsOpened draft.old.facts session }
-    ensures done { OnOk result (draft.new ≡ grown draft.old (aborts draft.old.settings draft.old.facts session (exchange draft.old.facts session))) }
+    ensures done { OnOk result (draft.new ≡ grown draft.old
+        (aborts draft.old.settings draft.old.facts session (exchange draft.old.facts session))) }
 {
     if draft.exchange_of(session).is_none() {
         return Ok(());
@@ -149,7 +155,8 @@ fn abort(draft: &mut Draft, session: SessionId) -> Result<(), AllocError>
 
 /// A session is welcomed.
 fn greet(draft: &mut Draft, session: SessionId) -> Result<(), AllocError>
-    ensures { OnOk result (draft.new ≡ grown draft.old (tells_all draft.old.settings draft.old.facts session (welcome_numerics draft.old.settings (prefix draft.old.facts session)))) }
+    ensures { OnOk result (draft.new ≡ grown draft.old (tells_all draft.old.settings draft.old.facts
+        session (welcome_numerics draft.old.settings (prefix draft.old.facts session)))) }
 {
     let source = prefix_of(draft, session)?;
     let mut telling = Telling::new(draft, session)?;
@@ -162,7 +169,8 @@ fn greet(draft: &mut Draft, session: SessionId) -> Result<(), AllocError>
 #[tactic(auto, using(drafts::proofs::Replay::grown_grown))]
 fn enroll(draft: &mut Draft, session: SessionId) -> Result<(), AllocError>
     requires { IsOpened draft.old.facts session }
-    ensures { OnOk result (draft.new ≡ grown draft.old (enrolls draft.old.settings draft.old.facts session)) }
+    ensures { OnOk result
+        (draft.new ≡ grown draft.old (enrolls draft.old.settings draft.old.facts session)) }
 {
     greet(draft, session)?;
     draft.establish(Deed::Enrolled { session })
@@ -172,7 +180,8 @@ fn enroll(draft: &mut Draft, session: SessionId) -> Result<(), AllocError>
 #[tactic(auto, using(drafts::proofs::Replay::grown_grown))]
 fn register(draft: &mut Draft, session: SessionId) -> Result<(), AllocError>
     requires { IsOpened draft.old.facts session }
-    ensures { OnOk result (draft.new ≡ grown draft.old (registers draft.old.settings draft.old.facts session)) }
+    ensures { OnOk result
+        (draft.new ≡ grown draft.old (registers draft.old.settings draft.old.facts session)) }
 {
     abort(draft, session)?;
     enroll(draft, session)
@@ -181,7 +190,8 @@ fn register(draft: &mut Draft, session: SessionId) -> Result<(), AllocError>
 /// A session that is ready, and isn't registered yet, is registered.
 pub fn complete(draft: &mut Draft, session: SessionId) -> Result<(), AllocError>
     requires { IsOpened draft.old.facts session }
-    ensures { OnOk result (draft.new ≡ grown draft.old (completed draft.old.settings draft.old.facts session)) }
+    ensures { OnOk result
+        (draft.new ≡ grown draft.old (completed draft.old.settings draft.old.facts session)) }
 {
     if draft.enrol_of(session).ready() {
         return register(draft, session);

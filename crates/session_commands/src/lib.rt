@@ -1,5 +1,5 @@
-//! The commands of a session's own, CAP to QUIT: how each is named and read, and what it does; and when a session is registered
-//! (RFC 2812, sections 3.1, 3.7.2 and 3.7.3; IRCv3 Capability Negotiation and SASL 3.1).
+//! The commands of a session's own, CAP to QUIT: how each is named and read, and what it does; and when a session is
+//! registered (RFC 2812, sections 3.1, 3.7.2 and 3.7.3; IRCv3 Capability Negotiation and SASL 3.1).
 #![tactic(auto)]
 
 mod enrolling;

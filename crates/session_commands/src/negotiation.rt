@@ -8,7 +8,8 @@ ghost use Rattle.roster.specs.Legal.{IsOpened};
 ghost use Rattle.roster.specs.declared.deed.Deed.TheVariants.{HoldSet};
 ghost use Rattle.drafts.specs.declared.effect.Effect.TheVariants.{Establish};
 ghost use Rattle.drafts.specs.Words.{grown, tells};
-ghost use Rattle.session_commands.specs.Negotiation.{cap_text, cap_list, lists, requested, negotiates, closes, sasl_answered, authenticates};
+ghost use Rattle.session_commands.specs.Negotiation.{cap_text, cap_list, lists, requested, negotiates};
+ghost use Rattle.session_commands.specs.Negotiation.{closes, sasl_answered, authenticates};
 
 use crate::session::CapSubcommand;
 use chronicle::SessionId;
@@ -56,7 +57,8 @@ fn list(
     subcommand: &[u8],
     list: &[u8],
 ) -> Result<(), AllocError>
-    ensures { OnOk result (draft.new ≡ grown draft.old (lists draft.old.settings draft.old.facts session subcommand.now list.now ∷ [])) }
+    ensures { OnOk result (draft.new ≡ grown draft.old
+        (lists draft.old.settings draft.old.facts session subcommand.now list.now ∷ [])) }
 {
     let to = title_of(draft.alloc(), draft.nick_of(session))?;
     let server = draft.before().settings().server.as_slice();
@@ -67,7 +69,8 @@ fn list(
 /// The registration of a session waits for the end of the negotiation, where it is to.
 fn wait(draft: &mut Draft, session: SessionId, is_to: bool) -> Result<(), AllocError>
     requires { IsOpened draft.old.facts session }
-    ensures { OnOk result (draft.new ≡ grown draft.old (cond is_to (Establish (HoldSet session true) ∷ []) [])) }
+    ensures { OnOk result
+        (draft.new ≡ grown draft.old (cond is_to (Establish (HoldSet session true) ∷ []) [])) }
 {
     if is_to {
         return draft.establish(Deed::HoldSet {
@@ -82,7 +85,8 @@ fn wait(draft: &mut Draft, session: SessionId, is_to: bool) -> Result<(), AllocE
 #[tactic(auto, using(drafts::proofs::Replay::grown_grown))]
 fn request(draft: &mut Draft, session: SessionId, words: &[Octets]) -> Result<(), AllocError>
     requires { IsOpened draft.old.facts session }
-    ensures { OnOk result (draft.new ≡ grown draft.old (requested draft.old.settings draft.old.facts session words.now (cap_answer (enrol draft.old.facts session) words.now))) }
+    ensures { OnOk result (draft.new ≡ grown draft.old (requested draft.old.settings draft.old.facts
+        session words.now (cap_answer (enrol draft.old.facts session) words.now))) }
 {
     let answer = draft.enrol_of(session).cap(words);
     let shown = spaced(draft.alloc(), words)?;
@@ -97,7 +101,8 @@ fn request(draft: &mut Draft, session: SessionId, words: &[Octets]) -> Result<()
 
 /// Answers `CAP LS`.
 fn list_all(draft: &mut Draft, session: SessionId, shows_values: bool) -> Result<(), AllocError>
-    ensures { OnOk result (draft.new ≡ grown draft.old (lists draft.old.settings draft.old.facts session (codes "LS") (cap_list shows_values all_caps) ∷ [])) }
+    ensures { OnOk result (draft.new ≡ grown draft.old (lists draft.old.settings draft.old.facts
+        session (codes "LS") (cap_list shows_values all_caps) ∷ [])) }
 {
     let shown = cap_list(draft.alloc(), Cap::all(), shows_values)?;
     list(draft, session, b"LS", shown.as_slice())
@@ -105,7 +110,8 @@ fn list_all(draft: &mut Draft, session: SessionId, shows_values: bool) -> Result
 
 /// Answers `CAP LIST`.
 fn list_on(draft: &mut Draft, session: SessionId) -> Result<(), AllocError>
-    ensures { OnOk result (draft.new ≡ grown draft.old (lists draft.old.settings draft.old.facts session (codes "LIST") (cap_list false (list_of (caps draft.old.facts session))) ∷ [])) }
+    ensures { OnOk result (draft.new ≡ grown draft.old (lists draft.old.settings draft.old.facts
+        session (codes "LIST") (cap_list false (list_of (caps draft.old.facts session))) ∷ [])) }
 {
     let on = draft.caps_of(session).list(draft.alloc())?;
     let shown = cap_list(draft.alloc(), &on, false)?;
@@ -120,7 +126,8 @@ pub(crate) fn negotiate(
     subcommand: &CapSubcommand,
 ) -> Result<(), AllocError>
     requires { IsOpened draft.old.facts session }
-    ensures { OnOk result (draft.new ≡ grown draft.old (negotiates draft.old.settings draft.old.facts session subcommand.now)) }
+    ensures { OnOk result (draft.new
+        ≡ grown draft.old (negotiates draft.old.settings draft.old.facts session subcommand.now)) }
 {
     let holds = draft.enrol_of(session).holds();
     match subcommand {
@@ -146,7 +153,8 @@ pub(crate) fn negotiate(
 #[tactic(auto, using(drafts::proofs::Replay::grown_grown))]
 fn close(draft: &mut Draft, session: SessionId, numeric: Numeric) -> Result<(), AllocError>
     requires { IsOpened draft.old.facts session }
-    ensures { OnOk result (draft.new ≡ grown draft.old (tells draft.old.settings draft.old.facts session numeric ∷ closes session ∷ [])) }
+    ensures { OnOk result (draft.new ≡ grown draft.old
+        (tells draft.old.settings draft.old.facts session numeric ∷ closes session ∷ [])) }
 {
     tell(draft, session, numeric)?;
     draft.establish(Deed::ExchangeSet {
@@ -159,7 +167,8 @@ fn close(draft: &mut Draft, session: SessionId, numeric: Numeric) -> Result<(), 
 #[tactic(auto, using(drafts::proofs::Replay::grown_grown))]
 fn open(draft: &mut Draft, session: SessionId) -> Result<(), AllocError>
     requires { IsOpened draft.old.facts session }
-    ensures { OnOk result (draft.new ≡ grown draft.old (sasl_answered draft.old.settings draft.old.facts session Opened)) }
+    ensures { OnOk result (draft.new
+        ≡ grown draft.old (sasl_answered draft.old.settings draft.old.facts session Opened)) }
 {
     let line = go_on_line(draft.alloc())?;
     draft.answer(line)?;
@@ -174,7 +183,8 @@ fn open(draft: &mut Draft, session: SessionId) -> Result<(), AllocError>
 #[tactic(auto, using(drafts::proofs::Replay::grown_grown))]
 fn log_in(draft: &mut Draft, session: SessionId, account: Octets) -> Result<(), AllocError>
     requires { IsOpened draft.old.facts session }
-    ensures { OnOk result (draft.new ≡ grown draft.old (sasl_answered draft.old.settings draft.old.facts session (LoggedIn account))) }
+    ensures { OnOk result (draft.new ≡ grown draft.old
+        (sasl_answered draft.old.settings draft.old.facts session (LoggedIn account))) }
 {
     let source = prefix_of(draft, session)?;
     let named = account.clone()?;
@@ -202,7 +212,8 @@ pub(crate) fn authenticate(
     piece: &[u8],
 ) -> Result<(), AllocError>
     requires { IsOpened draft.old.facts session }
-    ensures { OnOk result (draft.new ≡ grown draft.old (authenticates draft.old.settings draft.old.facts session piece.now)) }
+    ensures { OnOk result (draft.new
+        ≡ grown draft.old (authenticates draft.old.settings draft.old.facts session piece.now)) }
 {
     let accounts = &draft.before().settings().accounts;
     let answer = draft

@@ -1,5 +1,5 @@
-//! The commands of a session's own: how each is named and read, and what it does (RFC 2812, sections 3.1.1 to 3.1.3, 3.1.7,
-//! 3.7.2 and 3.7.3; IRCv3 Capability Negotiation and SASL 3.1).
+//! The commands of a session's own: how each is named and read, and what it does (RFC 2812, sections 3.1.1 to 3.1.3,
+//! 3.1.7, 3.7.2 and 3.7.3; IRCv3 Capability Negotiation and SASL 3.1).
 ghost use Rattle.std.specs.Prelude.{◌≡◌, ◌∷◌, ◌≤◌, [], ℕ, List, length, IfOk, OnOk, MatchOption};
 ghost use Rattle.std.specs.List.{list_any};
 ghost use Rattle.roster.specs.Legal.{IsOpened};
@@ -7,7 +7,11 @@ ghost use Rattle.drafts.specs.declared.effect.Effect.TheVariants.{Answer};
 ghost use Rattle.drafts.specs.Words.{grown, pong_line};
 ghost use Rattle.line_grammar.specs.Parts.{is_present};
 ghost use Rattle.command_params.specs.Params.{IsRead};
-ghost use Rattle.session_commands.specs.Session.{EachSessionIsNamed, NoSessionIsMisnamed, session_named, session_of, session_text, cap_req, cap_subcommand, cap_command, authenticate_command, pass_command, pong_command, nick_command, is_user_octet, user_name, user_command, ping_command, quit_command, serves_session, shows_values, told};
+ghost use Rattle.session_commands.specs.Session.{EachSessionIsNamed, NoSessionIsMisnamed, session_named, session_of};
+ghost use Rattle.session_commands.specs.Session.{session_text, cap_req, cap_subcommand, cap_command};
+ghost use Rattle.session_commands.specs.Session.{authenticate_command, pass_command, pong_command, nick_command};
+ghost use Rattle.session_commands.specs.Session.{is_user_octet, user_name, user_command, ping_command, quit_command};
+ghost use Rattle.session_commands.specs.Session.{serves_session, shows_values, told};
 
 use crate::enrolling::{introduce, pass, quit, take_nick};
 use crate::negotiation::{authenticate, negotiate};
@@ -259,7 +263,8 @@ fn told(alloc: Global, user: &[u8], real: &[u8]) -> Result<SessionCommand, ReadF
 
 /// The user name and the real name. `None` where a parameter is missing.
 fn user_and_real<'a>(params: &LineParameters<'a>) -> Option<(&'a [u8], &'a [u8])>
-    ensures { MatchOption result (length params.now ≤ 3) (λ p. (second third : List ℕ) × (more : List (List ℕ)) × (params.now ≡ p.0.now ∷ second ∷ third ∷ p.1.now ∷ more)) }
+    ensures { MatchOption result (length params.now ≤ 3) (λ p. (second third : List ℕ)
+        × (more : List (List ℕ)) × (params.now ≡ p.0.now ∷ second ∷ third ∷ p.1.now ∷ more)) }
 {
     let (user, params) = params.split_first()?;
     let (_, params) = params.split_first()?;
@@ -317,7 +322,8 @@ pub fn read_session(
 
 /// Answers PING.
 fn pong(draft: &mut Draft, token: &[u8]) -> Result<(), AllocError>
-    ensures { OnOk result (draft.new ≡ grown draft.old (Answer (pong_line draft.old.settings.server token.now) ∷ [])) }
+    ensures { OnOk result (draft.new
+        ≡ grown draft.old (Answer (pong_line draft.old.settings.server token.now) ∷ [])) }
 {
     let server = draft.before().settings().server.as_slice();
     let line = pong_line(draft.alloc(), server, token)?;
@@ -332,7 +338,8 @@ pub fn serve_session(
 ) -> Result<(), AllocError>
     requires opened { IsOpened draft.old.facts session }
     requires first { draft.old.facts ≡ draft.old.base }
-    ensures { OnOk result (draft.new ≡ grown draft.old (serves_session draft.old.settings draft.old.facts session command.now)) }
+    ensures { OnOk result (draft.new
+        ≡ grown draft.old (serves_session draft.old.settings draft.old.facts session command.now)) }
 {
     match command {
         SessionCommand::Cap(subcommand) => negotiate(draft, session, subcommand),

@@ -56,7 +56,8 @@ pub(crate) fn welcome(
     source: Octets,
 ) -> Result<(), AllocError>
     requires { IsWellSet settings.now }
-    ensures { OnOk result (telling.new ≡ telling_more telling.old (welcome_numerics settings.now source)) }
+    ensures { OnOk result
+        (telling.new ≡ telling_more telling.old (welcome_numerics settings.now source)) }
 {
     telling.push(Numeric::Welcome(source))?;
     telling.push(Numeric::YourHost(settings.version.clone()?))?;

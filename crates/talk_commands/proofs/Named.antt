@@ -15,7 +15,10 @@ each-talk _ tag_data ps = refl
 pub none-misnamed : NoTalkIsMisnamed
 unfolding talk_of
 none-misnamed n tag_data ps =
-    either-line talk_text n (str_eq_ignore_ascii_case n (codes "PRIVMSG")) _ _ (λ e. either-read talk_text n (is_empty (first_or_empty ps)) _ _ tt (either-read talk_text n (is_empty (second_or_empty ps)) _ _ tt e))
-    (either-line talk_text n (str_eq_ignore_ascii_case n (codes "NOTICE")) _ _ (λ e. either-read talk_text n (is_empty (first_or_empty ps) || is_empty (second_or_empty ps)) _ _ e e)
-    (either-line talk_text n (str_eq_ignore_ascii_case n (codes "TAGMSG")) _ _ (λ e. either-read talk_text n (is_empty (first_or_empty ps)) _ _ tt e)
+    either-line talk_text n (str_eq_ignore_ascii_case n (codes "PRIVMSG")) _ _ (λ e. either-read talk_text n
+    (is_empty (first_or_empty ps)) _ _ tt (either-read talk_text n (is_empty (second_or_empty ps)) _ _ tt e))
+    (either-line talk_text n (str_eq_ignore_ascii_case n (codes "NOTICE")) _ _
+    (λ e. either-read talk_text n (is_empty (first_or_empty ps) || is_empty (second_or_empty ps)) _ _ e e)
+    (either-line talk_text n (str_eq_ignore_ascii_case n (codes "TAGMSG")) _ _
+    (λ e. either-read talk_text n (is_empty (first_or_empty ps)) _ _ tt e)
     (either-line talk_text n (str_eq_ignore_ascii_case n (codes "AWAY")) _ _ (λ e. e) tt)))

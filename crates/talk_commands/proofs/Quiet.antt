@@ -1,5 +1,6 @@
 -- A text establishes no fact.
-use Rattle.std.proofs.Common.{◌≡◌, ℕ, Bool, true, false, ◌&&◌, ◌==◌, List, [], ◌∷◌, ◌++◌, filter, Option, Some, None, refl, ap, ◌∙◌, cond}
+use Rattle.std.proofs.Common.{◌≡◌, ℕ, Bool, true, false, ◌&&◌, ◌==◌, List, [], ◌∷◌, ◌++◌}
+use Rattle.std.proofs.Common.{filter, Option, Some, None, refl, ap, ◌∙◌, cond}
 use Rattle.std.specs.List.{flat_map}
 use Rattle.numerics.specs.declared.numeric.Numeric.{Numeric}
 use Rattle.numerics.specs.declared.outgoing.Out.{Out}
@@ -16,7 +17,8 @@ use Rattle.drafts.proofs.Quiet.{both-quiet, either-quiet}
 use Rattle.talk_commands.specs.declared.verb.Verb.{Verb}
 use Rattle.talk_commands.specs.declared.verb.Verb.TheVariants.{Privmsg, Notice, Tagmsg}
 use Rattle.talk_commands.specs.Lines.{Sent, sent_line}
-use Rattle.talk_commands.specs.Talking.{answers, echoes, keeps, may_speak, names_channel, delivers, reaches, tells_away, to_channel, to_user, to_one}
+use Rattle.talk_commands.specs.Talking.{answers, echoes, keeps, may_speak, names_channel, delivers}
+use Rattle.talk_commands.specs.Talking.{reaches, tells_away, to_channel, to_user, to_one}
 
 answers-quiet : (g : Settings) (fs : List Deed) (s : ℕ) (v : Verb) (n : Numeric) → deeds_of (answers g fs s v n) ≡ []
 answers-quiet g fs s Privmsg n = refl
@@ -29,11 +31,14 @@ echo-quiet fs s b l = either-quiet (is_on (caps fs s) EchoMessage && reaches fs 
 kept-quiet : (fs : List Deed) (s : ℕ) (b : Sent) (l : Out) → deeds_of (keeps fs s b l) ≡ []
 kept-quiet fs s b l = either-quiet (reaches fs b s) _ _ refl refl
 
-channel-quiet : (g : Settings) (fs : List Deed) (s : ℕ) (b : Sent) (c : List ℕ) (o : Option (List ℕ)) → deeds_of (to_channel g fs s b c o) ≡ []
+channel-quiet : (g : Settings) (fs : List Deed) (s : ℕ) (b : Sent) (c : List ℕ) (o : Option (List ℕ))
+    → deeds_of (to_channel g fs s b c o) ≡ []
 channel-quiet g fs s b c None = answers-quiet g fs s b.verb _
-channel-quiet g fs s b c (Some n) = either-quiet (may_speak (state fs c) s (prefix fs s)) _ _ (echo-quiet fs s b (sent_line b (prefix fs s) n)) (answers-quiet g fs s b.verb _)
+channel-quiet g fs s b c (Some n) = either-quiet (may_speak (state fs c) s (prefix fs s)) _ _
+    (echo-quiet fs s b (sent_line b (prefix fs s) n)) (answers-quiet g fs s b.verb _)
 
-away-quiet : (g : Settings) (fs : List Deed) (s : ℕ) (v : Verb) (t : ℕ) (o : Option (List ℕ)) → deeds_of (tells_away g fs s v t o) ≡ []
+away-quiet : (g : Settings) (fs : List Deed) (s : ℕ) (v : Verb) (t : ℕ) (o : Option (List ℕ))
+    → deeds_of (tells_away g fs s v t o) ≡ []
 away-quiet g fs s Privmsg t None = refl
 away-quiet g fs s Privmsg t (Some x) = refl
 away-quiet g fs s Notice t o = refl
@@ -42,16 +47,23 @@ away-quiet g fs s Tagmsg t o = refl
 delivers-quiet : (fs : List Deed) (s : ℕ) (b : Sent) (t : ℕ) (l : Out) → deeds_of (delivers fs s b t l) ≡ []
 delivers-quiet fs s b t l =
     let other : List Effect = Show (filter (reaches fs b) (t ∷ [])) l ∷ [] in
-    both-quiet (cond (t == s) (keeps fs s b l) other) (echoes fs s b l) (either-quiet (t == s) (keeps fs s b l) other (kept-quiet fs s b l) refl) (echo-quiet fs s b l)
+    both-quiet (cond (t == s) (keeps fs s b l) other) (echoes fs s b l)
+    (either-quiet (t == s) (keeps fs s b l) other (kept-quiet fs s b l) refl) (echo-quiet fs s b l)
 
-user-quiet : (g : Settings) (fs : List Deed) (s : ℕ) (b : Sent) (n : List ℕ) (o : Option ℕ) → deeds_of (to_user g fs s b n o) ≡ []
+user-quiet : (g : Settings) (fs : List Deed) (s : ℕ) (b : Sent) (n : List ℕ) (o : Option ℕ)
+    → deeds_of (to_user g fs s b n o) ≡ []
 user-quiet g fs s b n None = answers-quiet g fs s b.verb _
 user-quiet g fs s b n (Some t) =
-    let l = sent_line b (prefix fs s) (title (nick fs t)) in both-quiet (delivers fs s b t l) (tells_away g fs s b.verb t (away fs t)) (delivers-quiet fs s b t l) (away-quiet g fs s b.verb t (away fs t))
+    let l = sent_line b (prefix fs s) (title (nick fs t)) in
+    both-quiet (delivers fs s b t l) (tells_away g fs s b.verb t (away fs t)) (delivers-quiet fs s b t l)
+    (away-quiet g fs s b.verb t (away fs t))
 
 pub one-quiet : (g : Settings) (fs : List Deed) (s : ℕ) (b : Sent) (c : List ℕ) → deeds_of (to_one g fs s b c) ≡ []
-one-quiet g fs s b c = either-quiet (names_channel c) _ _ (channel-quiet g fs s b c (name_of fs c)) (user-quiet g fs s b c (found fs c))
+one-quiet g fs s b c = either-quiet (names_channel c) _ _ (channel-quiet g fs s b c (name_of fs c))
+    (user-quiet g fs s b c (found fs c))
 
-pub all-quiet : (g : Settings) (fs : List Deed) (s : ℕ) (b : Sent) (cs : List (List ℕ)) → deeds_of (flat_map (to_one g fs s b) cs) ≡ []
+pub all-quiet : (g : Settings) (fs : List Deed) (s : ℕ) (b : Sent) (cs : List (List ℕ))
+    → deeds_of (flat_map (to_one g fs s b) cs) ≡ []
 all-quiet g fs s b [] = refl
-all-quiet g fs s b (c ∷ cs) = both-quiet (to_one g fs s b c) (flat_map (to_one g fs s b) cs) (one-quiet g fs s b c) (all-quiet g fs s b cs)
+all-quiet g fs s b (c ∷ cs) = both-quiet (to_one g fs s b c) (flat_map (to_one g fs s b) cs) (one-quiet g fs s b c)
+    (all-quiet g fs s b cs)

@@ -1,5 +1,6 @@
 -- What AWAY does: RFC 2812, section 4.1, and IRCv3 away-notify.
-use Rattle.std.specs.Prelude.{ℕ, ◌==◌, Bool, true, false, List, [], ◌∷◌, filter, length, take, Option, Some, None, if◌then◌else◌}
+use Rattle.std.specs.Prelude.{ℕ, ◌==◌, Bool, true, false, List, [], ◌∷◌, filter, length}
+use Rattle.std.specs.Prelude.{take, Option, Some, None, if◌then◌else◌}
 use Rattle.std.specs.Str.{bytes_eq}
 use Rattle.numerics.specs.declared.numeric.Numeric.{Numeric}
 use Rattle.numerics.specs.declared.numeric.Numeric.TheVariants.{UnAway, NowAway}
@@ -36,7 +37,8 @@ away_answer None = UnAway
 away_answer (Some text) = NowAway
 
 abbrev pub goes_as : Settings → List Deed → ℕ → Option (List ℕ) → List Effect
-goes_as g fs s text = Establish (AwaySet s text) ∷ tells g fs s (away_answer text) ∷ shown (notified fs s text) (away_line (prefix fs s) text)
+goes_as g fs s text = Establish (AwaySet s text) ∷ tells g fs s (away_answer text)
+    ∷ shown (notified fs s text) (away_line (prefix fs s) text)
 
 abbrev pub goes_away : Settings → List Deed → ℕ → List ℕ → List Effect
 goes_away g fs s text = goes_as g fs s (kept text)

@@ -18,4 +18,5 @@ verb_text Notice = codes "NOTICE"
 verb_text Tagmsg = codes "TAGMSG"
 
 abbrev pub sent_line : Sent → List ℕ → List ℕ → Out
-sent_line b from target = record (line from (verb_text b.verb) (target ∷ option_to_list b.text) (is_some b.text)) { tags = b.tags }
+sent_line b from target = record
+    (line from (verb_text b.verb) (target ∷ option_to_list b.text) (is_some b.text)) { tags = b.tags }

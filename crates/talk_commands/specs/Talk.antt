@@ -1,5 +1,7 @@
--- The commands that send texts: how each is named and read, and what it does. RFC 2812, sections 3.3.1, 3.3.2 and 4.1, and IRCv3 message-tags.
-use Rattle.std.specs.Prelude.{Bool, false, ◌≡◌, ℕ, ◌||◌, cond, List, [], ◌∷◌, codes, Result, Ok, Err, Option, Some, true, is_some, None, if◌then◌else◌}
+-- The commands that send texts: how each is named and read, and what it does. RFC 2812, sections 3.3.1, 3.3.2 and
+-- 4.1, and IRCv3 message-tags.
+use Rattle.std.specs.Prelude.{Bool, false, ◌≡◌, ℕ, ◌||◌, cond, List, [], ◌∷◌, codes, Result, Ok}
+use Rattle.std.specs.Prelude.{Err, Option, Some, true, is_some, None, if◌then◌else◌}
 use Rattle.message_tags.specs.Tags.{counting_tags}
 use Rattle.message_tags.specs.ClientOnly.{client_only_data}
 use Rattle.talk_commands.specs.declared.talk.TalkCommand.{TalkCommand}
@@ -30,7 +32,8 @@ relayed tag_data = client_only_data (counting_tags tag_data)
 abbrev pub privmsg_command : List ℕ → List (List ℕ) → Result TalkCommand ReadFault
 privmsg_command tag_data ps =
     cond (is_empty (first_or_empty ps)) (Err (NoRecipient (codes "PRIVMSG")))
-    (cond (is_empty (second_or_empty ps)) (Err NoTextToSend) (Ok (Privmsg (names_of (first_or_empty ps)) (second_or_empty ps) (relayed tag_data))))
+    (cond (is_empty (second_or_empty ps)) (Err NoTextToSend)
+    (Ok (Privmsg (names_of (first_or_empty ps)) (second_or_empty ps) (relayed tag_data))))
 
 -- never answered with a numeric: where PRIVMSG would be, it is for nobody
 abbrev pub notice_command : List ℕ → List (List ℕ) → Result TalkCommand ReadFault
@@ -39,7 +42,8 @@ notice_command tag_data ps =
     (Ok (Notice (names_of (first_or_empty ps)) (second_or_empty ps) (relayed tag_data)))
 
 abbrev pub tagmsg_command : List ℕ → List (List ℕ) → Result TalkCommand ReadFault
-tagmsg_command tag_data ps = cond (is_empty (first_or_empty ps)) (Err (NoRecipient (codes "TAGMSG"))) (Ok (Tagmsg (names_of (first_or_empty ps)) (relayed tag_data)))
+tagmsg_command tag_data ps = cond (is_empty (first_or_empty ps)) (Err (NoRecipient (codes "TAGMSG")))
+    (Ok (Tagmsg (names_of (first_or_empty ps)) (relayed tag_data)))
 
 abbrev pub away_command : List (List ℕ) → Result TalkCommand ReadFault
 away_command ps = Ok (Away (first_or_empty ps))
@@ -61,7 +65,8 @@ talk_text (Away text) = codes "AWAY"
 
 -- none is left out
 abbrev pub EachTalkIsNamed : Type 0
-EachTalkIsNamed = (k : TalkCommand) (tag_data : List ℕ) (ps : List (List ℕ)) → is_some (talk_of (talk_text k) tag_data ps) ≡ true
+EachTalkIsNamed = (k : TalkCommand) (tag_data : List ℕ) (ps : List (List ℕ))
+    → is_some (talk_of (talk_text k) tag_data ps) ≡ true
 
 -- and none is read by another's name
 abbrev pub NoTalkIsMisnamed : Type 0
@@ -69,9 +74,12 @@ NoTalkIsMisnamed = (n : List ℕ) (tag_data : List ℕ) (ps : List (List ℕ)) �
 
 -- what a command does that sends something
 abbrev pub serves_talk : Settings → List Deed → ℕ → TalkCommand → List Effect
-serves_talk g fs s (talk.Privmsg targets text tags) = sends g fs s (record { verb = verb.Privmsg; text = Some text; tags = tags }) targets
-serves_talk g fs s (talk.Notice targets text tags) = sends g fs s (record { verb = verb.Notice; text = Some text; tags = tags }) targets
-serves_talk g fs s (talk.Tagmsg targets tags) = sends g fs s (record { verb = verb.Tagmsg; text = None; tags = tags }) targets
+serves_talk g fs s (talk.Privmsg targets text tags) = sends g fs s
+    (record { verb = verb.Privmsg; text = Some text; tags = tags }) targets
+serves_talk g fs s (talk.Notice targets text tags) = sends g fs s
+    (record { verb = verb.Notice; text = Some text; tags = tags }) targets
+serves_talk g fs s (talk.Tagmsg targets tags) = sends g fs s
+    (record { verb = verb.Tagmsg; text = None; tags = tags }) targets
 serves_talk g fs s (talk.Away text) = goes_away g fs s text
 
 -- whether nothing answers a command in any case

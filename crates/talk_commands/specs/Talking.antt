@@ -1,10 +1,13 @@
--- What PRIVMSG, NOTICE and TAGMSG do: RFC 2812, sections 3.3.1 and 3.3.2, IRCv3 message-tags and IRCv3 echo-message; and who may speak on a channel: RFC 2811, sections 4.2.3, 4.2.4 and 4.3.1.
-use Rattle.std.specs.Prelude.{ℕ, Bool, true, false, not, ◌&&◌, ◌||◌, ◌==◌, nat_lt, List, [], ◌∷◌, ◌++◌, filter, length, slice_index_or, Option, Some, None, if◌then◌else◌}
+-- What PRIVMSG, NOTICE and TAGMSG do: RFC 2812, sections 3.3.1 and 3.3.2, IRCv3 message-tags and IRCv3 echo-message;
+-- and who may speak on a channel: RFC 2811, sections 4.2.3, 4.2.4 and 4.3.1.
+use Rattle.std.specs.Prelude.{ℕ, Bool, true, false, not, ◌&&◌, ◌||◌, ◌==◌, nat_lt, List, [], ◌∷◌, ◌++◌}
+use Rattle.std.specs.Prelude.{filter, length, slice_index_or, Option, Some, None, if◌then◌else◌}
 use Rattle.std.specs.List.{flat_map}
 use Rattle.channel_state.specs.State.{State, among, is_banned, without}
 use Rattle.numerics.specs.declared.numeric.Numeric.{Numeric}
 use Rattle.numerics.specs.declared.outgoing.Out.{Out}
-use Rattle.numerics.specs.declared.numeric.Numeric.TheVariants.{NoSuchChannel, CannotSendToChan, NoSuchNick, TooManyTargets, Away}
+use Rattle.numerics.specs.declared.numeric.Numeric.TheVariants.{NoSuchChannel, CannotSendToChan}
+use Rattle.numerics.specs.declared.numeric.Numeric.TheVariants.{NoSuchNick, TooManyTargets, Away}
 use Rattle.registration.specs.declared.caps.Cap.TheVariants.{EchoMessage, MessageTags}
 use Rattle.registration.specs.declared.settings.Settings.{Settings}
 use Rattle.registration.specs.Caps.{is_on}
@@ -69,7 +72,8 @@ abbrev pub keeps : List Deed → ℕ → Sent → Out → List Effect
 keeps fs s b l = if reaches fs b s then Copy l ∷ [] else []
 
 abbrev pub delivers : List Deed → ℕ → Sent → ℕ → Out → List Effect
-delivers fs s b t l = (if t == s then keeps fs s b l else Show (filter (reaches fs b) (t ∷ [])) l ∷ []) ++ echoes fs s b l
+delivers fs s b t l = (if t == s then keeps fs s b l else Show (filter (reaches fs b) (t ∷ [])) l ∷ [])
+    ++ echoes fs s b l
 
 -- the sender of a PRIVMSG is told that the user is away
 abbrev pub tells_away : Settings → List Deed → ℕ → Verb → ℕ → Option (List ℕ) → List Effect
@@ -78,7 +82,8 @@ tells_away g fs s v t text = []
 
 abbrev pub to_user : Settings → List Deed → ℕ → Sent → List ℕ → Option ℕ → List Effect
 to_user g fs s b n None = answers g fs s b.verb (NoSuchNick n)
-to_user g fs s b n (Some t) = delivers fs s b t (sent_line b (prefix fs s) (title (nick fs t))) ++ tells_away g fs s b.verb t (away fs t)
+to_user g fs s b n (Some t) = delivers fs s b t (sent_line b (prefix fs s) (title (nick fs t)))
+    ++ tells_away g fs s b.verb t (away fs t)
 
 -- ---- several targets
 

@@ -61,7 +61,8 @@ fn notified(
 #[tactic(auto, using(drafts::proofs::Replay::grown_grown))]
 fn set_away(draft: &mut Draft, session: SessionId, text: Option<Octets>) -> Result<(), AllocError>
     requires { IsOpened draft.old.facts session }
-    ensures { OnOk result (draft.new ≡ grown draft.old (Establish (AwaySet session text) ∷ tells draft.old.settings draft.old.facts session (away_answer text) ∷ [])) }
+    ensures { OnOk result (draft.new ≡ grown draft.old (Establish (AwaySet session text)
+        ∷ tells draft.old.settings draft.old.facts session (away_answer text) ∷ [])) }
 {
     let answer = match text {
         Some(_) => Numeric::NowAway,
@@ -79,7 +80,8 @@ fn notify(
     hearers: Sessions,
     text: Option<&Octets>,
 ) -> Result<(), AllocError>
-    ensures { OnOk result (draft.new ≡ grown draft.old (shown hearers (away_line (prefix draft.old.facts session) (option_copied text.entry)))) }
+    ensures { OnOk result (draft.new ≡ grown draft.old
+        (shown hearers (away_line (prefix draft.old.facts session) (option_copied text.entry)))) }
 {
     if hearers.as_slice().is_empty() {
         return Ok(());
@@ -88,13 +90,14 @@ fn notify(
     show_away(draft, hearers, from.as_slice(), text)
 }
 
-/// A session is away with a text, of which the first 200 octets are kept, or here again where the text is empty. Who shares a
-/// channel with it and takes away-notify is shown what changes.
+/// A session is away with a text, of which the first 200 octets are kept, or here again where the text is empty. Who
+/// shares a channel with it and takes away-notify is shown what changes.
 #[tactic(auto, unfolding(drafts::specs::Lines::prefix), using(drafts::proofs::Replay::grown_grown))]
 pub fn go_away(draft: &mut Draft, session: SessionId, text: &Octets) -> Result<(), AllocError>
     requires opened { IsOpened draft.old.facts session }
     requires first { draft.old.facts ≡ draft.old.base }
-    ensures { OnOk result (draft.new ≡ grown draft.old (goes_away draft.old.settings draft.old.facts session text.now)) }
+    ensures { OnOk result (draft.new
+        ≡ grown draft.old (goes_away draft.old.settings draft.old.facts session text.now)) }
 {
     let text = kept(draft.alloc(), text)?;
     let same = text.clone()?;

@@ -1,5 +1,5 @@
-//! What the commands that carry texts or tags do: PRIVMSG, NOTICE, TAGMSG and AWAY (RFC 2812, sections 3.3 and 4.1; IRCv3 message-tags;
-//! IRCv3 echo-message).
+//! What the commands that carry texts or tags do: PRIVMSG, NOTICE, TAGMSG and AWAY (RFC 2812, sections 3.3 and 4.1;
+//! IRCv3 message-tags; IRCv3 echo-message).
 #![tactic(auto)]
 
 mod away;

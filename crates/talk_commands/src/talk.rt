@@ -1,9 +1,12 @@
-//! The commands that send texts: how each is named and read, and what it does (RFC 2812, sections 3.3.1, 3.3.2 and 4.1; IRCv3 message-tags).
+//! The commands that send texts: how each is named and read, and what it does (RFC 2812, sections 3.3.1, 3.3.2 and
+//! 4.1; IRCv3 message-tags).
 ghost use Rattle.std.specs.Prelude.{◌≡◌, IfOk, OnOk};
 ghost use Rattle.roster.specs.Legal.{IsOpened};
 ghost use Rattle.drafts.specs.Words.{grown};
 ghost use Rattle.command_params.specs.Params.{IsRead, IsReadByName};
-ghost use Rattle.talk_commands.specs.Talk.{EachTalkIsNamed, NoTalkIsMisnamed, is_unanswered, serves_talk, talk_of, privmsg_command, notice_command, tagmsg_command, away_command, relayed, second_or_empty};
+ghost use Rattle.talk_commands.specs.Talk.{EachTalkIsNamed, NoTalkIsMisnamed, is_unanswered, serves_talk};
+ghost use Rattle.talk_commands.specs.Talk.{talk_of, privmsg_command, notice_command, tagmsg_command};
+ghost use Rattle.talk_commands.specs.Talk.{away_command, relayed, second_or_empty};
 
 use crate::{Sending, Verb, go_away, send};
 use chronicle::SessionId;
@@ -13,8 +16,8 @@ use line_grammar::{LineParameters, Octets, OctetsList};
 use message_tags::{client_only, tags_of};
 use std::alloc::{AllocError, Global};
 
-/// What is sent, and whether somebody is there to be sent it. Names and texts are as given. A list of names has no empty
-/// one, and none that repeats another in either case.
+/// What is sent, and whether somebody is there to be sent it. Names and texts are as given. A list of names has no
+/// empty one, and none that repeats another in either case.
 #[derive(Drop)]
 pub enum TalkCommand {
     /// A text, which isn't empty, for users and channels (section 3.3.1).
@@ -137,7 +140,8 @@ fn read_away(alloc: Global, params: &LineParameters<'_>) -> Result<TalkCommand, 
     Ok(TalkCommand::Away { text })
 }
 
-/// What is asked by a name, or the numeric that answers it by what it says alone. `None` where it is no such command's.
+/// What is asked by a name, or the numeric that answers it by what it says alone. `None` where it is no such
+/// command's.
 #[tactic(auto, unfolding(crate::specs::Talk::talk_of))]
 pub fn read_talk(
     alloc: Global,
@@ -174,7 +178,8 @@ pub fn serve_talk(
 ) -> Result<(), AllocError>
     requires opened { IsOpened draft.old.facts session }
     requires first { draft.old.facts ≡ draft.old.base }
-    ensures { OnOk result (draft.new ≡ grown draft.old (serves_talk draft.old.settings draft.old.facts session command.now)) }
+    ensures { OnOk result (draft.new
+        ≡ grown draft.old (serves_talk draft.old.settings draft.old.facts session command.now)) }
 {
     match command {
         TalkCommand::Privmsg {

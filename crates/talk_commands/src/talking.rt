@@ -1,12 +1,13 @@
-//! PRIVMSG, NOTICE and TAGMSG (RFC 2812, sections 3.3.1 and 3.3.2; RFC 2811, sections 4.2 and 4.3; IRCv3 message-tags; IRCv3
-//! echo-message).
+//! PRIVMSG, NOTICE and TAGMSG (RFC 2812, sections 3.3.1 and 3.3.2; RFC 2811, sections 4.2 and 4.3; IRCv3
+//! message-tags; IRCv3 echo-message).
 ghost use Rattle.std.specs.Prelude.{◌≡◌, ◌==◌, ◌∷◌, [], cond, filter, IfOk, OnOk};
 ghost use Rattle.std.specs.List.{flat_map};
 ghost use Rattle.roster.specs.LookBack.{away, found, name_of, state};
 ghost use Rattle.drafts.specs.declared.effect.Effect.TheVariants.{Show};
 ghost use Rattle.drafts.specs.Words.{denied, grown, prefix};
 ghost use Rattle.talk_commands.specs.Lines.{sent_line};
-ghost use Rattle.talk_commands.specs.Talking.{answers, delivers, echoes, is_barred, keeps, may_speak, names_channel, reaches, sends, shows, tells_away, to_channel, to_one, to_open, to_user};
+ghost use Rattle.talk_commands.specs.Talking.{answers, delivers, echoes, is_barred, keeps, may_speak, names_channel};
+ghost use Rattle.talk_commands.specs.Talking.{reaches, sends, shows, tells_away, to_channel, to_one, to_open, to_user};
 
 use crate::{Sending, Verb};
 use channel_state::ChannelState;
@@ -29,7 +30,8 @@ fn refuse(
     denial: Denial,
     name: &Octets,
 ) -> Result<(), AllocError>
-    ensures { OnOk result (draft.new ≡ grown draft.old (answers draft.old.settings draft.old.facts session verb (denied denial name.now))) }
+    ensures { OnOk result (draft.new ≡ grown draft.old
+        (answers draft.old.settings draft.old.facts session verb (denied denial name.now))) }
 {
     match verb {
         Verb::Notice => Ok(()),
@@ -73,7 +75,8 @@ fn echo(
     target: &[u8],
 ) -> Result<(), AllocError>
     requires first { draft.old.facts ≡ draft.old.base }
-    ensures { OnOk result (draft.new ≡ grown draft.old (echoes draft.old.facts session sending.now (sent_line sending.now from.now target.now))) }
+    ensures { OnOk result (draft.new ≡ grown draft.old
+        (echoes draft.old.facts session sending.now (sent_line sending.now from.now target.now))) }
 {
     let caps = draft.before().caps_of(session);
     let wants = caps.contains(Cap::EchoMessage);
@@ -109,7 +112,8 @@ fn show(
     line: Line,
 ) -> Result<(), AllocError>
     requires { draft.old.facts ≡ draft.old.base }
-    ensures { OnOk result (draft.new ≡ grown draft.old (Show (filter (reaches draft.old.facts sending.now) sessions.now) line ∷ [])) }
+    ensures { OnOk result (draft.new ≡ grown draft.old
+        (Show (filter (reaches draft.old.facts sending.now) sessions.now) line ∷ [])) }
 {
     let hearers = reached(draft.alloc(), draft.before(), sending, sessions)?;
     draft.show(hearers, line)
@@ -126,7 +130,8 @@ fn send_to_members(
     members: &[SessionId],
 ) -> Result<(), AllocError>
     requires { draft.old.facts ≡ draft.old.base }
-    ensures { OnOk result (draft.new ≡ grown draft.old (shows draft.old.facts session sending.now members.now (sent_line sending.now from.now name.now))) }
+    ensures { OnOk result (draft.new ≡ grown draft.old (shows draft.old.facts session sending.now
+        members.now (sent_line sending.now from.now name.now))) }
 {
     let line = sending.line(draft.alloc(), from, name)?;
     let mut others = Sessions::copied(draft.alloc(), members)?;
@@ -144,7 +149,8 @@ fn send_to_open(
     state: &ChannelState,
 ) -> Result<(), AllocError>
     requires { draft.old.facts ≡ draft.old.base }
-    ensures { OnOk result (draft.new ≡ grown draft.old (to_open draft.old.settings draft.old.facts session sending.now name.now state.now.state)) }
+    ensures { OnOk result (draft.new ≡ grown draft.old
+        (to_open draft.old.settings draft.old.facts session sending.now name.now state.now.state)) }
 {
     let from = prefix_of(draft, session)?;
     if !may_speak(state, session, from.as_slice()) {
@@ -162,7 +168,8 @@ fn send_to_channel(
     channel: &Octets,
 ) -> Result<(), AllocError>
     requires { draft.old.facts ≡ draft.old.base }
-    ensures { OnOk result (draft.new ≡ grown draft.old (to_channel draft.old.settings draft.old.facts session sending.now channel.now (name_of draft.old.facts channel.now))) }
+    ensures { OnOk result (draft.new ≡ grown draft.old (to_channel draft.old.settings
+        draft.old.facts session sending.now channel.now (name_of draft.old.facts channel.now))) }
 {
     let Some((name, state)) = draft.before().channel(channel.as_slice()) else {
         return refuse(draft, session, sending.verb, Denial::NoSuchChannel, channel);
@@ -181,7 +188,9 @@ fn hand(
     line: Line,
 ) -> Result<(), AllocError>
     requires { draft.old.facts ≡ draft.old.base }
-    ensures { OnOk result (draft.new ≡ grown draft.old (cond (user == session) (keeps draft.old.facts session sending.now line) (Show (filter (reaches draft.old.facts sending.now) (user ∷ [])) line ∷ []))) }
+    ensures { OnOk result (draft.new
+        ≡ grown draft.old (cond (user == session) (keeps draft.old.facts session sending.now line)
+        (Show (filter (reaches draft.old.facts sending.now) (user ∷ [])) line ∷ []))) }
 {
     if user != session {
         return show(draft, sending, &[user], line);
@@ -203,7 +212,8 @@ fn deliver(
     name: &[u8],
 ) -> Result<(), AllocError>
     requires { draft.old.facts ≡ draft.old.base }
-    ensures { OnOk result (draft.new ≡ grown draft.old (delivers draft.old.facts session sending.now user (sent_line sending.now from.now name.now))) }
+    ensures { OnOk result (draft.new ≡ grown draft.old (delivers draft.old.facts session sending.now
+        user (sent_line sending.now from.now name.now))) }
 {
     let line = sending.line(draft.alloc(), from, name)?;
     hand(draft, session, sending, user, line)?;
@@ -218,7 +228,8 @@ fn tell_away(
     user: SessionId,
 ) -> Result<(), AllocError>
     requires { draft.old.facts ≡ draft.old.base }
-    ensures { OnOk result (draft.new ≡ grown draft.old (tells_away draft.old.settings draft.old.facts session verb user (away draft.old.facts user))) }
+    ensures { OnOk result (draft.new ≡ grown draft.old (tells_away draft.old.settings
+        draft.old.facts session verb user (away draft.old.facts user))) }
 {
     if verb != Verb::Privmsg {
         return Ok(());
@@ -240,7 +251,8 @@ fn send_to_user(
     nick: &Octets,
 ) -> Result<(), AllocError>
     requires { draft.old.facts ≡ draft.old.base }
-    ensures { OnOk result (draft.new ≡ grown draft.old (to_user draft.old.settings draft.old.facts session sending.now nick.now (found draft.old.facts nick.now))) }
+    ensures { OnOk result (draft.new ≡ grown draft.old (to_user draft.old.settings draft.old.facts
+        session sending.now nick.now (found draft.old.facts nick.now))) }
 {
     let Some(user) = draft.before().find(nick.as_slice()) else {
         return refuse(draft, session, sending.verb, Denial::NoSuchNick, nick);
@@ -275,7 +287,8 @@ fn send_to(
     target: &Octets,
 ) -> Result<(), AllocError>
     requires { draft.old.facts ≡ draft.old.base }
-    ensures { OnOk result (draft.new ≡ grown draft.old (to_one draft.old.settings draft.old.facts session sending.now target.now)) }
+    ensures { OnOk result (draft.new ≡ grown draft.old
+        (to_one draft.old.settings draft.old.facts session sending.now target.now)) }
 {
     if names_channel(target.as_slice()) {
         return send_to_channel(draft, session, sending, target);
@@ -291,7 +304,8 @@ fn send_to_each(
     targets: &[Octets],
 ) -> Result<(), AllocError>
     requires { draft.old.facts ≡ draft.old.base }
-    ensures { OnOk result (draft.new ≡ grown draft.old (flat_map (to_one draft.old.settings draft.old.facts session sending.now) targets.now)) }
+    ensures { OnOk result (draft.new ≡ grown draft.old
+        (flat_map (to_one draft.old.settings draft.old.facts session sending.now) targets.now)) }
 {
     for target in targets {
         send_to(draft, session, sending, target)?;
@@ -299,8 +313,9 @@ fn send_to_each(
     Ok(())
 }
 
-/// Sends a text or tags to users and channels, in turn, or to nobody where more than four are named. A session may speak on a
-/// channel where it has a rank, or where neither a mode nor a ban bars it. TAGMSG reaches those alone who take tags.
+/// Sends a text or tags to users and channels, in turn, or to nobody where more than four are named. A session may
+/// speak on a channel where it has a rank, or where neither a mode nor a ban bars it. TAGMSG reaches those alone who
+/// take tags.
 pub fn send(
     draft: &mut Draft,
     session: SessionId,
@@ -308,7 +323,8 @@ pub fn send(
     targets: &[Octets],
 ) -> Result<(), AllocError>
     requires { draft.old.facts ≡ draft.old.base }
-    ensures { OnOk result (draft.new ≡ grown draft.old (sends draft.old.settings draft.old.facts session sending.now targets.now)) }
+    ensures { OnOk result (draft.new ≡ grown draft.old
+        (sends draft.old.settings draft.old.facts session sending.now targets.now)) }
 {
     if targets.len() > MAX_TARGETS {
         let fifth = &targets[MAX_TARGETS];

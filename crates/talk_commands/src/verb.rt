@@ -59,7 +59,8 @@ fn line_to(
     target: &[u8],
     text: Option<&Octets>,
 ) -> Result<Line, AllocError>
-    ensures { IfOk result (λ l. l ≡ line from.now (verb_text verb) (target.now ∷ option_to_list (option_copied text.entry)) (is_some (option_copied text.entry))) }
+    ensures { IfOk result (λ l. l ≡ line from.now (verb_text verb) (target.now
+        ∷ option_to_list (option_copied text.entry)) (is_some (option_copied text.entry))) }
 {
     match text {
         Some(text) => Line::telling(alloc, from, verb.text(), &[target], text.as_slice()),

@@ -1,5 +1,5 @@
-//! What commands establish that do several things in a line, each decided once more where a growth was refused: a refusal
-//! changes nothing.
+//! What commands establish that do several things in a line, each decided once more where a growth was refused: a
+//! refusal changes nothing.
 ghost use Rattle.std.specs.Prelude.{◌≡◌, IfOk};
 ghost use Rattle.roster.specs.Legal.{IsOpened, AreNext};
 ghost use Rattle.roster.specs.LookBack.{after};

@@ -13,8 +13,8 @@ const TWICE: &str = "\
 al a ba7816bf8f01cfea414140de5dae2223b00361a396177a9cb410ff61f20015ad
 AL b ba7816bf8f01cfea414140de5dae2223b00361a396177a9cb410ff61f20015ad";
 
-/// Files without a fault, and such that their only line, or another, has this one first. One that has several is told the first
-/// of these: its shape, its name, its digest, that it comes twice.
+/// Files without a fault, and such that their only line, or another, has this one first. One that has several is
+/// told the first of these: its shape, its name, its digest, that it comes twice.
 const FILES: [(&str, Option<(u64, AccountFault)>); 20] = [
     ("", None),
     ("\n\n", None),

@@ -1,5 +1,5 @@
-//! Growths that are refused while an answer is wrapped and rendered, or a moment is told: the same call with memory answers what it is
-//! to.
+//! Growths that are refused while an answer is wrapped and rendered, or a moment is told: the same call with memory
+//! answers what it is to.
 use crate::again::twice;
 use chronicle::{Moment, RecordMoment, RecordNumber};
 use labels_batches::{Receiver, Tagged, answer_text, render, wrap};

@@ -97,7 +97,8 @@ fn what_is_fed_in_turn_is_split_at_once(rt: HostRuntime) -> Result<(), Fail> {
 
 const FILL: [u8; 4095] = [b'x'; 4095];
 
-/// What stands before so many `x`, what stands after them, and how many octets the line has, `None` where it is too long.
+/// What stands before so many `x`, what stands after them, and how many octets the line has, `None` where it is too
+/// long.
 const LIMITS: [(&[u8], usize, &[u8], Option<usize>); 14] = [
     (b"", 510, b"", Some(510)),
     (b"", 511, b"", None),

@@ -1,5 +1,6 @@
 -- What waits, after each step by which it goes out.
-use Rattle.std.proofs.Common.{◌≡◌, ℕ, Bool, List, [], ◌∷◌, ◌++◌, Option, drop, refl, sym, ap, ◌∙◌, subst, append_assoc, append-nil}
+use Rattle.std.proofs.Common.{◌≡◌, ℕ, Bool, List, [], ◌∷◌, ◌++◌, Option, drop, refl, sym}
+use Rattle.std.proofs.Common.{ap, ◌∙◌, subst, append_assoc, append-nil}
 use Rattle.std.proofs.KnownBytes.{Appends-nil, Appends-trans}
 use Rattle.tungstenite.specs.Content.{Content}
 use Rattle.tungstenite.specs.Socket.{Socket, Flushed}
@@ -10,38 +11,51 @@ use Rattle.websocket_front.specs.Fronted.{Fronted, waiting, GoesOut, Gains, IsFr
 use Rattle.websocket_front.proofs.Lines.{lines_none}
 
 -- a text that is put where nothing was left
-pub waits_with : (p : Subprotocol) (output rest text : List ℕ) → rest ≡ [] → (output ++ frames p (lines rest)) ++ frames p (lines text) ≡ output ++ frames p (lines text)
+pub waits_with : (p : Subprotocol) (output rest text : List ℕ) → rest ≡ []
+    → (output ++ frames p (lines rest)) ++ frames p (lines text) ≡ output ++ frames p (lines text)
 waits_with p output rest text none =
     ap (λ r. (output ++ frames p (lines r)) ++ frames p (lines text)) none
     ∙ ap (λ l. (output ++ frames p l) ++ frames p (lines text)) lines_none
     ∙ ap (λ o. o ++ frames p (lines text)) (append-nil output)
 
 -- nothing waits where the output is empty and no line is left
-pub waits_none : (p : Subprotocol) (output rest : List ℕ) → output ≡ [] → rest ≡ [] → output ++ frames p (lines rest) ≡ []
+pub waits_none : (p : Subprotocol) (output rest : List ℕ) → output ≡ [] → rest ≡ []
+    → output ++ frames p (lines rest) ≡ []
 waits_none p output rest out none =
     ap (λ o. o ++ frames p (lines rest)) out ∙ ap (λ r. frames p (lines r)) none ∙ ap (frames p) lines_none
 
 -- the frames of one line more
-pub frames_more : (p : Subprotocol) (ls : List (List ℕ)) (line : List ℕ) → frames p (ls ++ line ∷ []) ≡ frames p ls ++ frame p line
+pub frames_more : (p : Subprotocol) (ls : List (List ℕ)) (line : List ℕ) → frames p (ls ++ line ∷ [])
+    ≡ frames p ls ++ frame p line
 frames_more p [] line = append-nil (frame p line)
-frames_more p (l ∷ ls) line = ap (λ o. frame p l ++ o) (frames_more p ls line) ∙ sym (append_assoc (frame p l) (frames p ls) (frame p line))
+frames_more p (l ∷ ls) line = ap (λ o. frame p l ++ o) (frames_more p ls line)
+    ∙ sym (append_assoc (frame p l) (frames p ls) (frame p line))
 
 module _ {S : Type 0} where
   -- what waits where no line is left is the output
   idle : (f : Fronted S) → f.rest ≡ [] → waiting f ≡ f.socket.output
-  idle f none = ap (λ r. f.socket.output ++ frames f.subprotocol (lines r)) none ∙ ap (λ l. f.socket.output ++ frames f.subprotocol l) lines_none ∙ append-nil f.socket.output
+  idle f none = ap (λ r. f.socket.output ++ frames f.subprotocol (lines r)) none ∙ ap
+      (λ l. f.socket.output ++ frames f.subprotocol l) lines_none ∙ append-nil f.socket.output
 
   abbrev pub fronted : Socket S → Subprotocol → List ℕ → Bool → Fronted S
   fronted s p rest is_open = record { socket = s; subprotocol = p; rest = rest; is_open = is_open }
 
   -- a message of the line at the front of what is left is in the output
-  pub framed : (contents : S → Option (List ℕ)) (p : Subprotocol) (left text : List ℕ) (old new : Socket S) (m : Content) (line : List ℕ) (next : ℕ) → m ≡ message p line → lines left ≡ line ∷ lines (drop next text) → Gains contents old new (frame_of m)
+  pub framed : (contents : S → Option (List ℕ)) (p : Subprotocol) (left text : List ℕ) (old new : Socket S)
+      (m : Content) (line : List ℕ) (next : ℕ) → m ≡ message p line → lines left ≡ line ∷ lines (drop next text)
+      → Gains contents old new (frame_of m)
       → IsFramed contents p left text old new next
   framed contents p left text old new m line next is parts gained =
-      record { line = line; parts = parts; gained = subst (λ (c : Content). Gains contents old new (frame_of c)) is gained }
+      record {
+        line = line;
+        parts = parts;
+        gained = subst
+            (λ (c : Content). Gains contents old new (frame_of c)) is gained;
+      }
 
   -- the first line's frame joins the output
-  pub goes_framed : (contents : S → Option (List ℕ)) (p : Subprotocol) (old new : Socket S) (left text : List ℕ) (next : ℕ) (is_open : Bool) → IsFramed contents p left text old new next
+  pub goes_framed : (contents : S → Option (List ℕ)) (p : Subprotocol) (old new : Socket S) (left text : List ℕ)
+      (next : ℕ) (is_open : Bool) → IsFramed contents p left text old new next
       → GoesOut contents old.stream (old.output ++ frames p (lines left)) (fronted new p (drop next text) is_open)
   goes_framed contents p old new left text next is_open is =
       let others = frames p (lines (drop next text)) in
@@ -57,12 +71,20 @@ module _ {S : Type 0} where
       }
 
   -- a frame joins the output, and no line is left
-  pub goes_closed : (contents : S → Option (List ℕ)) (p : Subprotocol) (old new : Socket S) (f : List ℕ) (is_open : Bool) → Gains contents old new f → GoesOut contents old.stream (old.output ++ f) (fronted new p [] is_open)
+  pub goes_closed : (contents : S → Option (List ℕ)) (p : Subprotocol)
+      (old new : Socket S) (f : List ℕ) (is_open : Bool) → Gains contents old new f
+      → GoesOut contents old.stream (old.output ++ f) (fronted new p [] is_open)
   goes_closed contents p old new f is_open gained =
-      record { gone = gained.gone; appended = gained.appended; parts = gained.parts ∙ ap (λ l. gained.gone ++ l) (sym (idle (fronted new p [] is_open) refl)) }
+      record {
+        gone = gained.gone;
+        appended = gained.appended;
+        parts = gained.parts ∙ ap
+            (λ l. gained.gone ++ l) (sym (idle (fronted new p [] is_open) refl));
+      }
 
   -- some of the output goes to the stream
-  pub goes_flushed : (contents : S → Option (List ℕ)) (p : Subprotocol) (old new : Socket S) (rest : List ℕ) (is_open : Bool) → Flushed contents old new
+  pub goes_flushed : (contents : S → Option (List ℕ)) (p : Subprotocol) (old new : Socket S) (rest : List ℕ)
+      (is_open : Bool) → Flushed contents old new
       → GoesOut contents old.stream (old.output ++ frames p (lines rest)) (fronted new p rest is_open)
   goes_flushed contents p old new rest is_open flushed =
       let others = frames p (lines rest) in
@@ -73,17 +95,29 @@ module _ {S : Type 0} where
       }
 
   -- no line was left
-  pub goes_emptied : (contents : S → Option (List ℕ)) (p : Subprotocol) (s : Socket S) (rest : List ℕ) (is_open : Bool) → rest ≡ []
+  pub goes_emptied : (contents : S → Option (List ℕ)) (p : Subprotocol) (s : Socket S) (rest : List ℕ)
+      (is_open : Bool) → rest ≡ []
       → GoesOut contents s.stream (s.output ++ frames p (lines rest)) (fronted s p [] is_open)
   goes_emptied contents p s rest is_open none =
-      record { gone = []; appended = Appends-nil (contents s.stream); parts = ap (λ r. s.output ++ frames p (lines r)) none }
+      record {
+        gone = [];
+        appended = Appends-nil (contents s.stream);
+        parts = ap (λ r. s.output ++ frames p (lines r)) none;
+      }
 
   -- no line was taken
   pub takes_none : (contents : S → Option (List ℕ)) (f : Fronted S) (text : List ℕ) → TakesLines contents f text f 0
-  takes_none contents f text = record { taken = []; parts = refl; out = record { gone = []; appended = Appends-nil (contents f.socket.stream); parts = append-nil (waiting f) } }
+  takes_none contents f text = record {
+    taken = [];
+    parts = refl;
+    out =
+        record { gone = []; appended = Appends-nil (contents f.socket.stream); parts = append-nil (waiting f) };
+  }
 
   -- one line more, where no other line waits
-  pub takes_more : (contents : S → Option (List ℕ)) (f g h : Fronted S) (text : List ℕ) (place next : ℕ) → g.subprotocol ≡ f.subprotocol → g.rest ≡ [] → h.rest ≡ [] → TakesLines contents f text g place → IsFramed contents g.subprotocol (drop place text) text g.socket h.socket next
+  pub takes_more : (contents : S → Option (List ℕ)) (f g h : Fronted S) (text : List ℕ) (place next : ℕ)
+      → g.subprotocol ≡ f.subprotocol → g.rest ≡ [] → h.rest ≡ [] → TakesLines contents f text g place
+      → IsFramed contents g.subprotocol (drop place text) text g.socket h.socket next
       → TakesLines contents f text h next
   takes_more contents f g h text place next kind none none2 takes is =
       let p = f.subprotocol in
@@ -91,13 +125,16 @@ module _ {S : Type 0} where
       let one = frame p is.line in
       let was : waiting g ≡ g.socket.output = idle g none in
       let now : waiting h ≡ h.socket.output = idle h none2 in
-      let gained : g.socket.output ++ one ≡ is.gained.gone ++ h.socket.output = subst (λ (q : Subprotocol). g.socket.output ++ frame q is.line ≡ is.gained.gone ++ h.socket.output) kind is.gained.parts in
+      let gained : g.socket.output ++ one ≡ is.gained.gone ++ h.socket.output = subst (λ (q : Subprotocol).
+      g.socket.output ++ frame q is.line ≡ is.gained.gone ++ h.socket.output) kind is.gained.parts in
       record {
         taken = takes.taken ++ is.line ∷ [];
-        parts = takes.parts ∙ ap (λ l. takes.taken ++ l) is.parts ∙ sym (append_assoc takes.taken (is.line ∷ []) (lines (drop next text)));
+        parts = takes.parts ∙ ap (λ l. takes.taken ++ l) is.parts
+            ∙ sym (append_assoc takes.taken (is.line ∷ []) (lines (drop next text)));
         out = record {
           gone = takes.out.gone ++ is.gained.gone;
-          appended = Appends-trans (contents f.socket.stream) (contents g.socket.stream) (contents h.socket.stream) takes.out.gone is.gained.gone takes.out.appended is.gained.appended;
+          appended = Appends-trans (contents f.socket.stream) (contents g.socket.stream)
+              (contents h.socket.stream) takes.out.gone is.gained.gone takes.out.appended is.gained.appended;
           parts =
               ap (λ l. waiting f ++ l) (frames_more p takes.taken is.line)
               ∙ sym (append_assoc (waiting f) (frames p takes.taken) one)

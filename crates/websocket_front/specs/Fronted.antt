@@ -83,18 +83,21 @@ module _ {S : Type 0} where
 
   -- the line at the front of what is left of a text went into a socket's output, and the next begins at this place of
   -- the text
-  pub record IsFramed (contents : S → Option (List ℕ)) (p : Subprotocol) (left text : List ℕ) (old new : Socket S) (next : ℕ) : Type 0 where
+  pub record IsFramed (contents : S → Option (List ℕ)) (p : Subprotocol) (left text : List ℕ) (old new : Socket S)
+      (next : ℕ) : Type 0 where
     pub line : List ℕ
     pub parts : lines left ≡ line ∷ lines (drop next text)
     pub gained : Gains contents old new (frame p line)
 
   -- or nothing changed
-  abbrev pub FramesNext : (S → Option (List ℕ)) → Subprotocol → (left text : List ℕ) → (old new : Socket S) → Option ℕ → Type 0
+  abbrev pub FramesNext : (S → Option (List ℕ)) → Subprotocol → (left text : List ℕ) → (old new : Socket S)
+      → Option ℕ → Type 0
   FramesNext contents p left text old new None = new ≡ old
   FramesNext contents p left text old new (Some next) = IsFramed contents p left text old new next
 
   -- the first of a text's lines, which have so many of its octets, joined what waits, of which some went to the stream
-  pub record TakesLines (contents : S → Option (List ℕ)) (old : Fronted S) (text : List ℕ) (new : Fronted S) (count : ℕ) : Type 0 where
+  pub record TakesLines (contents : S → Option (List ℕ)) (old : Fronted S) (text : List ℕ) (new : Fronted S)
+      (count : ℕ) : Type 0 where
     pub taken : List (List ℕ)
     pub parts : lines text ≡ taken ++ lines (drop count text)
     pub out : GoesOut contents old.socket.stream (waiting old ++ frames old.subprotocol taken) new

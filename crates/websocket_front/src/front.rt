@@ -87,9 +87,15 @@ impl<S: Read + Write + Drop> Model for Front<S> {
 
     ghost coded = { fronted_code S.code };
 
-    ghost view = { λ a. record { socket = a.socket; subprotocol = a.subprotocol; rest = rest_of a.begun a.place; is_open = is_open_of a.ending } };
+    ghost view = { λ a. record {
+      socket = a.socket;
+      subprotocol = a.subprotocol;
+      rest = rest_of a.begun a.place;
+      is_open = is_open_of a.ending;
+    } };
 
-    ghost invariant = { λ a. (is_open_of a.ending ≡ true → a.socket.conn.role ≡ Server) × (is_open_of a.ending ≡ false → rest_of a.begun a.place ≡ []) };
+    ghost invariant = { λ a. (is_open_of a.ending ≡ true → a.socket.conn.role ≡ Server)
+        × (is_open_of a.ending ≡ false → rest_of a.begun a.place ≡ []) };
 }
 
 /// Whether an error only says that the stream has or takes nothing now.
@@ -214,7 +220,8 @@ impl<S: Read + Write + Drop> Front<S> {
     /// protocol the client is sent a close that says which, as far as the stream takes it now. After a fault the front
     /// is of no more use.
     pub fn next(&mut self) -> Result<Got, FrontFault>
-        ensures gives { self.old.is_open ≡ true → IfOk result (Gives S.remaining self.old.socket self.new.socket) }
+        ensures gives { self.old.is_open ≡ true
+            → IfOk result (Gives S.remaining self.old.socket self.new.socket) }
         ensures fails { self.old.is_open ≡ true → IfErr result (Fails S.remaining self.old.socket) }
         ensures goes_on { self.old.is_open ≡ true → IfOk result (GoesOn self.new.is_open) }
         ensures rest { self.new.is_open ≡ true → self.new.rest ≡ self.old.rest }
@@ -236,8 +243,10 @@ impl<S: Read + Write + Drop> Front<S> {
     /// Reads one message of the client: nothing where it is a ping, which is answered, or a pong. There may be more
     /// then, and no event of the stream says so.
     pub fn read_message(&mut self) -> Result<Option<Got>, FrontFault>
-        ensures gives { self.old.is_open ≡ true → IfOk result (GivesOne S.remaining self.old.socket self.new.socket) }
-        ensures fails { self.old.is_open ≡ true → IfErr result (FailsOnce S.remaining self.old.socket) }
+        ensures gives { self.old.is_open ≡ true
+            → IfOk result (GivesOne S.remaining self.old.socket self.new.socket) }
+        ensures fails { self.old.is_open ≡ true
+            → IfErr result (FailsOnce S.remaining self.old.socket) }
         ensures goes_on { self.old.is_open ≡ true → IfOk result (GoesOnOne self.new.is_open) }
         ensures rest { self.new.is_open ≡ true → self.new.rest ≡ self.old.rest }
         ensures subprotocol { self.new.subprotocol ≡ self.old.subprotocol }

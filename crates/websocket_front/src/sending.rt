@@ -1,12 +1,14 @@
 //! A session's items as messages, a line each.
-ghost use Rattle.std.specs.Prelude.{◌≡◌, ◌≤◌, ◌<◌, ◌+◌, ◌↔◌, [], true, false, length, drop, IsTrue, Ok, Err, IfOk, OnOk, IfErr};
+ghost use Rattle.std.specs.Prelude.{◌≡◌, ◌≤◌, ◌<◌, ◌+◌, ◌↔◌, [], true, false, length};
+ghost use Rattle.std.specs.Prelude.{drop, IsTrue, Ok, Err, IfOk, OnOk, IfErr};
 ghost use Rattle.deliveries.specs.Text.{delivery_text};
 ghost use Rattle.tungstenite.specs.Connection.{can_write};
 ghost use Rattle.tungstenite.specs.Socket.{content_of};
 ghost use Rattle.websocket.specs.declared.protocol.config.Role.TheVariants.{Server};
 ghost use Rattle.websocket_front.specs.Lines.{line_length};
 ghost use Rattle.websocket_front.specs.Frames.{message, frame_of, IsNext, IsSendable};
-ghost use Rattle.websocket_front.specs.Fronted.{waiting, waiting_with, close_of_code, output_with_close, GoesOut, Gains, FramesNext, TakesLines, IsOut};
+ghost use Rattle.websocket_front.specs.Fronted.{waiting, waiting_with, close_of_code, output_with_close};
+ghost use Rattle.websocket_front.specs.Fronted.{GoesOut, Gains, FramesNext, TakesLines, IsOut};
 
 use crate::front::{Ending, Front, FrontFault, Meaning, close_frame, meaning_of};
 use crate::subprotocol::Subprotocol;
@@ -97,7 +99,8 @@ fn write_message<S: Read + Write + Drop>(
 ) -> Result<bool, FrontFault>
     requires server { socket.old.conn.role ≡ Server }
     requires sendable { IsSendable (content_of message) }
-    ensures taken { IfOk result (λ b. b ≡ true → Gains S.contents socket.old socket.new (frame_of (content_of message))) }
+    ensures taken { IfOk result
+        (λ b. b ≡ true → Gains S.contents socket.old socket.new (frame_of (content_of message))) }
     ensures full { IfOk result (λ b. b ≡ false → socket.new ≡ socket.old) }
     ensures memory { result ≡ Err FrontFault.Memory → socket.new ≡ socket.old }
 {
@@ -123,7 +126,8 @@ fn frame_line<S: Read + Write + Drop>(
 ) -> Result<Option<usize>, FrontFault>
     requires server { socket.old.conn.role ≡ Server }
     requires inside { place < length text.now }
-    ensures ok { IfOk result (FramesNext S.contents subprotocol (drop place text.now) text.now socket.old socket.new) }
+    ensures ok { IfOk result
+        (FramesNext S.contents subprotocol (drop place text.now) text.now socket.old socket.new) }
     ensures memory { result ≡ Err FrontFault.Memory → socket.new ≡ socket.old }
 {
     let Ok((message, next)) = next_message(alloc, subprotocol, text, place) else {
@@ -171,8 +175,10 @@ impl<S: Read + Write + Drop> Front<S> {
     /// and the others as they are, until a flush makes room. For want of memory it changes nothing.
     pub fn put_item(&mut self, item: &Item, host: &[u8]) -> Result<(), FrontFault>
         requires ready { self.old.rest ≡ [] }
-        ensures ok { OnOk result (GoesOut S.contents self.old.socket.stream (waiting_with self.old item.now.delivery host.now) self.new) }
-        ensures memory { result ≡ Err FrontFault.Memory → self.old.is_open ≡ true → self.new ≡ self.old }
+        ensures ok { OnOk result (GoesOut S.contents self.old.socket.stream
+            (waiting_with self.old item.now.delivery host.now) self.new) }
+        ensures memory { result ≡ Err FrontFault.Memory → self.old.is_open ≡ true
+            → self.new ≡ self.old }
         ensures stays_open { OnOk result (self.new.is_open ≡ true) }
         ensures subprotocol { self.new.subprotocol ≡ self.old.subprotocol }
     {
@@ -192,8 +198,8 @@ impl<S: Read + Write + Drop> Front<S> {
         self.frame_lines()
     }
 
-    /// Puts the lines at the front of a text into frames, while the output has room and there is memory, and answers how many
-    /// octets of the text those lines have, with their CR LF.
+    /// Puts the lines at the front of a text into frames, while the output has room and there is memory, and answers
+    /// how many octets of the text those lines have, with their CR LF.
     pub fn put_lines(&mut self, text: &[u8]) -> Result<usize, FrontFault>
         requires ready { self.old.rest ≡ [] }
         ensures ok { IfOk result (TakesLines S.contents self.old text.now self.new) }
@@ -220,12 +226,14 @@ impl<S: Read + Write + Drop> Front<S> {
         Ok(place.min(text.len()))
     }
 
-    /// Puts the line that begins at a place of a text into a frame, where the output has room, and answers where the next begins.
+    /// Puts the line that begins at a place of a text into a frame, where the output has room, and answers where the
+    /// next begins.
     fn frame_line(&mut self, text: &[u8], place: usize) -> Result<Option<usize>, FrontFault>
         requires is_open { self.old.is_open ≡ true }
         requires ready { self.old.rest ≡ [] }
         requires inside { place < length text.now }
-        ensures ok { IfOk result (FramesNext S.contents self.old.subprotocol (drop place text.now) text.now self.old.socket self.new.socket) }
+        ensures ok { IfOk result (FramesNext S.contents self.old.subprotocol
+            (drop place text.now) text.now self.old.socket self.new.socket) }
         ensures stays_open { OnOk result (self.new.is_open ≡ true) }
         ensures rest { self.new.rest ≡ [] }
         ensures memory { result ≡ Err FrontFault.Memory → self.new ≡ self.old }
@@ -245,7 +253,8 @@ impl<S: Read + Write + Drop> Front<S> {
     /// Puts lines into frames while the output has room and there is memory.
     fn frame_lines(&mut self) -> Result<(), FrontFault>
         requires is_open { self.old.is_open ≡ true }
-        ensures ok { OnOk result (GoesOut S.contents self.old.socket.stream (waiting self.old) self.new) }
+        ensures ok { OnOk result
+            (GoesOut S.contents self.old.socket.stream (waiting self.old) self.new) }
         ensures memory { IfErr result (λ e. e ≡ FrontFault.Memory → ⊥) }
         ensures stays_open { OnOk result (self.new.is_open ≡ true) }
         ensures subprotocol { self.new.subprotocol ≡ self.old.subprotocol }
@@ -264,7 +273,8 @@ impl<S: Read + Write + Drop> Front<S> {
     /// Puts the next line into a frame.
     fn frame_next(&mut self) -> Result<Framed, FrontFault>
         requires is_open { self.old.is_open ≡ true }
-        ensures ok { OnOk result (GoesOut S.contents self.old.socket.stream (waiting self.old) self.new) }
+        ensures ok { OnOk result
+            (GoesOut S.contents self.old.socket.stream (waiting self.old) self.new) }
         ensures stays_open { OnOk result (self.new.is_open ≡ true) }
         ensures all { result ≡ Ok Framed.All → self.new.rest ≡ [] }
         ensures memory { result ≡ Err FrontFault.Memory → self.new ≡ self.old }
@@ -302,10 +312,12 @@ impl<S: Read + Write + Drop> Front<S> {
     /// Writes what waits, and answers whether all is out: if not, the stream takes no more now. For want of memory
     /// nothing is lost, and it may be called again.
     pub fn flush(&mut self) -> Result<bool, FrontFault>
-        ensures ok { OnOk result (GoesOut S.contents self.old.socket.stream (waiting self.old) self.new) }
+        ensures ok { OnOk result
+            (GoesOut S.contents self.old.socket.stream (waiting self.old) self.new) }
         ensures all { result ≡ Ok true → waiting self.new ≡ [] }
         ensures ready { result ≡ Ok true → self.new.rest ≡ [] }
-        ensures memory { result ≡ Err FrontFault.Memory → self.new.is_open ≡ true → GoesOut S.contents self.old.socket.stream (waiting self.old) self.new }
+        ensures memory { result ≡ Err FrontFault.Memory → self.new.is_open ≡ true
+            → GoesOut S.contents self.old.socket.stream (waiting self.old) self.new }
         ensures stays_open { OnOk result (self.new.is_open ≡ self.old.is_open) }
         ensures subprotocol { self.new.subprotocol ≡ self.old.subprotocol }
     {
@@ -335,7 +347,8 @@ impl<S: Read + Write + Drop> Front<S> {
 
     /// Writes the output, and answers whether all of it is out.
     fn send_output(&mut self) -> Result<bool, FrontFault>
-        ensures ok { OnOk result (GoesOut S.contents self.old.socket.stream (waiting self.old) self.new) }
+        ensures ok { OnOk result
+            (GoesOut S.contents self.old.socket.stream (waiting self.old) self.new) }
         ensures out { result ≡ Ok true → self.new.socket.output ≡ [] }
         ensures rest { OnOk result (self.new.rest ≡ self.old.rest) }
         ensures stays_open { OnOk result (self.new.is_open ≡ self.old.is_open) }
@@ -357,7 +370,8 @@ impl<S: Read + Write + Drop> Front<S> {
 
     /// Flushes until all is out.
     fn flush_all(&mut self) -> Result<(), FrontFault>
-        ensures ok { OnOk result (GoesOut S.contents self.old.socket.stream (waiting self.old) self.new) }
+        ensures ok { OnOk result
+            (GoesOut S.contents self.old.socket.stream (waiting self.old) self.new) }
         ensures out { OnOk result (waiting self.new ≡ []) }
         ensures ready { OnOk result (self.new.rest ≡ []) }
         ensures stays_open { OnOk result (self.new.is_open ≡ self.old.is_open) }
@@ -377,7 +391,8 @@ impl<S: Read + Write + Drop> Front<S> {
     /// without CR LF. A text message has U+FFFD for what isn't UTF-8. Where the stream takes nothing it tries again,
     /// 1,024 times in all; then it is a fault of the stream.
     pub fn send_item(&mut self, item: &Item, host: &[u8]) -> Result<(), FrontFault>
-        ensures ok { OnOk result (IsOut S.contents self.old.socket.stream (waiting_with self.old item.now.delivery host.now) self.new) }
+        ensures ok { OnOk result (IsOut S.contents self.old.socket.stream
+            (waiting_with self.old item.now.delivery host.now) self.new) }
         ensures stays_open { OnOk result (self.new.is_open ≡ true) }
         ensures subprotocol { self.new.subprotocol ≡ self.old.subprotocol }
     {
@@ -389,7 +404,9 @@ impl<S: Read + Write + Drop> Front<S> {
     /// Has a close with this code wait, after the frames that wait. Lines that have no frame yet are given up. Where a
     /// close was sent or the client closed it does nothing.
     pub fn close(&mut self, code: CloseCode) -> Result<(), FrontFault>
-        ensures ok { OnOk result (can_write self.old.socket.conn.state ≡ true → self.old.is_open ≡ true → GoesOut S.contents self.old.socket.stream (output_with_close self.old code) self.new) }
+        ensures ok { OnOk result (can_write self.old.socket.conn.state ≡ true
+            → self.old.is_open ≡ true → GoesOut S.contents self.old.socket.stream
+            (output_with_close self.old code) self.new) }
         ensures stays_open { OnOk result (self.new.is_open ≡ self.old.is_open) }
         ensures subprotocol { self.new.subprotocol ≡ self.old.subprotocol }
     {

@@ -38,7 +38,8 @@ const OFFERS: &[(&[u8], &[u8], Subprotocol)] = &[
         Subprotocol::Binary,
     ),
     (
-        b"Sec-WebSocket-Protocol: Text.ircv3.net\r\nSec-WebSocket-Protocol: text.ircv3.net\r\nSec-WebSocket-Protocol: binary.ircv3.net\r\n",
+        b"Sec-WebSocket-Protocol: Text.ircv3.net\r\nSec-WebSocket-Protocol: text.ircv3.net\r\n\
+            Sec-WebSocket-Protocol: binary.ircv3.net\r\n",
         TEXT,
         Subprotocol::Text,
     ),
@@ -72,9 +73,13 @@ fn first_offer_that_is_served_is_chosen(rt: HostRuntime) -> Result<(), Fail> {
 const REFUSED: &[&[u8]] = &[
     b"NICK bo\r\n",
     b"GET / HTTP/1.1\r\nHost: a\r\n\r\n",
-    b"GET /chat HTTP/1.1\r\nUpgrade: websocket\r\nConnection: Upgrade\r\nSec-WebSocket-Key: dGhl\r\nSec-WebSocket-Version: 13\r\n\r\n",
-    b"GET /chat HTTP/1.1\r\nUpgrade: websocket\r\nConnection: Upgrade\r\nSec-WebSocket-Key: dGhlIHNhbXBsZSBub25jZQ==\r\nSec-WebSocket-Version: 8\r\n\r\n",
-    b"GET /chat HTTP/1.1\r\nUpgrade: websocket\r\nConnection: Upgrade\r\nSec-WebSocket-Key: dGhlIHNhbXBsZSBub25jZQ==\r\nSec-WebSocket-Version: 13\r\n\r\n\x89\x80\x00\x00\x00\x00",
+    b"GET /chat HTTP/1.1\r\nUpgrade: websocket\r\nConnection: Upgrade\r\n\
+        Sec-WebSocket-Key: dGhl\r\nSec-WebSocket-Version: 13\r\n\r\n",
+    b"GET /chat HTTP/1.1\r\nUpgrade: websocket\r\nConnection: Upgrade\r\n\
+        Sec-WebSocket-Key: dGhlIHNhbXBsZSBub25jZQ==\r\nSec-WebSocket-Version: 8\r\n\r\n",
+    b"GET /chat HTTP/1.1\r\nUpgrade: websocket\r\nConnection: Upgrade\r\n\
+        Sec-WebSocket-Key: dGhlIHNhbXBsZSBub25jZQ==\r\nSec-WebSocket-Version: 13\r\n\r\n\
+        \x89\x80\x00\x00\x00\x00",
 ];
 
 /// Why the client of a stream isn't greeted, if it isn't.

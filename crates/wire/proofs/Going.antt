@@ -1,5 +1,6 @@
 -- A text goes out part by part.
-use Rattle.std.proofs.Common.{◌≡◌, ℕ, ◌+◌, ◌-◌, List, [], ◌∷◌, ◌++◌, length, take, drop, subst, Option, Some, None, refl, ap, sym, ◌∙◌, append_assoc, append-nil}
+use Rattle.std.proofs.Common.{◌≡◌, ℕ, ◌+◌, ◌-◌, List, [], ◌∷◌, ◌++◌, length, take, drop, subst, Option}
+use Rattle.std.proofs.Common.{Some, None, refl, ap, sym, ◌∙◌, append_assoc, append-nil}
 use Rattle.std.proofs.KnownBytes.{Appends-nil, Appends-trans, Appends-kept}
 use Rattle.std.proofs.lemmas.List.{take-append-drop, drop-drop, take_rest}
 use Rattle.std.specs.Io.KnownBytes.{Appends, Keeps, append_known}
@@ -25,7 +26,8 @@ pub goes_front : (a b : Option (List ℕ)) (xs : List ℕ) (n : ℕ) → Appends
 goes_front a b xs n appended = record { gone = take n xs; appended = appended; parts = sym (take-append-drop n xs) }
 
 -- and more of it
-pub goes_further : (a b : Option (List ℕ)) (text : List ℕ) (c n : ℕ) → Appends a b (take n (take (length text - c) (drop c text))) → GoesOut a b (drop c text) (drop (c + n) text)
+pub goes_further : (a b : Option (List ℕ)) (text : List ℕ) (c n : ℕ)
+    → Appends a b (take n (take (length text - c) (drop c text))) → GoesOut a b (drop c text) (drop (c + n) text)
 goes_further a b text c n appended = record {
   gone = take n (drop c text);
   appended = subst (λ l. Appends a b (take n l)) (take_rest text c) appended;
@@ -33,45 +35,58 @@ goes_further a b text c n appended = record {
 }
 
 -- after octets that were kept back
-pub goes_after : (a b c : Option (List ℕ)) (xs : List ℕ) (n : ℕ) → Keeps a b → Appends b c (take n xs) → GoesOut a c xs (drop n xs)
-goes_after a b c xs n kept appended = goes_on a b c xs xs (drop n xs) (goes_nothing a b xs kept) (goes_front b c xs n appended)
+pub goes_after : (a b c : Option (List ℕ)) (xs : List ℕ) (n : ℕ) → Keeps a b → Appends b c (take n xs)
+    → GoesOut a c xs (drop n xs)
+goes_after a b c xs n kept appended = goes_on a b c xs xs (drop n xs) (goes_nothing a b xs kept)
+    (goes_front b c xs n appended)
 
 -- octets wait, after those that waited
-pub goes_waiting : (a told : Option (List ℕ)) (xs ys text : List ℕ) (n : ℕ) → Keeps a (append_known told xs) → Appends (Some xs) (Some ys) (take n text) → GoesOut a (append_known told ys) text (drop n text)
-goes_waiting a told xs ys text n kept more = goes_after a (append_known told xs) (append_known told ys) text n kept (longer told)
+pub goes_waiting : (a told : Option (List ℕ)) (xs ys text : List ℕ) (n : ℕ) → Keeps a (append_known told xs)
+    → Appends (Some xs) (Some ys) (take n text) → GoesOut a (append_known told ys) text (drop n text)
+goes_waiting a told xs ys text n kept more = goes_after a (append_known told xs) (append_known told ys) text n kept
+    (longer told)
   where
     longer : (o : Option (List ℕ)) → Appends (append_known o xs) (append_known o ys) (take n text)
     longer None = tt
     longer (Some zs) = ap (λ l. zs ++ l) more ∙ sym (append_assoc zs xs (take n text))
 
 -- a stream that nothing waits for
-pub starts_out : (a b : Option (List ℕ)) (waiting : List ℕ) → b ≡ a → waiting ≡ [] → GoesOut a (append_known b waiting) [] []
-starts_out a b waiting same none = goes_nothing a (append_known b waiting) [] (subst (λ o. Keeps a (append_known o waiting)) (sym same) (subst (λ l. Keeps a (append_known a l)) (sym none) (with_none a)))
+pub starts_out : (a b : Option (List ℕ)) (waiting : List ℕ) → b ≡ a → waiting ≡ []
+    → GoesOut a (append_known b waiting) [] []
+starts_out a b waiting same none = goes_nothing a (append_known b waiting) [] (subst (λ o. Keeps a
+    (append_known o waiting)) (sym same) (subst (λ l. Keeps a (append_known a l)) (sym none) (with_none a)))
   where
     with_none : (o : Option (List ℕ)) → Keeps o (append_known o [])
     with_none None = tt
     with_none (Some xs) = append-nil xs
 
 -- the texts of one item more
-pub texts_more : (host : List ℕ) (xs : List Item) (x : Item) → texts host (xs ++ x ∷ []) ≡ texts host xs ++ delivery_text x.delivery host
+pub texts_more : (host : List ℕ) (xs : List Item) (x : Item) → texts host (xs ++ x ∷ [])
+    ≡ texts host xs ++ delivery_text x.delivery host
 texts_more host [] x = append-nil (delivery_text x.delivery host)
-texts_more host (y ∷ ys) x = ap (λ l. delivery_text y.delivery host ++ l) (texts_more host ys x) ∙ sym (append_assoc (delivery_text y.delivery host) (texts host ys) (delivery_text x.delivery host))
+texts_more host (y ∷ ys) x = ap (λ l. delivery_text y.delivery host ++ l) (texts_more host ys x)
+    ∙ sym (append_assoc (delivery_text y.delivery host) (texts host ys) (delivery_text x.delivery host))
 
 -- an item more is to go out, when all before it went out
-pub out_begun : (host : List ℕ) (since : List Item) (x : Item) (a b : Option (List ℕ)) (left : List ℕ) → left ≡ [] → GoesOut a b (texts host since) left → GoesOut a b (texts host (since ++ x ∷ [])) (delivery_text x.delivery host)
+pub out_begun : (host : List ℕ) (since : List Item) (x : Item) (a b : Option (List ℕ)) (left : List ℕ)
+    → left ≡ [] → GoesOut a b (texts host since) left
+    → GoesOut a b (texts host (since ++ x ∷ [])) (delivery_text x.delivery host)
 out_begun host since x a b left none out =
     let text = delivery_text x.delivery host in
     record {
       gone = out.gone;
       appended = out.appended;
-      parts = texts_more host since x ∙ ap (λ l. l ++ text) (out.parts ∙ ap (λ l. out.gone ++ l) none) ∙ append_assoc out.gone [] text;
+      parts = texts_more host since x ∙ ap (λ l. l ++ text) (out.parts ∙ ap (λ l. out.gone ++ l) none)
+          ∙ append_assoc out.gone [] text;
     }
 
 -- more of an item that was begun goes out
-pub out_more : (host lent : List ℕ) (a b c : Option (List ℕ)) (since : List Item) (left ys : List ℕ) (begun : Option Begun) (x : Begun) → lent ≡ host → begun ≡ Some x → left ≡ rest_of host begun
+pub out_more : (host lent : List ℕ) (a b c : Option (List ℕ)) (since : List Item) (left ys : List ℕ)
+    (begun : Option Begun) (x : Begun) → lent ≡ host → begun ≡ Some x → left ≡ rest_of host begun
     → GoesOut a b (texts host since) left → GoesOut b c (rest_of lent (Some x)) ys → GoesOut a c (texts host since) ys
 out_more host lent a b c since left ys begun x same is rest before now =
-    let from : rest_of lent (Some x) ≡ left = ap (λ l. rest_of l (Some x)) same ∙ ap (rest_of host) (sym is) ∙ sym rest in
+    let from : rest_of lent (Some x) ≡ left = ap (λ l. rest_of l (Some x)) same ∙ ap (rest_of host) (sym is)
+    ∙ sym rest in
     goes_on a b c (texts host since) left ys before (subst (λ l. GoesOut b c l ys) from now)
 
 -- the newest item is the last of these

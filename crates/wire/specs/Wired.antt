@@ -35,9 +35,9 @@ ends [] = false
 ends (x ∷ []) = is_last x.delivery
 ends (x ∷ y ∷ xs) = ends (y ∷ xs)
 
--- all items that the writer has taken, and which outbox it is of; the octets that the stream was given, with those that wait in
--- the wire; what is left of the newest item; how often the stream answered that it takes nothing now; and how both ends stood when the
--- wire was made
+-- all items that the writer has taken, and which outbox it is of; the octets that the stream was given, with those
+-- that wait in the wire; what is left of the newest item; how often the stream answered that it takes nothing now;
+-- and how both ends stood when the wire was made
 pub record Wired : Type 0 where
   pub session : ℕ
   pub taken : List Item
@@ -51,8 +51,8 @@ pub record Wired : Type 0 where
   pub taken_before : List Item
   pub told_before : Option (List ℕ)
 
--- what went out of the items that were taken since the wire was made is their texts, in order, but for the rest of the newest; after a
--- fault, for a rest that isn't known
+-- what went out of the items that were taken since the wire was made is their texts, in order, but for the rest of
+-- the newest; after a fault, for a rest that isn't known
 pub record IsInStep (w : Wired) : Type 0 where
   pub since : List Item
   pub left : List ℕ

@@ -20,13 +20,15 @@ pub(crate) struct Begun {
     pub(crate) count: usize,
 }
 
-/// Writes what comes after so many octets of a text, until all is written or a write stops. It answers how much is written then.
+/// Writes what comes after so many octets of a text, until all is written or a write stops. It answers how much is
+/// written then.
 fn write_lines<W: Write + Drop>(
     text: &[u8],
     from: usize,
     out: &mut Gathered<W>,
 ) -> (usize, Result<(), Stop>)
-    ensures more { GoesOut (gathered_contents W.contents out.old) (gathered_contents W.contents out.new) (drop from text.now) (drop result.0 text.now) }
+    ensures more { GoesOut (gathered_contents W.contents out.old)
+        (gathered_contents W.contents out.new) (drop from text.now) (drop result.0 text.now) }
     ensures whole { OnOk result.1 (drop result.0 text.now ≡ []) }
     ensures pauses { pauses_of out.old ≤ pauses_of out.new }
     ensures later { IfErr result.1 (λ s. s ≡ Later → pauses_of out.old < pauses_of out.new) }
@@ -48,7 +50,9 @@ fn write_last<W: Write + Drop>(
     host: &[u8],
     out: &mut Gathered<W>,
 ) -> (usize, Result<(), Stop>)
-    ensures more { GoesOut (gathered_contents W.contents out.old) (gathered_contents W.contents out.new) (delivery_text delivery.now host.now) (drop result.0 (delivery_text delivery.now host.now)) }
+    ensures more { GoesOut (gathered_contents W.contents out.old)
+        (gathered_contents W.contents out.new) (delivery_text delivery.now host.now)
+        (drop result.0 (delivery_text delivery.now host.now)) }
     ensures whole { OnOk result.1 (drop result.0 (delivery_text delivery.now host.now) ≡ []) }
     ensures pauses { pauses_of out.old ≤ pauses_of out.new }
     ensures later { IfErr result.1 (λ s. s ≡ Later → pauses_of out.old < pauses_of out.new) }
@@ -78,7 +82,9 @@ impl Begun {
         out: &mut Gathered<W>,
     ) -> Result<(), Stop>
         ensures item { self.new.item ≡ self.old.item }
-        ensures more { GoesOut (gathered_contents W.contents out.old) (gathered_contents W.contents out.new) (rest_of host.now (Some self.old)) (rest_of host.now (Some self.new)) }
+        ensures more { GoesOut (gathered_contents W.contents out.old)
+            (gathered_contents W.contents out.new) (rest_of host.now (Some self.old))
+            (rest_of host.now (Some self.new)) }
         ensures whole { OnOk result (rest_of host.now (Some self.new) ≡ []) }
         ensures pauses { pauses_of out.old ≤ pauses_of out.new }
         ensures later { IfErr result (λ s. s ≡ Later → pauses_of out.old < pauses_of out.new) }

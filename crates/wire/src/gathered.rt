@@ -1,5 +1,6 @@
 //! A stream, and the octets that wait to be written to it in one write.
-ghost use Rattle.std.specs.Prelude.{◌≡◌, ◌≤◌, ◌<◌, ◌++◌, [], true, false, length, take, drop, vec_len, IfOk, IfErr, OnOk};
+ghost use Rattle.std.specs.Prelude.{◌≡◌, ◌≤◌, ◌<◌, ◌++◌, [], true, false, length, take};
+ghost use Rattle.std.specs.Prelude.{drop, vec_len, IfOk, IfErr, OnOk};
 ghost use Rattle.std.specs.Io.KnownBytes.{Appends, Keeps, WriteAppends};
 ghost use Rattle.wire.specs.declared.stream.Stop.TheVariants.{Later};
 ghost use Rattle.wire.specs.Gathering.{gathered_contents, pauses_of};
@@ -19,8 +20,8 @@ const SOME: usize = 4096;
 /// How many octets may wait to be written in one write.
 const MOST: usize = 65_536;
 
-/// A stream, and the octets that wait to be written to it. There is room for many while many wait, and else for few, so that a wire
-/// on which nothing goes out takes little memory.
+/// A stream, and the octets that wait to be written to it. There is room for many while many wait, and else for few,
+/// so that a wire on which nothing goes out takes little memory.
 #[derive(Drop)]
 pub(crate) struct Gathered<W: Write + Drop> {
     pub(crate) stream: Stream<W>,
@@ -33,7 +34,8 @@ pub(crate) struct Gathered<W: Write + Drop> {
 fn write_front<W: Write + Drop>(octets: &[u8], to: &mut Stream<W>) -> (usize, Result<(), Stop>)
     ensures within { result.0 ≤ length octets.now }
     ensures all { OnOk result.1 (result.0 ≡ length octets.now) }
-    ensures written { Appends (W.contents to.old.inner) (W.contents to.new.inner) (take result.0 octets.now) }
+    ensures written { Appends (W.contents to.old.inner) (W.contents to.new.inner)
+        (take result.0 octets.now) }
     ensures pauses { to.old.pauses.value ≤ to.new.pauses.value }
     ensures later { IfErr result.1 (λ s. s ≡ Later → to.old.pauses.value < to.new.pauses.value) }
 {
@@ -72,8 +74,8 @@ impl<W: Write + Drop> Gathered<W> {
         })
     }
 
-    /// Makes room for so many octets more, and answers whether there is. There is none for more than may wait, or where its growth
-    /// is refused.
+    /// Makes room for so many octets more, and answers whether there is. There is none for more than may wait, or
+    /// where its growth is refused.
     fn make_room(&mut self, more: usize) -> bool
         ensures stream { self.new.stream ≡ self.old.stream }
         ensures kept { self.new.waiting.items ≡ self.old.waiting.items }
@@ -92,7 +94,8 @@ impl<W: Write + Drop> Gathered<W> {
 
     /// Sees to it that there is room for so many octets more, by writing what waits where there is none.
     pub(crate) fn ready_for(&mut self, more: usize) -> Result<(), Stop>
-        ensures octets { Keeps (gathered_contents W.contents self.old) (gathered_contents W.contents self.new) }
+        ensures octets { Keeps (gathered_contents W.contents self.old)
+            (gathered_contents W.contents self.new) }
         ensures pauses { pauses_of self.old ≤ pauses_of self.new }
         ensures later { IfErr result (λ s. s ≡ Later → pauses_of self.old < pauses_of self.new) }
     {
@@ -106,7 +109,8 @@ impl<W: Write + Drop> Gathered<W> {
     /// Has octets wait, where there is room for them, and answers whether there was.
     fn keep(&mut self, octets: &[u8]) -> bool
         ensures stream { self.new.stream ≡ self.old.stream }
-        ensures kept { result ≡ true → self.new.waiting.items ≡ self.old.waiting.items ++ octets.now }
+        ensures kept { result ≡ true → self.new.waiting.items
+            ≡ self.old.waiting.items ++ octets.now }
         ensures not { result ≡ false → self.new.waiting.items ≡ self.old.waiting.items }
     {
         self.make_room(octets.len()) && self.waiting.extend_from_slice(octets).is_ok()
@@ -114,7 +118,8 @@ impl<W: Write + Drop> Gathered<W> {
 
     /// Writes what waits. What the stream doesn't take waits on.
     fn write_waiting(&mut self) -> Result<(), Stop>
-        ensures octets { Keeps (gathered_contents W.contents self.old) (gathered_contents W.contents self.new) }
+        ensures octets { Keeps (gathered_contents W.contents self.old)
+            (gathered_contents W.contents self.new) }
         ensures none { OnOk result (self.new.waiting.items ≡ []) }
         ensures pauses { pauses_of self.old ≤ pauses_of self.new }
         ensures later { IfErr result (λ s. s ≡ Later → pauses_of self.old < pauses_of self.new) }
@@ -128,7 +133,8 @@ impl<W: Write + Drop> Gathered<W> {
     /// Has octets wait, or writes the first of them where there is no room for them, and answers how many that are.
     pub(crate) fn write(&mut self, octets: &[u8]) -> Result<usize, Stop>
         ensures bound { IfOk result (λ n. n ≤ length octets.now) }
-        ensures octets { WriteAppends (gathered_contents W.contents self.old) (gathered_contents W.contents self.new) result octets.now }
+        ensures octets { WriteAppends (gathered_contents W.contents self.old)
+            (gathered_contents W.contents self.new) result octets.now }
         ensures pauses { pauses_of self.old ≤ pauses_of self.new }
         ensures later { IfErr result (λ s. s ≡ Later → pauses_of self.old < pauses_of self.new) }
     {
@@ -146,7 +152,8 @@ impl<W: Write + Drop> Gathered<W> {
 
     /// Writes what waits, and has the stream give it on.
     pub(crate) fn flush(&mut self) -> Result<(), Stop>
-        ensures octets { Keeps (gathered_contents W.contents self.old) (gathered_contents W.contents self.new) }
+        ensures octets { Keeps (gathered_contents W.contents self.old)
+            (gathered_contents W.contents self.new) }
         ensures none { OnOk result (self.new.waiting.items ≡ []) }
         ensures pauses { pauses_of self.old ≤ pauses_of self.new }
         ensures later { IfErr result (λ s. s ≡ Later → pauses_of self.old < pauses_of self.new) }

@@ -35,7 +35,8 @@ impl Change<u64, Stop> for Pauses {
     ghost changed = { λ n s. n + 1 };
 }
 
-/// A stream. How often it answered that it takes nothing now exists for clauses alone, and nothing but its answers changes that.
+/// A stream. How often it answered that it takes nothing now exists for clauses alone, and nothing but its answers
+/// changes that.
 #[derive(Drop)]
 pub(crate) struct Stream<W: Write + Drop> {
     inner: W,
@@ -76,9 +77,11 @@ impl<W: Write + Drop> Stream<W> {
     /// Writes once, and answers how many of the octets the stream took.
     pub(crate) fn write(&mut self, octets: &[u8]) -> Result<usize, Stop>
         ensures bound { IfOk result (λ n. n ≤ length octets.now) }
-        ensures bytes { WriteAppends (W.contents self.old.inner) (W.contents self.new.inner) result octets.now }
+        ensures bytes { WriteAppends (W.contents self.old.inner)
+            (W.contents self.new.inner) result octets.now }
         ensures pauses { self.old.pauses.value ≤ self.new.pauses.value }
-        ensures later { IfErr result (λ s. s ≡ Later → self.old.pauses.value < self.new.pauses.value) }
+        ensures later { IfErr result
+            (λ s. s ≡ Later → self.old.pauses.value < self.new.pauses.value) }
     {
         match self.inner.write(octets) {
             Ok(count) => Ok(count),
@@ -90,7 +93,8 @@ impl<W: Write + Drop> Stream<W> {
     pub(crate) fn flush(&mut self) -> Result<(), Stop>
         ensures bytes { Keeps (W.contents self.old.inner) (W.contents self.new.inner) }
         ensures pauses { self.old.pauses.value ≤ self.new.pauses.value }
-        ensures later { IfErr result (λ s. s ≡ Later → self.old.pauses.value < self.new.pauses.value) }
+        ensures later { IfErr result
+            (λ s. s ≡ Later → self.old.pauses.value < self.new.pauses.value) }
     {
         match self.inner.flush() {
             Ok(()) => Ok(()),

@@ -35,8 +35,8 @@ pub enum Flow {
     Ended,
 }
 
-/// A session's writer, and the stream on which its items go out. It takes room for many items while many wait, and where that is
-/// refused writes few at a time.
+/// A session's writer, and the stream on which its items go out. It takes room for many items while many wait, and
+/// where that is refused writes few at a time.
 #[derive(Drop)]
 pub struct Wire<L: Naming, W: Write + Drop> {
     writer: Writer,
@@ -57,13 +57,41 @@ impl<L: Naming, W: Write + Drop> Model for Wire<L, W> {
 
     ghost Value = { Wired };
 
-    ghost view = { λ a. record { session = a.stub.session; taken = a.writer.taken; channel = a.writer.channel; told = gathered_contents W.contents a.out; waiting = a.out.waiting.items; rest = rest_of a.host a.begun; pauses = pauses_of a.out; host = a.host; is_broken = a.is_broken; taken_before = a.writer_before.value.taken; told_before = W.contents a.stream_before.value } };
+    ghost view = { λ a. record {
+      session = a.stub.session;
+      taken = a.writer.taken;
+      channel = a.writer.channel;
+      told = gathered_contents W.contents a.out;
+      waiting = a.out.waiting.items;
+      rest = rest_of a.host a.begun;
+      pauses = pauses_of a.out;
+      host = a.host;
+      is_broken = a.is_broken;
+      taken_before = a.writer_before.value.taken;
+      told_before = W.contents a.stream_before.value;
+    } };
 
-    ghost invariant = { λ a. (a.stub.outbox ≡ Some a.writer.channel) × IsInStep (record { session = a.stub.session; taken = a.writer.taken; channel = a.writer.channel; told = gathered_contents W.contents a.out; waiting = a.out.waiting.items; rest = rest_of a.host a.begun; pauses = pauses_of a.out; host = a.host; is_broken = a.is_broken; taken_before = a.writer_before.value.taken; told_before = W.contents a.stream_before.value }) × (a.has_last ≡ true → ends a.writer.taken ≡ true) };
+    ghost invariant = { λ a. (a.stub.outbox ≡ Some a.writer.channel)
+        × IsInStep (record {
+          session = a.stub.session;
+          taken = a.writer.taken;
+          channel = a.writer.channel;
+          told = gathered_contents W.contents a.out;
+          waiting = a.out.waiting.items;
+          rest = rest_of a.host a.begun;
+          pauses = pauses_of a.out;
+          host = a.host;
+          is_broken = a.is_broken;
+          taken_before =
+              a.writer_before.value.taken;
+          told_before = W.contents a.stream_before.value;
+        })
+        × (a.has_last ≡ true → ends a.writer.taken ≡ true) };
 }
 
 impl<L: Naming, W: Write + Drop> Wire<L, W> {
-    /// A wire of a session that has this host, by its writer and its stub. Where there is no memory for it, the three come back.
+    /// A wire of a session that has this host, by its writer and its stub. Where there is no memory for it, the
+    /// three come back.
     pub fn new(
         alloc: Global,
         writer: Writer,
@@ -120,7 +148,8 @@ impl<L: Naming, W: Write + Drop> Wire<L, W> {
         true
     }
 
-    /// Writes what is left of the item that was begun. It answers whether that is all; else the stream takes nothing now.
+    /// Writes what is left of the item that was begun. It answers whether that is all; else the stream takes nothing
+    /// now.
     fn write_begun(&mut self) -> Result<bool, WriteFault>
         requires whole { self.old.is_broken ≡ false }
         ensures same { IsSameWire self.old self.new }
@@ -168,18 +197,21 @@ impl<L: Naming, W: Write + Drop> Wire<L, W> {
         }
     }
 
-    /// Takes the items that wait, and writes them, as many in one write as have room. It waits for none; the stream may wait. It is idle
-    /// only where at a moment of the call all that was sent was taken, behind only where the stream answered in this call that it takes
-    /// nothing now, and more may wait only where something was taken.
+    /// Takes the items that wait, and writes them, as many in one write as have room. It waits for none; the stream
+    /// may wait. It is idle only where at a moment of the call all that was sent was taken, behind only where the
+    /// stream answered in this call that it takes nothing now, and more may wait only where something was taken.
     ///
     /// After a fault nothing more is written.
     pub fn pump<R: Wait>(&mut self, rt: &R) -> Result<Flow, WriteFault>
         ensures same { IsSameWire self.old self.new }
         ensures whole { OnOk result (self.new.is_broken ≡ false) }
-        ensures idle { IfOk result (λ flow. flow ≡ Idle → (self.new.rest ≡ []) × (self.new.waiting ≡ []) × IsAllTaken self.new.taken) }
-        ensures more { IfOk result (λ flow. flow ≡ More → length self.old.taken < length self.new.taken) }
+        ensures idle { IfOk result (λ flow. flow ≡ Idle → (self.new.rest ≡ [])
+            × (self.new.waiting ≡ []) × IsAllTaken self.new.taken) }
+        ensures more { IfOk result
+            (λ flow. flow ≡ More → length self.old.taken < length self.new.taken) }
         ensures behind { IfOk result (λ flow. flow ≡ Behind → self.old.pauses < self.new.pauses) }
-        ensures ended { IfOk result (λ flow. flow ≡ Ended → (self.new.rest ≡ []) × (self.new.waiting ≡ []) × (ends self.new.taken ≡ true)) }
+        ensures ended { IfOk result (λ flow. flow ≡ Ended → (self.new.rest ≡ [])
+            × (self.new.waiting ≡ []) × (ends self.new.taken ≡ true)) }
         ensures fault { OnErr result (self.new.is_broken ≡ true) }
     {
         if self.is_broken {
@@ -221,7 +253,8 @@ impl<L: Naming, W: Write + Drop> Wire<L, W> {
         self.writer.gauge()
     }
 
-    /// What holds of every wire: what went out is the texts of the items taken since it was made, in order, but for a rest.
+    /// What holds of every wire: what went out is the texts of the items taken since it was made, in order, but for
+    /// a rest.
     pub fn in_step(&self)
         ensures { IsInStep self.now }
     {

@@ -226,7 +226,8 @@ fn a_gauge_tells_what_waits(rt: HostRuntime) -> Result<(), Fail> {
     Ok(())
 }
 
-/// Items, and the writes in which they go out: 1,456 items have 65,520 octets, and one more would have more than 65,536.
+/// Items, and the writes in which they go out: 1,456 items have 65,520 octets, and one more would have more than
+/// 65,536.
 const WRITES: [(u64, u32); 5] = [(0, 0), (1, 1), (100, 1), (1456, 1), (1457, 2)];
 
 #[test]

@@ -19,7 +19,8 @@ pub(super) fn drain<R: Wait>(
     requires channel { IsSeatAt (receives_on receiver.now) pass }
     requires sends { (known pass).sends ≡ true }
     requires takes { (known pass).takes ≡ true }
-    ensures { (left : List Delivered) × ((known pass).sent ≡ (known pass).got ++ left) × (result ≡ length left) }
+    ensures { (left : List Delivered) × ((known pass).sent ≡ (known pass).got ++ left)
+        × (result ≡ length left) }
 {
     for count in 0..u64::MAX {
         match receiver.try_recv_as::<Drain, R>(rt, &mut pass) {

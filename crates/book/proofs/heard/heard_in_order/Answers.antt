@@ -5,4 +5,5 @@ use Rattle.book.proofs.Heards.{heard_all}
 use Rattle.book.proofs.heard.heard_in_order.Goals as goal
 
 pub returns-clause-texts : goal.returns-clause-texts
-returns-clause-texts c = λ t. c.sort_by_session.ensures.texts t ∙ ap (λ (xs : List Heard). text_for xs t) c.in_ok-heard.ensures ∙ heard_all c.args.roster.now.facts c.args.moment c.args.shown.items t
+returns-clause-texts c = λ t. c.sort_by_session.ensures.texts t ∙ ap (λ (xs : List Heard). text_for xs t)
+    c.in_ok-heard.ensures ∙ heard_all c.args.roster.now.facts c.args.moment c.args.shown.items t

@@ -26,12 +26,18 @@ returns-clause-quits c = c.in_ok-verdict.ensures.quits ∙ c.line.invariant.quit
 
 pub returns-clause-plan : goal.returns-clause-plan
 returns-clause-plan c =
-    let by = c.args.by.now in let s = by.actor in let fs = by.roster.now.facts in let g = by.roster.now.settings in let k = asked_of c.args.line in
-    let v = c.in_ok-verdict.verdict in let seats = by.seats.now in let n = by.number in let m = by.moment in let q = c.in_ok-verdict.quits in
+    let by = c.args.by.now in
+    let s = by.actor in
+    let fs = by.roster.now.facts in let g = by.roster.now.settings in let k = asked_of c.args.line in
+    let v = c.in_ok-verdict.verdict in
+    let seats = by.seats.now in let n = by.number in let m = by.moment in let q = c.in_ok-verdict.quits in
     let verdict : IsVerdict v s (of_asked g fs s k) =
-    subst (λ (a : Asked). IsVerdict v s (of_asked g fs s a)) (c.line.invariant.asks ∙ ap asked_of c.line.view_is) c.in_ok-verdict.ensures.verdict in
+    subst (λ (a : Asked). IsVerdict v s (of_asked g fs s a))
+    (c.line.invariant.asks ∙ ap asked_of c.line.view_is) c.in_ok-verdict.ensures.verdict in
     let label : c.counted_label.result ≡ label_of (caps fs s) c.args.line =
-    c.counted_label.ensures ∙ ap (λ (l : Option (List ℕ)). counted (caps fs s) l) (c.line.invariant.labelled ∙ ap piece_label c.line.view_is) in
+    c.counted_label.ensures ∙ ap (λ (l : Option (List ℕ)). counted (caps fs s) l)
+    (c.line.invariant.labelled ∙ ap piece_label c.line.view_is) in
     c.in_ok-prepared.ensures.plan
-    ∙ ap (λ (l : Option (List ℕ)). planned_with seats s n (rendered (caps fs s) m (answered g.server l n v.reply.items v.copies.items)) (heard_text fs m v.others.items) q) label
+    ∙ ap (λ (l : Option (List ℕ)). planned_with seats s n (rendered (caps fs s) m
+    (answered g.server l n v.reply.items v.copies.items)) (heard_text fs m v.others.items) q) label
     ∙ planned_same seats g fs s n (label_of (caps fs s) c.args.line) v (of_asked g fs s k) m q verdict

@@ -7,7 +7,8 @@ use Rattle.casemapping.proofs.folded_name.fold_all.Goals as goal
 
 pub loop-octet-preserved : goal.loop-octet-preserved
 loop-octet-preserved c =
-    let i = c.loop-octet.octet-index in let xs = c.args.octets.now.items in let ys = c.loop-octet.octet-items in let x = get_or ys i 0 in
+    let i = c.loop-octet.octet-index in
+    let xs = c.args.octets.now.items in let ys = c.loop-octet.octet-items in let x = get_or ys i 0 in
     let l : i < length xs = omega arith in
     let is : x ≡ get_or ys i x = grind (arith, common_steps) in
     ap (λ y. slice_set ys i y) c.fold.ensures ∙ map_over_more fold_of xs ys i x l c.loop-octet.invariant is
@@ -18,6 +19,8 @@ returns c =
     let all : take i xs ≡ xs = let out = c.loop-octet-test.false in grind (arith, common_steps) in
     let none : drop i xs ≡ [] = let out = c.loop-octet-test.false in grind (arith, common_steps) in
     let ys = c.loop-octet.octet-items in
-    let whole : ys ≡ folded xs = c.loop-octet.invariant ∙ ap (λ zs. folded zs ++ drop i xs) all ∙ ap (λ zs. folded xs ++ zs) none ∙ append-nil (folded xs) in
-    let same : take c.args.octets.now.len (ys ++ drop (length ys) xs) ≡ ys = let ok = c.args.octets.now.ok in let n = c.loop-octet.auto.octet-items in grind (arith, common_steps) in
+    let whole : ys ≡ folded xs = c.loop-octet.invariant ∙ ap (λ zs. folded zs ++ drop i xs) all ∙ ap
+    (λ zs. folded xs ++ zs) none ∙ append-nil (folded xs) in
+    let same : take c.args.octets.now.len (ys ++ drop (length ys) xs) ≡ ys = let ok = c.args.octets.now.ok in
+    let n = c.loop-octet.auto.octet-items in grind (arith, common_steps) in
     same ∙ whole

@@ -3,4 +3,5 @@ use Rattle.casemapping.specs.Fold.{folded}
 use Rattle.casemapping.proofs.folded_name.fold_all.Given as goal
 
 abbrev pub invariant-loop-octet : goal.invariant-loop-octet
-invariant-loop-octet l = l.octet-items ≡ folded (take l.octet-index l.fn.octets.items) ++ drop l.octet-index l.fn.octets.items
+invariant-loop-octet l = l.octet-items ≡ folded (take l.octet-index l.fn.octets.items)
+    ++ drop l.octet-index l.fn.octets.items

@@ -22,10 +22,12 @@ pub places-preserved : goal.places-preserved
 places-preserved c =
     let some : 0 < length c.places.rest.now = grind (arith, nat_tests) in
     rw (take_rest c.in-Some-last_star.from.now 1)
-    (Keeps_retry _ _ _ _ _ _ c.in-Some-last_star.is c.in_default.ensures c.in_default-after_octet.ensures some c.places.invariant)
+    (Keeps_retry _ _ _ _ _ _ c.in-Some-last_star.is c.in_default.ensures c.in_default-after_octet.ensures some
+    c.places.invariant)
 
 pub returns-in_default-last_star : goal.returns-in_default-last_star
 returns-in_default-last_star c =
     let some : 0 < length c.places.rest.now = grind (arith, nat_tests) in
-    let fails = Keeps_fails _ _ _ _ _ c.in_default-last_star.is c.in_default.ensures c.in_default-after_octet.ensures some c.places.invariant in
+    let fails = Keeps_fails _ _ _ _ _ c.in_default-last_star.is c.in_default.ensures
+    c.in_default-after_octet.ensures some c.places.invariant in
     (λ yes. absurd (false≢true yes), λ fits. absurd (fails fits))

@@ -4,6 +4,7 @@ use Rattle.channel_commands.proofs.arriving.parted.Given as goal
 
 abbrev pub invariant-loop-session : goal.invariant-loop-session
 invariant-loop-session l = let fs = l.roster.facts in record {
-  extended : l.extended ++ filter (takes_extended fs) (drop l.session-index l.sessions) ≡ filter (takes_extended fs) l.sessions;
+  extended : l.extended ++ filter (takes_extended fs) (drop l.session-index l.sessions)
+      ≡ filter (takes_extended fs) l.sessions;
   plain : l.plain ++ filter (takes_plain fs) (drop l.session-index l.sessions) ≡ filter (takes_plain fs) l.sessions;
 }

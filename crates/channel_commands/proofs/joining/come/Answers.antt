@@ -15,12 +15,18 @@ returns c =
     let d = c.args.draft.now in let s = c.args.session in let from = c.args.from.now in let k = c.args.seen.now in
     let step = Establish (Changed k.name (Joined s)) ∷ [] in let e = grown d step in
     let members : c.as_slice.result.now ≡ k.state.members ++ s ∷ [] =
-    c.as_slice.ensures ∙ c.in_ok-members.ensures ∙ ap (λ ts. ts ++ s ∷ []) (c.members.ensures ∙ ap (λ (x : State). x.members) c.state.ensures) in
-    let shown : entered e.settings e.base e.facts s from (with_members c.name.result.now c.state-2.result.now.state c.as_slice.result.now) ≡ entered e.settings e.base e.facts s from (with_members k.name k.state (k.state.members ++ s ∷ [])) =
-    ap (λ n. entered e.settings e.base e.facts s from (with_members n c.state-2.result.now.state c.as_slice.result.now)) c.name.ensures
-    ∙ ap (λ (x : State). entered e.settings e.base e.facts s from (with_members k.name x c.as_slice.result.now)) c.state-2.ensures
+    c.as_slice.ensures ∙ c.in_ok-members.ensures ∙ ap
+    (λ ts. ts ++ s ∷ []) (c.members.ensures ∙ ap (λ (x : State). x.members) c.state.ensures) in
+    let shown : entered e.settings e.base e.facts s from
+    (with_members c.name.result.now c.state-2.result.now.state c.as_slice.result.now)
+    ≡ entered e.settings e.base e.facts s from (with_members k.name k.state (k.state.members ++ s ∷ [])) =
+    ap (λ n. entered e.settings e.base e.facts s from
+    (with_members n c.state-2.result.now.state c.as_slice.result.now)) c.name.ensures
+    ∙ ap (λ (x : State). entered e.settings e.base e.facts s from (with_members k.name x c.as_slice.result.now))
+    c.state-2.ensures
     ∙ ap (λ ts. entered e.settings e.base e.facts s from (with_members k.name k.state ts)) members in
     let all = shown ∙ entered_joined e.settings e.base e.facts s from k.name k.state c.requires.away in
     subst (λ (f : Drafted). OnOk c.enter.result (c.enter.new.draft ≡ f))
-    (ap (λ (x : Drafted). grown x (entered x.settings x.base x.facts s from (with_members c.name.result.now c.state-2.result.now.state c.as_slice.result.now))) c.in_ok-establish_change.ensures
+    (ap (λ (x : Drafted). grown x (entered x.settings x.base x.facts s from (with_members c.name.result.now
+    c.state-2.result.now.state c.as_slice.result.now))) c.in_ok-establish_change.ensures
     ∙ ap (grown e) all ∙ grown_grown d step _) c.enter.ensures

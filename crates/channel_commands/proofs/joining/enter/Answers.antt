@@ -9,9 +9,13 @@ use Rattle.channel_commands.proofs.joining.enter.Goals as goal
 pub returns : goal.returns
 unfolding entered
 returns c =
-    let d = c.args.draft.now in let s = c.args.session in let k = c.args.joined.now in let ns = welcomed d.settings d.base s k in
+    let d = c.args.draft.now in
+    let s = c.args.session in let k = c.args.joined.now in let ns = welcomed d.settings d.base s k in
     let all : c.welcome.new.telling ≡ telling_more (nothing_told d.settings d.facts s) ns =
     c.in_ok-welcome.ensures ∙ ap (λ (t : Telling). telling_more t ns) c.in_ok-telling.ensures in
-    let told : OnOk c.finish.result (c.finish.new.draft ≡ grown c.introduce.new.draft (tells_all d.settings d.facts s ns)) =
-    subst (λ (t : Telling). OnOk c.finish.result (c.finish.new.draft ≡ grown c.introduce.new.draft (answers t))) all c.finish.ensures in
-    on_grown c.finish.result d c.introduce.new.draft c.finish.new.draft (introduced d.base s c.args.from.now k) (tells_all d.settings d.facts s ns) c.in_ok-introduce.ensures told
+    let told : OnOk c.finish.result
+    (c.finish.new.draft ≡ grown c.introduce.new.draft (tells_all d.settings d.facts s ns)) =
+    subst (λ (t : Telling). OnOk c.finish.result (c.finish.new.draft ≡ grown c.introduce.new.draft (answers t))) all
+    c.finish.ensures in
+    on_grown c.finish.result d c.introduce.new.draft c.finish.new.draft (introduced d.base s c.args.from.now k)
+    (tells_all d.settings d.facts s ns) c.in_ok-introduce.ensures told

@@ -11,22 +11,30 @@ use Rattle.channel_commands.proofs.joining.join_each.Goals as goal
 pub loop-target-preserved : goal.loop-target-preserved
 loop-target-preserved c =
     let a = c.args in let g = a.draft.now.settings in let fs0 = a.draft.now.base in
-    let row = joins_one g fs0 a.session a.from.now in let xs = a.targets.now in let i = c.loop-target.target-index in let d = c.loop-target.draft in let n = c.loop-target.joined in let x = c.target-item.result in
+    let row = joins_one g fs0 a.session a.from.now in
+    let xs = a.targets.now in
+    let i = c.loop-target.target-index in
+    let d = c.loop-target.draft in let n = c.loop-target.joined in let x = c.target-item.result in
     let here : joins_one d.settings d.base a.session a.from.now d.facts n x ≡ row d.facts n x =
     ap (λ (h : Settings). joins_one h d.base a.session a.from.now d.facts n x) c.loop-target.invariant.settings
     ∙ ap (λ (fs : List Deed). joins_one g fs a.session a.from.now d.facts n x) c.loop-target.invariant.base in
     let one : c.join_one.new.draft ≡ grown d (row d.facts n x) = c.in_ok-joined.ensures.grown ∙ ap (grown d) here in
-    let count : c.in_ok-joined.joined ≡ n + length (deeds_of (row d.facts n x)) = c.in_ok-joined.ensures.count ∙ ap (λ es. n + length (deeds_of es)) here in
+    let count : c.in_ok-joined.joined ≡ n + length (deeds_of (row d.facts n x)) = c.in_ok-joined.ensures.count ∙ ap
+    (λ es. n + length (deeds_of es)) here in
     record {
       settings = ap (λ (e : Drafted). e.settings) one ∙ c.loop-target.invariant.settings;
       base = ap (λ (e : Drafted). e.base) one ∙ c.loop-target.invariant.base;
       done =
-          ap (λ (m : ℕ). grown c.join_one.new.draft (each_counted row c.join_one.new.draft.facts m (drop (i + 1) xs))) count
-          ∙ ap (λ (e : Drafted). grown e (each_counted row e.facts (n + length (deeds_of (row d.facts n x))) (drop (i + 1) xs))) one
+          ap (λ (m : ℕ). grown c.join_one.new.draft
+          (each_counted row c.join_one.new.draft.facts m (drop (i + 1) xs))) count
+          ∙ ap (λ (e : Drafted). grown e
+          (each_counted row e.facts (n + length (deeds_of (row d.facts n x))) (drop (i + 1) xs))) one
           ∙ counted_more row d n xs i x c.loop-target-test.true c.target-item.is ∙ c.loop-target.invariant.done;
     }
 
 pub returns : goal.returns
 returns c =
     let a = c.args in
-    sym (counted_done (joins_one a.draft.now.settings a.draft.now.base a.session a.from.now) c.loop-target.draft c.loop-target.joined a.targets.now c.loop-target.target-index c.loop-target-test.false) ∙ c.loop-target.invariant.done
+    sym (counted_done (joins_one a.draft.now.settings a.draft.now.base a.session a.from.now) c.loop-target.draft
+    c.loop-target.joined a.targets.now c.loop-target.target-index c.loop-target-test.false)
+    ∙ c.loop-target.invariant.done

@@ -8,5 +8,6 @@ abbrev pub invariant-loop-target : goal.invariant-loop-target
 invariant-loop-target l = let d = l.fn.draft in let row = joins_one d.settings d.base l.session l.from in record {
   settings : l.draft.settings ≡ d.settings;
   base : l.draft.base ≡ d.base;
-  done : grown l.draft (each_counted row l.draft.facts l.joined (drop l.target-index l.targets)) ≡ grown d (each_counted row d.facts l.count l.targets);
+  done : grown l.draft (each_counted row l.draft.facts l.joined (drop l.target-index l.targets))
+      ≡ grown d (each_counted row d.facts l.count l.targets);
 }

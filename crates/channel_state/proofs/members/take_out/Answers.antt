@@ -10,4 +10,5 @@ returns-in-Some-clause-items c =
     c.remove.ensures.items ∙ removed c.in-Some.place s ts c.requires.once at
 
 pub returns-in-None-clause-items : goal.returns-in-None-clause-items
-returns-in-None-clause-items c = retained _ (λ (t : ℕ). not (t == c.args.session)) _ (λ x b f' y k. search rules) _ _ c.retain.ensures.filtered
+returns-in-None-clause-items c = retained _ (λ (t : ℕ). not (t == c.args.session)) _
+    (λ x b f' y k. search rules) _ _ c.retain.ensures.filtered

@@ -8,7 +8,8 @@ use Rattle.commands.specs.Asked.{asked_of, asks_for_quit}
 use Rattle.commands.proofs.Quitting.{quit_is}
 use Rattle.commands.proofs.asked.read_piece.Goals as goal
 
-quits : {E : Type 0} (piece : Piece) (r : Result Asked E) → IfOk r (λ asked. asked ≡ asked_of piece) → IfOk r (λ asked. asks_for_quit asked ≡ is_quit piece)
+quits : {E : Type 0} (piece : Piece) (r : Result Asked E) → IfOk r (λ asked. asked ≡ asked_of piece)
+    → IfOk r (λ asked. asks_for_quit asked ≡ is_quit piece)
 quits piece (Ok asked) e = ap asks_for_quit e ∙ quit_is piece
 quits piece (Err x) e = tt
 

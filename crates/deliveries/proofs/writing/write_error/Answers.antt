@@ -10,4 +10,5 @@ returns g c =
     let open_bracket = c.write_next-written-2.ensures.front _ _ host in
     let reason = c.write_next-written-3.ensures.front _ _ open_bracket in
     let parts = c.write_next.ensures.front _ _ reason in
-    joined_line _ _ c.args.host.now c.as_bytes.result.now c.args.why c.write_next.result (c.as_bytes.ensures.value ∙ c.text.ensures) parts
+    joined_line _ _ c.args.host.now c.as_bytes.result.now c.args.why c.write_next.result
+    (c.as_bytes.ensures.value ∙ c.text.ensures) parts

@@ -13,7 +13,8 @@ loop-tag-init c =
 pub loop-tag-preserved : goal.loop-tag-preserved
 loop-tag-preserved c =
     ap (λ d. joined_onto d (left_spellings c.pop.new.self.items)) c.in_ok-push_joined.ensures
-    ∙ ap (joined_onto c.loop-tag.tag_data.items) (sym (left_spellings-pop c.loop-tag.left.items c.pop.new.self.items c.in-Some.tag c.in-Some.ensures.items))
+    ∙ ap (joined_onto c.loop-tag.tag_data.items)
+    (sym (left_spellings-pop c.loop-tag.left.items c.pop.new.self.items c.in-Some.tag c.in-Some.ensures.items))
     ∙ c.loop-tag.invariant
 
 pub returns : goal.returns

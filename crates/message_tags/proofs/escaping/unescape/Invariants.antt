@@ -4,4 +4,5 @@ use Rattle.message_tags.proofs.escaping.unescape.Given as goal
 
 -- the octets so far, and what is left means
 abbrev pub invariant-loop-octet : goal.invariant-loop-octet
-invariant-loop-octet l = l.octets.items ++ value (left_of l.after_backslash (drop l.octet-index l.escaped)) ≡ value l.escaped
+invariant-loop-octet l = l.octets.items ++ value (left_of l.after_backslash (drop l.octet-index l.escaped))
+    ≡ value l.escaped

@@ -7,4 +7,5 @@ use Rattle.message_tags.proofs.reading.last_raw_value.Given as goal
 
 -- the last tag with the key among the parts so far
 abbrev pub invariant-loop-part : goal.invariant-loop-part
-invariant-loop-part l = option_map (λ raw. value raw.now) l.found ≡ last_value (tags_in (take (length l.yielded) (parts_of l.tag_data))) l.key
+invariant-loop-part l = option_map (λ raw. value raw.now) l.found
+    ≡ last_value (tags_in (take (length l.yielded) (parts_of l.tag_data))) l.key

@@ -9,8 +9,10 @@ use Rattle.message_tags.proofs.reading.tags_of.Goals as goal
 pub loop-part-preserved : goal.loop-part-preserved
 loop-part-preserved c =
     let tag_data = c.args.tag_data.now in
-    let parts = YieldsList-from_slice_split _ (λ octet. octet == 59) tag_data (cc) (cc) (cc) (λ x b q k. search (rules, tests)) in
-    let turn = YieldsList-turn parts c.loop-part.yielded _ c.loop-part.yielded_by _ _ c.in-Some.part c.in-Some.is c.next.ensures.steps in
+    let parts = YieldsList-from_slice_split _ (λ octet. octet == 59) tag_data (cc) (cc) (cc)
+    (λ x b q k. search (rules, tests)) in
+    let turn = YieldsList-turn parts c.loop-part.yielded _ c.loop-part.yielded_by _ _ c.in-Some.part c.in-Some.is
+    c.next.ensures.steps in
     c.in_ok-push_tag.ensures
     ∙ ap (λ tags. tags ++ tags_in (c.in-Some.part.now ∷ [])) c.loop-part.invariant
     ∙ sym (tags_in_more (parts_of tag_data) (length c.loop-part.yielded) c.in-Some.part.now turn.0 turn.1)
@@ -20,6 +22,8 @@ pub returns : goal.returns
 unfolding counting_tags
 returns c =
     let tag_data = c.args.tag_data.now in
-    let parts = YieldsList-from_slice_split _ (λ octet. octet == 59) tag_data (cc) (cc) (cc) (λ x b q k. search (rules, tests)) in
-    let end = YieldsList-end parts c.loop-part.yielded _ c.loop-part.yielded_by _ _ c.in-None.is c.next.ensures.steps in
+    let parts = YieldsList-from_slice_split _ (λ octet. octet == 59) tag_data (cc) (cc) (cc)
+    (λ x b q k. search (rules, tests)) in
+    let end = YieldsList-end parts c.loop-part.yielded _ c.loop-part.yielded_by _ _ c.in-None.is
+    c.next.ensures.steps in
     c.from_vec.ensures ∙ c.loop-part.invariant ∙ tags_in_all (parts_of tag_data) (length c.loop-part.yielded) end.1

@@ -11,9 +11,13 @@ use Rattle.mode_commands.proofs.channel_modes.take_and_show.Goals as goal
 pub returns : goal.returns
 returns c =
     let d = c.args.draft.now in let k = c.args.seen.now in let from = c.args.from.now in let n = c.args.channel.now in
-    let xs = steps d.base k.state c.args.changes.now in let first = in_turn d.settings c.args.session k.name d.facts xs in
-    let shown : c.deref.result.now ≡ all_shown xs = c.deref.ensures.value ∙ c.in_ok-take_each.ensures.shown ∙ ap (λ (ys : List ModeChange). ys ++ all_shown xs) c.new-shown.ensures.items in
+    let xs = steps d.base k.state c.args.changes.now in
+    let first = in_turn d.settings c.args.session k.name d.facts xs in
+    let shown : c.deref.result.now ≡ all_shown xs = c.deref.ensures.value ∙ c.in_ok-take_each.ensures.shown ∙ ap
+    (λ (ys : List ModeChange). ys ++ all_shown xs) c.new-shown.ensures.items in
     let members = c.in_ok-members.ensures ∙ c.members.ensures ∙ ap (λ (x : State). x.members) c.state.ensures in
-    let same = ap (λ ts. shows_changes from n ts c.deref.result.now) members ∙ ap (shows_changes from n k.state.members) shown in
+    let same = ap (λ ts. shows_changes from n ts c.deref.result.now) members
+    ∙ ap (shows_changes from n k.state.members) shown in
     subst (λ (es : List Effect). OnOk c.show_changes.result (c.show_changes.new.draft ≡ grown d (first ++ es))) same
-    (on_grown c.show_changes.result d c.take_each.new.draft c.show_changes.new.draft first (shows_changes from n c.in_ok-members.members c.deref.result.now) c.in_ok-take_each.ensures.grown c.show_changes.ensures)
+    (on_grown c.show_changes.result d c.take_each.new.draft c.show_changes.new.draft first (shows_changes from n
+    c.in_ok-members.members c.deref.result.now) c.in_ok-take_each.ensures.grown c.show_changes.ensures)

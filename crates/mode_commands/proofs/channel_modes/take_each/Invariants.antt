@@ -6,11 +6,14 @@ use Rattle.mode_commands.specs.Steps.{steps, all_shown}
 use Rattle.mode_commands.proofs.channel_modes.take_each.Given as goal
 
 abbrev pub invariant-loop-change : goal.invariant-loop-change
-invariant-loop-change l = let d = l.fn.draft in let k = l.fn.seen in let xs = drop l.change-index l.others ++ l.last ∷ [] in record {
-  settings : l.draft.settings ≡ d.settings;
-  base : l.draft.base ≡ d.base;
-  grown : grown l.draft (in_turn d.settings l.session k.name l.draft.facts (steps d.base l.seen.state xs)) ≡ grown d (in_turn d.settings l.session k.name d.facts (steps d.base k.state l.changes));
-  shown : l.shown.items ++ all_shown (steps d.base l.seen.state xs) ≡ l.fn.shown.items ++ all_shown (steps d.base k.state l.changes);
-  name : l.seen.name ≡ k.name;
-  known : IsSeen l.draft.facts l.seen;
-}
+invariant-loop-change l = let d = l.fn.draft in let k = l.fn.seen in
+    let xs = drop l.change-index l.others ++ l.last ∷ [] in record {
+      settings : l.draft.settings ≡ d.settings;
+      base : l.draft.base ≡ d.base;
+      grown : grown l.draft (in_turn d.settings l.session k.name l.draft.facts (steps d.base l.seen.state xs))
+          ≡ grown d (in_turn d.settings l.session k.name d.facts (steps d.base k.state l.changes));
+      shown : l.shown.items ++ all_shown (steps d.base l.seen.state xs)
+          ≡ l.fn.shown.items ++ all_shown (steps d.base k.state l.changes);
+      name : l.seen.name ≡ k.name;
+      known : IsSeen l.draft.facts l.seen;
+    }

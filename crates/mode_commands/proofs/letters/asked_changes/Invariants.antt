@@ -3,4 +3,5 @@ use Rattle.mode_commands.specs.Letters.{asked, asked_changes}
 use Rattle.mode_commands.proofs.letters.asked_changes.Given as goal
 
 abbrev pub invariant-loop-letter : goal.invariant-loop-letter
-invariant-loop-letter l = l.asked.items ++ asked l.reading (drop l.letter-index l.letters) ≡ asked_changes l.letters l.fn.params
+invariant-loop-letter l = l.asked.items ++ asked l.reading (drop l.letter-index l.letters)
+    ≡ asked_changes l.letters l.fn.params

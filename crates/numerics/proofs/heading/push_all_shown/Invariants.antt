@@ -4,4 +4,5 @@ use Rattle.numerics.specs.Numerics.{shown}
 use Rattle.numerics.proofs.heading.push_all_shown.Given as goal
 
 abbrev pub invariant-loop-word : goal.invariant-loop-word
-invariant-loop-word l = l.line.items ≡ l.fn.line.items ++ flat_map (λ w. 32 ∷ w) (map shown (take l.word-index l.words))
+invariant-loop-word l = l.line.items ≡ l.fn.line.items ++ flat_map
+    (λ w. 32 ∷ w) (map shown (take l.word-index l.words))

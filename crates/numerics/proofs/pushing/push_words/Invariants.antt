@@ -3,4 +3,5 @@ use Rattle.std.specs.List.{flat_map}
 use Rattle.numerics.proofs.pushing.push_words.Given as goal
 
 abbrev pub invariant-loop-word : goal.invariant-loop-word
-invariant-loop-word l = l.text.items ≡ l.fn.text.items ++ flat_map (λ w. 32 ∷ w) (map (λ w. w.now) (take l.word-index l.words))
+invariant-loop-word l = l.text.items ≡ l.fn.text.items ++ flat_map
+    (λ w. 32 ∷ w) (map (λ w. w.now) (take l.word-index l.words))

@@ -4,4 +4,5 @@ use Rattle.query_commands.specs.Telling.{telling_more}
 use Rattle.query_commands.proofs.each.tell_of_each.Given as goal
 
 abbrev pub invariant-loop-one : goal.invariant-loop-one
-invariant-loop-one g l = telling_more l.telling (flat_map (g.R.TellsOf.told_of l.row) (drop l.one-index l.ones)) ≡ telling_more l.fn.telling (flat_map (g.R.TellsOf.told_of l.row) l.ones)
+invariant-loop-one g l = telling_more l.telling (flat_map (g.R.TellsOf.told_of l.row) (drop l.one-index l.ones))
+    ≡ telling_more l.fn.telling (flat_map (g.R.TellsOf.told_of l.row) l.ones)

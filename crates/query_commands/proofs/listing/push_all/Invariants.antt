@@ -6,4 +6,6 @@ use Rattle.query_commands.specs.Telling.{telling_more}
 use Rattle.query_commands.proofs.listing.push_all.Given as goal
 
 abbrev pub invariant-loop-place : goal.invariant-loop-place
-invariant-loop-place l = telling_more l.telling (flat_map (listed l.roster.facts l.session) (drop l.place (channels l.roster.facts))) ≡ telling_more l.fn.telling (flat_map (listed l.roster.facts l.session) (channels l.roster.facts))
+invariant-loop-place l = telling_more l.telling
+    (flat_map (listed l.roster.facts l.session) (drop l.place (channels l.roster.facts)))
+    ≡ telling_more l.fn.telling (flat_map (listed l.roster.facts l.session) (channels l.roster.facts))

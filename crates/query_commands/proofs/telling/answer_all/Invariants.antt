@@ -5,4 +5,5 @@ use Rattle.drafts.specs.Drafted.{grown}
 use Rattle.query_commands.proofs.telling.answer_all.Given as goal
 
 abbrev pub invariant-loop-line : goal.invariant-loop-line
-invariant-loop-line l = grown l.draft (map Answer (into_iter_items l.line-iterator)) ≡ grown l.fn.draft (map Answer l.fn.lines.items)
+invariant-loop-line l = grown l.draft (map Answer (into_iter_items l.line-iterator))
+    ≡ grown l.fn.draft (map Answer l.fn.lines.items)

@@ -9,5 +9,6 @@ use Rattle.registration.proofs.sasl.decode_into.Goals as goal
 pub returns-clause-exact : goal.returns-clause-exact
 returns-clause-exact c =
     let room = c.decode_slice_unchecked.new.output in
-    let found : option_map (λ n. take n room) c.ok.result ≡ result_ok (decode_of standard c.args.payload.now) = search rules in
+    let found : option_map (λ n. take n room) c.ok.result
+    ≡ result_ok (decode_of standard c.args.payload.now) = search rules in
     decoded_exactly c.args.payload.now room c.ok.result (λ i. let f = c.type_inv.payload i in omega arith) found

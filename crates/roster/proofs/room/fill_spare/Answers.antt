@@ -17,7 +17,8 @@ returns-in_err-with_room-clause-none c = spare_less (length c.args.deeds.now) 0 
 pub returns-in_err-push-clause-none : goal.returns-in_err-push-clause-none
 returns-in_err-push-clause-none c =
     let e : c.push.new.self.items ≡ c.fill.spare.items = grind (arith, common_steps) in
-    subst (AreSpare 0) (sym e) (spare_less (length c.args.deeds.now) 0 c.fill.spare.items (omega arith) c.fill.invariant)
+    subst (AreSpare 0) (sym e)
+    (spare_less (length c.args.deeds.now) 0 c.fill.spare.items (omega arith) c.fill.invariant)
 
 pub returns-clause-none : goal.returns-clause-none
 returns-clause-none c = spare_less (length c.args.deeds.now) 0 _ (omega arith) c.fill.invariant

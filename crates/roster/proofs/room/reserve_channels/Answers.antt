@@ -8,4 +8,5 @@ pub returns-in_err-fill_spare-clause-alike : goal.returns-in_err-fill_spare-clau
 returns-in_err-fill_spare-clause-alike c = alike_refl c.args.channels.now.list
 
 pub returns-in_err-reserve-clause-alike : goal.returns-in_err-reserve-clause-alike
-returns-in_err-reserve-clause-alike c = subst (λ (ks : List Channel). Alike c.args.channels.now.list ks) (sym c.reserve.ensures.list) (alike_refl c.args.channels.now.list)
+returns-in_err-reserve-clause-alike c = subst (λ (ks : List Channel). Alike c.args.channels.now.list ks)
+    (sym c.reserve.ensures.list) (alike_refl c.args.channels.now.list)

@@ -4,4 +4,10 @@ use Rattle.roster.proofs.MadeRoom.{HaveSeatsFor}
 use Rattle.roster.proofs.room.reserve_seats.Given as goal
 
 abbrev pub invariant-loop-deed : goal.invariant-loop-deed
-invariant-loop-deed l = record { alike : Alike l.fn.channels.list l.channels.list; apart : AreApart l.channels.list; seats : HaveSeatsFor (length l.deeds) (take l.deed-index l.deeds) l.channels.list; room : l.channels.room ≡ l.fn.channels.room }
+invariant-loop-deed l = record {
+  alike : Alike l.fn.channels.list l.channels.list;
+  apart : AreApart l.channels.list;
+  seats : HaveSeatsFor (length l.deeds) (take l.deed-index l.deeds) l.channels.list;
+  room : l.channels.room
+      ≡ l.fn.channels.room;
+}

@@ -10,9 +10,12 @@ use Rattle.session_commands.proofs.enrolling.enroll.Goals as goal
 pub establish-requires-clause-next : goal.establish-requires-clause-next
 establish-requires-clause-next c =
     let d = c.args.draft.now in let s = c.args.session in
-    opened_grown d c.greet.new.draft (tells_all d.settings d.facts s (welcome_numerics d.settings (prefix d.facts s))) s c.in_ok-greet.ensures c.requires
+    opened_grown d c.greet.new.draft (tells_all d.settings d.facts s
+    (welcome_numerics d.settings (prefix d.facts s))) s c.in_ok-greet.ensures c.requires
 
 pub returns : goal.returns
 returns c =
     let d = c.args.draft.now in let s = c.args.session in
-    on_grown c.establish.result d c.greet.new.draft c.establish.new.self (tells_all d.settings d.facts s (welcome_numerics d.settings (prefix d.facts s))) (Establish (Enrolled s) ∷ []) c.in_ok-greet.ensures c.establish.ensures
+    on_grown c.establish.result d c.greet.new.draft c.establish.new.self
+    (tells_all d.settings d.facts s (welcome_numerics d.settings (prefix d.facts s)))
+    (Establish (Enrolled s) ∷ []) c.in_ok-greet.ensures c.establish.ensures

@@ -15,7 +15,8 @@ unfolding nick_answer
 unheld e n false t = refl
 unheld e n true t = absurd (by (nick_shape n) t)
   where
-    by : (b : Bool) → (if not b then Erroneous else (if true then InUse else (if is_own e.nick n then Same else Taken))) ≡ Taken → ⊥
+    by : (b : Bool) → (if not b then Erroneous
+        else (if true then InUse else (if is_own e.nick n then Same else Taken))) ≡ Taken → ⊥
     by true f = let g : InUse ≡ Taken = f in cc
     by false f = let g : Erroneous ≡ Taken = f in cc
 
@@ -35,4 +36,5 @@ rename-requires-clause-free c =
     ap (λ (fs : List Deed). is_held fs s c.args.nick.now) (c.requires.first ∙ sym c.before-2.ensures.facts)
     ∙ ap (λ (n : List ℕ). is_held b s n) (sym c.as_slice.ensures)
     ∙ sym c.is_held-is_held.ensures
-    ∙ unheld (enrolment c.enrol_of.result) c.as_slice-2.result.now c.is_held-is_held.result (sym c.nick.ensures ∙ c.in-Taken.is))
+    ∙ unheld (enrolment c.enrol_of.result) c.as_slice-2.result.now c.is_held-is_held.result
+    (sym c.nick.ensures ∙ c.in-Taken.is))

@@ -11,8 +11,10 @@ returns-in-Ok-clause-taken g c =
     let old = c.args.socket.now in
     let new = c.close.new.self in
     let f = c.close_frame.result in
-    let is : ◌≡◌ {A = CloseCode × List ℕ} (f.code, f.reason) (c.args.code, []) = rw (c.close_frame.ensures.code, c.close_frame.ensures.no_reason) refl in
-    gains_close cf old new (c.args.code, []) c.requires.opened c.requires.server (subst (λ (p : CloseCode × List ℕ). Writes cf old new (close_step old.conn (Some p))) is c.in-Ok.ensures.wrote)
+    let is : ◌≡◌ {A = CloseCode × List ℕ} (f.code, f.reason) (c.args.code, []) = rw
+    (c.close_frame.ensures.code, c.close_frame.ensures.no_reason) refl in
+    gains_close cf old new (c.args.code, []) c.requires.opened c.requires.server (subst
+    (λ (p : CloseCode × List ℕ). Writes cf old new (close_step old.conn (Some p))) is c.in-Ok.ensures.wrote)
 
 pub returns-in-Later-clause-taken : goal.returns-in-Later-clause-taken
 returns-in-Later-clause-taken g c =
@@ -20,5 +22,7 @@ returns-in-Later-clause-taken g c =
     let old = c.args.socket.now in
     let new = c.close.new.self in
     let f = c.close_frame.result in
-    let is : ◌≡◌ {A = CloseCode × List ℕ} (f.code, f.reason) (c.args.code, []) = rw (c.close_frame.ensures.code, c.close_frame.ensures.no_reason) refl in
-    gains_close cf old new (c.args.code, []) c.requires.opened c.requires.server (subst (λ (p : CloseCode × List ℕ). Writes cf old new (close_step old.conn (Some p))) is (c.in-Err.ensures.stream_failed c.in-Later.ensures))
+    let is : ◌≡◌ {A = CloseCode × List ℕ} (f.code, f.reason) (c.args.code, []) = rw
+    (c.close_frame.ensures.code, c.close_frame.ensures.no_reason) refl in
+    gains_close cf old new (c.args.code, []) c.requires.opened c.requires.server (subst (λ (p : CloseCode × List ℕ).
+    Writes cf old new (close_step old.conn (Some p))) is (c.in-Err.ensures.stream_failed c.in-Later.ensures))

@@ -11,6 +11,8 @@ loop-end-preserved c =
     let text = c.args.text.now in
     let end = c.loop-end.end in
     let not : starts_with nat_eq (drop end text) line_break ≡ false =
-    ap (λ l. starts_with nat_eq l line_break) (sym (take_rest text end)) ∙ (sym c.starts_with.ensures.value ∙ c.if-starts_with.false) in
-    let step : line_length (drop end text) ≡ suc (line_length (drop (end + 1) text)) = line_step text end false (omega arith) not in
+    ap (λ l. starts_with nat_eq l line_break) (sym (take_rest text end))
+    ∙ (sym c.starts_with.ensures.value ∙ c.if-starts_with.false) in
+    let step : line_length (drop end text) ≡ suc (line_length (drop (end + 1) text)) = line_step text end false
+    (omega arith) not in
     (omega arith, omega (arith, step, c.loop-end.invariant.1))

@@ -6,5 +6,8 @@ pub returns : goal.returns
 returns c =
     let text = c.args.text.now in
     let place = c.args.place in
-    let end = c.line_end-end.result in
-    (take (end - place) (drop place text), c.in_ok-message.ensures, lines_from text place end c.requires c.line_end-end.ensures.first)
+    let end = c.line_end-end.result in (
+      take (end - place) (drop place text),
+      c.in_ok-message.ensures,
+      lines_from text place end c.requires c.line_end-end.ensures.first,
+    )

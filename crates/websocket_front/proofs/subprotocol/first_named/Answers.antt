@@ -15,9 +15,16 @@ loop-place-preserved c =
     elim c.if-is_separator.branch [
       | then-is_separator+else-is_some w ↦
           let parts = sym c.is_separator.ensures ∙ w.if-is_separator.true in
-          let none = sym w.named-found.ensures ∙ none_is w.named-found.result (sym w.is_some.ensures ∙ w.if-is_some.false) in
-          rw w.start-is (record { begun = omega arith; found = named_past value start place (place + 1) c.loop-place-test.true parts none refl ∙ inv.found })
+          let none = sym w.named-found.ensures ∙ none_is w.named-found.result
+          (sym w.is_some.ensures ∙ w.if-is_some.false) in
+          rw w.start-is (record {
+            begun = omega arith;
+            found = named_past value start place (place + 1) c.loop-place-test.true parts none refl ∙ inv.found;
+          })
       | else-is_separator w ↦
           let goes_on = sym c.is_separator.ensures ∙ w.if-is_separator.false in
-          rw w.start-is (record { begun = omega arith; found = named_within value start place inv.begun c.loop-place-test.true goes_on ∙ inv.found })
+          rw w.start-is (record {
+            begun = omega arith;
+            found = named_within value start place inv.begun c.loop-place-test.true goes_on ∙ inv.found;
+          })
     ]

@@ -11,6 +11,8 @@ loop-count-preserved g c =
     let n = c.in-Ok.more in
     let before = c.loop-count.invariant in
     record {
-      more = goes_on (known c.args.out.now) (known c.loop-count.out) (known c.write.new.self) (drop c.args.from text) (drop done text) (drop (done + n) text) before.more (goes_further (known c.loop-count.out) (known c.write.new.self) text done n c.in-Ok.ensures.octets);
+      more = goes_on (known c.args.out.now) (known c.loop-count.out) (known c.write.new.self)
+          (drop c.args.from text) (drop done text) (drop (done + n) text) before.more
+          (goes_further (known c.loop-count.out) (known c.write.new.self) text done n c.in-Ok.ensures.octets);
       pauses = omega arith;
     }

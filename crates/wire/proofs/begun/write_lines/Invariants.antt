@@ -6,7 +6,8 @@ use Rattle.wire.proofs.begun.write_lines.Given as goal
 
 abbrev pub invariant-loop-count : goal.invariant-loop-count
 invariant-loop-count g l = record {
-  more : GoesOut (gathered_contents g.W.Write.contents l.initial.out) (gathered_contents g.W.Write.contents l.out) (drop l.from l.text) (drop l.count l.text);
+  more : GoesOut (gathered_contents g.W.Write.contents l.initial.out) (gathered_contents g.W.Write.contents l.out)
+      (drop l.from l.text) (drop l.count l.text);
   pauses : pauses_of l.initial.out ≤ pauses_of l.out;
 }
 

@@ -12,5 +12,11 @@ loop-count-preserved g c =
     let before = c.loop-count.invariant in
     let fits = c.in-Ok.ensures.bound in
     let most = length-take (length xs - done) (drop done xs) in
-    let joined = ap (λ l. take done xs ++ l) (take-take n (length xs - done) (drop done xs) (omega arith)) ∙ sym (take-add done n xs) in
-    record { within = omega arith; written = subst (Appends _ _) joined (Appends-trans _ _ _ _ _ before.written c.in-Ok.ensures.bytes); pauses = omega arith }
+    let joined = ap (λ l. take done xs ++ l) (take-take n (length xs - done) (drop done xs) (omega arith))
+    ∙ sym (take-add done n xs) in
+    record {
+      within = omega arith;
+      written = subst (Appends _ _) joined
+          (Appends-trans _ _ _ _ _ before.written c.in-Ok.ensures.bytes);
+      pauses = omega arith;
+    }

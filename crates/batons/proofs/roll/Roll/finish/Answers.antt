@@ -1,4 +1,5 @@
-use Rattle.std.proofs.Common.{◌≡◌, ◌+◌, List, ◌∷◌, [], ◌++◌, length, Option, Some, IfSome, sym, ap, ◌∙◌, subst, length-append, arith}
+use Rattle.std.proofs.Common.{◌≡◌, ◌+◌, List, ◌∷◌, [], ◌++◌, length, Option, Some, IfSome}
+use Rattle.std.proofs.Common.{sym, ap, ◌∙◌, subst, length-append, arith}
 use Rattle.line_grammar.specs.declared.splitter.Piece.{Piece}
 use Rattle.chronicle.specs.History.{accepted}
 use Rattle.register.specs.Rows.{pieces_at}
@@ -12,6 +13,16 @@ overflow_add-baton g c =
     let h = c.args.journal.now.history in
     let ps = c.baton.inside.mark.pieces in
     let p = c.args.piece.now in
-    let is = ap (λ l. pieces_at l s) (sym c.self.view_is) ∙ ap (pieces_at c.self.inside.register.rows) (sym (ap (λ b. b.session) c.baton.view_is)) ∙ c.advance.ensures.knew in
-    let whole : accepted h s ≡ ps ++ p ∷ [] = subst (λ (o : Option (List Piece)). IfSome o (λ qs. accepted h s ≡ qs ++ p ∷ [])) is c.requires.accepted in
-    omega (arith, accepted_few h s, ap length whole, length-append ps (p ∷ []), c.newest.ensures, c.newest.type_inv, c.baton.invariant.next)
+    let is = ap (λ l. pieces_at l s) (sym c.self.view_is) ∙ ap (pieces_at c.self.inside.register.rows)
+    (sym (ap (λ b. b.session) c.baton.view_is)) ∙ c.advance.ensures.knew in
+    let whole : accepted h s ≡ ps ++ p ∷ [] = subst
+    (λ (o : Option (List Piece)). IfSome o (λ qs. accepted h s ≡ qs ++ p ∷ [])) is c.requires.accepted in
+    omega (
+      arith,
+      accepted_few h s,
+      ap length whole,
+      length-append ps (p ∷ []),
+      c.newest.ensures,
+      c.newest.type_inv,
+      c.baton.invariant.next,
+    )

@@ -9,7 +9,8 @@ use Rattle.book.proofs.book.Book.free.Goals as goal
 counted : (over : given.Over) (c : goal.After-held over) → c.held.result ≡ held c.self.inside.journal.history
 counted over c =
     let a = c.self.inside in let i = c.self.invariant.kept in
-    c.held.ensures ∙ seats_held a.journal.history a.seats a.outboxes.boxes i.each_seat (i.sound.sessions ∙ sym i.places)
+    c.held.ensures ∙ seats_held a.journal.history a.seats a.outboxes.boxes i.each_seat
+    (i.sound.sessions ∙ sym i.places)
 
 pub overflow_sub-result-2 : goal.overflow_sub-result-2
 overflow_sub-result-2 over c = let room = c.self.invariant.kept.sound.room in let e = counted over c in omega arith
@@ -17,5 +18,7 @@ overflow_sub-result-2 over c = let room = c.self.invariant.kept.sound.room in le
 pub returns-clause-room : goal.returns-clause-room
 returns-clause-room over c =
     let room = c.self.invariant.kept.sound.room in let e = counted over c in let h = c.self.inside.journal.history in
-    let now : c.most.result - c.newest.result - c.held.result + length h + held h ≡ most c.self.inside.journal.limit = omega arith in
-    subst (λ m. c.most.result - c.newest.result - c.held.result + length m.history + held m.history ≡ most m.limit) c.self.view_is now
+    let now : c.most.result - c.newest.result - c.held.result + length h + held h
+    ≡ most c.self.inside.journal.limit = omega arith in
+    subst (λ m. c.most.result - c.newest.result - c.held.result + length m.history + held m.history
+    ≡ most m.limit) c.self.view_is now

@@ -6,4 +6,5 @@ use Rattle.book.proofs.last_heard.LastHeard.ping.Goals as goal
 pub returns : goal.returns
 returns c =
     let a = c.self.inside in let n = c.number.result in
-    ping_noted n a.sessions.entries c.in-Some.since.now (sym c.in-Some.ensures.value) ∙ ap (λ (k : ℕ). with_ping k a.sessions.entries) c.number.ensures ∙ ap (with_ping c.args.session) c.self.view_is
+    ping_noted n a.sessions.entries c.in-Some.since.now (sym c.in-Some.ensures.value) ∙ ap
+    (λ (k : ℕ). with_ping k a.sessions.entries) c.number.ensures ∙ ap (with_ping c.args.session) c.self.view_is

@@ -4,4 +4,5 @@ use Rattle.book.proofs.outboxes.Outboxes.counts.Given as goal
 
 -- the sessions at the places so far are counted
 abbrev pub invariant-loop-place : goal.invariant-loop-place
-invariant-loop-place over l = AreCountedTo over.O.Outbox.sent l.seats (boxes_of l.self-inside.outboxes.entries l.self-inside.opened) l.last_heard l.self-inside.outboxes.entries l.place l.counts.entries
+invariant-loop-place over l = AreCountedTo over.O.Outbox.sent l.seats (boxes_of l.self-inside.outboxes.entries
+    l.self-inside.opened) l.last_heard l.self-inside.outboxes.entries l.place l.counts.entries

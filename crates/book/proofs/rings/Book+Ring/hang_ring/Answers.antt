@@ -9,4 +9,5 @@ on_ok (Ok x) f p = f p
 on_ok (Err e) f p = p
 
 pub returns-clause-ok : goal.returns-clause-ok
-returns-clause-ok c = on_ok c.hang.result (ring-done c.args.self.now c.hang.new.self (kind.Hung c.args.session c.args.why) c.args.moment) c.hang.ensures.ok
+returns-clause-ok c = on_ok c.hang.result (ring-done c.args.self.now c.hang.new.self
+    (kind.Hung c.args.session c.args.why) c.args.moment) c.hang.ensures.ok

@@ -9,12 +9,16 @@ use Rattle.book.proofs.seats.Seats.next_to_sweep.Goals as goal
 pub returns-in-Some : goal.returns-in-Some
 returns-in-Some c =
     let a = c.self.inside in let rows = c.args.self.now in let item = c.in-Some.ensures.item in
-    let i = seats_counted a.seats.entries a.opened rows c.self.view_is a.held a.to_sweep.items (deque_capacity a.to_sweep) c.self.invariant in
-    ap (λ (k : ℕ). Some k) c.new.ensures ∙ sym (head_some a.to_sweep.items c.in-Some.number.now item.3.0 item.1) ∙ ap (λ (xs : List ℕ). slice_get xs 0) i.listed
+    let i = seats_counted a.seats.entries a.opened rows c.self.view_is a.held a.to_sweep.items
+    (deque_capacity a.to_sweep) c.self.invariant in
+    ap (λ (k : ℕ). Some k) c.new.ensures ∙ sym (head_some a.to_sweep.items c.in-Some.number.now item.3.0 item.1)
+    ∙ ap (λ (xs : List ℕ). slice_get xs 0) i.listed
     ∙ sym (first_picked (sweeps rows) (numbers 1 (length rows)))
 
 pub returns-in-None : goal.returns-in-None
 returns-in-None c =
     let a = c.self.inside in let rows = c.args.self.now in let item = c.in-None.ensures.item in
-    let i = seats_counted a.seats.entries a.opened rows c.self.view_is a.held a.to_sweep.items (deque_capacity a.to_sweep) c.self.invariant in
-    sym (head_none a.to_sweep.items item.3) ∙ ap (λ (xs : List ℕ). slice_get xs 0) i.listed ∙ sym (first_picked (sweeps rows) (numbers 1 (length rows)))
+    let i = seats_counted a.seats.entries a.opened rows c.self.view_is a.held a.to_sweep.items
+    (deque_capacity a.to_sweep) c.self.invariant in
+    sym (head_none a.to_sweep.items item.3) ∙ ap (λ (xs : List ℕ). slice_get xs 0) i.listed
+    ∙ sym (first_picked (sweeps rows) (numbers 1 (length rows)))

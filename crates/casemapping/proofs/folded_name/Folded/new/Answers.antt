@@ -8,6 +8,8 @@ use Rattle.casemapping.proofs.folded_name.Folded.new.Goals as goal
 pub invariant_of-result : goal.invariant_of-result
 invariant_of-result c =
     let xs = c.loop-octet.octets.items in let n = c.args.name.now in
-    let none : drop c.loop-octet.octet-index n ≡ [] = let out = c.loop-octet-test.false in grind (arith, common_steps) in
-    let whole : xs ≡ folded n = sym (append-nil xs) ∙ sym (ap (λ ys. xs ++ folded ys) none) ∙ c.loop-octet.invariant.folded in
+    let none : drop c.loop-octet.octet-index n ≡ [] = let out = c.loop-octet-test.false in
+    grind (arith, common_steps) in
+    let whole : xs ≡ folded n = sym (append-nil xs) ∙ sym (ap (λ ys. xs ++ folded ys) none)
+    ∙ c.loop-octet.invariant.folded in
     subst (λ (ys : List ℕ). folded ys ≡ ys) (sym whole) (folded-folded n)

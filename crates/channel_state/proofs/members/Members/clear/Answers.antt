@@ -4,4 +4,5 @@ use Rattle.channel_state.proofs.Once.{kept-none}
 use Rattle.channel_state.proofs.members.Members.clear.Goals as goal
 
 pub invariant_of-self : goal.invariant_of-self
-invariant_of-self c = kept-none c.clear.new.self.items c.clear-2.new.self (subst AreOnce (sym c.clear.ensures.items) tt) (ap (λ (es : List (ℕ × ℕ)). length es) c.clear-2.ensures)
+invariant_of-self c = kept-none c.clear.new.self.items c.clear-2.new.self
+    (subst AreOnce (sym c.clear.ensures.items) tt) (ap (λ (es : List (ℕ × ℕ)). length es) c.clear-2.ensures)

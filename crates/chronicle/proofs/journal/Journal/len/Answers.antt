@@ -5,6 +5,7 @@ use Rattle.chronicle.proofs.journal.Journal.len.Goals as goal
 
 pub returns : goal.returns
 returns c =
-    let a = c.self.inside in let all = ap (λ j. length j.history) c.self.view_is in let n = history_length a.records.items a.past.value in
+    let a = c.self.inside in
+    let all = ap (λ j. length j.history) c.self.view_is in let n = history_length a.records.items a.past.value in
     let d = ap (λ j. j.limit.dropped) c.self.view_is in
     grind (arith, common_steps, all, n, d, c.self.invariant.2)

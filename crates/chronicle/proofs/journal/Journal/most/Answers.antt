@@ -14,7 +14,9 @@ returns-then-self-clause-value c =
 
 pub returns-then-self-clause-enough : goal.returns-then-self-clause-enough
 returns-then-self-clause-enough c =
-    let a = c.self.inside in let all = ap (λ j. length j.history) c.self.view_is in let n = history_length a.records.items a.past.value in let i = c.self.invariant in
+    let a = c.self.inside in
+    let all = ap (λ j. length j.history) c.self.view_is in
+    let n = history_length a.records.items a.past.value in let i = c.self.invariant in
     omega (arith, all, n, i.1, i.2)
 
 pub returns-else-self-clause-value : goal.returns-else-self-clause-value
@@ -24,5 +26,7 @@ returns-else-self-clause-value c =
 
 pub returns-else-self-clause-enough : goal.returns-else-self-clause-enough
 returns-else-self-clause-enough c =
-    let a = c.self.inside in let all = ap (λ j. length j.history) c.self.view_is in let n = history_length a.records.items a.past.value in let i = c.self.invariant in
+    let a = c.self.inside in
+    let all = ap (λ j. length j.history) c.self.view_is in
+    let n = history_length a.records.items a.past.value in let i = c.self.invariant in
     omega (arith, all, n, i.0, i.2)

@@ -8,5 +8,6 @@ overflow_add-result c = omega arith
 
 pub returns : goal.returns
 returns c =
-    let a = c.self.inside in let all = ap (λ j. length j.history) c.self.view_is in let n = history_length a.records.items a.past.value in
+    let a = c.self.inside in
+    let all = ap (λ j. length j.history) c.self.view_is in let n = history_length a.records.items a.past.value in
     grind (arith, common_steps, all, n, c.self.invariant.2)

@@ -11,12 +11,17 @@ use Rattle.drafts.proofs.draft.Draft.add.Goals as goal
 
 pub invariant_of-self : goal.invariant_of-self
 invariant_of-self c =
-    let fs = c.self.inside.roster.now.facts in let v = c.self.inside.verdict in let s = c.self.inside.session in let es = c.self.inside.effects.value in let e = c.args.effect in
-    let may : IsDraft (after fs v.deeds.items) (deeds_of (e ∷ [])) = subst (λ (d : Drafted). IsDraft d.facts (deeds_of (e ∷ []))) (sym c.self.view_is) c.requires in
+    let fs = c.self.inside.roster.now.facts in
+    let v = c.self.inside.verdict in
+    let s = c.self.inside.session in let es = c.self.inside.effects.value in let e = c.args.effect in
+    let may : IsDraft (after fs v.deeds.items) (deeds_of (e ∷ [])) = subst
+    (λ (d : Drafted). IsDraft d.facts (deeds_of (e ∷ []))) (sym c.self.view_is) c.requires in
     let more = c.in-Ok.ensures in
     record {
-      draft = subst (IsDraft fs) (sym more.deeds) (draft-append fs v.deeds.items (deeds_of (e ∷ [])) c.self.invariant.draft may);
-      verdict = subst (IsVerdict c.add.new.self s) (sym c.append.ensures) (one_more v c.add.new.self s es e c.self.invariant.verdict more.deeds more.reply more.copies more.others);
+      draft = subst (IsDraft fs) (sym more.deeds)
+          (draft-append fs v.deeds.items (deeds_of (e ∷ [])) c.self.invariant.draft may);
+      verdict = subst (IsVerdict c.add.new.self s) (sym c.append.ensures)
+          (one_more v c.add.new.self s es e c.self.invariant.verdict more.deeds more.reply more.copies more.others);
     }
 
 pub invariant_of-self-in-Err : goal.invariant_of-self-in-Err
@@ -29,9 +34,24 @@ invariant_of-self-in-Err c =
 
 pub returns-in-Ok : goal.returns-in-Ok
 returns-in-Ok c =
-    let g = c.self.inside.roster.now.settings in let fs = c.self.inside.roster.now.facts in let s = c.self.inside.session in
-    let before : List Deed = c.self.inside.verdict.deeds.items in let es = c.self.inside.effects.value in let e = c.args.effect in
-    ap (λ (ds : List Deed). record { settings = g; base = fs; facts = after fs ds; effects = c.append.new.list.value; session = s }) c.in-Ok.ensures.deeds
-    ∙ ap (λ (xs : List Effect). record { settings = g; base = fs; facts = after fs (before ++ deeds_of (e ∷ [])); effects = xs; session = s }) c.append.ensures
-    ∙ ap (λ (gs : List Deed). record { settings = g; base = fs; facts = gs; effects = es ++ e ∷ []; session = s }) (after-append fs before (deeds_of (e ∷ [])))
+    let g = c.self.inside.roster.now.settings in
+    let fs = c.self.inside.roster.now.facts in let s = c.self.inside.session in
+    let before : List Deed = c.self.inside.verdict.deeds.items in
+    let es = c.self.inside.effects.value in let e = c.args.effect in
+    ap (λ (ds : List Deed). record {
+      settings = g;
+      base = fs;
+      facts = after fs ds;
+      effects = c.append.new.list.value;
+      session = s;
+    }) c.in-Ok.ensures.deeds
+    ∙ ap (λ (xs : List Effect). record {
+      settings = g;
+      base = fs;
+      facts = after fs (before ++ deeds_of (e ∷ []));
+      effects = xs;
+      session = s;
+    }) c.append.ensures
+    ∙ ap (λ (gs : List Deed). record { settings = g; base = fs; facts = gs; effects = es ++ e ∷ []; session = s })
+    (after-append fs before (deeds_of (e ∷ [])))
     ∙ ap (λ (d : Drafted). grown d (e ∷ [])) c.self.view_is

@@ -11,5 +11,7 @@ pub returns-clause-known : goal.returns-clause-known
 returns-clause-known c =
     let fs = c.args.self.now.facts in let k = c.args.seen.now in let x = c.args.change in
     let facts : c.establish.new.self.facts ≡ Changed k.name x ∷ fs = grind (arith, common_steps) in
-    let now : looked c.change.new.self ≡ record { name = k.name; state = changed x k.state } = c.change.ensures ∙ ap (λ (j : Seen). record { name = j.name; state = changed x j.state }) (c.copy.ensures.same ∙ c.seen.view_is) in
+    let now : looked c.change.new.self ≡ record { name = k.name; state = changed x k.state } = c.change.ensures ∙ ap
+    (λ (j : Seen). record { name = j.name; state = changed x j.state })
+    (c.copy.ensures.same ∙ c.seen.view_is) in
     seen_after fs c.establish.new.self.facts k (looked c.change.new.self) x facts now c.requires.seen c.requires.lasts

@@ -7,4 +7,6 @@ pub loop-deed-preserved : goal.loop-deed-preserved
 loop-deed-preserved c =
     let s = c.args.session in
     c.enroll-enrol.ensures ∙ ap (enrolled s c.deed-item.result) c.loop-deed.invariant
-    ∙ sym (replay (λ fs. enrol fs s) (λ a e. enrolled s e a) (enrol_step s) c.args.self.now.base c.deref-deed-items.result.now c.loop-deed.deed-index c.deed-item.result c.loop-deed-test.true c.deed-item.is)
+    ∙ sym (replay (λ fs. enrol fs s) (λ a e. enrolled s e a)
+    (enrol_step s) c.args.self.now.base c.deref-deed-items.result.now c.loop-deed.deed-index c.deed-item.result
+    c.loop-deed-test.true c.deed-item.is)

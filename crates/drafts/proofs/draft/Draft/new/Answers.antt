@@ -17,5 +17,12 @@ invariant_of-result c =
 pub returns : goal.returns
 returns c =
     let g = c.args.roster.now.settings in let fs = c.args.roster.now.facts in let s = c.args.session in
-    ap (λ (ds : List Deed). record { settings = g; base = fs; facts = after fs ds; effects = c.blank.result.value; session = s }) (c.nothing.ensures s).deeds
-    ∙ ap (λ (es : List Effect). record { settings = g; base = fs; facts = fs; effects = es; session = s }) c.blank.ensures
+    ap (λ (ds : List Deed). record {
+      settings = g;
+      base = fs;
+      facts = after fs ds;
+      effects = c.blank.result.value;
+      session = s;
+    }) (c.nothing.ensures s).deeds
+    ∙ ap (λ (es : List Effect). record { settings = g; base = fs; facts = fs; effects = es; session = s })
+    c.blank.ensures

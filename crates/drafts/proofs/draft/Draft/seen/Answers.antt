@@ -4,10 +4,12 @@ use Rattle.drafts.proofs.Named.{known, known_ok}
 use Rattle.drafts.proofs.draft.Draft.seen.Goals as goal
 
 pub returns-then-touches-clause-known : goal.returns-then-touches-clause-known
-returns-then-touches-clause-known c = known_ok c.channels_have_one_name.ensures c.spelled_names_are_names.ensures c.args.self.now.facts c.args.channel.now c.copied.result c.copied.ensures
+returns-then-touches-clause-known c = known_ok c.channels_have_one_name.ensures c.spelled_names_are_names.ensures
+    c.args.self.now.facts c.args.channel.now c.copied.result c.copied.ensures
 
 pub returns-clause-known : goal.returns-clause-known
 returns-clause-known c =
     let fs = c.args.self.now.facts in let n = c.args.channel.now in
     let same : c.kept.result ≡ seen fs n = search rules in
-    subst (λ (o : Option Seen). IfSome o (IsSeen fs)) (sym same) (known c.channels_have_one_name.ensures c.spelled_names_are_names.ensures fs n)
+    subst (λ (o : Option Seen). IfSome o (IsSeen fs)) (sym same)
+    (known c.channels_have_one_name.ensures c.spelled_names_are_names.ensures fs n)

@@ -7,4 +7,6 @@ pub loop-deed-preserved : goal.loop-deed-preserved
 loop-deed-preserved c =
     let n = c.args.channel.now in
     c.in_ok-reshape.ensures ∙ ap (reshaped c.deed-item.result n) c.loop-deed.invariant
-    ∙ sym (replay (λ fs. state fs n) (λ k e. reshaped e n k) (state_step n) c.args.self.now.base c.deref-deed-items.result.now c.loop-deed.deed-index c.deed-item.result c.loop-deed-test.true c.deed-item.is)
+    ∙ sym (replay (λ fs. state fs n) (λ k e. reshaped e n k)
+    (state_step n) c.args.self.now.base c.deref-deed-items.result.now c.loop-deed.deed-index c.deed-item.result
+    c.loop-deed-test.true c.deed-item.is)

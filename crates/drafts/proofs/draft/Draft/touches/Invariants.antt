@@ -4,4 +4,5 @@ use Rattle.drafts.specs.Seen.{seen}
 use Rattle.drafts.proofs.draft.Draft.touches.Given as goal
 
 abbrev pub invariant-loop-deed : goal.invariant-loop-deed
-invariant-loop-deed l = seen (after l.self.base (take l.deed-index l.deed-items)) l.channel ≡ seen l.self.base l.channel
+invariant-loop-deed l = seen (after l.self.base (take l.deed-index l.deed-items)) l.channel
+    ≡ seen l.self.base l.channel

@@ -12,9 +12,14 @@ invariant_of-self g c =
     let i = c.self.invariant in
     let k = c.begin_sweep.new.self in
     let name = g.O.Outbox.name in
-    by_answer c.begin_sweep.result (λ (p : Out). (to_sweep a.book.history ≡ Some p.session) × (k ≡ begun a.book (Gone p.session) c.args.moment) × IsOut k p × (p.next ≡ None))
+    by_answer c.begin_sweep.result (λ (p : Out). (to_sweep a.book.history ≡ Some p.session)
+    × (k ≡ begun a.book (Gone p.session) c.args.moment) × IsOut k p × (p.next ≡ None))
     ((to_sweep a.book.history ≡ None) × (k ≡ a.book)) (MaySweep a.book c.args.moment) (k ≡ a.book)
     c.begin_sweep.ensures.some c.begin_sweep.ensures.none c.begin_sweep.ensures.may c.begin_sweep.ensures.err
-    (λ p some may. (i.0, subst (λ m. IsTied name m a.register.rows) (sym some.1) (gone_ties name a.book p.session c.args.moment a.register.rows may.idle i.1)))
+    (λ p some may. (
+      i.0,
+      subst (λ m. IsTied name m a.register.rows) (sym some.1)
+          (gone_ties name a.book p.session c.args.moment a.register.rows may.idle i.1),
+    ))
     (λ none may. (i.0, subst (λ m. IsTied name m a.register.rows) (sym none.1) i.1))
     (λ is. (i.0, subst (λ m. IsTied name m a.register.rows) (sym is) i.1))

@@ -12,9 +12,14 @@ invariant_of-self g c =
     let i = c.self.invariant in
     let k = c.begin_tick.new.self in
     let name = g.O.Outbox.name in
-    by_answer c.begin_tick.result (λ (p : Out). (k ≡ begun a.book Ticked c.args.moment) × IsOut k p × (p.session ≡ 0) × (p.next ≡ None))
+    by_answer c.begin_tick.result (λ (p : Out). (k ≡ begun a.book Ticked c.args.moment) × IsOut k p
+    × (p.session ≡ 0) × (p.next ≡ None))
     ((to_ping a.book.history c.args.moment ≡ []) × (k ≡ a.book)) (MayTick a.book c.args.moment) (k ≡ a.book)
     c.begin_tick.ensures.some c.begin_tick.ensures.none c.begin_tick.ensures.may c.begin_tick.ensures.err
-    (λ p some may. (i.0, subst (λ m. IsTied name m a.register.rows) (sym some.0) (tick_ties name a.book c.args.moment a.register.rows may.idle i.1)))
+    (λ p some may. (
+      i.0,
+      subst (λ m. IsTied name m a.register.rows) (sym some.0)
+          (tick_ties name a.book c.args.moment a.register.rows may.idle i.1),
+    ))
     (λ none may. (i.0, subst (λ m. IsTied name m a.register.rows) (sym none.1) i.1))
     (λ is. (i.0, subst (λ m. IsTied name m a.register.rows) (sym is) i.1))

@@ -1,4 +1,5 @@
-use Rattle.std.proofs.Common.{◌≡◌, ◌<◌, ◌≤◌, ◌+◌, ℕ, List, [], ◌∷◌, length, Some, length-append, refl, sym, ap, ◌∙◌, subst, arith}
+use Rattle.std.proofs.Common.{◌≡◌, ◌<◌, ◌≤◌, ◌+◌, ℕ, List, [], ◌∷◌, length, Some}
+use Rattle.std.proofs.Common.{length-append, refl, sym, ap, ◌∙◌, subst, arith}
 use Rattle.line_grammar.specs.declared.splitter.Piece.{Piece}
 use Rattle.chronicle.specs.History.{sessions, accepted}
 use Rattle.register.specs.declared.claims.Row.{Row}
@@ -31,30 +32,39 @@ turned g c =
     let mark = c.baton.inside.mark in
     let whose = c.requires.line.0 ∙ sym (ap (λ (t : Turn). t.session) c.baton.view_is) in
     let l = out_line a.book c.args.plan s (c.args.baton.now.next + 1) (out g c) whose c.requires.line.1 in
-    let newest : newest_line k.history ≡ Some (s, l.0) = ap (λ m. newest_line m.history) c.finish-done.ensures.book ∙ l.2 in
+    let newest : newest_line k.history ≡ Some (s, l.0) = ap
+    (λ m. newest_line m.history) c.finish-done.ensures.book ∙ l.2 in
     record {
       said = l.0;
       line = l.1;
-      register = at_some (newest_line k.history) (s, l.0) (λ (q : ℕ × Piece). c.advance.new.register ≡ with_done a.register mark.session q.1) newest c.advance.ensures.register;
-      mark = at_some (newest_line k.history) (s, l.0) (λ (q : ℕ × Piece). c.advance.new.mark ≡ longer_mark mark q.1) newest c.advance.ensures.mark;
+      register = at_some (newest_line k.history) (s, l.0) (λ (q : ℕ × Piece). c.advance.new.register
+          ≡ with_done a.register mark.session q.1) newest c.advance.ensures.register;
+      mark = at_some (newest_line k.history) (s, l.0)
+          (λ (q : ℕ × Piece). c.advance.new.mark ≡ longer_mark mark q.1) newest c.advance.ensures.mark;
     }
 
-tied : (g : given.Over) (c : goal.After-drop-baton-inside g) → IsTied g.O.Outbox.name (finished c.self.inside.book) (with_piece c.self.inside.register.rows c.baton.inside.turn.session (turned g c).said)
-tied g c = line_ties g.O.Outbox.name c.self.inside.book c.baton.inside.turn.session (turned g c).said c.self.inside.register.rows (turned g c).line c.self.invariant.1
+tied : (g : given.Over) (c : goal.After-drop-baton-inside g) → IsTied g.O.Outbox.name (finished c.self.inside.book)
+    (with_piece c.self.inside.register.rows c.baton.inside.turn.session (turned g c).said)
+tied g c = line_ties g.O.Outbox.name c.self.inside.book c.baton.inside.turn.session
+    (turned g c).said c.self.inside.register.rows (turned g c).line c.self.invariant.1
 
 -- the pieces done, with this one, are those that the history accepts then
-pieces : (g : given.Over) (c : goal.After-drop-baton-inside g) → c.advance.new.mark.pieces ≡ accepted c.self.inside.book.history c.baton.inside.turn.session
+pieces : (g : given.Over) (c : goal.After-drop-baton-inside g) → c.advance.new.mark.pieces
+    ≡ accepted c.self.inside.book.history c.baton.inside.turn.session
 pieces g c =
     let a = c.self.inside in
     let turn = c.baton.inside.turn in
     let mark = c.baton.inside.mark in
-    let whose : c.args.plan.session ≡ turn.session = c.requires.line.0 ∙ sym (ap (λ (t : Turn). t.session) c.baton.view_is) in
+    let whose : c.args.plan.session ≡ turn.session = c.requires.line.0
+    ∙ sym (ap (λ (t : Turn). t.session) c.baton.view_is) in
     let o = out g c in
     let next = sym o.next ∙ c.requires.line.1 in
-    let from = subst (λ (s : ℕ). 0 < s) (sym o.session ∙ whose) (newest_from_1 a.book.settings a.book.history (c.args.baton.now.next + 1) c.sound.ensures.legal next) in
+    let from = subst (λ (s : ℕ). 0 < s) (sym o.session ∙ whose)
+    (newest_from_1 a.book.settings a.book.history (c.args.baton.now.next + 1) c.sound.ensures.legal next) in
     let to = subst (λ (s : ℕ). s ≤ sessions a.book.history) whose o.opened in
     let knew = ap (pieces_at a.register.rows) (sym c.baton.invariant.0) ∙ c.advance.ensures.knew in
-    ap (λ m. m.pieces) (turned g c).mark ∙ done_accepts g.O.Outbox.name (finished a.book) turn.session (turned g c).said mark.pieces a.register.rows refl (tied g c) from to knew
+    ap (λ m. m.pieces) (turned g c).mark ∙ done_accepts g.O.Outbox.name (finished a.book) turn.session
+    (turned g c).said mark.pieces a.register.rows refl (tied g c) from to knew
 
 pub invariant_of-self : goal.invariant_of-self
 invariant_of-self g c =
@@ -62,9 +72,12 @@ invariant_of-self g c =
     let i = c.self.invariant in
     let t = turned g c in
     let is = c.finish-done.ensures.book in
-    let rows = ap (λ r. r.rows) t.register ∙ ap (λ (s : ℕ). with_piece a.register.rows s t.said) c.baton.invariant.0 in (
+    let rows = ap (λ r. r.rows) t.register
+    ∙ ap (λ (s : ℕ). with_piece a.register.rows s t.said) c.baton.invariant.0 in (
       ap (λ r. r.table) t.register ∙ i.0,
-      subst (λ m. IsTied g.O.Outbox.name m c.advance.new.register.rows) (sym is) (subst (λ (xs : List (Row g.row.O-Name.Denot)). IsTied g.O.Outbox.name (finished a.book) xs) (sym rows) (tied g c)),
+      subst (λ m. IsTied g.O.Outbox.name m c.advance.new.register.rows) (sym is)
+          (subst (λ (xs : List (Row g.row.O-Name.Denot)). IsTied g.O.Outbox.name (finished a.book) xs) (sym rows)
+          (tied g c)),
     )
 
 pub invariant_of-baton : goal.invariant_of-baton
@@ -75,17 +88,25 @@ invariant_of-baton g c =
     let goes_on = c.finish-done.ensures.baton in
     let t = turned g c in
     let whose : now.session ≡ turn.session = ap (λ b. b.session) goes_on in
-    let longer : length c.advance.new.mark.pieces ≡ length mark.pieces + 1 = ap (λ m. length m.pieces) t.mark ∙ length-append mark.pieces (t.said ∷ []) in
+    let longer : length c.advance.new.mark.pieces ≡ length mark.pieces + 1 = ap
+    (λ m. length m.pieces) t.mark ∙ length-append mark.pieces (t.said ∷ []) in
     let more : now.next ≡ turn.next + 1 = ap (λ b. b.next) goes_on in
     let counted = c.baton.invariant.1.next in (
       ap (λ m. m.session) t.mark ∙ c.baton.invariant.0 ∙ sym whose,
-      record { next = omega arith; pieces = pieces g c ∙ ap (accepted c.self.inside.book.history) (sym whose) ∙ ap (λ b. accepted b.history now.session) (sym (c.of.ensures ∙ c.finish-done.ensures.book)) },
+      record {
+        next = omega arith;
+        pieces = pieces g c ∙ ap (accepted c.self.inside.book.history) (sym whose) ∙ ap
+            (λ b. accepted b.history now.session) (sym (c.of.ensures ∙ c.finish-done.ensures.book));
+      },
     )
 
 pub returns-clause-accepted : goal.returns-clause-accepted
-returns-clause-accepted g c = pieces g c ∙ ap (accepted c.self.inside.book.history) (ap (λ (t : Turn). t.session) c.baton.view_is) ∙ ap (λ b. accepted b.history c.args.baton.now.session) (sym c.finish-done.ensures.book)
+returns-clause-accepted g c = pieces g c ∙ ap (accepted c.self.inside.book.history)
+    (ap (λ (t : Turn). t.session) c.baton.view_is) ∙ ap (λ b. accepted b.history c.args.baton.now.session)
+    (sym c.finish-done.ensures.book)
 
 pub advance-requires-clause-kept : goal.advance-requires-clause-kept
 advance-requires-clause-kept g c =
-    let o : IsOut c.self.inside.book c.args.plan = subst (λ m. IsOut m c.args.plan) (sym c.self.view_is) c.requires.out in
+    let o : IsOut c.self.inside.book c.args.plan = subst
+    (λ m. IsOut m c.args.plan) (sym c.self.view_is) c.requires.out in
     subst (λ m. m.limit.dropped < length m.history) (sym c.finish-done.ensures.book) o.kept

@@ -8,5 +8,8 @@ pub invariant_of-self : goal.invariant_of-self
 invariant_of-self g c =
     let a = c.self.inside in
     let out : IsOut a.book c.args.plan = subst (λ m. IsOut m c.args.plan) (sym c.self.view_is) c.requires.out in
-    let none = out_no_line a.book c.args.plan out c.requires.sweep.0 in
-    (c.self.invariant.0, subst (λ m. IsTied g.O.Outbox.name m a.register.rows) (sym c.finish_sweep.ensures.book) (sweep_ties g.O.Outbox.name a.book a.register.rows none c.self.invariant.1))
+    let none = out_no_line a.book c.args.plan out c.requires.sweep.0 in (
+      c.self.invariant.0,
+      subst (λ m. IsTied g.O.Outbox.name m a.register.rows) (sym c.finish_sweep.ensures.book)
+          (sweep_ties g.O.Outbox.name a.book a.register.rows none c.self.invariant.1),
+    )

@@ -13,9 +13,11 @@ invariant_of-self g c =
     let k = c.hang.new.self in
     let s = c.args.session in
     let w = c.args.why in
-    by_result c.hang.result (IsDone g.O.Outbox.accepts g.O.Outbox.refuses a.book (Hung s w) c.args.moment k) (MayHang a.book s c.args.moment) (k ≡ a.book) c.hang.ensures.ok c.hang.ensures.may c.hang.ensures.err
+    by_result c.hang.result (IsDone g.O.Outbox.accepts g.O.Outbox.refuses a.book (Hung s w) c.args.moment k)
+    (MayHang a.book s c.args.moment) (k ≡ a.book) c.hang.ensures.ok c.hang.ensures.may c.hang.ensures.err
     (λ done may. (
       i.0,
-      hung_done_ties g.O.Outbox.name g.O.Outbox.accepts g.O.Outbox.refuses g.met.O.Lasting.stays a.book k s w c.args.moment a.register.rows may.idle done i.1,
+      hung_done_ties g.O.Outbox.name g.O.Outbox.accepts g.O.Outbox.refuses g.met.O.Lasting.stays a.book k s w
+          c.args.moment a.register.rows may.idle done i.1,
     ))
     (λ is. (i.0, subst (λ m. IsTied g.O.Outbox.name m a.register.rows) (sym is) i.1))

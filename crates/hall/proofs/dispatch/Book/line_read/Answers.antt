@@ -8,6 +8,8 @@ returns-clause-baton g c =
     let b = c.args.baton.now in
     let p = c.args.line in
     let k = c.put_rest.new.self in
-    turn_is c.finish.new.baton b p c.finish.new.self.history (newest_said k.history b.session) c.finish.ensures.session c.finish.ensures.next c.finish.ensures.grown
-    (line_said g.O.Outbox.accepts g.O.Outbox.refuses c.args.self.now c.begin_read.new.self k b.session b.next p c.args.moment c.in_ok-plan.ensures.ok c.put_rest.ensures.put)
+    turn_is c.finish.new.baton b p c.finish.new.self.history
+    (newest_said k.history b.session) c.finish.ensures.session c.finish.ensures.next c.finish.ensures.grown
+    (line_said g.O.Outbox.accepts g.O.Outbox.refuses c.args.self.now c.begin_read.new.self k b.session b.next p
+    c.args.moment c.in_ok-plan.ensures.ok c.put_rest.ensures.put)
     c.finish.ensures.front

@@ -10,5 +10,6 @@ invariant_of-result g c =
     let is = c.in_ok-book.ensures.ok.0 in
     let name = g.O.Outbox.name in
     let book = c.in_ok-book.book in
-    let tied = subst (λ (xs : List (Row g.row.O-Name.Denot)). IsTied name (empty_book c.args.limit c.args.settings) xs) (sym c.requires.empty) (empty_ties name c.args.limit c.args.settings) in
+    let tied = subst (λ (xs : List (Row g.row.O-Name.Denot)). IsTied name (empty_book c.args.limit c.args.settings)
+    xs) (sym c.requires.empty) (empty_ties name c.args.limit c.args.settings) in
     (c.requires.named, subst (λ m. IsTied name m c.args.register.rows) (sym is) tied)

@@ -20,9 +20,14 @@ invariant_of-result g c =
     let none : accepted m.history n ≡ [] = silent m.settings m.history n c.sound.ensures.legal late in
     let whose : turn.session ≡ n = ap (λ b. b.session) session.1 in
     let front : accepted c.of-front.result.value.history turn.session ≡ [] =
-    ap (λ (b : Shown g.row.O.Denot). accepted b.history turn.session) (c.of-front.ensures ∙ ok) ∙ ap (accepted (opened m c.args.host c.args.moment c.args.outbox).history) whose ∙ append-nil (accepted m.history n) ∙ none in (
+    ap (λ (b : Shown g.row.O.Denot). accepted b.history turn.session) (c.of-front.ensures ∙ ok)
+    ∙ ap (accepted (opened m c.args.host c.args.moment c.args.outbox).history) whose
+    ∙ append-nil (accepted m.history n) ∙ none in (
       ap (λ b. b.session) mark ∙ session.0 ∙ sym whose,
-      record { next = ap (λ b. b.next) session.1 ∙ sym (ap (λ b. length b.pieces) mark); pieces = ap (λ b. b.pieces) mark ∙ sym front },
+      record {
+        next = ap (λ b. b.next) session.1 ∙ sym (ap (λ b. length b.pieces) mark);
+        pieces = ap (λ b. b.pieces) mark ∙ sym front;
+      },
     )
 
 pub invariant_of-self-2 : goal.invariant_of-self-2
@@ -39,9 +44,12 @@ invariant_of-self-2 g c =
     let late : sessions m.history < n = omega arith in
     let none : accepted m.history n ≡ [] = silent m.settings m.history n c.sound.ensures.legal late in
     let rows : c.admit-mark.new.self.rows ≡ new_row n (name c.args.outbox) ∷ a.register.rows =
-    ap (λ r. r.rows) c.admit-mark.ensures.register ∙ ap (λ (s : ℕ). new_row s (name c.of-namesake.result.of.value) ∷ a.register.rows) session
+    ap (λ r. r.rows) c.admit-mark.ensures.register ∙ ap
+    (λ (s : ℕ). new_row s (name c.of-namesake.result.of.value) ∷ a.register.rows) session
     ∙ ap (λ (o : g.row.O.Denot). new_row n (name o) ∷ a.register.rows) c.of-namesake.ensures in
-    let tied = opened_ties name m c.args.host c.args.moment c.args.outbox a.register.rows may.idle c.sound.ensures.sessions none i.1 in (
+    let tied = opened_ties name m c.args.host c.args.moment c.args.outbox a.register.rows may.idle
+    c.sound.ensures.sessions none i.1 in (
       ap (λ r. r.table) c.admit-mark.ensures.register ∙ i.0,
-      subst (λ b. IsTied name b c.admit-mark.new.self.rows) (sym ok) (subst (λ (xs : List (Row g.row.O-Name.Denot)). IsTied name (opened m c.args.host c.args.moment c.args.outbox) xs) (sym rows) tied),
+      subst (λ b. IsTied name b c.admit-mark.new.self.rows) (sym ok) (subst (λ (xs : List (Row g.row.O-Name.Denot)).
+          IsTied name (opened m c.args.host c.args.moment c.args.outbox) xs) (sym rows) tied),
     )

@@ -7,5 +7,8 @@ use Rattle.hall.proofs.hall.Hall.sweep.Goals as goal
 
 pub returns-clause-some : goal.returns-clause-some
 returns-clause-some g c =
-    subst (λ (m : Shown g.row.O.Denot). IfOk c.sweep.result (λ o. IfSome o (λ d. (s : ℕ) × (to_sweep m.history ≡ Some s) × IsDone g.O.Outbox.accepts g.O.Outbox.refuses m (Gone s) c.args.moment c.sweep.new.self
-    × (d.number ≡ length m.history + 1) × (d.missed ≡ newest_missed c.sweep.new.self.history) × (d.shut ≡ shut c.sweep.new.self.history s)))) c.self.view_is c.sweep.ensures.some
+    subst (λ (m : Shown g.row.O.Denot). IfOk c.sweep.result (λ o. IfSome o (λ d. (s : ℕ) × (to_sweep m.history
+    ≡ Some s) × IsDone g.O.Outbox.accepts g.O.Outbox.refuses m (Gone s) c.args.moment c.sweep.new.self
+    × (d.number ≡ length m.history + 1) × (d.missed ≡ newest_missed c.sweep.new.self.history)
+    × (d.shut ≡ shut c.sweep.new.self.history s)))) c.self.view_is
+    c.sweep.ensures.some

@@ -6,5 +6,7 @@ use Rattle.hall.proofs.hall.Hall.tick.Goals as goal
 
 pub returns-clause-some : goal.returns-clause-some
 returns-clause-some g c =
-    subst (λ (m : Shown g.row.O.Denot). IfOk c.tick.result (λ o. IfSome o (λ d. IsDone g.O.Outbox.accepts g.O.Outbox.refuses m Ticked c.args.moment c.tick.new.self
-    × (d.number ≡ length m.history + 1) × (d.missed ≡ newest_missed c.tick.new.self.history) × (d.shut ≡ false)))) c.self.view_is c.tick.ensures.some
+    subst (λ (m : Shown g.row.O.Denot). IfOk c.tick.result
+    (λ o. IfSome o (λ d. IsDone g.O.Outbox.accepts g.O.Outbox.refuses m Ticked c.args.moment c.tick.new.self
+    × (d.number ≡ length m.history + 1) × (d.missed ≡ newest_missed c.tick.new.self.history) × (d.shut ≡ false))))
+    c.self.view_is c.tick.ensures.some

@@ -3,4 +3,5 @@ use Rattle.hall.proofs.Outcomes.{on_ok}
 use Rattle.hall.proofs.rings.Book+L+Ring.hang_ring.Goals as goal
 
 pub returns-clause-ok : goal.returns-clause-ok
-returns-clause-ok g c = on_ok c.hang.result (c.rings_take_each_record.ensures c.args.self.now c.hang.new.self (Hung c.args.session c.args.why) c.args.moment) c.hang.ensures.ok
+returns-clause-ok g c = on_ok c.hang.result (c.rings_take_each_record.ensures c.args.self.now c.hang.new.self
+    (Hung c.args.session c.args.why) c.args.moment) c.hang.ensures.ok

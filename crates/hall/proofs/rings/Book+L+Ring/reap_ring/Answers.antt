@@ -5,5 +5,8 @@ use Rattle.hall.proofs.rings.Book+L+Ring.reap_ring.Goals as goal
 
 pub returns-in-Ok-clause-left : goal.returns-in-Ok-clause-left
 returns-in-Ok-clause-left g c =
-    let l = c.in-Ok.ensures.left in
-    (c.in-Ok.ensures.session, l.count_is ∙ ap length (sym (append_cancel_left l.outbox.taken l.outbox.queue l.left l.rest) ∙ sym (ap (λ o. (box_of o).queue) l.here)))
+    let l = c.in-Ok.ensures.left in (
+      c.in-Ok.ensures.session,
+      l.count_is ∙ ap length (sym
+          (append_cancel_left l.outbox.taken l.outbox.queue l.left l.rest) ∙ sym (ap (λ o. (box_of o).queue) l.here)),
+    )

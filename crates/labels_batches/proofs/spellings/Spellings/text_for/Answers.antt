@@ -8,5 +8,8 @@ use Rattle.labels_batches.proofs.spellings.Spellings.text_for.Goals as goal
 pub returns-clause-text : goal.returns-clause-text
 returns-clause-text c =
     let cs = c.args.caps in let s = c.args.self.now in let tags = c.has_tags_for-tags.result in
-    let has : is_on cs MessageTags && not (length s.line.tags == 0) ≡ tags = sym (c.has_tags_for-tags.ensures ∙ ap (λ (x : Spelled). is_on cs MessageTags && not (length x.line.tags == 0)) c.self.view_is) in
-    subst (λ (bs : List ℕ). IfOk c.text_with.result (λ t. t ≡ bs)) (sym (as_taken_by cs s.moment s.line c.contains.result tags (sym c.contains.ensures) has)) c.text_with.ensures.text
+    let has : is_on cs MessageTags && not (length s.line.tags == 0) ≡ tags = sym (c.has_tags_for-tags.ensures ∙ ap
+    (λ (x : Spelled). is_on cs MessageTags && not (length x.line.tags == 0)) c.self.view_is) in
+    subst (λ (bs : List ℕ). IfOk c.text_with.result (λ t. t ≡ bs))
+    (sym (as_taken_by cs s.moment s.line c.contains.result tags (sym c.contains.ensures) has))
+    c.text_with.ensures.text

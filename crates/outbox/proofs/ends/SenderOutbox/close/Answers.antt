@@ -11,7 +11,8 @@ pub absorb-requires-clause-channel : goal.absorb-requires-clause-channel
 absorb-requires-clause-channel g c =
     let s = c.self.invariant.0 in
     let w = c.taker.invariant.0 in
-    let same = ap (λ (p : Puttings). p.channel) c.self.view_is ∙ c.requires ∙ sym (ap (λ (p : Takings). p.channel) c.taker.view_is) in
+    let same = ap (λ (p : Puttings). p.channel) c.self.view_is ∙ c.requires
+    ∙ sym (ap (λ (p : Takings). p.channel) c.taker.view_is) in
     let table = ap (λ (p : Pass Item Log). p.table_id) same in
     let key = ap (λ (p : Pass Item Log). p.me.0.of) same in
     (s, (sym table ∙ s.0, sym key ∙ s.1, w.2, s.3))
@@ -24,7 +25,8 @@ drain-requires-clause-channel g c =
     let s = c.self.invariant.0 in
     let w = c.taker.invariant.0 in
     let a = c.absorb.ensures.channel.0 in
-    let same = ap (λ (p : Puttings). p.channel) c.self.view_is ∙ c.requires ∙ sym (ap (λ (p : Takings). p.channel) c.taker.view_is) in
+    let same = ap (λ (p : Puttings). p.channel) c.self.view_is ∙ c.requires
+    ∙ sym (ap (λ (p : Takings). p.channel) c.taker.view_is) in
     let table = ap (λ (p : Pass Item Log). p.table_id) same in
     let key = ap (λ (p : Pass Item Log). p.me.0.of) same in
     (a.0 ∙ sym s.0 ∙ table ∙ w.0, a.1 ∙ sym s.1 ∙ key ∙ w.1, a.2, w.3)

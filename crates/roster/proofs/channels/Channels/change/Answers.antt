@@ -16,11 +16,21 @@ invariant_of-self c =
 
 pub returns-then-change_keyed-clause-changes : goal.returns-then-change_keyed-clause-changes
 returns-then-change_keyed-clause-changes c =
-    let es = c.self.inside.channels.entries in let n = c.args.name.now in let view = ap (λ (t : Table Channel). t.list) c.self.view_is in
+    let es = c.self.inside.channels.entries in
+    let n = c.args.name.now in let view = ap (λ (t : Table Channel). t.list) c.self.view_is in
     let gone = c.take_out.ensures.entries ∙ ap (λ (k : List ℕ). remove_entry (bytes_eq k) es) c.requires.key in
     let but = subst (AreHeldBut n) (sym view) (c.change_keyed.ensures.ended c.if-change_keyed.true) in
-    record { between = c.change_keyed.new.self.list; reholds = c.change_keyed.ensures.reholds; ended = ap values_of gone ∙ removed_keyed es n c.self.invariant but ∙ ap populated view }
+    record {
+      between = c.change_keyed.new.self.list;
+      reholds = c.change_keyed.ensures.reholds;
+      ended = ap values_of gone ∙ removed_keyed es n c.self.invariant but ∙ ap populated view;
+    }
 
 pub returns-else-change_keyed-clause-changes : goal.returns-else-change_keyed-clause-changes
 returns-else-change_keyed-clause-changes c =
-    record { between = c.change_keyed.new.self.list; reholds = c.change_keyed.ensures.reholds; ended = sym (all_populated c.change_keyed.new.self.list (c.change_keyed.ensures.held c.if-change_keyed.false)) }
+    record {
+      between = c.change_keyed.new.self.list;
+      reholds = c.change_keyed.ensures.reholds;
+      ended = sym
+          (all_populated c.change_keyed.new.self.list (c.change_keyed.ensures.held c.if-change_keyed.false));
+    }

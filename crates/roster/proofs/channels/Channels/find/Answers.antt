@@ -10,4 +10,5 @@ use Rattle.roster.proofs.channels.Channels.find.Goals as goal
 pub returns-in-Ok : goal.returns-in-Ok
 returns-in-Ok c =
     let es = c.self.inside.channels.entries in let n = c.args.name.now in
-    c.get.ensures.value ∙ ap (λ (k : List ℕ). lookup (bytes_eq k) es) c.in-Ok.ensures ∙ found_keyed es n c.self.invariant ∙ ap (λ (t : Table Channel). channel_of t.list n) c.self.view_is
+    c.get.ensures.value ∙ ap (λ (k : List ℕ). lookup (bytes_eq k) es) c.in-Ok.ensures
+    ∙ found_keyed es n c.self.invariant ∙ ap (λ (t : Table Channel). channel_of t.list n) c.self.view_is

@@ -19,16 +19,19 @@ make-requires c =
 pub push-requires-clause-absent : goal.push-requires-clause-absent
 push-requires-clause-absent c =
     let es = c.self.inside.channels.entries in let n = c.args.name in
-    ap (λ (k : List ℕ). lookup (bytes_eq k) es) c.requires.key ∙ found_keyed es n c.self.invariant ∙ ap (λ (t : Table Channel). channel_of t.list n) c.self.view_is ∙ c.requires.absent
+    ap (λ (k : List ℕ). lookup (bytes_eq k) es) c.requires.key ∙ found_keyed es n c.self.invariant ∙ ap
+    (λ (t : Table Channel). channel_of t.list n) c.self.view_is ∙ c.requires.absent
 
 pub invariant_of-self : goal.invariant_of-self
 invariant_of-self c =
-    let es = c.self.inside.channels.entries in let e : List ℕ × Channel = (c.args.key, record { name = c.args.name; held = c.make.new.self }) in
+    let es = c.self.inside.channels.entries in
+    let e : List ℕ × Channel = (c.args.key, record { name = c.args.name; held = c.make.new.self }) in
     subst AreKeyed (sym c.push.ensures.entries) (keyed-push es e c.self.invariant c.requires.key)
 
 pub returns-in-Some-clause-made : goal.returns-in-Some-clause-made
 returns-in-Some-clause-made c =
-    let es = c.self.inside.channels.entries in let e : List ℕ × Channel = (c.args.key, record { name = c.args.name; held = c.make.new.self }) in
+    let es = c.self.inside.channels.entries in
+    let e : List ℕ × Channel = (c.args.key, record { name = c.args.name; held = c.make.new.self }) in
     let m = c.in-Some.held in let ms = c.pop.new.self.items in
     let s : c.args.spare.now.items ≡ ms ++ m ∷ [] = grind (arith, common_steps) in
     λ n a.
@@ -36,7 +39,8 @@ returns-in-Some-clause-made c =
     let more = last.2 in let kept = c.make.ensures.room in let l : n ≤ suc n = omega arith in (
       record {
         held = c.make.new.self;
-        added = ap values_of c.push.ensures.entries ∙ values-push es e ∙ ap (λ (t : Table Channel). t.list ++ e.1 ∷ []) c.self.view_is;
+        added = ap values_of c.push.ensures.entries ∙ values-push es e ∙ ap
+            (λ (t : Table Channel). t.list ++ e.1 ∷ []) c.self.view_is;
         state = c.make.ensures.state;
         room = omega arith;
       },

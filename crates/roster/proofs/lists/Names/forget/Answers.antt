@@ -6,4 +6,6 @@ use Rattle.roster.specs.LookBack.{without_name}
 use Rattle.roster.proofs.lists.Names.forget.Goals as goal
 
 pub returns-clause-notes : goal.returns-clause-notes
-returns-clause-notes c = filter_same _ (λ (m : List ℕ). not (is_same m c.args.name.now)) _ (λ x b f' k. search rules) _ _ c.retain.ensures.filtered ∙ ap (λ (m : Row). without_name c.args.name.now m.notes) c.self.view_is
+returns-clause-notes c = filter_same _ (λ (m : List ℕ). not (is_same m c.args.name.now)) _
+    (λ x b f' k. search rules) _ _ c.retain.ensures.filtered ∙ ap
+    (λ (m : Row). without_name c.args.name.now m.notes) c.self.view_is

@@ -7,5 +7,7 @@ use Rattle.roster.proofs.lists.Names.prune.Goals as goal
 
 pub returns-clause-notes : goal.returns-clause-notes
 returns-clause-notes c =
-    filter_same _ (λ (k : List ℕ). among c.args.session (state_in c.args.channels.now.list k).invited) _ (λ x b f' k. search rules) _ _ c.retain.ensures.filtered
-    ∙ ap (λ (m : Row). filter (λ (k : List ℕ). among c.args.session (state_in c.args.channels.now.list k).invited) m.notes) c.self.view_is
+    filter_same _ (λ (k : List ℕ). among c.args.session (state_in c.args.channels.now.list k).invited) _
+    (λ x b f' k. search rules) _ _ c.retain.ensures.filtered
+    ∙ ap (λ (m : Row). filter
+    (λ (k : List ℕ). among c.args.session (state_in c.args.channels.now.list k).invited) m.notes) c.self.view_is

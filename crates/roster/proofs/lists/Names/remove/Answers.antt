@@ -6,4 +6,5 @@ use Rattle.roster.specs.LookBack.{without_name}
 use Rattle.roster.proofs.lists.Names.remove.Goals as goal
 
 pub returns-clause-list : goal.returns-clause-list
-returns-clause-list c = filter_same _ (λ (m : List ℕ). not (is_same m c.args.name.now)) _ (λ x b f' k. search rules) _ _ c.retain.ensures.filtered ∙ ap (λ (m : Row). without_name c.args.name.now m.list) c.self.view_is
+returns-clause-list c = filter_same _ (λ (m : List ℕ). not (is_same m c.args.name.now)) _ (λ x b f' k. search rules)
+    _ _ c.retain.ensures.filtered ∙ ap (λ (m : Row). without_name c.args.name.now m.list) c.self.view_is

@@ -12,7 +12,8 @@ returns-in-Some c =
     let r = c.self.inside in let i = c.args.place in
     let it : slice_get r.channels.list i ≡ Some c.in-Some.channel.now = grind (arith, common_steps) in
     sym (
-    ap (λ (k : Known). slice_get (channels k.facts) i) (sym c.self.view_is) ∙ ap (λ cs. slice_get cs i) c.self.invariant.0.channels.channels ∙ names_of-get r.channels.list i
+    ap (λ (k : Known). slice_get (channels k.facts) i) (sym c.self.view_is) ∙ ap
+    (λ cs. slice_get cs i) c.self.invariant.0.channels.channels ∙ names_of-get r.channels.list i
     ∙ ap (option_map (λ (k : Channel). k.name)) it)
 
 pub returns-in-None : goal.returns-in-None
@@ -20,5 +21,6 @@ returns-in-None c =
     let r = c.self.inside in let i = c.args.place in
     let none : slice_get r.channels.list i ≡ None = grind (arith, common_steps) in
     sym (
-    ap (λ (k : Known). slice_get (channels k.facts) i) (sym c.self.view_is) ∙ ap (λ cs. slice_get cs i) c.self.invariant.0.channels.channels ∙ names_of-get r.channels.list i
+    ap (λ (k : Known). slice_get (channels k.facts) i) (sym c.self.view_is) ∙ ap
+    (λ cs. slice_get cs i) c.self.invariant.0.channels.channels ∙ names_of-get r.channels.list i
     ∙ ap (option_map (λ (k : Channel). k.name)) none)

@@ -7,4 +7,5 @@ use Rattle.roster.proofs.roster.Roster.channel_count.Goals as goal
 pub returns : goal.returns
 returns c =
     let r = c.self.inside in
-    c.len.ensures ∙ sym (ap (λ (k : Known). length (channels k.facts)) (sym c.self.view_is) ∙ ap length c.self.invariant.0.channels.channels ∙ names_of-length r.channels.list)
+    c.len.ensures ∙ sym (ap (λ (k : Known). length (channels k.facts)) (sym c.self.view_is)
+    ∙ ap length c.self.invariant.0.channels.channels ∙ names_of-length r.channels.list)

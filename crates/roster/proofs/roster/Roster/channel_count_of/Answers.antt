@@ -7,4 +7,5 @@ use Rattle.roster.proofs.roster.Roster.channel_count_of.Goals as goal
 pub returns : goal.returns
 returns c =
     let r = c.self.inside in let s = c.args.session in
-    ap length (c.names.ensures ∙ c.self.invariant.1.lists s) ∙ count_is r.channels.list r.facts.value c.self.invariant.0.channels s ∙ ap (λ (k : Known). channel_count k.facts s) c.self.view_is
+    ap length (c.names.ensures ∙ c.self.invariant.1.lists s) ∙ count_is r.channels.list r.facts.value
+    c.self.invariant.0.channels s ∙ ap (λ (k : Known). channel_count k.facts s) c.self.view_is

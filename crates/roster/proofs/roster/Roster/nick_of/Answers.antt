@@ -14,4 +14,5 @@ pub returns-in-Some-clause-unknown : goal.returns-in-Some-clause-unknown
 returns-in-Some-clause-unknown c = λ unopened.
     let r = c.self.inside in let s = c.args.session in let fs = r.facts.value in let i = c.self.invariant.0.people in
     let out : IsOpened fs s → ⊥ = λ o. unopened (subst (λ (k : Known). IsOpened k.facts s) c.self.view_is o) in
-    nothing_copied c.as_ref.result (c.as_ref.ensures.value ∙ ap (λ (p : Person). p.nick) (c.in-Some.ensures ∙ i.people s) ∙ unopened_nick r.nicks.list fs i.holders s out)
+    nothing_copied c.as_ref.result (c.as_ref.ensures.value ∙ ap
+    (λ (p : Person). p.nick) (c.in-Some.ensures ∙ i.people s) ∙ unopened_nick r.nicks.list fs i.holders s out)

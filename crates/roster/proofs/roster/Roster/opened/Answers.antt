@@ -7,4 +7,5 @@ use Rattle.roster.proofs.roster.Roster.opened.Goals as goal
 pub returns-clause-count : goal.returns-clause-count
 returns-clause-count c =
     let r = c.self.inside in
-    c.len.ensures.count ∙ sym (opened_count r.people.list r.marks.list r.nicks.list r.facts.value c.self.invariant.0.people) ∙ ap (λ (k : Known). length (opened k.facts)) c.self.view_is
+    c.len.ensures.count ∙ sym (opened_count r.people.list r.marks.list r.nicks.list r.facts.value
+    c.self.invariant.0.people) ∙ ap (λ (k : Known). length (opened k.facts)) c.self.view_is

@@ -13,5 +13,6 @@ returns c =
     let told =
     ap (λ (n : ℕ). mates r.channels.list (row_of r.people.list s).list s n) c.len.ensures.count
     ∙ ap (λ cs. mates r.channels.list cs s (length r.marks.list)) (c.self.invariant.1.lists s)
-    ∙ sharers_are r.channels.list fs i.channels s (length r.marks.list) i.people.opened ∙ ap (λ (k : Known). sharers k.facts s) c.self.view_is in
+    ∙ sharers_are r.channels.list fs i.channels s (length r.marks.list) i.people.opened ∙ ap
+    (λ (k : Known). sharers k.facts s) c.self.view_is in
     subst (λ (xs : List ℕ). IfOk c.find_sharers.result (λ v. v ≡ xs)) told c.find_sharers.ensures

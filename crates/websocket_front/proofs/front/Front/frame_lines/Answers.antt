@@ -8,7 +8,8 @@ returns-in-Ok g c =
     let old = c.args.self.now in
     let i = c.loop.invariant in
     record {
-      ok = goes_on g.S.Write.contents old.socket.stream (waiting old) c.loop.self c.frame_next.new.self i.out c.in-Ok.ensures.ok;
+      ok = goes_on g.S.Write.contents old.socket.stream
+          (waiting old) c.loop.self c.frame_next.new.self i.out c.in-Ok.ensures.ok;
       memory = tt;
       stays_open = c.in-Ok.ensures.stays_open;
       subprotocol = c.in-Ok.ensures.subprotocol ∙ i.subprotocol;
@@ -19,7 +20,8 @@ loop-preserved g c =
     let old = c.args.self.now in
     let i = c.loop.invariant in
     record {
-      out = goes_on g.S.Write.contents old.socket.stream (waiting old) c.loop.self c.frame_next.new.self i.out c.in-Ok-One.ensures.ok;
+      out = goes_on g.S.Write.contents old.socket.stream
+          (waiting old) c.loop.self c.frame_next.new.self i.out c.in-Ok-One.ensures.ok;
       subprotocol = c.in-Ok-One.ensures.subprotocol ∙ i.subprotocol;
       is_open = c.in-Ok-One.ensures.stays_open;
     }

@@ -15,6 +15,9 @@ returns-clause-ok g c =
     let text = c.in-Ok.text in
     let host = c.args.host.now in
     let ready = ap (λ (f : Fronted g.row.S.Denot). f.rest) c.self.view_is ∙ c.requires.ready in
-    let is : text ≡ delivery_text c.args.item.now.delivery host = c.in-Ok.ensures ∙ ap (λ d. delivery_text d host) c.delivery.ensures in
-    let whole = ap (λ t. (out ++ frames p (lines rest)) ++ frames p (lines t)) (sym is) ∙ waits_with p out rest text ready in
-    rw (← c.self.view_is) (subst (λ (xs : List ℕ). OnOk c.frame_lines.result (GoesOut g.S.Write.contents a.socket.stream xs c.frame_lines.new.self)) (sym whole) c.frame_lines.ensures.ok)
+    let is : text ≡ delivery_text c.args.item.now.delivery host = c.in-Ok.ensures ∙ ap
+    (λ d. delivery_text d host) c.delivery.ensures in
+    let whole = ap (λ t. (out ++ frames p (lines rest)) ++ frames p (lines t)) (sym is)
+    ∙ waits_with p out rest text ready in
+    rw (← c.self.view_is) (subst (λ (xs : List ℕ). OnOk c.frame_lines.result (GoesOut g.S.Write.contents
+    a.socket.stream xs c.frame_lines.new.self)) (sym whole) c.frame_lines.ensures.ok)

@@ -8,7 +8,8 @@ loop-preserved g c =
     let h = c.in-Ok-Some.ensures in
     let framed = rw c.in-Ok-Some.field-0-is at h.ok in
     record {
-      takes = takes_more g.S.Write.contents c.args.self.now c.loop.self c.frame_line.new.self c.args.text.now c.loop.place c.in-Ok-Some.next i.subprotocol i.rest h.rest i.takes framed;
+      takes = takes_more g.S.Write.contents c.args.self.now c.loop.self c.frame_line.new.self c.args.text.now
+          c.loop.place c.in-Ok-Some.next i.subprotocol i.rest h.rest i.takes framed;
       subprotocol = h.subprotocol ∙ i.subprotocol;
       rest = h.rest;
       is_open = h.stays_open;

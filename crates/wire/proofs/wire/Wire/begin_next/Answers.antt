@@ -8,8 +8,10 @@ use Rattle.wire.proofs.Going.{out_begun, ends_more}
 use Rattle.wire.proofs.wire.Wire.begin_next.Goals as goal
 
 -- the item's text is all that is left
-fresh : (host : List ℕ) (b : Begun) (x : Item) → b.item ≡ x → b.count ≡ 0 → delivery_text x.delivery host ≡ rest_of host (Some b)
-fresh host b x item none = sym (ap (λ (i : Item). delivery_text i.delivery host) item) ∙ sym (ap (λ (n : ℕ). drop n (delivery_text b.item.delivery host)) none)
+fresh : (host : List ℕ) (b : Begun) (x : Item) → b.item ≡ x → b.count ≡ 0 → delivery_text x.delivery host
+    ≡ rest_of host (Some b)
+fresh host b x item none = sym (ap (λ (i : Item). delivery_text i.delivery host) item)
+    ∙ sym (ap (λ (n : ℕ). drop n (delivery_text b.item.delivery host)) none)
 
 pub invariant_of-self-2 : goal.invariant_of-self-2
 invariant_of-self-2 g c =
@@ -24,14 +26,18 @@ invariant_of-self-2 g c =
     let before = g.W.Write.contents a.stream_before.value in
     let since = i.1.since ++ item ∷ [] in
     let b = c.new.result in
-    let text : delivery_text item.delivery a.host ≡ drop b.count (delivery_text b.item.delivery a.host) = fresh a.host b item c.new.ensures.item c.new.ensures.count in (
+    let text : delivery_text item.delivery a.host ≡ drop b.count (delivery_text b.item.delivery a.host) =
+    fresh a.host b item c.new.ensures.item c.new.ensures.count in (
       i.0 ∙ ap (λ n. Some n) (sym (ap (λ w. w.channel) c.in-Ok.ensures.took)),
       record {
         since = since;
         left = drop b.count (delivery_text b.item.delivery a.host);
-        taken = took ∙ ap (λ l. l ++ item ∷ []) i.1.taken ∙ append_assoc a.writer_before.value.taken i.1.since (item ∷ []);
-        out = subst (λ (l : List ℕ). GoesOut before told (texts a.host since) l) text (out_begun a.host i.1.since item before told i.1.left none i.1.out);
+        taken = took ∙ ap (λ l. l ++ item ∷ []) i.1.taken ∙ append_assoc a.writer_before.value.taken i.1.since
+            (item ∷ []);
+        out = subst (λ (l : List ℕ). GoesOut before told (texts a.host since) l) text
+            (out_begun a.host i.1.since item before told i.1.left none i.1.out);
         whole = λ e. refl;
       },
-      λ e. ap ends took ∙ ends_more a.writer.taken item ∙ ap is_last (sym c.delivery.ensures) ∙ sym c.is_last-self-inside.ensures ∙ e,
+      λ e. ap ends took ∙ ends_more a.writer.taken item ∙ ap is_last (sym c.delivery.ensures)
+          ∙ sym c.is_last-self-inside.ensures ∙ e,
     )

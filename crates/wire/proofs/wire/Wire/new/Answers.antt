@@ -10,7 +10,9 @@ invariant_of-result g c =
         since = [];
         left = [];
         taken = sym (append-nil c.of-writer_before.result.value.taken ∙ ap (λ w. w.taken) c.of-writer_before.ensures);
-        out = starts_out (told c.of-stream_before.result.value) (told c.in-Ok-new.out.stream.inner) c.in-Ok-new.out.waiting.items (ap told (c.in-Ok-new.out-1-ensures.0 ∙ sym c.of-stream_before.ensures)) c.in-Ok-new.out-1-ensures.1;
+        out = starts_out (told c.of-stream_before.result.value)
+            (told c.in-Ok-new.out.stream.inner) c.in-Ok-new.out.waiting.items
+            (ap told (c.in-Ok-new.out-1-ensures.0 ∙ sym c.of-stream_before.ensures)) c.in-Ok-new.out-1-ensures.1;
         whole = λ e. refl;
       },
       λ e. absurd (let f : false ≡ true = e in cc),

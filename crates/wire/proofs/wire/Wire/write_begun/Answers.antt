@@ -14,10 +14,18 @@ invariant_of-self-in-Ok g c =
     let before = g.W.Write.contents a.stream_before.value in
     let x = c.in-Some.begun in
     let rest = rest_of lent (Some c.write_rest.new.self) in
-    let out = out_more a.host lent before (known a.out) (known c.write_rest.new.out) i.1.since i.1.left rest a.begun x c.as_slice.ensures c.in-Some.is (i.1.whole whole) i.1.out c.write_rest.ensures.more in
+    let out = out_more a.host lent before (known a.out) (known c.write_rest.new.out) i.1.since i.1.left rest a.begun
+    x c.as_slice.ensures c.in-Some.is (i.1.whole whole) i.1.out c.write_rest.ensures.more in
     let all : rest ≡ [] = c.in-Ok.ensures.whole in (
       i.0,
-      record { since = i.1.since; left = []; taken = i.1.taken; out = subst (λ (l : List ℕ). GoesOut before (known c.write_rest.new.out) (texts a.host i.1.since) l) all out; whole = λ e. refl },
+      record {
+        since = i.1.since;
+        left = [];
+        taken = i.1.taken;
+        out = subst (λ (l : List ℕ). GoesOut before
+            (known c.write_rest.new.out) (texts a.host i.1.since) l) all out;
+        whole = λ e. refl;
+      },
       i.2,
     )
 
@@ -31,9 +39,18 @@ invariant_of-self-in-Err-Later g c =
     let before = g.W.Write.contents a.stream_before.value in
     let x = c.in-Some.begun in
     let y = Some c.write_rest.new.self in
-    let out = out_more a.host lent before (known a.out) (known c.write_rest.new.out) i.1.since i.1.left (rest_of lent y) a.begun x c.as_slice.ensures c.in-Some.is (i.1.whole whole) i.1.out c.write_rest.ensures.more in (
+    let out = out_more a.host lent before (known a.out) (known c.write_rest.new.out) i.1.since i.1.left (rest_of
+    lent y) a.begun x c.as_slice.ensures c.in-Some.is (i.1.whole whole) i.1.out c.write_rest.ensures.more in (
       i.0,
-      record { since = i.1.since; left = rest_of a.host y; taken = i.1.taken; out = subst (λ (host : List ℕ). GoesOut before (known c.write_rest.new.out) (texts a.host i.1.since) (rest_of host y)) c.as_slice.ensures out; whole = λ e. refl },
+      record {
+        since = i.1.since;
+        left = rest_of a.host y;
+        taken = i.1.taken;
+        out = subst
+            (λ (host : List ℕ). GoesOut before (known c.write_rest.new.out) (texts a.host i.1.since) (rest_of host y))
+            c.as_slice.ensures out;
+        whole = λ e. refl;
+      },
       i.2,
     )
 
@@ -52,7 +69,8 @@ invariant_of-self-in-Err-Fault g c =
         since = i.1.since;
         left = rest;
         taken = i.1.taken;
-        out = out_more a.host lent before (known a.out) (known c.write_rest.new.out) i.1.since i.1.left rest a.begun x c.as_slice.ensures c.in-Some.is (i.1.whole whole) i.1.out c.write_rest.ensures.more;
+        out = out_more a.host lent before (known a.out) (known c.write_rest.new.out) i.1.since i.1.left rest a.begun
+            x c.as_slice.ensures c.in-Some.is (i.1.whole whole) i.1.out c.write_rest.ensures.more;
         whole = λ e. absurd (let f : true ≡ false = e in cc);
       },
       i.2,
