@@ -1,5 +1,6 @@
 -- At which moment a record is, and who was shut by it.
-use Rattle.std.proofs.Common.{◌≡◌, ℕ, ℤ, ◌+◌, true, List, [], ◌∷◌, length, All, Option, Some, None, refl, ap, sym, ◌∙◌, subst, add-one}
+use Rattle.std.proofs.Common.{◌≡◌, ℕ, ℤ, ◌+◌, true, List, [], ◌∷◌, length, All, Option}
+use Rattle.std.proofs.Common.{Some, None, refl, ap, sym, ◌∙◌, subst, add-one}
 use Rattle.std.specs.Prelude.{Result, OnOk, OnErr, IfErr}
 use Rattle.chronicle.specs.declared.why.Why.{Why}
 use Rattle.chronicle.specs.declared.record.Kind.{Kind}
@@ -26,7 +27,11 @@ record AreLike (h k : List Rec) : Type 0 where
   count : length k ≡ length h
 
 like_itself : (h k : List Rec) → k ≡ h → AreLike h k
-like_itself h k same = record { moment = ap last_moment same; older = ap older same; count = ap (λ (l : List Rec). length l) same }
+like_itself h k same = record {
+  moment = ap last_moment same;
+  older = ap older same;
+  count = ap (λ (l : List Rec). length l) same;
+}
 
 like_then : (h k l : List Rec) → AreLike h k → AreLike k l → AreLike h l
 like_then h k l a b = record { moment = b.moment ∙ a.moment; older = b.older ∙ a.older; count = b.count ∙ a.count }
@@ -35,55 +40,73 @@ missed_like : (h : List Rec) (t : ℕ) → AreLike h (miss h t)
 missed_like [] t = record { moment = refl; older = refl; count = refl }
 missed_like (r ∷ h) t = record { moment = refl; older = refl; count = refl }
 
-put_next : (m k : Shown Puttings) (ps : List Planned) (step : Option Step) → IsPutNext accepts refuses m ps step k → AreLike m.history k.history
+put_next : (m k : Shown Puttings) (ps : List Planned) (step : Option Step) → IsPutNext accepts refuses m ps step k
+    → AreLike m.history k.history
 put_next m k [] None p = like_itself m.history k.history (ap (λ n. n.history) p)
 put_next m k [] (Some step) p = absurd p
 put_next m k (q ∷ qs) None p = absurd p
 put_next m k (q ∷ qs) (Some (Put t)) p = like_itself m.history k.history (ap (λ n. n.history) p.1.book)
 put_next m k (q ∷ qs) (Some (Missed t)) p =
-    like_then m.history (miss m.history q.session) k.history (missed_like m.history q.session) (like_itself (miss m.history q.session) k.history (ap (λ n. n.history) p.1.book))
+    like_then m.history (miss m.history q.session) k.history (missed_like m.history q.session)
+    (like_itself (miss m.history q.session) k.history (ap (λ n. n.history) p.1.book))
 
 put_all : (m k : Shown Puttings) (ps : List Planned) → IsPutAll accepts refuses m ps k → AreLike m.history k.history
 put_all m k [] p = like_itself m.history k.history (ap (λ n. n.history) p)
-put_all m k (q ∷ qs) p = like_then m.history p.0.history k.history (put_next m p.0 (q ∷ qs) (Some p.1) p.2) (put_all p.0 k qs p.3)
+put_all m k (q ∷ qs) p = like_then m.history p.0.history k.history (put_next m p.0 (q ∷ qs) (Some p.1) p.2)
+    (put_all p.0 k qs p.3)
 
-done_like : (m k : Shown Puttings) (kind : Kind) (moment : ℤ) → IsDone accepts refuses m kind moment k → AreLike (begun m kind moment).history k.history
+done_like : (m k : Shown Puttings) (kind : Kind) (moment : ℤ) → IsDone accepts refuses m kind moment k
+    → AreLike (begun m kind moment).history k.history
 done_like m k kind moment d =
     let b = begun m kind moment in
-    like_then b.history d.0.history k.history (put_all b d.0 (plan_of m.settings m.history kind moment (length m.outboxes)) d.1) (like_itself d.0.history k.history (ap (λ n. n.history) d.2))
+    like_then b.history d.0.history k.history (put_all b d.0 (plan_of m.settings m.history kind moment
+    (length m.outboxes)) d.1) (like_itself d.0.history k.history (ap (λ n. n.history) d.2))
 
 -- a record that was done comes after all before it, at its moment
-pub done_next : (m k : Shown Puttings) (kind : Kind) (moment : ℤ) (front : List Rec) → IsDone accepts refuses m kind moment k → front ≡ k.history → IsNext moment m.history front
+pub done_next : (m k : Shown Puttings) (kind : Kind) (moment : ℤ) (front : List Rec)
+    → IsDone accepts refuses m kind moment k → front ≡ k.history → IsNext moment m.history front
 done_next m k kind moment front d is =
     let like = done_like m k kind moment d in
     record { moment = ap last_moment is ∙ like.moment; older = ap older is ∙ like.older }
 
 -- what is told of a line that was done
-pub done_tells : (m k : Shown Puttings) (kind : Kind) (moment : ℤ) (front : List Rec) (session : ℕ) (d : Done) → IsDone accepts refuses m kind moment k → front ≡ k.history
-    → d.number ≡ length m.history + 1 → d.missed ≡ newest_missed k.history → d.shut ≡ shut k.history session → TellsOf d front session
+pub done_tells : (m k : Shown Puttings) (kind : Kind) (moment : ℤ) (front : List Rec) (session : ℕ) (d : Done)
+    → IsDone accepts refuses m kind moment k → front ≡ k.history
+    → d.number ≡ length m.history + 1 → d.missed ≡ newest_missed k.history → d.shut ≡ shut k.history session
+    → TellsOf d front session
 done_tells m k kind moment front session d done is number missed shut_ = record {
-  number = number ∙ add-one (length m.history) ∙ sym (ap (λ (l : List Rec). length l) is ∙ (done_like m k kind moment done).count);
+  number = number ∙ add-one (length m.history)
+      ∙ sym (ap (λ (l : List Rec). length l) is ∙ (done_like m k kind moment done).count);
   missed = missed ∙ sym (ap newest_missed is);
   shut = shut_ ∙ sym (ap (λ (l : List Rec). shut l session) is);
 }
 
 -- a record at the later of a moment and that of the record before it
-pub at_later : (a moment : ℤ) (h front : List Rec) → IsLater a (last_moment h) moment → IsNext moment h front → IsAt a front
+pub at_later : (a moment : ℤ) (h front : List Rec) → IsLater a (last_moment h) moment → IsNext moment h front
+    → IsAt a front
 at_later a moment h front later next =
-    subst (λ (m : ℤ). IsLater a (last_moment (older front)) m) (sym next.moment) (subst (λ (l : List Rec). IsLater a (last_moment l) moment) (sym next.older) later)
+    subst (λ (m : ℤ). IsLater a (last_moment (older front)) m) (sym next.moment)
+    (subst (λ (l : List Rec). IsLater a (last_moment l) moment) (sym next.older) later)
 
 -- a line that was done at a moment that the clock showed, and whom it shut was shut
-pub seen_to : (shows : ℤ → Type 0) (shuts : ℕ → Type 0) (b : Turn) (clock : ℤ) (d : Done) (session : ℕ) → b.session ≡ session → shows clock → IsAt clock b.front → TellsOf d b.front b.session
+pub seen_to : (shows : ℤ → Type 0) (shuts : ℕ → Type 0) (b : Turn) (clock : ℤ) (d : Done) (session : ℕ)
+    → b.session ≡ session → shows clock → IsAt clock b.front → TellsOf d b.front b.session
     → All shuts d.missed → (d.shut ≡ true → shuts session) → IsSeenTo shows shuts b
 seen_to shows shuts b clock d session whose shown at told missed own = record {
   clock = clock;
   shown = shown;
   moment = at;
-  shut = record { missed = subst (All shuts) told.missed missed; own = λ e. subst shuts (sym whose) (own (told.shut ∙ e)) };
+  shut = record {
+    missed = subst (All shuts) told.missed missed;
+    own = λ e. subst shuts (sym whose) (own (told.shut ∙ e));
+  };
 }
 
 -- what came of ending a session, by what was kept of the hall
-pub hangs_as : (m k old new : Shown Puttings) (s : ℕ) (why : Why) (moment : ℤ) (hung : Result Ended HangRefusal) → old ≡ m → new ≡ k
-    → OnOk hung (IsDone accepts refuses m (Hung s why) moment k) → IfErr hung (λ e. IsHangRefusal m s moment e) → OnErr hung (k ≡ m) → Hangs old new s why moment hung
+pub hangs_as : (m k old new : Shown Puttings) (s : ℕ) (why : Why) (moment : ℤ) (hung : Result Ended HangRefusal)
+    → old ≡ m → new ≡ k
+    → OnOk hung (IsDone accepts refuses m (Hung s why) moment k) → IfErr hung (λ e. IsHangRefusal m s moment e)
+    → OnErr hung (k ≡ m) → Hangs old new s why moment hung
 hangs_as m k old new s why moment hung is becomes ok refusal err =
-    subst (λ (x : Shown Puttings). Hangs x new s why moment hung) (sym is) (subst (λ (y : Shown Puttings). Hangs m y s why moment hung) (sym becomes) (record { ok = ok; refusal = refusal; err = err }))
+    subst (λ (x : Shown Puttings). Hangs x new s why moment hung) (sym is) (subst (λ (y : Shown Puttings). Hangs m y
+    s why moment hung) (sym becomes) (record { ok = ok; refusal = refusal; err = err }))

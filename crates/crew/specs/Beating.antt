@@ -13,7 +13,8 @@ use Rattle.crew.specs.Hanging.{Hangs}
 
 -- a record pings whoever is quiet at this moment, or nobody is; or the cause of the refusal holds, and nothing changed
 pub record Ticks (old new : Shown Puttings) (moment : ℤ) (answer : Result (Option Done) TickRefusal) : Type 0 where
-  pub some : IfOk answer (λ o. IfSome o (λ d. IsDone accepts refuses old Ticked moment new × (d.number ≡ length old.history + 1) × (d.missed ≡ newest_missed new.history)))
+  pub some : IfOk answer (λ o. IfSome o (λ d. IsDone accepts refuses old Ticked moment new
+      × (d.number ≡ length old.history + 1) × (d.missed ≡ newest_missed new.history)))
   pub none : IfOk answer (λ o. o ≡ None → (to_ping old.history moment ≡ []) × (new ≡ old))
   pub refusal : IfErr answer (λ e. IsTickRefusal old moment e)
   pub err : OnErr answer (new ≡ old)

@@ -11,8 +11,8 @@ use Rattle.crew.specs.Timing.{IsAt}
 use Rattle.crew.specs.declared.reading.Next.{Next}
 use Rattle.crew.specs.declared.reading.Next.TheVariants.{More, Short, Nothing, Left, Over}
 
--- what is told of a line is what its record says, which is the newest of this history: its number, who missed it, and whether its own
--- session is shut
+-- what is told of a line is what its record says, which is the newest of this history: its number, who missed it,
+-- and whether its own session is shut
 pub record TellsOf (told : Told) (h : List Rec) (session : ℕ) : Type 0 where
   pub number : told.number ≡ length h
   pub missed : told.missed ≡ newest_missed h
@@ -23,8 +23,8 @@ pub record AreShut (shuts : ℕ → Type 0) (h : List Rec) (session : ℕ) : Typ
   pub missed : All shuts (newest_missed h)
   pub own : shut h session ≡ true → shuts session
 
--- the newest line of a baton was done at a moment that the clock showed, or at that of the record before it where that is later, and
--- whom it shut was shut
+-- the newest line of a baton was done at a moment that the clock showed, or at that of the record before it where
+-- that is later, and whom it shut was shut
 pub record IsSeenTo (shows : ℤ → Type 0) (shuts : ℕ → Type 0) (b : Turn) : Type 0 where
   pub clock : ℤ
   pub shown : shows clock
@@ -54,8 +54,9 @@ pub record Taken : Type 0 where
   pub kept : Option (List ℕ)
   pub pieces : List Piece
 
--- octets come after a stream: of the pieces that an intake had left and those that end in the octets the first were done, in order,
--- after the old ones; where `all` is true the others are left in the intake, in order, and it keeps the unfinished line
+-- octets come after a stream: of the pieces that an intake had left and those that end in the octets the first were
+-- done, in order, after the old ones; where `all` is true the others are left in the intake, in order, and it keeps
+-- the unfinished line
 pub record DoesNext (stream octets : List ℕ) (was now : Taken) (old new : List Piece) (all : Bool) : Type 0 where
   pub pieces : List Piece
   pub adds : lines (stream ++ octets) ≡ lines stream ++ pieces
@@ -64,7 +65,8 @@ pub record DoesNext (stream octets : List ℕ) (was now : Taken) (old new : List
   pub keeps : all ≡ true → now.kept ≡ left_by (stream ++ octets)
 
 -- the next octets of a stream were read, whatever came before, of which the intake kept what was unfinished
-pub record DoesRead (before after : Option (List ℕ)) (was now : Taken) (old new : List Piece) (all : Bool) : Type 0 where
+pub record DoesRead (before after : Option (List ℕ)) (was now : Taken) (old new : List Piece)
+    (all : Bool) : Type 0 where
   pub octets : List ℕ
   pub read : Consumes before after octets
   pub next : (stream : List ℕ) → was.kept ≡ left_by stream → DoesNext stream octets was now old new all

@@ -7,9 +7,10 @@ use Rattle.book.specs.declared.out.Hung.{Hung as Told}
 use Rattle.book.specs.declared.refusals.HangRefusal.{HangRefusal}
 use Rattle.book.specs.Book.{Shown, IsDone, IsHangRefusal}
 
--- the session's end was recorded for this reason at this moment, and told to it or missed; or the cause of the refusal holds, and
--- nothing changed
-pub record Hangs (old new : Shown Puttings) (session : ℕ) (why : Why) (moment : ℤ) (hung : Result Told HangRefusal) : Type 0 where
+-- the session's end was recorded for this reason at this moment, and told to it or missed; or the cause of the
+-- refusal holds, and nothing changed
+pub record Hangs (old new : Shown Puttings) (session : ℕ) (why : Why) (moment : ℤ)
+    (hung : Result Told HangRefusal) : Type 0 where
   pub ok : OnOk hung (IsDone accepts refuses old (Hung session why) moment new)
   pub refusal : IfErr hung (λ e. IsHangRefusal old session moment e)
   pub err : OnErr hung (new ≡ old)

@@ -11,8 +11,8 @@ pub record TakesIn (before after : Option (List ℕ)) (kept now : Option (List �
   pub read : Consumes before after octets
   pub feeds : (stream : List ℕ) → kept ≡ left_by stream → Feeds stream octets now [] pieces
 
--- of the pieces of an intake the first were done, in order, after the old ones; where `all` is true the others are left in it, in
--- order. What is unfinished stays as it was
+-- of the pieces of an intake the first were done, in order, after the old ones; where `all` is true the others are
+-- left in it, in order. What is unfinished stays as it was
 pub record DoesPieces (was now : Taken) (old new : List Piece) (all : Bool) : Type 0 where
   pub front : DoesFront old new was.pieces
   pub leaves : all ≡ true → now.pieces ≡ front.left

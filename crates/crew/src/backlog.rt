@@ -1,7 +1,7 @@
 //! What waits to be written for a session.
 
-/// What waits to be written for a session. A clause that says that it was found to be much says that a call of it answered so: it may
-/// be less by now.
+/// What waits to be written for a session. A clause that says that it was found to be much says that a call of it
+/// answered so: it may be less by now.
 pub trait Backlog {
     ghost use Rattle.std.specs.Prelude.{◌≡◌, true};
 

@@ -22,8 +22,8 @@ pub struct Ticked<L: Naming, R: Wait + Drop> {
     pub after: Snapshot<Hall<L, Sender<R>>>,
 }
 
-/// The session that was late at a moment, if there was one, and what came of ending it, with the hall before that and after it, which
-/// exist for clauses alone.
+/// The session that was late at a moment, if there was one, and what came of ending it, with the hall before that
+/// and after it, which exist for clauses alone.
 #[derive(Drop)]
 pub struct Late<L: Naming, R: Wait + Drop> {
     pub ended: Option<(SessionId, Result<Hung, HangRefusal>)>,
@@ -60,7 +60,8 @@ fn tick_once<L: Naming, R: Wait + Drop>(
     }
 }
 
-/// Ticks in the hall at this moment. Where its journal has no room for the record, that is rolled, and the tick is tried again.
+/// Ticks in the hall at this moment. Where its journal has no room for the record, that is rolled, and the tick is
+/// tried again.
 fn tick_or_roll<L: Naming, R: Wait + Drop, S: Sockets>(
     sockets: &S,
     hall: &mut Hall<L, Sender<R>>,
@@ -101,19 +102,21 @@ fn tick_in<L: Naming, R: Wait + Drop, S: Sockets>(
     ticked
 }
 
-/// Pings whoever is quiet for long enough and wasn't pinged since it was heard of, by one record, and shuts whoever missed that. Where
-/// the journal has no room for it, that is rolled first. Who got something is added to `told`.
+/// Pings whoever is quiet for long enough and wasn't pinged since it was heard of, by one record, and shuts whoever
+/// missed that. Where the journal has no room for it, that is rolled first. Who got something is added to `told`.
 ///
-/// The answer tells what came of it in the server's hall, at a moment that the clock showed or at that of the newest record where that
-/// is later: the record; that nobody was to be pinged; or why there is none.
+/// The answer tells what came of it in the server's hall, at a moment that the clock showed or at that of the newest
+/// record where that is later: the record; that nobody was to be pinged; or why there is none.
 pub fn tick<L: Naming, R: Wait + Drop, G: Gate, S: Sockets, C: Clock>(
     rt: &R,
     server: &Server<'_, L, R, G, S, C>,
     told: &mut Told,
 ) -> Ticked<L, R>
     ensures ticks { Ticks result.before.value result.after.value result.moment result.answer }
-    ensures moment { (t : ℤ) × C.shows server.now.clock.now t × IsLater t (last_moment result.before.value.history) result.moment }
-    ensures shut { IfOk result.answer (λ o. IfSome o (λ d. All (S.shuts server.now.sockets.now) d.missed)) }
+    ensures moment { (t : ℤ) × C.shows server.now.clock.now t
+        × IsLater t (last_moment result.before.value.history) result.moment }
+    ensures shut { IfOk result.answer
+        (λ o. IfSome o (λ d. All (S.shuts server.now.sockets.now) d.missed)) }
 {
     let moment = server.clock.now();
     let ticked = tick_in(server.sockets, &mut *server.hall.lock(rt), moment, told);
@@ -124,8 +127,8 @@ pub fn tick<L: Naming, R: Wait + Drop, G: Gate, S: Sockets, C: Clock>(
     ticked
 }
 
-/// Ends the late session of the lowest number in the hall, if there is one, at this moment or at that of the newest record where that is
-/// later, and adds who got something.
+/// Ends the late session of the lowest number in the hall, if there is one, at this moment or at that of the newest
+/// record where that is later, and adds who got something.
 fn hang_late_in<L: Naming, R: Wait + Drop>(
     hall: &mut Hall<L, Sender<R>>,
     moment: Moment,
@@ -152,18 +155,19 @@ fn hang_late_in<L: Naming, R: Wait + Drop>(
     }
 }
 
-/// Ends the session of the lowest number that is quiet for too long, if there is one, and shuts its connection. Who got something is
-/// added to `told`.
+/// Ends the session of the lowest number that is quiet for too long, if there is one, and shuts its connection. Who
+/// got something is added to `told`.
 ///
-/// The answer tells what came of it in the server's hall, at a moment that the clock showed or at that of the newest record where that
-/// is later.
+/// The answer tells what came of it in the server's hall, at a moment that the clock showed or at that of the newest
+/// record where that is later.
 pub fn hang_late<L: Naming, R: Wait + Drop, G: Gate, S: Sockets, C: Clock>(
     rt: &R,
     server: &Server<'_, L, R, G, S, C>,
     told: &mut Told,
 ) -> Late<L, R>
     ensures hangs { HangsLate result.before.value result.after.value result.moment result.ended }
-    ensures moment { (t : ℤ) × C.shows server.now.clock.now t × IsLater t (last_moment result.before.value.history) result.moment }
+    ensures moment { (t : ℤ) × C.shows server.now.clock.now t
+        × IsLater t (last_moment result.before.value.history) result.moment }
     ensures shut { IfSome result.ended (λ e. OnOk e.1 (S.shuts server.now.sockets.now e.0)) }
 {
     let moment = server.clock.now();
@@ -175,7 +179,8 @@ pub fn hang_late<L: Naming, R: Wait + Drop, G: Gate, S: Sockets, C: Clock>(
     late
 }
 
-/// Ends one session after another that is quiet for too long, each under a hold of the lock of its own, until nobody is.
+/// Ends one session after another that is quiet for too long, each under a hold of the lock of its own, until nobody
+/// is.
 fn hang_all_late<L: Naming, R: Wait + Drop, G: Gate, S: Sockets, C: Clock>(
     rt: &R,
     server: &Server<'_, L, R, G, S, C>,
@@ -193,8 +198,8 @@ fn hang_all_late<L: Naming, R: Wait + Drop, G: Gate, S: Sockets, C: Clock>(
     unreachable!()
 }
 
-/// Pings whoever is quiet for long enough, then ends whoever is quiet for too long, and tells who got something. A tick that is refused
-/// waits for the next beat, and nobody is ended then.
+/// Pings whoever is quiet for long enough, then ends whoever is quiet for too long, and tells who got something. A
+/// tick that is refused waits for the next beat, and nobody is ended then.
 ///
 /// After a tick that wasn't refused, the last look found nobody who is late; or ending somebody was refused.
 pub fn beat<L: Naming, R: Wait + Drop, G: Gate, S: Sockets, C: Clock>(
@@ -202,9 +207,12 @@ pub fn beat<L: Naming, R: Wait + Drop, G: Gate, S: Sockets, C: Clock>(
     server: &Server<'_, L, R, G, S, C>,
     told: &mut Told,
 ) -> Beaten<L, R>
-    ensures ticks { Ticks result.ticked.before.value result.ticked.after.value result.ticked.moment result.ticked.answer }
-    ensures shut { IfOk result.ticked.answer (λ o. IfSome o (λ d. All (S.shuts server.now.sockets.now) d.missed)) }
-    ensures late { OnOk result.ticked.answer (IsSomeAnd result.last (λ l. HangsLate l.before.value l.after.value l.moment l.ended × IsLast l.ended)) }
+    ensures ticks { Ticks result.ticked.before.value result.ticked.after.value result.ticked.moment
+        result.ticked.answer }
+    ensures shut { IfOk result.ticked.answer
+        (λ o. IfSome o (λ d. All (S.shuts server.now.sockets.now) d.missed)) }
+    ensures late { OnOk result.ticked.answer (IsSomeAnd result.last
+        (λ l. HangsLate l.before.value l.after.value l.moment l.ended × IsLast l.ended)) }
     ensures refused { OnErr result.ticked.answer (result.last ≡ None) }
 {
     let ticked = tick(rt, server, told);

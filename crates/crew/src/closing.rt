@@ -47,9 +47,9 @@ fn sweep_all<L: Naming, R: Wait + Drop, G: Gate, S: Sockets, C: Clock>(
     tell(server, told);
 }
 
-/// Sweeps all who are shut, and gives a session up with its tokens, which are all of that session. It waits for nothing but the lock:
-/// where the session isn't gone yet, or memory was wanting, the tokens come back, to be tried with again. Who got something stands in
-/// `told` then, or was told.
+/// Sweeps all who are shut, and gives a session up with its tokens, which are all of that session. It waits for
+/// nothing but the lock: where the session isn't gone yet, or memory was wanting, the tokens come back, to be tried
+/// with again. Who got something stands in `told` then, or was told.
 ///
 /// What comes back is of the baton's session, which so was swept and reaped; or the tokens are those that were given.
 pub fn close_now<L: Naming, R: Wait + Drop, G: Gate, S: Sockets, C: Clock>(
@@ -63,7 +63,8 @@ pub fn close_now<L: Naming, R: Wait + Drop, G: Gate, S: Sockets, C: Clock>(
     requires one { stub.session ≡ baton.session }
     requires own { stub.outbox ≡ Some writer.channel }
     ensures session { IfOk result (λ left. left.session ≡ baton.session) }
-    ensures back { IfErr result (λ tokens. (tokens.0 ≡ baton) × (tokens.1 ≡ stub) × (tokens.2 ≡ writer)) }
+    ensures back { IfErr result
+        (λ tokens. (tokens.0 ≡ baton) × (tokens.1 ≡ stub) × (tokens.2 ≡ writer)) }
 {
     sweep_all(rt, server, told);
     match server.hall.lock(rt).reap(baton, stub, writer) {
@@ -72,8 +73,8 @@ pub fn close_now<L: Naming, R: Wait + Drop, G: Gate, S: Sockets, C: Clock>(
     }
 }
 
-/// Sweeps all who are shut, and gives a session up with its tokens, which are all of that session. Where it isn't gone yet, or
-/// memory was wanting, it pauses and tries again.
+/// Sweeps all who are shut, and gives a session up with its tokens, which are all of that session. Where it isn't
+/// gone yet, or memory was wanting, it pauses and tries again.
 ///
 /// What comes back is of the baton's session, which so was swept and reaped.
 pub fn close_up<L: Naming, R: Wait + Drop, G: Gate, S: Sockets, C: Clock>(

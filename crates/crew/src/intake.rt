@@ -1,5 +1,6 @@
 //! What is read of a session's input.
-ghost use Rattle.std.specs.Prelude.{◌≡◌, ◌≤◌, ◌↔◌, ℕ, List, [], length, drop, true, false, None, OnOk, OnErr, IfOk, IfErr};
+ghost use Rattle.std.specs.Prelude.{◌≡◌, ◌≤◌, ◌↔◌, ℕ, List, [], length, drop, true};
+ghost use Rattle.std.specs.Prelude.{false, None, OnOk, OnErr, IfOk, IfErr};
 ghost use Rattle.std.specs.Io.KnownBytes.{Consumes};
 ghost use Rattle.line_grammar.specs.Lines.{left_by};
 ghost use Rattle.crew.specs.Taking.{TakesIn};
@@ -19,8 +20,9 @@ const MUCH: usize = 4096;
 /// Lines of one read for which room is kept.
 const LINES: usize = 16;
 
-/// What is read of a session's input and isn't done: the lines of the last read, of which some may be left, the unfinished line, and
-/// room for what is read: for much after a read that filled the room, and for little again after one that brought little.
+/// What is read of a session's input and isn't done: the lines of the last read, of which some may be left, the
+/// unfinished line, and room for what is read: for much after a read that filled the room, and for little again
+/// after one that brought little.
 #[derive(Drop)]
 pub struct Intake {
     splitter: Splitter,
@@ -102,7 +104,8 @@ impl Intake {
         self.buffer.len() <= self.last
     }
 
-    /// Makes room for the next read, by how much the last one brought. Where more room is refused there is as much as before.
+    /// Makes room for the next read, by how much the last one brought. Where more room is refused there is as much
+    /// as before.
     fn make_room(&mut self)
         ensures { self.new.kept ≡ self.old.kept }
     {
@@ -116,11 +119,14 @@ impl Intake {
 
     /// Reads once, and cuts what that brings into lines, which stand in place of those before.
     pub(crate) fn take_in<I: Read>(&mut self, input: &mut I) -> Result<(), Ending>
-        ensures ok { OnOk result (TakesIn (I.remaining input.old) (I.remaining input.new) self.old.kept self.new.kept self.new.pieces) }
-        ensures all { IfErr result (λ e. e.all ≡ true → TakesIn (I.remaining input.old) (I.remaining input.new) self.old.kept self.new.kept []) }
+        ensures ok { OnOk result (TakesIn (I.remaining input.old)
+            (I.remaining input.new) self.old.kept self.new.kept self.new.pieces) }
+        ensures all { IfErr result (λ e. e.all ≡ true → TakesIn (I.remaining input.old)
+            (I.remaining input.new) self.old.kept self.new.kept []) }
         ensures nothing { IfErr result (λ e. e.why ≡ None → e.all ≡ true) }
         ensures none { OnErr result (self.new.pieces ≡ []) }
-        ensures some { OnErr result ((octets : List ℕ) × Consumes (I.remaining input.old) (I.remaining input.new) octets) }
+        ensures some { OnErr result ((octets : List ℕ)
+            × Consumes (I.remaining input.old) (I.remaining input.new) octets) }
     {
         self.make_room();
         self.done = 0;

@@ -21,9 +21,10 @@ pub struct Pumped<L: Naming, W: Write + Drop> {
     pub after: Snapshot<Wire<L, W>>,
 }
 
-/// A session's wire, on which whoever put something into the session's outbox writes at once. No call waits for another that
-/// writes: it leaves word instead, and the other writes once more. A stream that didn't take all is left alone until it is told to
-/// take more (`go_on`). `checks/outlet` tries the three flags over all interleavings of a small model.
+/// A session's wire, on which whoever put something into the session's outbox writes at once. No call waits for
+/// another that writes: it leaves word instead, and the other writes once more. A stream that didn't take all is
+/// left alone until it is told to take more (`go_on`). `checks/outlet` tries the three flags over all interleavings
+/// of a small model.
 #[derive(Drop)]
 pub struct Outlet<L: Naming, W: Write + Drop> {
     wire: Mutex<Option<Wire<L, W>>>,
@@ -51,8 +52,9 @@ impl<L: Naming, W: Write + Drop> Outlet<L, W> {
         *self.wire.lock(rt) = Some(wire);
     }
 
-    /// Writes what waits, as far as the stream takes it, and answers what came of that; or `None` where another thread writes, which so
-    /// writes once more, where there is no wire, or where the stream didn't take all before: then nothing is tried.
+    /// Writes what waits, as far as the stream takes it, and answers what came of that; or `None` where another
+    /// thread writes, which so writes once more, where there is no wire, or where the stream didn't take all before:
+    /// then nothing is tried.
     pub fn write_now<R: Wait>(&self, rt: &R) -> Option<Pumped<L, W>>
         ensures { IfSome result (λ p. Pumps p.before.value p.after.value p.session p.flow) }
     {
@@ -62,7 +64,8 @@ impl<L: Naming, W: Write + Drop> Outlet<L, W> {
         self.write(rt)
     }
 
-    /// The stream takes more: writes what waits, if it didn't take all before, or if a write is under way that may find so.
+    /// The stream takes more: writes what waits, if it didn't take all before, or if a write is under way that may
+    /// find so.
     pub fn go_on<R: Wait>(&self, rt: &R) -> Option<Pumped<L, W>>
         ensures { IfSome result (λ p. Pumps p.before.value p.after.value p.session p.flow) }
     {
@@ -121,8 +124,9 @@ impl<L: Naming, W: Write + Drop> Outlet<L, W> {
         }
     }
 
-    /// Ends the outlet of a session, and gives back its wire, which tells what went out (`Wire::in_step`), and from which its writer
-    /// and its stub come back. It answers `None` where it has no wire, or another session's, which it then keeps.
+    /// Ends the outlet of a session, and gives back its wire, which tells what went out (`Wire::in_step`), and from
+    /// which its writer and its stub come back. It answers `None` where it has no wire, or another session's, which
+    /// it then keeps.
     pub fn end<R: Wait>(&self, rt: &R, session: SessionId) -> Option<Wire<L, W>>
         ensures { IfSome result (λ wire. wire.session ≡ session) }
     {

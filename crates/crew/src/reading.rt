@@ -40,8 +40,8 @@ pub struct Took<L: Naming, R: Wait + Drop> {
     pub next: Next,
 }
 
-/// Has the lines done that the intake has, until one is refused or much waits for the session. `then` says how reading goes on where
-/// all were.
+/// Has the lines done that the intake has, until one is refused or much waits for the session. `then` says how
+/// reading goes on where all were.
 fn do_lines<'a, L: Naming, R: Wait + Drop, G: Gate, S: Sockets, C: Clock, B: Backlog>(
     rt: &R,
     server: &Server<'a, L, R, G, S, C>,
@@ -70,7 +70,8 @@ fn do_lines<'a, L: Naming, R: Wait + Drop, G: Gate, S: Sockets, C: Clock, B: Bac
     Took { baton, all, next }
 }
 
-/// Does the lines that are left or reads once, as `read_some` does, and has the lines done under a slot where there is a desk.
+/// Does the lines that are left or reads once, as `read_some` does, and has the lines done under a slot where there
+/// is a desk.
 fn read_by<'a, L: Naming, I: Read, R: Wait + Drop, G: Gate, S: Sockets, C: Clock, B: Backlog>(
     rt: &R,
     server: &Server<'a, L, R, G, S, C>,
@@ -81,7 +82,8 @@ fn read_by<'a, L: Naming, I: Read, R: Wait + Drop, G: Gate, S: Sockets, C: Clock
     input: &mut I,
     told: &mut Told,
 ) -> Took<L, R>
-    ensures lines { DoesRead (I.remaining input.old) (I.remaining input.new) intake.old intake.new baton.pieces result.baton.pieces result.all }
+    ensures lines { DoesRead (I.remaining input.old)
+        (I.remaining input.new) intake.old intake.new baton.pieces result.baton.pieces result.all }
     ensures goes_on { is_over result.next ≡ false → result.all ≡ true }
     ensures none_left { result.all ≡ true → is_left result.next ≡ false → intake.new.pieces ≡ [] }
     ensures much { is_left result.next ≡ true → B.finds_much backlog.now }
@@ -116,14 +118,16 @@ fn read_by<'a, L: Naming, I: Read, R: Wait + Drop, G: Gate, S: Sockets, C: Clock
     do_lines(rt, server, desk, backlog, intake, baton, then, told)
 }
 
-/// Has the lines done that the intake has left, if there are any, and else reads once and has the lines done that end in what that
-/// brings, as `work` does, but without a slot: the caller is one of the server's workers. While much waits for the session, by its
-/// backlog, nothing is read and no further line is done: `Next::Left`; before that, all who got something are told. Else who got
-/// something stands in `told`, as after `work`. A stream that has nothing now is no fault: `Next::Nothing`.
+/// Has the lines done that the intake has left, if there are any, and else reads once and has the lines done that
+/// end in what that brings, as `work` does, but without a slot: the caller is one of the server's workers. While
+/// much waits for the session, by its backlog, nothing is read and no further line is done: `Next::Left`; before
+/// that, all who got something are told. Else who got something stands in `told`, as after `work`. A stream that has
+/// nothing now is no fault: `Next::Nothing`.
 ///
-/// Whatever stream came before, of which the intake kept what is unfinished: of the lines that were left in the intake, and then of
-/// those that end in the octets that were read, the first were done with the baton that comes back, in order. Where `all` is true,
-/// which it is where reading goes on, the others are left in the intake, in order, and there are none unless much was found to wait.
+/// Whatever stream came before, of which the intake kept what is unfinished: of the lines that were left in the
+/// intake, and then of those that end in the octets that were read, the first were done with the baton that comes
+/// back, in order. Where `all` is true, which it is where reading goes on, the others are left in the intake, in
+/// order, and there are none unless much was found to wait.
 pub fn read_some<L: Naming, I: Read, B: Backlog, R: Wait + Drop, G: Gate, S: Sockets, C: Clock>(
     rt: &R,
     server: &Server<'_, L, R, G, S, C>,
@@ -133,7 +137,8 @@ pub fn read_some<L: Naming, I: Read, B: Backlog, R: Wait + Drop, G: Gate, S: Soc
     input: &mut I,
     told: &mut Told,
 ) -> Took<L, R>
-    ensures lines { DoesRead (I.remaining input.old) (I.remaining input.new) intake.old intake.new baton.pieces result.baton.pieces result.all }
+    ensures lines { DoesRead (I.remaining input.old)
+        (I.remaining input.new) intake.old intake.new baton.pieces result.baton.pieces result.all }
     ensures goes_on { is_over result.next ≡ false → result.all ≡ true }
     ensures none_left { result.all ≡ true → is_left result.next ≡ false → intake.new.pieces ≡ [] }
     ensures much { is_left result.next ≡ true → B.finds_much backlog.now }
@@ -149,8 +154,8 @@ fn rest_after<S: Sockets>(sockets: &S, next: Next) {
     }
 }
 
-/// Has lines done as they come, until no more come, one is refused or the session is shut. It answers why the session is ended
-/// then, if it is still open.
+/// Has lines done as they come, until no more come, one is refused or the session is shut. It answers why the
+/// session is ended then, if it is still open.
 fn read_lines<'a, L: Naming, I: Read, R: Wait + Drop, G: Gate, S: Sockets, C: Clock>(
     rt: &R,
     alloc: Global,
@@ -160,7 +165,8 @@ fn read_lines<'a, L: Naming, I: Read, R: Wait + Drop, G: Gate, S: Sockets, C: Cl
     input: &mut I,
     told: &mut Told,
 ) -> (Worked<L, R>, Why)
-    ensures lines { DoesLines (I.remaining input.old) (I.remaining input.new) baton.pieces result.0.baton.pieces result.0.all }
+    ensures lines { DoesLines (I.remaining input.old)
+        (I.remaining input.new) baton.pieces result.0.baton.pieces result.0.all }
     ensures session { result.0.baton.session ≡ baton.session }
 {
     let session = baton.session();
@@ -198,12 +204,12 @@ fn read_lines<'a, L: Naming, I: Read, R: Wait + Drop, G: Gate, S: Sockets, C: Cl
     (Worked { baton, all: true }, Why::ReadFailed)
 }
 
-/// Reads a session's lines and has them done by `work`, until its input ends or fails, a line isn't done, or the session is shut. It
-/// pauses where nothing is there now. Then the session, where it is still open, is ended: with ReadEnded where its input ended, with
-/// Memory where memory was wanting, else with ReadFailed.
+/// Reads a session's lines and has them done by `work`, until its input ends or fails, a line isn't done, or the
+/// session is shut. It pauses where nothing is there now. Then the session, where it is still open, is ended: with
+/// ReadEnded where its input ended, with Memory where memory was wanting, else with ReadFailed.
 ///
-/// The pieces done with the baton that comes back are those done before, then the first of the lines that end in the octets that
-/// were read, in order; all of them where `all` is true.
+/// The pieces done with the baton that comes back are those done before, then the first of the lines that end in the
+/// octets that were read, in order; all of them where `all` is true.
 pub fn read_on<'a, L: Naming, I: Read, R: Wait + Drop, G: Gate, S: Sockets, C: Clock>(
     rt: &R,
     alloc: Global,
@@ -212,7 +218,8 @@ pub fn read_on<'a, L: Naming, I: Read, R: Wait + Drop, G: Gate, S: Sockets, C: C
     baton: Baton<L, Sender<R>>,
     input: &mut I,
 ) -> Worked<L, R>
-    ensures lines { DoesLines (I.remaining input.old) (I.remaining input.new) baton.pieces result.baton.pieces result.all }
+    ensures lines { DoesLines (I.remaining input.old)
+        (I.remaining input.new) baton.pieces result.baton.pieces result.all }
     ensures session { result.baton.session ≡ baton.session }
 {
     let session = baton.session();

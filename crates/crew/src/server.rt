@@ -16,8 +16,9 @@ pub trait Gate {
     fn leave(&self, session: SessionId);
 }
 
-/// The connections of a server's sessions. A clause that says that a session was shut, that those on a list were told, or that the
-/// server was asked to stop, says that this was called for them. What the call does is for its implementation to say.
+/// The connections of a server's sessions. A clause that says that a session was shut, that those on a list were
+/// told, or that the server was asked to stop, says that this was called for them. What the call does is for its
+/// implementation to say.
 pub trait Sockets {
     ghost use Rattle.std.specs.Prelude.{◌≡◌, ℕ, true};
     ghost use Rattle.hall.specs.Telling.{Telling};

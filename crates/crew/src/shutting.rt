@@ -12,8 +12,8 @@ use hall::{Done, Hall, HangRefusal, Hung, LineRefusal, Naming, Told};
 use outbox::Sender;
 use std::sync::Wait;
 
-/// What came of ending a session, with the hall before that and after it, which exist for clauses alone: there is one hall for all
-/// that `L` names, so it is the server's.
+/// What came of ending a session, with the hall before that and after it, which exist for clauses alone: there is
+/// one hall for all that `L` names, so it is the server's.
 #[derive(Drop)]
 pub struct Ending<L: Naming, R: Wait + Drop> {
     pub hung: Result<Hung, HangRefusal>,
@@ -30,7 +30,8 @@ pub(crate) fn hang_at<L: Naming, R: Wait + Drop>(
     moment: Moment,
     told: &mut Told,
 ) -> Ending<L, R>
-    ensures hangs { Hangs result.before.value result.after.value session why result.moment result.hung }
+    ensures hangs { Hangs result.before.value result.after.value session why
+        result.moment result.hung }
     ensures moment { result.moment ≡ moment }
     ensures before { result.before.value ≡ hall.old }
 {
@@ -48,7 +49,8 @@ pub(crate) fn hang_at<L: Naming, R: Wait + Drop>(
     }
 }
 
-/// Ends a session in the hall, at this moment or at that of the newest record where that is later, and adds who got something.
+/// Ends a session in the hall, at this moment or at that of the newest record where that is later, and adds who got
+/// something.
 fn hang_in<L: Naming, R: Wait + Drop>(
     hall: &mut Hall<L, Sender<R>>,
     session: SessionId,
@@ -56,7 +58,8 @@ fn hang_in<L: Naming, R: Wait + Drop>(
     moment: Moment,
     told: &mut Told,
 ) -> Ending<L, R>
-    ensures hangs { Hangs result.before.value result.after.value session why result.moment result.hung }
+    ensures hangs { Hangs result.before.value result.after.value session why
+        result.moment result.hung }
     ensures moment { IsLater moment (last_moment result.before.value.history) result.moment }
 {
     let moment = later(moment, hall.last_moment());
@@ -65,8 +68,8 @@ fn hang_in<L: Naming, R: Wait + Drop>(
 
 /// Ends a session for a reason, where it is open, and shuts its connection. Who got something is added to `told`.
 ///
-/// The answer tells what came of it in the server's hall: the record that ends the session, at a moment that the clock showed or at
-/// that of the newest record where that is later; or why there is none.
+/// The answer tells what came of it in the server's hall: the record that ends the session, at a moment that the
+/// clock showed or at that of the newest record where that is later; or why there is none.
 pub fn hang<L: Naming, R: Wait + Drop, G: Gate, S: Sockets, C: Clock>(
     rt: &R,
     server: &Server<'_, L, R, G, S, C>,
@@ -74,8 +77,10 @@ pub fn hang<L: Naming, R: Wait + Drop, G: Gate, S: Sockets, C: Clock>(
     why: Why,
     told: &mut Told,
 ) -> Ending<L, R>
-    ensures hangs { Hangs result.before.value result.after.value session why result.moment result.hung }
-    ensures moment { (t : ℤ) × C.shows server.now.clock.now t × IsLater t (last_moment result.before.value.history) result.moment }
+    ensures hangs { Hangs result.before.value result.after.value session why
+        result.moment result.hung }
+    ensures moment { (t : ℤ) × C.shows server.now.clock.now t
+        × IsLater t (last_moment result.before.value.history) result.moment }
     ensures shut { OnOk result.hung (S.shuts server.now.sockets.now session) }
 {
     let moment = server.clock.now();
@@ -111,8 +116,8 @@ pub(crate) fn shut_those<S: Sockets>(sockets: &S, session: SessionId, done: &Don
     sockets.shut(session);
 }
 
-/// Ends a session whose line was refused for want of memory, or of room for its record: then the server is asked to stop, too. It
-/// answers what came of that.
+/// Ends a session whose line was refused for want of memory, or of room for its record: then the server is asked to
+/// stop, too. It answers what came of that.
 pub(crate) fn end_refused<L: Naming, R: Wait + Drop, G: Gate, S: Sockets, C: Clock>(
     rt: &R,
     server: &Server<'_, L, R, G, S, C>,
@@ -120,8 +125,10 @@ pub(crate) fn end_refused<L: Naming, R: Wait + Drop, G: Gate, S: Sockets, C: Clo
     refusal: LineRefusal,
     told: &mut Told,
 ) -> Option<Ending<L, R>>
-    ensures memory { refusal ≡ LineRefusal.Memory → IsSomeAnd result (λ e. Hangs e.before.value e.after.value session Why.Memory e.moment e.hung) }
-    ensures full { refusal ≡ LineRefusal.JournalFull → IsSomeAnd result (λ e. Hangs e.before.value e.after.value session Why.Shutdown e.moment e.hung) }
+    ensures memory { refusal ≡ LineRefusal.Memory → IsSomeAnd result
+        (λ e. Hangs e.before.value e.after.value session Why.Memory e.moment e.hung) }
+    ensures full { refusal ≡ LineRefusal.JournalFull → IsSomeAnd result
+        (λ e. Hangs e.before.value e.after.value session Why.Shutdown e.moment e.hung) }
     ensures stops { refusal ≡ LineRefusal.JournalFull → S.stops server.now.sockets.now }
 {
     match refusal {

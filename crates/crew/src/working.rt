@@ -62,8 +62,9 @@ const LOOKS: u32 = 50;
 /// Pauses of the processor between two looks.
 const PAUSES: u32 = 8;
 
-/// Takes the lock of the hall. It looks for a while whether it is free before it sleeps until it is, since a line is done in less
-/// time than it takes to wake a thread, and only as many threads as there are workers ask for the lock at a time.
+/// Takes the lock of the hall. It looks for a while whether it is free before it sleeps until it is, since a line is
+/// done in less time than it takes to wake a thread, and only as many threads as there are workers ask for the lock
+/// at a time.
 fn lock_soon<'a, L: Naming, R: Wait + Drop>(
     rt: &R,
     hall: &'a Mutex<Hall<L, Sender<R>>>,
@@ -138,8 +139,8 @@ fn line_first<L: Naming, R: Wait + Drop>(
     }
 }
 
-/// Does a line in the hall. Where its journal has no room for it, that is rolled, and the line is read and tried again: nobody else
-/// takes the room, since the hall is held.
+/// Does a line in the hall. Where its journal has no room for it, that is rolled, and the line is read and tried
+/// again: nobody else takes the room, since the hall is held.
 fn line_or_roll<L: Naming, R: Wait + Drop>(
     hall: &mut Hall<L, Sender<R>>,
     baton: &mut Baton<L, Sender<R>>,
@@ -208,12 +209,12 @@ fn line_in<L: Naming, R: Wait + Drop>(
     done
 }
 
-/// Does a line, at this moment or at that of the newest record where that is later. Where the journal has no room for it, that is
-/// rolled first. It adds to `told` who got something, for whom what waits is still to be written.
+/// Does a line, at this moment or at that of the newest record where that is later. Where the journal has no room
+/// for it, that is rolled first. It adds to `told` who got something, for whom what waits is still to be written.
 ///
-/// Where the line was done, its piece is the newest of those done with the baton that comes back. Where it was refused, the baton
-/// is the one that was given, unchanged. What is told of a line that was done, and its moment, is what its own record says, which is
-/// the newest of the history that the baton shows.
+/// Where the line was done, its piece is the newest of those done with the baton that comes back. Where it was
+/// refused, the baton is the one that was given, unchanged. What is told of a line that was done, and its moment, is
+/// what its own record says, which is the newest of the history that the baton shows.
 pub fn work_one<L: Naming, R: Wait + Drop, G: Gate>(
     rt: &R,
     hall: &Mutex<Hall<L, Sender<R>>>,
@@ -275,7 +276,8 @@ fn line_told<L: Naming, R: Wait + Drop, S: Sockets>(
     done
 }
 
-/// The hall while a thread has it, from one line of a session to the next, and the slot under which it has it, where it needs one.
+/// The hall while a thread has it, from one line of a session to the next, and the slot under which it has it, where
+/// it needs one.
 #[derive(Drop)]
 struct Held<'a, L: Naming, R: Wait + Drop> {
     desk: Option<&'a Desk>,
@@ -356,7 +358,8 @@ impl<'a, L: Naming, R: Wait + Drop> Held<'a, L, R> {
         done
     }
 
-    /// Reads more of these pieces, of which the first are read, as many as may be done in one hold, where the thread hasn't the hall.
+    /// Reads more of these pieces, of which the first are read, as many as may be done in one hold, where the thread
+    /// hasn't the hall.
     fn read_ahead(&self, ahead: &mut Ahead, pieces: &[Piece], burst: usize)
         requires { IsFront ahead.old pieces.now }
         ensures { IsFront ahead.new pieces.now }
@@ -402,8 +405,8 @@ impl<'a, L: Naming, R: Wait + Drop> Held<'a, L, R> {
         }
     }
 
-    /// Whether much waits for the session. Where it does, this gives the hall and the slot back, has all told who got something, by
-    /// which what waits is written as far as the stream takes it, and looks again.
+    /// Whether much waits for the session. Where it does, this gives the hall and the slot back, has all told who
+    /// got something, by which what waits is written as far as the stream takes it, and looks again.
     fn finds_much<G: Gate, S: Sockets, C: Clock, B: Backlog>(
         &mut self,
         rt: &R,
@@ -424,8 +427,9 @@ impl<'a, L: Naming, R: Wait + Drop> Held<'a, L, R> {
     }
 }
 
-/// Does one piece, as it was read before, where it was, in the hall that is held or that it takes, and answers whether it was done.
-/// Where the line shut somebody, many are to be told, or it was refused, it gives the hall and the slot back and sees to that.
+/// Does one piece, as it was read before, where it was, in the hall that is held or that it takes, and answers
+/// whether it was done. Where the line shut somebody, many are to be told, or it was refused, it gives the hall and
+/// the slot back and sees to that.
 fn work_next<'a, L: Naming, R: Wait + Drop, G: Gate, S: Sockets, C: Clock>(
     rt: &R,
     server: &Server<'a, L, R, G, S, C>,
@@ -440,7 +444,8 @@ fn work_next<'a, L: Naming, R: Wait + Drop, G: Gate, S: Sockets, C: Clock>(
     ensures done { result ≡ true → baton.new.pieces ≡ baton.old.pieces ++ piece.now ∷ [] }
     ensures not_done { result ≡ false → baton.new ≡ baton.old }
     ensures session { baton.new.session ≡ baton.old.session }
-    ensures seen_to { result ≡ true → IsSeenTo (C.shows server.now.clock.now) (S.shuts server.now.sockets.now) baton.new }
+    ensures seen_to { result ≡ true
+        → IsSeenTo (C.shows server.now.clock.now) (S.shuts server.now.sockets.now) baton.new }
     ensures shown { C.shows server.now.clock.now held.new.moment }
 {
     if !held.take_slot(rt) {
@@ -462,7 +467,8 @@ fn work_next<'a, L: Naming, R: Wait + Drop, G: Gate, S: Sockets, C: Clock>(
     }
 }
 
-/// Does pieces of a session in turn, until one isn't done or much waits for the session. Those of one hold are read before it.
+/// Does pieces of a session in turn, until one isn't done or much waits for the session. Those of one hold are read
+/// before it.
 fn work_all<'a, L: Naming, R: Wait + Drop, G: Gate, S: Sockets, C: Clock, B: Backlog>(
     rt: &R,
     server: &Server<'a, L, R, G, S, C>,
@@ -478,7 +484,8 @@ fn work_all<'a, L: Naming, R: Wait + Drop, G: Gate, S: Sockets, C: Clock, B: Bac
     ensures whole { result.until ≡ Until.Done → result.done ≡ length pieces.now }
     ensures much { result.until ≡ Until.Much → B.finds_much backlog.now }
     ensures session { baton.new.session ≡ baton.old.session }
-    ensures newest { IsNewestSeenTo (C.shows server.now.clock.now) (S.shuts server.now.sockets.now) baton.old baton.new }
+    ensures newest { IsNewestSeenTo (C.shows server.now.clock.now)
+        (S.shuts server.now.sockets.now) baton.old baton.new }
 {
     let session = baton.session();
     let mut ahead = Ahead::new(told.allocator());
@@ -506,7 +513,8 @@ fn work_all<'a, L: Naming, R: Wait + Drop, G: Gate, S: Sockets, C: Clock, B: Bac
     }
 }
 
-/// Does pieces of a session in turn, as `work` does where there is a desk, and else without a slot, until much waits for the session.
+/// Does pieces of a session in turn, as `work` does where there is a desk, and else without a slot, until much waits
+/// for the session.
 pub(crate) fn work_by<'a, L: Naming, R: Wait + Drop, G: Gate, S: Sockets, C: Clock, B: Backlog>(
     rt: &R,
     server: &Server<'a, L, R, G, S, C>,
@@ -521,7 +529,8 @@ pub(crate) fn work_by<'a, L: Naming, R: Wait + Drop, G: Gate, S: Sockets, C: Clo
     ensures whole { result.until ≡ Until.Done → result.done ≡ length pieces.now }
     ensures much { result.until ≡ Until.Much → B.finds_much backlog.now }
     ensures session { baton.new.session ≡ baton.old.session }
-    ensures newest { IsNewestSeenTo (C.shows server.now.clock.now) (S.shuts server.now.sockets.now) baton.old baton.new }
+    ensures newest { IsNewestSeenTo (C.shows server.now.clock.now)
+        (S.shuts server.now.sockets.now) baton.old baton.new }
 {
     let session = baton.session();
     let mut held = Held::none(desk, server.clock.now());
@@ -530,15 +539,16 @@ pub(crate) fn work_by<'a, L: Naming, R: Wait + Drop, G: Gate, S: Sockets, C: Clo
     count
 }
 
-/// Does pieces of a session in turn, until one is refused or no slot comes, under one slot and one hold of the lock but where
-/// somebody is to be shut or many are to be told, which is done with both given back. Who got something and wasn't told stands in
-/// `told` at the end, with those who stood there before, for the caller to tell them (`tell`) when it has no more lines to do. Where
-/// there is no room for a record the journal is rolled; where there is none after that, the session is ended with Shutdown, and the
-/// server is asked to stop. Where memory is wanting it is ended with that reason.
+/// Does pieces of a session in turn, until one is refused or no slot comes, under one slot and one hold of the lock
+/// but where somebody is to be shut or many are to be told, which is done with both given back. Who got something
+/// and wasn't told stands in `told` at the end, with those who stood there before, for the caller to tell them
+/// (`tell`) when it has no more lines to do. Where there is no room for a record the journal is rolled; where there
+/// is none after that, the session is ended with Shutdown, and the server is asked to stop. Where memory is wanting
+/// it is ended with that reason.
 ///
-/// The pieces done with the baton that comes back are those done before, then the first of these pieces, in order; all of them
-/// where `all` is true. The newest line that was done was done at a moment that the clock showed, or at that of the newest record
-/// where that is later, and whom it shut was shut.
+/// The pieces done with the baton that comes back are those done before, then the first of these pieces, in order;
+/// all of them where `all` is true. The newest line that was done was done at a moment that the clock showed, or at
+/// that of the newest record where that is later, and whom it shut was shut.
 pub fn work<'a, L: Naming, R: Wait + Drop, G: Gate, S: Sockets, C: Clock>(
     rt: &R,
     server: &Server<'a, L, R, G, S, C>,
@@ -550,7 +560,8 @@ pub fn work<'a, L: Naming, R: Wait + Drop, G: Gate, S: Sockets, C: Clock>(
     ensures front { DoesFront baton.pieces result.baton.pieces pieces.now }
     ensures whole { result.all ≡ true → result.baton.pieces ≡ baton.pieces ++ pieces.now }
     ensures session { result.baton.session ≡ baton.session }
-    ensures newest { IsNewestSeenTo (C.shows server.now.clock.now) (S.shuts server.now.sockets.now) baton result.baton }
+    ensures newest { IsNewestSeenTo (C.shows server.now.clock.now)
+        (S.shuts server.now.sockets.now) baton result.baton }
 {
     let mut baton = baton;
     let count = work_by(rt, server, Some(desk), &NoBacklog, &mut baton, pieces, told);

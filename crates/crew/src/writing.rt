@@ -38,12 +38,14 @@ pub struct Written<L: Naming, W: Write + Drop> {
     pub pumped: Option<Pumped<L, W>>,
 }
 
-/// Writes what waits for a session, as far as its stream takes it, for the thread that ends the session once its writing is over.
-/// `is_shut` says whether the session was shut before this call. After a fault of the stream the session is ended with that reason.
+/// Writes what waits for a session, as far as its stream takes it, for the thread that ends the session once its
+/// writing is over. `is_shut` says whether the session was shut before this call. After a fault of the stream the
+/// session is ended with that reason.
 ///
-/// It is over only where the session's last item went out; where the session is shut, and all that was sent at a moment of the call
-/// went out; or where its stream has a fault. What went out is said by the wire itself (`Wire::in_step`), whoever pumped it: the
-/// texts of the items that its writer took, in order, but for a rest. The writer comes back out of the wire.
+/// It is over only where the session's last item went out; where the session is shut, and all that was sent at a
+/// moment of the call went out; or where its stream has a fault. What went out is said by the wire itself
+/// (`Wire::in_step`), whoever pumped it: the texts of the items that its writer took, in order, but for a rest. The
+/// writer comes back out of the wire.
 pub fn write_some<L: Naming, W: Write + Drop, R: Wait + Drop, G: Gate, S: Sockets, C: Clock>(
     rt: &R,
     server: &Server<'_, L, R, G, S, C>,
@@ -52,7 +54,8 @@ pub fn write_some<L: Naming, W: Write + Drop, R: Wait + Drop, G: Gate, S: Socket
     is_shut: bool,
     told: &mut Told,
 ) -> Written<L, W>
-    ensures over { result.standing ≡ Over → IsSomeAnd result.pumped (λ p. IsWritten (is_shut ≡ true) session p.after.value) }
+    ensures over { result.standing ≡ Over
+        → IsSomeAnd result.pumped (λ p. IsWritten (is_shut ≡ true) session p.after.value) }
 {
     let Some(pumped) = outlet.write_now(rt) else {
         return Written {
@@ -81,12 +84,12 @@ pub fn write_some<L: Naming, W: Write + Drop, R: Wait + Drop, G: Gate, S: Socket
     }
 }
 
-/// Writes what waits for a session that has a thread of its own for it, and rests until its bell is rung where nothing waits. It ends
-/// after the session's last item went out, once the session is shut and nothing waits or its stream takes nothing any more, or after
-/// a fault of the stream, with which the session is ended.
+/// Writes what waits for a session that has a thread of its own for it, and rests until its bell is rung where
+/// nothing waits. It ends after the session's last item went out, once the session is shut and nothing waits or its
+/// stream takes nothing any more, or after a fault of the stream, with which the session is ended.
 ///
-/// The wire that comes back is the one given: its writer is that of the session's outbox, and what went out is the texts of the items
-/// that it took, in order, but for a rest (`Wire::in_step`).
+/// The wire that comes back is the one given: its writer is that of the session's outbox, and what went out is the
+/// texts of the items that it took, in order, but for a rest (`Wire::in_step`).
 pub fn write_on<L: Naming, W: Write + Drop, R: Wait + Drop, G: Gate, S: Sockets, C: Clock>(
     rt: &R,
     alloc: Global,

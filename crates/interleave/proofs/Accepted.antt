@@ -8,7 +8,8 @@ use Rattle.book.specs.Legal.{IsKind, IsLegal}
 
 none_of : (h : List Rec) (k : Kind) (t : ℕ) → IsKind h k → sessions h < t → said_by k t ≡ []
 none_of h (Opened s host) t i l = refl
-none_of h (Said s i piece) t is l = let below = is.1 in let ne : s ≢ t = λ e. absurd (omega arith) in rw (ne_eqb s t ne) refl
+none_of h (Said s i piece) t is l = let below = is.1 in let ne : s ≢ t = λ e. absurd (omega arith) in
+    rw (ne_eqb s t ne) refl
 none_of h (Hung s why) t is l = refl
 none_of h (Gone s) t is l = refl
 none_of h Ticked t is l = refl

@@ -11,7 +11,8 @@ no_job zero i s e = let f : None ≡ Some s = e in cc
 no_job (suc n) zero s e = let f : None ≡ Some s = e in cc
 no_job (suc n) (suc i) s e = no_job n i s e
 
-empty_sound : (limit : ℕ) (settings : Settings) (m : Shown Waiting) → m ≡ book.empty_book limit settings → book.IsSound put_into m
+empty_sound : (limit : ℕ) (settings : Settings) (m : Shown Waiting) → m ≡ book.empty_book limit settings
+    → book.IsSound put_into m
 empty_sound limit settings m is =
     let nobody : held [] ≡ 0 = refl in
     subst (book.IsSound put_into) (sym is)
@@ -26,7 +27,8 @@ empty_sound limit settings m is =
       room = omega arith;
     })
 
-pub empty_kept : (limit : ℕ) (settings : Settings) (sendq workers : ℕ) → IsKept (book.empty_book limit settings) sendq [] (replicate workers None) None
+pub empty_kept : (limit : ℕ) (settings : Settings) (sendq workers : ℕ)
+    → IsKept (book.empty_book limit settings) sendq [] (replicate workers None) None
 empty_kept limit settings sendq workers =
     record {
       sound = record {

@@ -1,5 +1,6 @@
 -- Whether the session of the newest record is shut.
-use Rattle.std.proofs.Common.{◌≡◌, ℕ, ◌<◌, Bool, true, false, not, ◌&&◌, List, [], ◌∷◌, Some, refl, sym, ap, ◌∙◌, subst, arith}
+use Rattle.std.proofs.Common.{◌≡◌, ℕ, ◌<◌, Bool, true, false, not, ◌&&◌, List, [], ◌∷◌}
+use Rattle.std.proofs.Common.{Some, refl, sym, ap, ◌∙◌, subst, arith}
 use Rattle.std.proofs.lemmas.Option.{none-some}
 use Rattle.chronicle.specs.declared.record.Kind.{Kind}
 use Rattle.chronicle.specs.declared.record.Kind.TheVariants.{Opened, Said, Hung, Gone, Ticked}
@@ -33,7 +34,8 @@ some_actor Ticked from = absurd (omega (arith, from))
 pub session_is_shut : (h : List Rec) (s : ℕ) → s ≡ newest_actor h → 0 < s → shut h s ≡ is_actor_shut h
 session_is_shut [] s is from = refl
 session_is_shut (r ∷ h) s is from =
-    ap (shut (r ∷ h)) is ∙ sym (ap (λ (b : Bool). not b && shut (r ∷ h) (actor r.kind)) (some_actor r.kind (subst (λ (t : ℕ). 0 < t) is from)))
+    ap (shut (r ∷ h)) is ∙ sym (ap (λ (b : Bool). not b && shut (r ∷ h) (actor r.kind))
+    (some_actor r.kind (subst (λ (t : ℕ). 0 < t) is from)))
 
 -- a line is of a session
 a_line : (k : Kind) (n : ℕ) → next_of k ≡ Some n → is_tick k ≡ false

@@ -1,5 +1,6 @@
 -- The sessions of a legal history are opened once each.
-use Rattle.std.proofs.Common.{◌≡◌, ℕ, zero, suc, ◌+◌, ◌<◌, ◌≤◌, ◌==◌, Bool, true, false, cond, List, [], ◌∷◌, ◌++◌, arith, refl, sym, subst, ap, ◌∙◌, lit≤, eqb-true}
+use Rattle.std.proofs.Common.{◌≡◌, ℕ, zero, suc, ◌+◌, ◌<◌, ◌≤◌, ◌==◌, Bool, true, false, cond, List, []}
+use Rattle.std.proofs.Common.{◌∷◌, ◌++◌, arith, refl, sym, subst, ap, ◌∙◌, lit≤, eqb-true}
 use Rattle.chronicle.specs.declared.record.Kind.{Kind}
 use Rattle.chronicle.specs.declared.record.Kind.TheVariants.{Opened, Said, Hung, Gone, Ticked}
 use Rattle.chronicle.specs.History.{Rec, opened_by, sessions}
@@ -13,7 +14,8 @@ use Rattle.book.proofs.Opened.{numbers_push}
 -- numbers from k on have none below k
 not-below : (k n t : ℕ) → t < k → times (numbers k n) t ≡ 0
 not-below k zero t below = refl
-not-below k (suc n) t below = other (k == t) (λ same. eqb-true k t same) (times (numbers (k + 1) n) t) (not-below (k + 1) n t (omega arith))
+not-below k (suc n) t below = other (k == t) (λ same. eqb-true k t same) (times (numbers (k + 1) n) t)
+    (not-below (k + 1) n t (omega arith))
   where
     other : (b : Bool) → (b ≡ true → k ≡ t) → (m : ℕ) → m ≡ 0 → cond b (suc m) m ≡ 0
     other true same m e = let is = same refl in absurd (omega arith)
@@ -21,7 +23,8 @@ not-below k (suc n) t below = other (k == t) (λ same. eqb-true k t same) (times
 
 pub numbers-once : (k n : ℕ) → IsEachOnce (numbers k n)
 numbers-once k zero t = lit≤ tt
-numbers-once k (suc n) t = most (k == t) (λ same. eqb-true k t same) (times (numbers (k + 1) n) t) (numbers-once (k + 1) n t) (λ below. not-below (k + 1) n t below)
+numbers-once k (suc n) t = most (k == t) (λ same. eqb-true k t same) (times (numbers (k + 1) n) t)
+    (numbers-once (k + 1) n t) (λ below. not-below (k + 1) n t below)
   where
     most : (b : Bool) → (b ≡ true → k ≡ t) → (m : ℕ) → m ≤ 1 → (t < k + 1 → m ≡ 0) → cond b (suc m) m ≤ 1
     most true same m le none = let is = same refl in let e = none (omega arith) in omega arith
@@ -30,16 +33,20 @@ numbers-once k (suc n) t = most (k == t) (λ same. eqb-true k t same) (times (nu
 with-one : (xs : List ℕ) (n s : ℕ) → xs ≡ numbers 1 n → s ≡ n + 1 → xs ++ s ∷ [] ≡ numbers 1 (1 + n)
 with-one xs n s e is =
     let next : s ≡ 1 + n = omega arith in let more : 1 + n ≡ suc n = omega arith in
-    ap (λ ys. ys ++ s ∷ []) e ∙ ap (λ (m : ℕ). numbers 1 n ++ m ∷ []) next ∙ sym (numbers_push 1 n) ∙ ap (numbers 1) (sym more)
+    ap (λ ys. ys ++ s ∷ []) e ∙ ap (λ (m : ℕ). numbers 1 n ++ m ∷ []) next ∙ sym (numbers_push 1 n)
+    ∙ ap (numbers 1) (sym more)
 
 -- any record but an opening
-others : RecordsOpenNoOthers → (g : Settings) (h : List Rec) (k : Kind) → opens k ≡ false → opened (facts g h) ≡ numbers 1 (sessions h) → opened (after (facts g h) (deeds g (facts g h) k)) ≡ numbers 1 (0 + sessions h)
+others : RecordsOpenNoOthers → (g : Settings) (h : List Rec) (k : Kind) → opens k ≡ false → opened (facts g h)
+    ≡ numbers 1 (sessions h) → opened (after (facts g h) (deeds g (facts g h) k)) ≡ numbers 1 (0 + sessions h)
 others no-others g h k closed before =
-    let once : IsEachOnce (opened (facts g h)) = subst IsEachOnce (sym before) (numbers-once 1 (sessions h)) in let same : sessions h ≡ 0 + sessions h = omega arith in
+    let once : IsEachOnce (opened (facts g h)) = subst IsEachOnce (sym before) (numbers-once 1 (sessions h)) in
+    let same : sessions h ≡ 0 + sessions h = omega arith in
     no-others g (facts g h) k once closed ∙ before ∙ ap (numbers 1) same
 
 -- one record more
-by-kind : RecordsOpenNoOthers → (g : Settings) (h : List Rec) (k : Kind) → IsKind h k → opened (facts g h) ≡ numbers 1 (sessions h)
+by-kind : RecordsOpenNoOthers → (g : Settings) (h : List Rec) (k : Kind) → IsKind h k
+    → opened (facts g h) ≡ numbers 1 (sessions h)
     → opened (after (facts g h) (deeds g (facts g h) k)) ≡ numbers 1 (opened_by k + sessions h)
 by-kind no-others g h (Opened s host) is before = with-one (opened (facts g h)) (sessions h) s before is
 by-kind no-others g h (Said s i piece) is before = others no-others g h (Said s i piece) refl before
@@ -47,7 +54,8 @@ by-kind no-others g h (Hung s why) is before = others no-others g h (Hung s why)
 by-kind no-others g h (Gone s) is before = others no-others g h (Gone s) refl before
 by-kind no-others g h Ticked is before = others no-others g h Ticked refl before
 
-opened-are : RecordsOpenNoOthers → (g : Settings) (h : List Rec) → IsLegal g h → opened (facts g h) ≡ numbers 1 (sessions h)
+opened-are : RecordsOpenNoOthers → (g : Settings) (h : List Rec) → IsLegal g h
+    → opened (facts g h) ≡ numbers 1 (sessions h)
 opened-are no-others g [] legal = refl
 opened-are no-others g (r ∷ h) legal = by-kind no-others g h r.kind legal.2 (opened-are no-others g h legal.4)
 

@@ -1,5 +1,6 @@
 -- What a session's inbox holds, and how reading changes it: this project's own choice.
-use Rattle.std.specs.Prelude.{◌≡◌, ℕ, ℤ, ◌+◌, ◌-◌, List, ◌∷◌, ◌++◌, length, slice_index_or, slice_set, Option, Some, None}
+use Rattle.std.specs.Prelude.{◌≡◌, ℕ, ℤ, ◌+◌, ◌-◌, List, ◌∷◌, ◌++◌, length}
+use Rattle.std.specs.Prelude.{slice_index_or, slice_set, Option, Some, None}
 use Rattle.line_grammar.specs.declared.splitter.Piece.{Piece}
 use Rattle.line_grammar.specs.Lines.{lines}
 use Rattle.chronicle.specs.declared.record.Kind.TheVariants.{Said}
@@ -25,7 +26,10 @@ moved_to b place = with_seen b (moved b.seen place)
 
 -- a line ended: the baton is at home and goes on
 abbrev pub ended_at : Held → Turn → Held
-ended_at b turn = record { seen = moved b.seen Home; turn = Some (record { session = turn.session; next = turn.next + 1 }) }
+ended_at b turn = record {
+  seen = moved b.seen Home;
+  turn = Some (record { session = turn.session; next = turn.next + 1 });
+}
 
 -- the session was given up with its baton, and so much was left
 abbrev pub reaped_at : Held → List Delivery → Held
@@ -49,7 +53,8 @@ pub record IsRead (b : Held) (octets : List ℕ) (n : ℕ) (c : Held) : Type 0 w
   pub after : c ≡ with_seen b (with_fed b.seen octets added)
 
 -- the book m began the line in a worker's hand, and is k
-pub record IsBegun (b : Held) (m : Shown Waiting) (w : ℕ) (moment : ℤ) (p : Out) (c : Held) (k : Shown Waiting) : Type 0 where
+pub record IsBegun (b : Held) (m : Shown Waiting) (w : ℕ) (moment : ℤ) (p : Out) (c : Held)
+    (k : Shown Waiting) : Type 0 where
   pub turn : Turn
   pub piece : Piece
   pub rest : List Piece

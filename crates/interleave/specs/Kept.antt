@@ -18,7 +18,13 @@ worker_of (Some x) = Some x.worker
 
 -- without the batons and the plan
 abbrev pub state_of : Shown Waiting → ℕ → List Held → List (Option ℕ) → Option Holder → State
-state_of m sendq boxes jobs holder = record { book = m; sendq = sendq; inboxes = map seen_of boxes; jobs = jobs; holder = worker_of holder }
+state_of m sendq boxes jobs holder = record {
+  book = m;
+  sendq = sendq;
+  inboxes = map seen_of boxes;
+  jobs = jobs;
+  holder = worker_of holder;
+}
 
 -- a baton goes on where its line ends, not where that begins
 abbrev pub next_at : Place → ℕ → ℕ
@@ -44,7 +50,9 @@ abbrev pub baton_of : Bool → Turn → Option Turn
 baton_of here turn = cond here (Some turn) None
 
 -- what clauses see is sound, and each session has its baton
-pub record IsKept (m : Shown Waiting) (sendq : ℕ) (boxes : List Held) (jobs : List (Option ℕ)) (holder : Option Holder) : Type 0 where
+pub record IsKept (m : Shown Waiting) (sendq : ℕ) (boxes : List Held) (jobs : List (Option ℕ))
+    (holder : Option Holder) : Type 0 where
   pub sound : IsSound (state_of m sendq boxes jobs holder)
-  pub turns : (t : ℕ) → 0 < t → t ≤ length boxes → (held_at boxes t).turn ≡ baton_of (is_here m.outboxes t) (baton_at m.history t (held_at boxes t).seen.place)
+  pub turns : (t : ℕ) → 0 < t → t ≤ length boxes → (held_at boxes t).turn
+      ≡ baton_of (is_here m.outboxes t) (baton_at m.history t (held_at boxes t).seen.place)
   pub holding : IsHolding m jobs holder

@@ -30,13 +30,16 @@ use Rattle.interleave.specs.Order.{IsPrefix, IsRising}
 abbrev pub OnceInOrder : Type 0
 OnceInOrder = (g : Settings) (h : List Rec) (t : ℕ) → IsRising (owed g h t)
 
--- a session is sent at most one delivery of each record, in the order of the records, with none left out that it is owed before
+-- a session is sent at most one delivery of each record, in the order of the records, with none left out that it is
+-- owed before
 abbrev pub TakenInOrder : Type 0
-TakenInOrder = (m : State) → IsSound m → ForEach m (λ t. IsRising (taken_of m t) × IsPrefix (taken_of m t) (owed m.book.settings m.book.history t))
+TakenInOrder = (m : State) → IsSound m
+    → ForEach m (λ t. IsRising (taken_of m t) × IsPrefix (taken_of m t) (owed m.book.settings m.book.history t))
 
 -- the accepted lines of a session are the first of the lines that it sent
 abbrev pub AcceptedIsPrefixOfSent : Type 0
-AcceptedIsPrefixOfSent = (m : State) → IsSound m → ForEach m (λ t. IsPrefix (accepted m.book.history t) (lines (inbox_at m t).fed))
+AcceptedIsPrefixOfSent = (m : State) → IsSound m
+    → ForEach m (λ t. IsPrefix (accepted m.book.history t) (lines (inbox_at m t).fed))
 
 -- the ERROR line, or nothing
 abbrev pub IsErrorAtMost : List Delivery → Type 0
@@ -44,9 +47,11 @@ IsErrorAtMost [] = Unit {0}
 IsErrorAtMost (Last n why ∷ []) = Unit {0}
 IsErrorAtMost xs = ⊥
 
--- a record after which a session is shut owes it the ERROR line at most, beside what it was owed before, and later records nothing
+-- a record after which a session is shut owes it the ERROR line at most, beside what it was owed before, and later
+-- records nothing
 abbrev pub ErrorAtMostAfterTheClose : Type 0
-ErrorAtMostAfterTheClose = (g : Settings) (later : List Rec) (r : Rec) (h : List Rec) (t : ℕ) → shut (r ∷ h) t ≡ true → (end : List Delivery) × IsErrorAtMost end × (owed g (later ++ r ∷ h) t ≡ owed g h t ++ end)
+ErrorAtMostAfterTheClose = (g : Settings) (later : List Rec) (r : Rec) (h : List Rec) (t : ℕ) → shut (r ∷ h) t
+    ≡ true → (end : List Delivery) × IsErrorAtMost end × (owed g (later ++ r ∷ h) t ≡ owed g h t ++ end)
 
 -- ---- lines with a label
 
@@ -87,12 +92,13 @@ copies_of g q = copies (effects_of g q)
 abbrev pub answer_to : Settings → Request → List Tagged
 answer_to g q = answered g.server (Some q.label) (length q.before + 1) (reply_to g q) (copies_of g q)
 
--- it is answered once: one delivery, after what was owed before it and before what is owed later, is those lines and no others as
--- the session takes them
+-- it is answered once: one delivery, after what was owed before it and before what is owed later, is those lines and
+-- no others as the session takes them
 abbrev pub IsAnsweredOnce : Settings → List Rec → Type 0
 IsAnsweredOnce g history =
     (q : Request) → IsRequest g history q
-    → (rest : List Delivery) × (owed g history q.session ≡ owed g q.before q.session ++ Lines (length q.before + 1) (rendered (caps (facts g q.before) q.session) q.moment (answer_to g q)) ∷ rest)
+    → (rest : List Delivery) × (owed g history q.session ≡ owed g q.before q.session ++ Lines (length q.before + 1)
+    (rendered (caps (facts g q.before) q.session) q.moment (answer_to g q)) ∷ rest)
 
 -- the first of those lines has the label, and no other
 abbrev pub IsLabelledFirst : Settings → List Rec → Type 0
@@ -100,11 +106,13 @@ IsLabelledFirst g history = (q : Request) → IsRequest g history q → HasLabel
 
 -- an answer of one line at most is one line with the label, which opens no batch
 abbrev pub IsLoneUnbatched : Settings → List Rec → Type 0
-IsLoneUnbatched g history = (q : Request) → IsRequest g history q → length (reply_to g q) ≤ 1 → IsLone q.label (copies_of g q) (answer_to g q)
+IsLoneUnbatched g history = (q : Request) → IsRequest g history q → length (reply_to g q) ≤ 1
+    → IsLone q.label (copies_of g q) (answer_to g q)
 
 -- an answer of several lines is a batch that is closed, whose reference is the record's number at both ends
 abbrev pub IsBatchClosed : Settings → List Rec → Type 0
-IsBatchClosed g history = (q : Request) → IsRequest g history q → 2 ≤ length (reply_to g q) → IsClosed g.server q.label (length q.before + 1) (reply_to g q) (copies_of g q) (answer_to g q)
+IsBatchClosed g history = (q : Request) → IsRequest g history q → 2 ≤ length (reply_to g q)
+    → IsClosed g.server q.label (length q.before + 1) (reply_to g q) (copies_of g q) (answer_to g q)
 
 abbrev pub LabelledOnce : Type 0
 LabelledOnce = (g : Settings) (history : List Rec) → IsLegal g history → IsAnsweredOnce g history
@@ -122,4 +130,5 @@ BatchClosed = (g : Settings) (history : List Rec) → IsBatchClosed g history
 
 -- each line of any record after a legal history is shown to each of its hearers once
 abbrev pub HeardOnce : Type 0
-HeardOnce = (g : Settings) (history : List Rec) (k : Kind) → IsLegal g history → AllShowOnce (effects g (facts g history) k)
+HeardOnce = (g : Settings) (history : List Rec) (k : Kind) → IsLegal g history
+    → AllShowOnce (effects g (facts g history) k)

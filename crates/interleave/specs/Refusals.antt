@@ -1,5 +1,6 @@
 -- Why a step is refused: the first cause that holds, want of memory apart. This project's own promise.
-use Rattle.std.specs.Prelude.{◌≡◌, ◌≢◌, ℕ, ℤ, ◌||◌, Bool, true, false, cond, List, [], ◌∷◌, length, Option, Some, None, IsSome}
+use Rattle.std.specs.Prelude.{◌≡◌, ◌≢◌, ℕ, ℤ, ◌||◌, Bool, true, false, cond, List, []}
+use Rattle.std.specs.Prelude.{◌∷◌, length, Option, Some, None, IsSome}
 use Rattle.std.specs.Option.{is_some}
 use Rattle.chronicle.specs.History.{accepted}
 use Rattle.outbox.specs.Ring.{Waiting}
@@ -11,12 +12,16 @@ use Rattle.book.specs.declared.refusals.SweepRefusal.{SweepRefusal}
 use Rattle.book.specs.declared.refusals.SweepRefusal.TheVariants as sweeping
 use Rattle.book.specs.declared.refusals.TickRefusal.{TickRefusal}
 use Rattle.book.specs.declared.refusals.TickRefusal.TheVariants as ticking
-use Rattle.book.specs.Book.{Shown, Turn, MayOpen, MayBegin, MaySweep, MayTick, IsSomebodyQuiet, HasRoom, to_sweep, IsOpenRefusal, IsLineRefusal, IsHangRefusal, IsSweepRefusal, IsTickRefusal, IsReapRefusal}
+use Rattle.book.specs.Book.{Shown, Turn, MayOpen, MayBegin, MaySweep, MayTick, IsSomebodyQuiet, HasRoom, to_sweep}
+use Rattle.book.specs.Book.{IsOpenRefusal, IsLineRefusal, IsHangRefusal, IsSweepRefusal, IsTickRefusal, IsReapRefusal}
 use Rattle.interleave.specs.declared.event.Event.{Event}
-use Rattle.interleave.specs.declared.event.Event.TheVariants.{Connect, Feed, Pick, Begin, Put, End, Back, Take, Hang, Sweep, Tick, Reap}
+use Rattle.interleave.specs.declared.event.Event.TheVariants.{Connect, Feed, Pick, Begin, Put, End, Back}
+use Rattle.interleave.specs.declared.event.Event.TheVariants.{Take, Hang, Sweep, Tick, Reap}
 use Rattle.interleave.specs.declared.event.BookRefusal.TheVariants as by_book
 use Rattle.interleave.specs.declared.event.StepRefusal.{StepRefusal}
-use Rattle.interleave.specs.declared.event.StepRefusal.TheVariants.{NoSession, NoWorker, Locked, NotHolding, HasJob, NoJob, InFlight, NothingRead, NothingLeft, PutsLeft, Book, Memory}
+use Rattle.interleave.specs.declared.event.StepRefusal.TheVariants.{NoSession, NoWorker, Locked, NotHolding}
+use Rattle.interleave.specs.declared.event.StepRefusal.TheVariants.{HasJob, NoJob, InFlight, NothingRead}
+use Rattle.interleave.specs.declared.event.StepRefusal.TheVariants.{NothingLeft, PutsLeft, Book, Memory}
 use Rattle.interleave.specs.State.{State, inbox_at, is_known, is_worker, job_of, holds, is_home}
 
 abbrev pub is_empty : {X : Type 0} → List X → Bool
@@ -73,8 +78,8 @@ own_refusal m (Sweep w moment) = no_worker m w (locked m (has_job m w None))
 own_refusal m (Tick w moment) = no_worker m w (locked m (has_job m w None))
 own_refusal m (Reap s) = no_session m s (locked m (in_flight m s None))
 
--- ---- where none of these holds, the book's causes come, and want of memory. Pick, Put, End, Back, Take, Hang and Reap take no
--- memory
+-- ---- where none of these holds, the book's causes come, and want of memory. Pick, Put, End, Back, Take, Hang and
+-- Reap take no memory
 
 -- the next line of session t
 abbrev pub turn_of : Shown Waiting → ℕ → Turn

@@ -1,5 +1,6 @@
 -- What clauses see of a play, and what holds of every one: this project's own promise.
-use Rattle.std.specs.Prelude.{◌≡◌, ◌≢◌, ℕ, ◌+◌, ◌-◌, ◌<◌, ◌≤◌, ◌==◌, ◌&&◌, Bool, true, false, cond, nat_le, List, [], ◌++◌, length, take, drop, replicate, slice_index_or, Option, Some, None}
+use Rattle.std.specs.Prelude.{◌≡◌, ◌≢◌, ℕ, ◌+◌, ◌-◌, ◌<◌, ◌≤◌, ◌==◌, ◌&&◌, Bool, true, false, cond, nat_le, List, []}
+use Rattle.std.specs.Prelude.{◌++◌, length, take, drop, replicate, slice_index_or, Option, Some, None}
 use Rattle.std.specs.Option.{is_some}
 use Rattle.line_grammar.specs.declared.splitter.Piece.{Piece}
 use Rattle.line_grammar.specs.Lines.{lines}
@@ -14,9 +15,9 @@ use Rattle.book.specs.Book as book
 use Rattle.interleave.specs.declared.worker.Place.{Place}
 use Rattle.interleave.specs.declared.worker.Place.TheVariants.{Home, Hand, Begun}
 
--- of a session that was ever opened: all octets that were fed to it, and all deliveries that were taken of it, which the program
--- doesn't keep; the lines of the octets that no worker has begun; where its baton is; and what was left in its outbox when the
--- session was given up
+-- of a session that was ever opened: all octets that were fed to it, and all deliveries that were taken of it, which
+-- the program doesn't keep; the lines of the octets that no worker has begun; where its baton is; and what was left
+-- in its outbox when the session was given up
 pub record Seen : Type 0 where
   pub fed : List ℕ
   pub pending : List Piece
@@ -24,8 +25,8 @@ pub record Seen : Type 0 where
   pub taken : List Delivery
   pub left : List Delivery
 
--- the book, how many items an outbox has room for, what is seen of each session, the session whose line each worker has, and
--- the worker who holds the lock
+-- the book, how many items an outbox has room for, what is seen of each session, the session whose line each worker
+-- has, and the worker who holds the lock
 pub record State : Type 0 where
   pub book : book.Shown Waiting
   pub sendq : ℕ
@@ -110,10 +111,16 @@ is_home (Begun w) = false
 
 -- with no sessions, and so many workers who have nothing to do
 abbrev pub empty_state : ℕ → Settings → ℕ → ℕ → State
-empty_state limit settings sendq workers = record { book = book.empty_book limit settings; sendq = sendq; inboxes = []; jobs = replicate workers None; holder = None }
+empty_state limit settings sendq workers = record {
+  book = book.empty_book limit settings;
+  sendq = sendq;
+  inboxes = [];
+  jobs = replicate workers None;
+  holder = None;
+}
 
--- an outbox has room for sendq items, and what was taken of the session was taken of it; where it was given up, what was taken
--- and what was left is what the history owes, and no worker has the baton
+-- an outbox has room for sendq items, and what was taken of the session was taken of it; where it was given up, what
+-- was taken and what was left is what the history owes, and no worker has the baton
 abbrev pub IsBoxOf : Option Waiting → Seen → ℕ → List Delivery → Type 0
 IsBoxOf None b sendq owes = (b.taken ++ b.left ≡ owes) × (b.place ≡ Home)
 IsBoxOf (Some w) b sendq owes = (deliveries w.taken ≡ b.taken) × (w.cap ≡ sendq)
@@ -124,13 +131,15 @@ pub record IsSoundAt (g : Settings) (h : List Rec) (o : Option Waiting) (b : See
   pub box : IsBoxOf o b sendq (owed g h t)
   pub hand : (w : ℕ) → b.place ≡ Hand w → b.pending ≢ []
 
--- the book's own promise, and each session's; a worker who has a session's line has its baton; the lock is held where a plan is
--- out
+-- the book's own promise, and each session's; a worker who has a session's line has its baton; the lock is held
+-- where a plan is out
 pub record IsSound (m : State) : Type 0 where
   pub book : book.IsSound put_into m.book
   pub inboxes : length m.inboxes ≡ length m.book.outboxes
-  pub each : (t : ℕ) → 0 < t → t ≤ length m.inboxes → IsSoundAt m.book.settings m.book.history (box_at m t) (inbox_at m t) m.sendq t
-  pub jobs : (i s : ℕ) → slice_index_or m.jobs i None ≡ Some s → (0 < s) × (s ≤ length m.inboxes) × ((inbox_at m s).place ≡ place_with m.holder (i + 1))
+  pub each : (t : ℕ) → 0 < t → t ≤ length m.inboxes
+      → IsSoundAt m.book.settings m.book.history (box_at m t) (inbox_at m t) m.sendq t
+  pub jobs : (i s : ℕ) → slice_index_or m.jobs i None ≡ Some s → (0 < s) × (s ≤ length m.inboxes)
+      × ((inbox_at m s).place ≡ place_with m.holder (i + 1))
   pub lock : m.book.busy ≡ is_some m.holder
   pub holder : (w : ℕ) → m.holder ≡ Some w → (0 < w) × (w ≤ length m.jobs)
 

@@ -1,5 +1,7 @@
--- The steps of a play: a relation of the state, an event, its answer and the state after it. This project's own promise.
-use Rattle.std.specs.Prelude.{◌≡◌, ℕ, ℤ, ◌+◌, ◌-◌, ◌==◌, Bool, true, false, not, ◌&&◌, List, [], ◌∷◌, ◌++◌, length, slice_get, slice_set, Option, Some, None, Result, Ok, Err}
+-- The steps of a play: a relation of the state, an event, its answer and the state after it. This project's own
+-- promise.
+use Rattle.std.specs.Prelude.{◌≡◌, ℕ, ℤ, ◌+◌, ◌-◌, ◌==◌, Bool, true, false, not, ◌&&◌, List, [], ◌∷◌, ◌++◌}
+use Rattle.std.specs.Prelude.{length, slice_get, slice_set, Option, Some, None, Result, Ok, Err}
 use Rattle.std.specs.List.{list_any}
 use Rattle.line_grammar.specs.declared.splitter.Piece.{Piece}
 use Rattle.line_grammar.specs.Lines.{lines}
@@ -14,13 +16,15 @@ use Rattle.book.specs.declared.out.Done.{Done}
 use Rattle.book.specs.declared.out.Hung.{Hung}
 use Rattle.book.specs.declared.out.Step.{Step}
 use Rattle.book.specs.declared.out.Step.TheVariants as step
-use Rattle.book.specs.Book.{MayOpen, MayBegin, MayHang, MaySweep, MayTick, MayReap, HasRoom, newest_missed, to_sweep, to_ping}
+use Rattle.book.specs.Book.{MayOpen, MayBegin, MayHang, MaySweep, MayTick, MayReap}
+use Rattle.book.specs.Book.{HasRoom, newest_missed, to_sweep, to_ping}
 use Rattle.book.specs.Book as book
 use Rattle.book.specs.Told.{told_of}
 use Rattle.interleave.specs.declared.worker.Place.{Place}
 use Rattle.interleave.specs.declared.worker.Place.TheVariants.{Home, Hand, Begun}
 use Rattle.interleave.specs.declared.event.Event.{Event}
-use Rattle.interleave.specs.declared.event.Event.TheVariants.{Connect, Feed, Pick, Begin, Put, End, Back, Take, Hang, Sweep, Tick, Reap}
+use Rattle.interleave.specs.declared.event.Event.TheVariants.{Connect, Feed, Pick, Begin, Put, End, Back}
+use Rattle.interleave.specs.declared.event.Event.TheVariants.{Take, Hang, Sweep, Tick, Reap}
 use Rattle.interleave.specs.declared.event.Note.{Note}
 use Rattle.interleave.specs.declared.event.Note.TheVariants as note
 use Rattle.interleave.specs.declared.event.StepRefusal.{StepRefusal}
@@ -68,19 +72,43 @@ with_begun b w rest = record { fed = b.fed; pending = rest; place = Begun w; tak
 
 -- octets, and the lines that ended in them
 abbrev pub with_fed : Seen → List ℕ → List Piece → Seen
-with_fed b octets added = record { fed = b.fed ++ octets; pending = b.pending ++ added; place = b.place; taken = b.taken; left = b.left }
+with_fed b octets added = record {
+  fed = b.fed ++ octets;
+  pending = b.pending ++ added;
+  place = b.place;
+  taken = b.taken;
+  left = b.left;
+}
 
 -- one more session, of which nothing was read
 abbrev pub connected : State → List ℕ → ℤ → State
-connected m host moment = record { book = book.opened m.book host moment (empty_ring m.sendq); sendq = m.sendq; inboxes = m.inboxes ++ nothing_fed ∷ []; jobs = m.jobs; holder = m.holder }
+connected m host moment = record {
+  book = book.opened m.book host moment (empty_ring m.sendq);
+  sendq = m.sendq;
+  inboxes = m.inboxes ++ nothing_fed ∷ [];
+  jobs = m.jobs;
+  holder = m.holder;
+}
 
 -- octets were fed to a session, and lines ended in them
 abbrev pub fed : State → ℕ → List ℕ → List Piece → State
-fed m s octets added = record { book = m.book; sendq = m.sendq; inboxes = with_inbox m s (with_fed (inbox_at m s) octets added); jobs = m.jobs; holder = m.holder }
+fed m s octets added = record {
+  book = m.book;
+  sendq = m.sendq;
+  inboxes = with_inbox m s (with_fed (inbox_at m s) octets added);
+  jobs = m.jobs;
+  holder = m.holder;
+}
 
 -- a worker has a session's baton and its first unread line
 abbrev pub picked : State → ℕ → ℕ → State
-picked m w s = record { book = m.book; sendq = m.sendq; inboxes = with_inbox m s (moved (inbox_at m s) (Hand w)); jobs = with_job m w (Some s); holder = m.holder }
+picked m w s = record {
+  book = m.book;
+  sendq = m.sendq;
+  inboxes = with_inbox m s (moved (inbox_at m s) (Hand w));
+  jobs = with_job m w (Some s);
+  holder = m.holder;
+}
 
 -- a line is accepted, its deliveries are planned, and its worker holds the lock
 abbrev pub begun : State → ℕ → ℕ → Piece → List Piece → ℤ → State
@@ -95,47 +123,105 @@ begun m w s piece rest moment =
 
 -- the plan's first delivery was put, or missed where its outbox was full
 abbrev pub put : State → State
-put m = record { book = book.put_next m.book m.book.plan; sendq = m.sendq; inboxes = m.inboxes; jobs = m.jobs; holder = m.holder }
+put m = record {
+  book = book.put_next m.book m.book.plan;
+  sendq = m.sendq;
+  inboxes = m.inboxes;
+  jobs = m.jobs;
+  holder = m.holder;
+}
 
 -- the lock is free, and the baton is back where the plan was a line's
 abbrev pub ended : State → ℕ → Option ℕ → State
-ended m w None = record { book = book.finished m.book; sendq = m.sendq; inboxes = m.inboxes; jobs = m.jobs; holder = None }
-ended m w (Some s) = record { book = book.finished m.book; sendq = m.sendq; inboxes = with_inbox m s (moved (inbox_at m s) Home); jobs = with_job m w None; holder = None }
+ended m w None = record {
+  book = book.finished m.book;
+  sendq = m.sendq;
+  inboxes = m.inboxes;
+  jobs = m.jobs;
+  holder = None;
+}
+ended m w (Some s) = record {
+  book = book.finished m.book;
+  sendq = m.sendq;
+  inboxes = with_inbox m s (moved (inbox_at m s) Home);
+  jobs = with_job m w None;
+  holder = None;
+}
 
 -- the line in the worker's hand is unread again, and the baton is back
 abbrev pub back : State → ℕ → ℕ → State
-back m w s = record { book = m.book; sendq = m.sendq; inboxes = with_inbox m s (moved (inbox_at m s) Home); jobs = with_job m w None; holder = m.holder }
+back m w s = record {
+  book = m.book;
+  sendq = m.sendq;
+  inboxes = with_inbox m s (moved (inbox_at m s) Home);
+  jobs = with_job m w None;
+  holder = m.holder;
+}
 
 -- what waited longest for a session was taken
 abbrev pub took : State → ℕ → Delivery → State
-took m s x = record { book = book.taken m.book s; sendq = m.sendq; inboxes = with_inbox m s (with_taken (inbox_at m s) x); jobs = m.jobs; holder = m.holder }
+took m s x = record {
+  book = book.taken m.book s;
+  sendq = m.sendq;
+  inboxes = with_inbox m s (with_taken (inbox_at m s) x);
+  jobs = m.jobs;
+  holder = m.holder;
+}
 
 -- a session was ended, and its last item was put or missed at once
 abbrev pub hung : State → ℕ → Why → ℤ → State
-hung m s why moment = record { book = book.done m.book (kind.Hung s why) moment; sendq = m.sendq; inboxes = m.inboxes; jobs = m.jobs; holder = m.holder }
+hung m s why moment = record {
+  book = book.done m.book (kind.Hung s why) moment;
+  sendq = m.sendq;
+  inboxes = m.inboxes;
+  jobs = m.jobs;
+  holder = m.holder;
+}
 
 -- a session is gone, its deliveries are planned, and a worker holds the lock
 abbrev pub swept : State → ℕ → ℕ → ℤ → State
-swept m w s moment = record { book = book.begun m.book (kind.Gone s) moment; sendq = m.sendq; inboxes = m.inboxes; jobs = m.jobs; holder = Some w }
+swept m w s moment = record {
+  book = book.begun m.book (kind.Gone s) moment;
+  sendq = m.sendq;
+  inboxes = m.inboxes;
+  jobs = m.jobs;
+  holder = Some w;
+}
 
 -- the quiet are pinged, their deliveries are planned, and a worker holds the lock
 abbrev pub ticked : State → ℕ → ℤ → State
-ticked m w moment = record { book = book.begun m.book kind.Ticked moment; sendq = m.sendq; inboxes = m.inboxes; jobs = m.jobs; holder = Some w }
+ticked m w moment = record {
+  book = book.begun m.book kind.Ticked moment;
+  sendq = m.sendq;
+  inboxes = m.inboxes;
+  jobs = m.jobs;
+  holder = Some w;
+}
 
 -- a session was given up, and what waited for it was set aside
 abbrev pub reaped : State → ℕ → State
-reaped m s = record { book = book.reaped m.book s; sendq = m.sendq; inboxes = with_inbox m s (with_left (inbox_at m s) (queue_of m s)); jobs = m.jobs; holder = m.holder }
+reaped m s = record {
+  book = book.reaped m.book s;
+  sendq = m.sendq;
+  inboxes = with_inbox m s (with_left (inbox_at m s) (queue_of m s));
+  jobs = m.jobs;
+  holder = m.holder;
+}
 
 -- ---- what a step that isn't refused does
 
 abbrev pub IsFeed : State → ℕ → List ℕ → Note → State → Type 0
-IsFeed m s octets n k = (added : List Piece) × (lines ((inbox_at m s).fed ++ octets) ≡ lines (inbox_at m s).fed ++ added) × (n ≡ note.Read (length added)) × (k ≡ fed m s octets added)
+IsFeed m s octets n k = (added : List Piece)
+    × (lines ((inbox_at m s).fed ++ octets) ≡ lines (inbox_at m s).fed ++ added) × (n ≡ note.Read (length added))
+    × (k ≡ fed m s octets added)
 
 -- of the session whose line the worker has
 abbrev pub IsBegin : State → ℕ → Option ℕ → ℤ → Note → State → Type 0
 IsBegin m w None moment n k = ⊥
 IsBegin m w (Some s) moment n k =
-    (piece : Piece) × (rest : List Piece) × ((inbox_at m s).pending ≡ piece ∷ rest) × MayBegin m.book (turn_of m.book s) moment × (n ≡ note.Record (length m.book.history + 1)) × (k ≡ begun m w s piece rest moment)
+    (piece : Piece) × (rest : List Piece) × ((inbox_at m s).pending ≡ piece ∷ rest)
+    × MayBegin m.book (turn_of m.book s) moment × (n ≡ note.Record (length m.book.history + 1))
+    × (k ≡ begun m w s piece rest moment)
 
 abbrev pub noted : Step → Note
 noted (step.Put s) = note.Put s
@@ -152,7 +238,8 @@ is_actor_shut (r ∷ h) = not (is_tick r.kind) && shut (r ∷ h) (actor r.kind)
 -- the number and the missed of the record, and whether its session is shut
 abbrev pub IsEnd : State → ℕ → Note → State → Type 0
 IsEnd m w n k =
-    (d : Done) × (n ≡ note.Done d) × (d.number ≡ length m.book.history) × (d.missed ≡ newest_missed m.book.history) × (d.shut ≡ is_actor_shut m.book.history) × (k ≡ ended m w (job_of m w))
+    (d : Done) × (n ≡ note.Done d) × (d.number ≡ length m.book.history) × (d.missed ≡ newest_missed m.book.history)
+    × (d.shut ≡ is_actor_shut m.book.history) × (k ≡ ended m w (job_of m w))
 
 abbrev pub IsBack : State → ℕ → Option ℕ → Note → State → Type 0
 IsBack m w None n k = ⊥
@@ -165,7 +252,8 @@ IsTake m s (Some x) n k = (n ≡ note.Item x) × (k ≡ took m s x)
 
 abbrev pub IsHang : State → ℕ → Why → ℤ → Note → State → Type 0
 IsHang m s why moment n k =
-    (d : Hung) × (n ≡ note.Hung d) × MayHang m.book s moment × (d.number ≡ length m.book.history + 1) × (d.missed ≡ list_any (λ u. u == s) (newest_missed k.book.history)) × (k ≡ hung m s why moment)
+    (d : Hung) × (n ≡ note.Hung d) × MayHang m.book s moment × (d.number ≡ length m.book.history + 1)
+    × (d.missed ≡ list_any (λ u. u == s) (newest_missed k.book.history)) × (k ≡ hung m s why moment)
 
 -- of the session that is to be swept
 abbrev pub IsSweep : State → ℕ → Option ℕ → ℤ → Note → State → Type 0
@@ -175,10 +263,12 @@ IsSweep m w (Some s) moment n k = (n ≡ note.Swept (Some (length m.book.history
 -- of those who are to be pinged
 abbrev pub IsTick : State → ℕ → List ℕ → ℤ → Note → State → Type 0
 IsTick m w [] moment n k = (n ≡ note.Ticked None) × (k ≡ m)
-IsTick m w (t ∷ ts) moment n k = HasRoom m.book × (n ≡ note.Ticked (Some (length m.book.history + 1))) × (k ≡ ticked m w moment)
+IsTick m w (t ∷ ts) moment n k = HasRoom m.book × (n ≡ note.Ticked (Some (length m.book.history + 1)))
+    × (k ≡ ticked m w moment)
 
 abbrev pub IsDone : State → Event → Note → State → Type 0
-IsDone m (Connect host moment) n k = MayOpen m.book moment × (n ≡ note.Session (sessions m.book.history + 1)) × (k ≡ connected m host moment)
+IsDone m (Connect host moment) n k = MayOpen m.book moment × (n ≡ note.Session (sessions m.book.history + 1))
+    × (k ≡ connected m host moment)
 IsDone m (Feed s octets) n k = IsFeed m s octets n k
 IsDone m (Pick w s) n k = (n ≡ note.Picked) × (k ≡ picked m w s)
 IsDone m (Begin w moment) n k = IsBegin m w (job_of m w) moment n k

@@ -1,12 +1,14 @@
 //! What is read of a session and not accepted yet.
-ghost use Rattle.std.specs.Prelude.{◌≡◌, ◌≢◌, ◌+◌, ◌<◌, ◌≤◌, ◌++◌, [], length, Some, None, IfOk, IfErr, IfSome, IsSome, OnErr, OnOk};
+ghost use Rattle.std.specs.Prelude.{◌≡◌, ◌≢◌, ◌+◌, ◌<◌, ◌≤◌, ◌++◌, [], length, Some, None};
+ghost use Rattle.std.specs.Prelude.{IfOk, IfErr, IfSome, IsSome, OnErr, OnOk};
 ghost use Rattle.std.specs.Option.{is_some};
 ghost use Rattle.chronicle.specs.History.{shut};
 ghost use Rattle.deliveries.specs.Items.{deliveries};
 ghost use Rattle.book.specs.Book.{IsOut, MayReap, IsReapRefusal, finished, newest_missed, outbox_at, reaped};
 ghost use Rattle.interleave.specs.Refusals.{IsLineRefused};
 ghost use Rattle.interleave.specs.Steps.{with_taken};
-ghost use Rattle.interleave.specs.Inbox.{Held, IsRead, IsBegun, held_at, with_held, with_seen, moved_to, ended_at, reaped_at};
+ghost use Rattle.interleave.specs.Inbox.{Held, IsRead, IsBegun, held_at, with_held};
+ghost use Rattle.interleave.specs.Inbox.{with_seen, moved_to, ended_at, reaped_at};
 
 use crate::event::{StepRefusal, of_line};
 use crate::tokens::Tokens;
@@ -21,9 +23,10 @@ use std::collections::{LinkedList, VecDeque};
 use std::marker::Model;
 use std::mem;
 
-/// A session's lines that no worker has begun, and its tokens. The first of them is in a worker's hand where the baton is. They
-/// stand in two halves, so that no line is moved where one is taken: what comes next, and what arrived since. A
-/// clause sees all octets that were ever fed, all items that were ever taken, and those that were left, which aren't kept.
+/// A session's lines that no worker has begun, and its tokens. The first of them is in a worker's hand where the
+/// baton is. They stand in two halves, so that no line is moved where one is taken: what comes next, and what
+/// arrived since. A clause sees all octets that were ever fed, all items that were ever taken, and those that were
+/// left, which aren't kept.
 #[derive(Drop)]
 pub(crate) struct Inbox<L: Naming> {
     alloc: Global,
@@ -44,7 +47,17 @@ impl<L: Naming> Model for Inbox<L> {
 
     ghost Value = { Held };
 
-    ghost view = { λ a. record { seen = record { fed = a.fed.value; pending = a.next.items ++ a.arrived.items; place = a.place; taken = a.taken.value; left = a.left.value }; turn = a.tokens } };
+    ghost view = { λ a. record {
+      seen = record {
+        fed = a.fed.value;
+        pending = a.next.items
+            ++ a.arrived.items;
+        place = a.place;
+        taken = a.taken.value;
+        left = a.left.value;
+      };
+      turn = a.tokens;
+    } };
 
     ghost invariant = { λ a. a.splitter ≡ left_by a.fed.value };
 }
@@ -144,8 +157,10 @@ impl<L: Naming> Inbox<L> {
     ) -> Result<Plan, StepRefusal>
         requires baton { IsSome self.old.turn }
         requires hand { self.old.seen.pending ≢ [] }
-        ensures ok { IfOk result (λ p. IsBegun self.old book.old worker moment p self.new book.new) }
-        ensures refusal { IfErr result (λ e. IfSome self.old.turn (λ turn. IsLineRefused book.old turn moment e)) }
+        ensures ok { IfOk result
+            (λ p. IsBegun self.old book.old worker moment p self.new book.new) }
+        ensures refusal { IfErr result
+            (λ e. IfSome self.old.turn (λ turn. IsLineRefused book.old turn moment e)) }
         ensures inbox { OnErr result (self.new ≡ self.old) }
         ensures book { OnErr result (book.new ≡ book.old) }
     {
@@ -171,12 +186,14 @@ impl<L: Naming> Inbox<L> {
         requires out { IsOut book.old plan }
         requires none { book.old.plan ≡ [] }
         requires baton { IsSome self.old.turn }
-        requires line { IfSome self.old.turn (λ turn. (plan.session ≡ turn.session) × (plan.next ≡ Some (turn.next + 1))) }
+        requires line { IfSome self.old.turn
+            (λ turn. (plan.session ≡ turn.session) × (plan.next ≡ Some (turn.next + 1))) }
         ensures inbox { IfSome self.old.turn (λ turn. self.new ≡ ended_at self.old turn) }
         ensures book { book.new ≡ finished book.old }
         ensures number { result.number ≡ length book.old.history }
         ensures missed { result.missed ≡ newest_missed book.old.history }
-        ensures shut { IfSome self.old.turn (λ turn. result.shut ≡ shut book.old.history turn.session) }
+        ensures shut { IfSome self.old.turn
+            (λ turn. result.shut ≡ shut book.old.history turn.session) }
     {
         self.place = Place::Home;
         let Some(tokens) = &mut self.tokens else {
@@ -188,11 +205,15 @@ impl<L: Naming> Inbox<L> {
     /// Gives the session up, and tells clauses of what was left for it. It answers how many items that were.
     pub(crate) fn reap(&mut self, book: &mut Book<L, Ring>) -> Result<u64, ReapRefusal>
         requires baton { IsSome self.old.turn }
-        ensures ok { IfSome self.old.turn (λ turn. OnOk result (self.new ≡ reaped_at self.old (deliveries (outbox_at book.old.outboxes turn.session).queue))) }
-        ensures book { IfSome self.old.turn (λ turn. OnOk result (book.new ≡ reaped book.old turn.session)) }
-        ensures left { IfSome self.old.turn (λ turn. IfOk result (λ n. n ≡ length (outbox_at book.old.outboxes turn.session).queue)) }
+        ensures ok { IfSome self.old.turn (λ turn. OnOk result (self.new
+            ≡ reaped_at self.old (deliveries (outbox_at book.old.outboxes turn.session).queue))) }
+        ensures book { IfSome self.old.turn
+            (λ turn. OnOk result (book.new ≡ reaped book.old turn.session)) }
+        ensures left { IfSome self.old.turn (λ turn. IfOk result
+            (λ n. n ≡ length (outbox_at book.old.outboxes turn.session).queue)) }
         ensures may { IfSome self.old.turn (λ turn. OnOk result (MayReap book.old turn.session)) }
-        ensures refusal { IfSome self.old.turn (λ turn. IfErr result (λ e. IsReapRefusal book.old turn.session e)) }
+        ensures refusal { IfSome self.old.turn
+            (λ turn. IfErr result (λ e. IsReapRefusal book.old turn.session e)) }
         ensures same { OnErr result ((self.new ≡ self.old) × (book.new ≡ book.old)) }
     {
         let Some(tokens) = self.tokens.take() else {
@@ -227,7 +248,8 @@ pub(crate) fn feed<L: Naming>(
 ) -> Result<usize, AllocError>
     requires from_1 { 0 < session }
     requires opened { session ≤ length inboxes.old.items }
-    ensures ok { IfOk result (λ n. (c : Held) × IsRead (held_at inboxes.old.items session) octets.now n c × (inboxes.new.items ≡ with_held inboxes.old.items session c)) }
+    ensures ok { IfOk result (λ n. (c : Held) × IsRead (held_at inboxes.old.items session)
+        octets.now n c × (inboxes.new.items ≡ with_held inboxes.old.items session c)) }
     ensures err { OnErr result (inboxes.new.items ≡ inboxes.old.items) }
 {
     inboxes[session.number() as usize - 1].feed(octets)
@@ -237,7 +259,8 @@ pub(crate) fn feed<L: Naming>(
 pub(crate) fn move_to<L: Naming>(inboxes: &mut Vec<Inbox<L>>, session: SessionId, place: Place)
     requires from_1 { 0 < session }
     requires opened { session ≤ length inboxes.old.items }
-    ensures { inboxes.new.items ≡ with_held inboxes.old.items session (moved_to (held_at inboxes.old.items session) place) }
+    ensures { inboxes.new.items
+        ≡ with_held inboxes.old.items session (moved_to (held_at inboxes.old.items session) place) }
 {
     inboxes[session.number() as usize - 1].move_to(place);
 }
@@ -250,7 +273,9 @@ pub(crate) fn tell_taken<L: Naming>(
 )
     requires from_1 { 0 < session }
     requires opened { session ≤ length inboxes.old.items }
-    ensures { inboxes.new.items ≡ with_held inboxes.old.items session (with_seen (held_at inboxes.old.items session) (with_taken (held_at inboxes.old.items session).seen delivery.now)) }
+    ensures { inboxes.new.items
+        ≡ with_held inboxes.old.items session (with_seen (held_at inboxes.old.items session)
+        (with_taken (held_at inboxes.old.items session).seen delivery.now)) }
 {
     inboxes[session.number() as usize - 1].tell_taken(delivery);
 }
@@ -267,8 +292,10 @@ pub(crate) fn begin<L: Naming>(
     requires opened { session ≤ length inboxes.old.items }
     requires baton { IsSome (held_at inboxes.old.items session).turn }
     requires hand { (held_at inboxes.old.items session).seen.pending ≢ [] }
-    ensures ok { IfOk result (λ p. (c : Held) × IsBegun (held_at inboxes.old.items session) book.old worker moment p c book.new × (inboxes.new.items ≡ with_held inboxes.old.items session c)) }
-    ensures refusal { IfErr result (λ e. IfSome (held_at inboxes.old.items session).turn (λ turn. IsLineRefused book.old turn moment e)) }
+    ensures ok { IfOk result (λ p. (c : Held) × IsBegun (held_at inboxes.old.items session) book.old
+        worker moment p c book.new × (inboxes.new.items ≡ with_held inboxes.old.items session c)) }
+    ensures refusal { IfErr result (λ e. IfSome (held_at inboxes.old.items session).turn
+        (λ turn. IsLineRefused book.old turn moment e)) }
     ensures inboxes { OnErr result (inboxes.new.items ≡ inboxes.old.items) }
     ensures book { OnErr result (book.new ≡ book.old) }
 {
@@ -287,12 +314,15 @@ pub(crate) fn end<L: Naming>(
     requires out { IsOut book.old plan }
     requires none { book.old.plan ≡ [] }
     requires baton { IsSome (held_at inboxes.old.items session).turn }
-    requires line { IfSome (held_at inboxes.old.items session).turn (λ turn. (plan.session ≡ turn.session) × (plan.next ≡ Some (turn.next + 1))) }
-    ensures inboxes { IfSome (held_at inboxes.old.items session).turn (λ turn. inboxes.new.items ≡ with_held inboxes.old.items session (ended_at (held_at inboxes.old.items session) turn)) }
+    requires line { IfSome (held_at inboxes.old.items session).turn
+        (λ turn. (plan.session ≡ turn.session) × (plan.next ≡ Some (turn.next + 1))) }
+    ensures inboxes { IfSome (held_at inboxes.old.items session).turn (λ turn. inboxes.new.items
+        ≡ with_held inboxes.old.items session (ended_at (held_at inboxes.old.items session) turn)) }
     ensures book { book.new ≡ finished book.old }
     ensures number { result.number ≡ length book.old.history }
     ensures missed { result.missed ≡ newest_missed book.old.history }
-    ensures shut { IfSome (held_at inboxes.old.items session).turn (λ turn. result.shut ≡ shut book.old.history turn.session) }
+    ensures shut { IfSome (held_at inboxes.old.items session).turn
+        (λ turn. result.shut ≡ shut book.old.history turn.session) }
 {
     inboxes[session.number() as usize - 1].end(book, plan)
 }
@@ -306,11 +336,18 @@ pub(crate) fn reap<L: Naming>(
     requires from_1 { 0 < session }
     requires opened { session ≤ length inboxes.old.items }
     requires baton { IsSome (held_at inboxes.old.items session).turn }
-    ensures ok { IfSome (held_at inboxes.old.items session).turn (λ turn. OnOk result (inboxes.new.items ≡ with_held inboxes.old.items session (reaped_at (held_at inboxes.old.items session) (deliveries (outbox_at book.old.outboxes turn.session).queue)))) }
-    ensures book { IfSome (held_at inboxes.old.items session).turn (λ turn. OnOk result (book.new ≡ reaped book.old turn.session)) }
-    ensures left { IfSome (held_at inboxes.old.items session).turn (λ turn. IfOk result (λ n. n ≡ length (outbox_at book.old.outboxes turn.session).queue)) }
-    ensures may { IfSome (held_at inboxes.old.items session).turn (λ turn. OnOk result (MayReap book.old turn.session)) }
-    ensures refusal { IfSome (held_at inboxes.old.items session).turn (λ turn. IfErr result (λ e. IsReapRefusal book.old turn.session e)) }
+    ensures ok { IfSome (held_at inboxes.old.items session).turn
+        (λ turn. OnOk result (inboxes.new.items
+        ≡ with_held inboxes.old.items session (reaped_at (held_at inboxes.old.items session)
+        (deliveries (outbox_at book.old.outboxes turn.session).queue)))) }
+    ensures book { IfSome (held_at inboxes.old.items session).turn
+        (λ turn. OnOk result (book.new ≡ reaped book.old turn.session)) }
+    ensures left { IfSome (held_at inboxes.old.items session).turn
+        (λ turn. IfOk result (λ n. n ≡ length (outbox_at book.old.outboxes turn.session).queue)) }
+    ensures may { IfSome (held_at inboxes.old.items session).turn
+        (λ turn. OnOk result (MayReap book.old turn.session)) }
+    ensures refusal { IfSome (held_at inboxes.old.items session).turn
+        (λ turn. IfErr result (λ e. IsReapRefusal book.old turn.session e)) }
     ensures same { OnErr result ((inboxes.new.items ≡ inboxes.old.items) × (book.new ≡ book.old)) }
 {
     inboxes[session.number() as usize - 1].reap(book)

@@ -1,5 +1,6 @@
 //! What follows for a user. These functions do nothing: each states a law.
-ghost use Rattle.interleave.specs.Laws.{OnceInOrder, TakenInOrder, AcceptedIsPrefixOfSent, ErrorAtMostAfterTheClose, LabelledOnce, LabelledFirst, LoneUnbatched, BatchClosed, HeardOnce};
+ghost use Rattle.interleave.specs.Laws.{OnceInOrder, TakenInOrder, AcceptedIsPrefixOfSent, ErrorAtMostAfterTheClose};
+ghost use Rattle.interleave.specs.Laws.{LabelledOnce, LabelledFirst, LoneUnbatched, BatchClosed, HeardOnce};
 
 use labels_batches::{
     label_stands_first, lone_line_opens_no_batch, several_lines_are_a_closed_batch,
@@ -11,8 +12,8 @@ pub fn once_in_order()
     ensures { OnceInOrder }
 {}
 
-/// What was ever taken of a session is at most one delivery of each record, in the order of the records, and no delivery that
-/// it is owed before the last of them was left out.
+/// What was ever taken of a session is at most one delivery of each record, in the order of the records, and no
+/// delivery that it is owed before the last of them was left out.
 pub fn taken_in_order()
     ensures { TakenInOrder }
 {}
@@ -27,9 +28,9 @@ pub fn error_at_most_after_the_close()
     ensures { ErrorAtMostAfterTheClose }
 {}
 
-/// A line with a label that counts by the capabilities that its session had before it, other than QUIT, is answered once where its
-/// record doesn't miss the session: one delivery is the answer under the label, with what the session sent to itself, and no other
-/// line.
+/// A line with a label that counts by the capabilities that its session had before it, other than QUIT, is answered
+/// once where its record doesn't miss the session: one delivery is the answer under the label, with what the session
+/// sent to itself, and no other line.
 pub fn labelled_once()
     ensures { LabelledOnce }
 {
@@ -52,8 +53,8 @@ pub fn lone_line_unbatched()
     records_open_no_others();
 }
 
-/// Where the answer to such a line is several lines it is a batch that is closed, with the record's number for its reference at
-/// both ends.
+/// Where the answer to such a line is several lines it is a batch that is closed, with the record's number for its
+/// reference at both ends.
 pub fn batch_closed()
     ensures { BatchClosed }
 {

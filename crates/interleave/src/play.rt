@@ -1,5 +1,6 @@
 //! Steps, and whole runs.
-ghost use Rattle.std.specs.Prelude.{◌≡◌, ◌<◌, ◌≤◌, ◌+◌, ◌-◌, ◌++◌, ◌∷◌, [], ℕ, true, false, length, replicate, slice_set, Some, None, IfOk, IfErr, IfSome, IsTrue, OnErr, All, ◌||◌, ◌↔◌};
+ghost use Rattle.std.specs.Prelude.{◌≡◌, ◌<◌, ◌≤◌, ◌+◌, ◌-◌, ◌++◌, ◌∷◌, [], ℕ, true, false, length, replicate};
+ghost use Rattle.std.specs.Prelude.{slice_set, Some, None, IfOk, IfErr, IfSome, IsTrue, OnErr, All, ◌||◌, ◌↔◌};
 ghost use Rattle.std.specs.Option.{is_some};
 ghost use Rattle.chronicle.specs.History.{accepted};
 ghost use Rattle.line_grammar.specs.Lines.{lines};
@@ -131,8 +132,10 @@ fn finish<L: Naming>(book: &mut Book<L, Ring>, plan: Plan) -> Done
 
 impl<L: Naming> Play<L> {
     ghost use Rattle.interleave.specs.declared.event.Event.TheVariants as event;
-    ghost use Rattle.interleave.specs.State.{IsSound, ForEach, empty_state, inbox_at, in_hand, unread, taken_of, queue_of, planned_for, is_known, is_worker, job_of, holds, is_home};
-    ghost use Rattle.interleave.specs.Refusals.{own_refusal, no_session, no_worker, locked, not_holding, has_job, no_job, in_flight, nothing_left, puts_left, holds_lock};
+    ghost use Rattle.interleave.specs.State.{IsSound, ForEach, empty_state, inbox_at, in_hand, unread, taken_of};
+    ghost use Rattle.interleave.specs.State.{queue_of, planned_for, is_known, is_worker, job_of, holds, is_home};
+    ghost use Rattle.interleave.specs.Refusals.{own_refusal, no_session, no_worker, locked, not_holding, has_job};
+    ghost use Rattle.interleave.specs.Refusals.{no_job, in_flight, nothing_left, puts_left, holds_lock};
     ghost use Rattle.interleave.specs.Steps.{IsWellShaped, IsStep, IsDone};
     ghost use Rattle.interleave.specs.Runs.{IsRun, sent, took};
     ghost use Rattle.interleave.specs.Order.{IsPrefix, IsRising};
@@ -150,9 +153,12 @@ impl<L: Naming> Play<L> {
     ) -> Result<Play<L>, PlayRefusal>
         requires named { register.table ≡ L.table }
         requires empty { register.rows ≡ [] }
-        ensures ok { IfOk result (λ p. (p ≡ empty_state limit settings sendq workers) × IsWellSet settings limit workers sendq) }
-        ensures bad { IfErr result (λ e. e ≡ PlayRefusal.BadSettings → IsWellSet settings limit workers sendq → ⊥) }
-        ensures memory { IfErr result (λ e. e ≡ PlayRefusal.Memory → IsWellSet settings limit workers sendq) }
+        ensures ok { IfOk result (λ p. (p ≡ empty_state limit settings sendq workers)
+            × IsWellSet settings limit workers sendq) }
+        ensures bad { IfErr result
+            (λ e. e ≡ PlayRefusal.BadSettings → IsWellSet settings limit workers sendq → ⊥) }
+        ensures memory { IfErr result
+            (λ e. e ≡ PlayRefusal.Memory → IsWellSet settings limit workers sendq) }
     {
         if !are_well_set(workers, sendq) {
             return Err(PlayRefusal::BadSettings);
@@ -175,8 +181,8 @@ impl<L: Naming> Play<L> {
         })
     }
 
-    /// A play with no sessions, for at most `limit` records, 1 to 64 workers, and outboxes for `sendq` items, 1 to 4,096. Its
-    /// sessions' tokens a register has that is named by `L` and has no session yet.
+    /// A play with no sessions, for at most `limit` records, 1 to 64 workers, and outboxes for `sendq` items, 1 to
+    /// 4,096. Its sessions' tokens a register has that is named by `L` and has no session yet.
     pub fn new(
         alloc: Global,
         register: Register<()>,
@@ -187,9 +193,12 @@ impl<L: Naming> Play<L> {
     ) -> Result<Play<L>, PlayRefusal>
         requires named { register.table ≡ L.table }
         requires empty { register.rows ≡ [] }
-        ensures ok { IfOk result (λ p. (p ≡ empty_state limit settings sendq workers) × IsWellSet settings limit workers sendq) }
-        ensures bad { IfErr result (λ e. e ≡ PlayRefusal.BadSettings → IsWellSet settings limit workers sendq → ⊥) }
-        ensures memory { IfErr result (λ e. e ≡ PlayRefusal.Memory → IsWellSet settings limit workers sendq) }
+        ensures ok { IfOk result (λ p. (p ≡ empty_state limit settings sendq workers)
+            × IsWellSet settings limit workers sendq) }
+        ensures bad { IfErr result
+            (λ e. e ≡ PlayRefusal.BadSettings → IsWellSet settings limit workers sendq → ⊥) }
+        ensures memory { IfErr result
+            (λ e. e ≡ PlayRefusal.Memory → IsWellSet settings limit workers sendq) }
     {
         Play::made(alloc, register, settings, limit, workers, sendq, None)
     }
@@ -206,9 +215,12 @@ impl<L: Naming> Play<L> {
     ) -> Result<Play<L>, PlayRefusal>
         requires named { register.table ≡ L.table }
         requires empty { register.rows ≡ [] }
-        ensures ok { IfOk result (λ p. (p ≡ empty_state limit settings sendq workers) × IsWellSet settings limit workers sendq) }
-        ensures bad { IfErr result (λ e. e ≡ PlayRefusal.BadSettings → IsWellSet settings limit workers sendq → ⊥) }
-        ensures memory { IfErr result (λ e. e ≡ PlayRefusal.Memory → IsWellSet settings limit workers sendq) }
+        ensures ok { IfOk result (λ p. (p ≡ empty_state limit settings sendq workers)
+            × IsWellSet settings limit workers sendq) }
+        ensures bad { IfErr result
+            (λ e. e ≡ PlayRefusal.BadSettings → IsWellSet settings limit workers sendq → ⊥) }
+        ensures memory { IfErr result
+            (λ e. e ≡ PlayRefusal.Memory → IsWellSet settings limit workers sendq) }
     {
         Play::made(
             alloc,
@@ -221,9 +233,9 @@ impl<L: Naming> Play<L> {
         )
     }
 
-    /// What holds of every play: what was taken of a session, what waits for it and what a plan still has for it is what the
-    /// history owes it; the accepted lines, with those that aren't begun, are the lines of what was fed; a worker who has a
-    /// line has the baton of its session.
+    /// What holds of every play: what was taken of a session, what waits for it and what a plan still has for it is
+    /// what the history owes it; the accepted lines, with those that aren't begun, are the lines of what was fed; a
+    /// worker who has a line has the baton of its session.
     pub fn sound(&self)
         ensures { IsSound self.now }
     {
@@ -315,7 +327,8 @@ impl<L: Naming> Play<L> {
     }
 
     fn refuses_begin(&self, worker: WorkerId) -> Option<StepRefusal>
-        ensures { result ≡ no_worker self.now worker (locked self.now (no_job self.now worker None)) }
+        ensures { result
+            ≡ no_worker self.now worker (locked self.now (no_job self.now worker None)) }
     {
         if !self.is_worker(worker) {
             return Some(StepRefusal::NoWorker);
@@ -330,7 +343,8 @@ impl<L: Naming> Play<L> {
     }
 
     fn refuses_put(&self, worker: WorkerId) -> Option<StepRefusal>
-        ensures { result ≡ no_worker self.now worker (not_holding self.now worker (nothing_left self.now)) }
+        ensures { result
+            ≡ no_worker self.now worker (not_holding self.now worker (nothing_left self.now)) }
     {
         if !self.is_worker(worker) {
             return Some(StepRefusal::NoWorker);
@@ -345,7 +359,8 @@ impl<L: Naming> Play<L> {
     }
 
     fn refuses_end(&self, worker: WorkerId) -> Option<StepRefusal>
-        ensures { result ≡ no_worker self.now worker (not_holding self.now worker (puts_left self.now)) }
+        ensures { result
+            ≡ no_worker self.now worker (not_holding self.now worker (puts_left self.now)) }
     {
         if !self.is_worker(worker) {
             return Some(StepRefusal::NoWorker);
@@ -360,7 +375,8 @@ impl<L: Naming> Play<L> {
     }
 
     fn refuses_back(&self, worker: WorkerId) -> Option<StepRefusal>
-        ensures { result ≡ no_worker self.now worker (no_job self.now worker (holds_lock self.now worker)) }
+        ensures { result
+            ≡ no_worker self.now worker (no_job self.now worker (holds_lock self.now worker)) }
     {
         if !self.is_worker(worker) {
             return Some(StepRefusal::NoWorker);
@@ -388,7 +404,8 @@ impl<L: Naming> Play<L> {
 
     /// Why a worker without a line can't take the lock.
     fn refuses_lock(&self, worker: WorkerId) -> Option<StepRefusal>
-        ensures { result ≡ no_worker self.now worker (locked self.now (has_job self.now worker None)) }
+        ensures { result
+            ≡ no_worker self.now worker (locked self.now (has_job self.now worker None)) }
     {
         if !self.is_worker(worker) {
             return Some(StepRefusal::NoWorker);
@@ -403,7 +420,8 @@ impl<L: Naming> Play<L> {
     }
 
     fn refuses_reap(&self, session: SessionId) -> Option<StepRefusal>
-        ensures { result ≡ no_session self.now session (locked self.now (in_flight self.now session None)) }
+        ensures { result
+            ≡ no_session self.now session (locked self.now (in_flight self.now session None)) }
     {
         if !self.is_known(session) {
             return Some(StepRefusal::NoSession);
@@ -654,16 +672,19 @@ impl<L: Naming> Play<L> {
         }
     }
 
-    /// Takes one event. A refusal changes nothing. After each: what was taken of a session, then what waits for it or was left,
-    /// then what the plan still has for it, is what the history owes it; the accepted lines, then the line in a worker's hand,
-    /// then the unread ones, are the lines of what was fed; and each accepted line with a label that counts is answered once, whole.
+    /// Takes one event. A refusal changes nothing. After each: what was taken of a session, then what waits for it
+    /// or was left, then what the plan still has for it, is what the history owes it; the accepted lines, then the
+    /// line in a worker's hand, then the unread ones, are the lines of what was fed; and each accepted line with a
+    /// label that counts is answered once, whole.
     pub fn step(&mut self, event: &Event) -> Result<Note, StepRefusal>
         requires { IsWellShaped event.now }
         ensures step { IsStep self.old event.now result self.new }
         ensures sound { IsSound self.new }
         ensures legal { IsLegal self.new.book.settings self.new.book.history }
-        ensures taken_is_owed { ForEach self.new (λ t. taken_of self.new t ++ queue_of self.new t ++ planned_for self.new t ≡ owed self.new.book.settings self.new.book.history t) }
-        ensures accepted_is_sent { ForEach self.new (λ t. accepted self.new.book.history t ++ in_hand self.new t ++ unread self.new t ≡ lines (inbox_at self.new t).fed) }
+        ensures taken_is_owed { ForEach self.new (λ t. taken_of self.new t ++ queue_of self.new t
+            ++ planned_for self.new t ≡ owed self.new.book.settings self.new.book.history t) }
+        ensures accepted_is_sent { ForEach self.new (λ t. accepted self.new.book.history t
+            ++ in_hand self.new t ++ unread self.new t ≡ lines (inbox_at self.new t).fed) }
         ensures answered_once { IsAnsweredOnce self.new.book.settings self.new.book.history }
         ensures labelled_first { IsLabelledFirst self.new.book.settings self.new.book.history }
         ensures lone_unbatched { IsLoneUnbatched self.new.book.settings self.new.book.history }
@@ -681,19 +702,28 @@ impl<L: Naming> Play<L> {
         answer
     }
 
-    /// Takes the events in turn, and goes on from the unchanged state after a refused one. An `Err` says that there was no room
-    /// for the answers, and nothing changed.
+    /// Takes the events in turn, and goes on from the unchanged state after a refused one. An `Err` says that there
+    /// was no room for the answers, and nothing changed.
     pub fn run(&mut self, events: &[Event]) -> Result<Vec<Result<Note, StepRefusal>>, AllocError>
         requires { All IsWellShaped events.now }
         ensures run { IfOk result (λ notes. IsRun self.old events.now notes.items self.new) }
         ensures err { OnErr result (self.new ≡ self.old) }
         ensures sound { IsSound self.new }
         ensures legal { IsLegal self.new.book.settings self.new.book.history }
-        ensures taken_is_owed { IfOk result (λ notes. ForEach self.new (λ t. (taken_of self.old t ++ took t events.now notes.items) ++ queue_of self.new t ++ planned_for self.new t ≡ owed self.new.book.settings self.new.book.history t)) }
-        ensures accepted_is_sent { IfOk result (λ notes. ForEach self.new (λ t. accepted self.new.book.history t ++ in_hand self.new t ++ unread self.new t ≡ lines ((inbox_at self.old t).fed ++ sent t events.now notes.items))) }
-        ensures taken_is_prefix { IfOk result (λ notes. ForEach self.new (λ t. IsPrefix (taken_of self.old t ++ took t events.now notes.items) (owed self.new.book.settings self.new.book.history t))) }
-        ensures accepted_is_prefix { IfOk result (λ notes. ForEach self.new (λ t. IsPrefix (accepted self.new.book.history t) (lines ((inbox_at self.old t).fed ++ sent t events.now notes.items)))) }
-        ensures in_order { IfOk result (λ notes. ForEach self.new (λ t. IsRising (taken_of self.old t ++ took t events.now notes.items))) }
+        ensures taken_is_owed { IfOk result (λ notes. ForEach self.new
+            (λ t. (taken_of self.old t ++ took t events.now notes.items) ++ queue_of self.new t
+            ++ planned_for self.new t ≡ owed self.new.book.settings self.new.book.history t)) }
+        ensures accepted_is_sent { IfOk result (λ notes. ForEach self.new
+            (λ t. accepted self.new.book.history t ++ in_hand self.new t ++ unread self.new t
+            ≡ lines ((inbox_at self.old t).fed ++ sent t events.now notes.items))) }
+        ensures taken_is_prefix { IfOk result (λ notes. ForEach self.new
+            (λ t. IsPrefix (taken_of self.old t ++ took t events.now notes.items)
+            (owed self.new.book.settings self.new.book.history t))) }
+        ensures accepted_is_prefix { IfOk result
+            (λ notes. ForEach self.new (λ t. IsPrefix (accepted self.new.book.history t)
+            (lines ((inbox_at self.old t).fed ++ sent t events.now notes.items)))) }
+        ensures in_order { IfOk result (λ notes. ForEach self.new
+            (λ t. IsRising (taken_of self.old t ++ took t events.now notes.items))) }
         ensures answered_once { IsAnsweredOnce self.new.book.settings self.new.book.history }
         ensures labelled_first { IsLabelledFirst self.new.book.settings self.new.book.history }
         ensures lone_unbatched { IsLoneUnbatched self.new.book.settings self.new.book.history }

@@ -2,7 +2,8 @@
 ghost use Rattle.std.specs.Prelude.{◌≡◌, ◌+◌, [], Some, length, IsSome, IfOk, IfErr, OnOk, OnErr};
 ghost use Rattle.chronicle.specs.declared.record.Kind.TheVariants as kind;
 ghost use Rattle.chronicle.specs.History.{shut};
-ghost use Rattle.book.specs.Book.{IsOut, MayBegin, MayReap, IsLineRefusal, IsReapRefusal, begun, finished, newest_missed, outbox_at, reaped};
+ghost use Rattle.book.specs.Book.{IsOut, MayBegin, MayReap, IsLineRefusal, IsReapRefusal, begun};
+ghost use Rattle.book.specs.Book.{finished, newest_missed, outbox_at, reaped};
 ghost use Rattle.hall.specs.Reaping.{turn_of};
 
 use chronicle::{Moment, SessionId};
@@ -10,7 +11,8 @@ use hall::{Baton, Book, Done, LineRefusal, Naming, Plan, ReapRefusal, Ring, Stub
 use line_grammar::Piece;
 use std::marker::Model;
 
-/// A session's baton and its stub, which come together when it is given up. A clause sees whose line is next, and which.
+/// A session's baton and its stub, which come together when it is given up. A clause sees whose line is next, and
+/// which.
 #[derive(Drop)]
 pub(crate) struct Tokens<L: Naming> {
     baton: Baton<L, Ring>,
@@ -53,9 +55,11 @@ impl<L: Naming> Tokens<L> {
         piece: &Piece,
         moment: Moment,
     ) -> Result<Plan, LineRefusal>
-        ensures ok { OnOk result (book.new ≡ begun book.old (kind.Said self.now.session self.now.next piece.now) moment) }
+        ensures ok { OnOk result (book.new
+            ≡ begun book.old (kind.Said self.now.session self.now.next piece.now) moment) }
         ensures out { IfOk result (λ p. IsOut book.new p) }
-        ensures line { IfOk result (λ p. (p.session ≡ self.now.session) × (p.next ≡ Some (self.now.next + 1))) }
+        ensures line { IfOk result
+            (λ p. (p.session ≡ self.now.session) × (p.next ≡ Some (self.now.next + 1))) }
         ensures may { OnOk result (MayBegin book.old self.now moment) }
         ensures refusal { IfErr result (λ e. IsLineRefusal book.old self.now moment e) }
         ensures err { OnErr result (book.new ≡ book.old) }
@@ -80,7 +84,8 @@ impl<L: Naming> Tokens<L> {
     /// Gives the session up, and answers how many items are left in its outbox. A refusal gives the tokens back.
     pub(crate) fn reap(self, book: &mut Book<L, Ring>) -> Result<u64, (ReapRefusal, Tokens<L>)>
         ensures ok { OnOk result (book.new ≡ reaped book.old self.session) }
-        ensures left { IfOk result (λ n. n ≡ length (outbox_at book.old.outboxes self.session).queue) }
+        ensures left { IfOk result
+            (λ n. n ≡ length (outbox_at book.old.outboxes self.session).queue) }
         ensures may { OnOk result (MayReap book.old self.session) }
         ensures refusal { IfErr result (λ e. IsReapRefusal book.old self.session e.0) }
         ensures err { IfErr result (λ e. (book.new ≡ book.old) × (e.1 ≡ self)) }

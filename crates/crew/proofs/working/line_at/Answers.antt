@@ -6,5 +6,7 @@ use Rattle.crew.proofs.working.line_at.Goals as goal
 
 pub returns-clause-moment : goal.returns-clause-moment
 returns-clause-moment g c =
-    let later = subst (λ (m : ℤ). IsLater c.args.moment m c.later-moment.result) c.last_moment.ensures c.later-moment.ensures in
-    on_ok_weaker c.line_or_roll.result (at_later c.args.moment c.later-moment.result c.args.hall.now.history c.line_or_roll.new.baton.front later) c.line_or_roll.ensures.next
+    let later = subst (λ (m : ℤ). IsLater c.args.moment m c.later-moment.result) c.last_moment.ensures
+    c.later-moment.ensures in
+    on_ok_weaker c.line_or_roll.result (at_later c.args.moment c.later-moment.result c.args.hall.now.history
+    c.line_or_roll.new.baton.front later) c.line_or_roll.ensures.next

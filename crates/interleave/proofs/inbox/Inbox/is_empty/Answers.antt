@@ -11,5 +11,6 @@ some_first (x ∷ xs) ys e = refl
 -- what comes next isn't all gone
 pub returns-else-is_empty : goal.returns-else-is_empty
 returns-else-is_empty g c = c.if-is_empty.false
-    ∙ sym (some_first c.self.inside.next.items c.self.inside.arrived.items (ap (λ n. nat_eq n 0) (sym c.self.inside.next.ok.0) ∙ sym c.if-is_empty.ensures))
+    ∙ sym (some_first c.self.inside.next.items c.self.inside.arrived.items
+    (ap (λ n. nat_eq n 0) (sym c.self.inside.next.ok.0) ∙ sym c.if-is_empty.ensures))
     ∙ ap (λ (v : Held). is_empty v.seen.pending) c.self.view_is

@@ -16,10 +16,18 @@ use Rattle.interleave.proofs.play.Play.connect.Goals as goal
 pub invariant_of-self-in-Ok : goal.invariant_of-self-in-Ok
 invariant_of-self-in-Ok g c =
     let a = c.self.inside in let m = a.book in let boxes = a.inboxes.items in let jobs = a.jobs.items in
-    let free : own_refusal (state_of m a.sendq boxes jobs a.holder) (event.Connect c.args.host.now c.args.moment) ≡ None = subst (λ (x : State). own_refusal x (event.Connect c.args.host.now c.args.moment) ≡ None) (sym c.self.view_is) c.requires.free in
+    let free : own_refusal (state_of m a.sendq boxes jobs a.holder) (event.Connect c.args.host.now c.args.moment)
+    ≡ None = subst (λ (x : State). own_refusal x (event.Connect c.args.host.now c.args.moment) ≡ None)
+    (sym c.self.view_is) c.requires.free in
     let b = c.new-inbox.result in
     let all : c.push_reserved.new.self.items ≡ boxes ++ b ∷ [] = grind (arith, common_steps) in
-    let fresh : b ≡ record { seen = nothing_fed; turn = Some (record { session = sessions m.history + 1; next = 0 }) } = grind (arith, common_steps) in
-    let is : c.open-opened.new.self ≡ book.opened m c.in_ok-host.host c.args.moment (empty_ring a.sendq) = grind (arith, common_steps) in
+    let fresh : b ≡ record {
+      seen = nothing_fed;
+      turn = Some (record { session = sessions m.history + 1; next = 0 });
+    } = grind (arith, common_steps) in
+    let is : c.open-opened.new.self ≡ book.opened m c.in_ok-host.host c.args.moment (empty_ring a.sendq) = grind
+    (arith, common_steps) in
     subst (λ (bs : List Held). IsKept c.open-opened.new.self a.sendq bs jobs a.holder) (sym all)
-    (connected_kept m c.open-opened.new.self a.sendq boxes jobs a.holder b c.in_ok-host.host c.args.moment c.self.invariant (connects m a.sendq boxes jobs a.holder c.args.host.now c.args.moment free) fresh is c.sound.ensures).1
+    (connected_kept m c.open-opened.new.self a.sendq boxes jobs a.holder b c.in_ok-host.host c.args.moment
+    c.self.invariant (connects m a.sendq boxes jobs a.holder c.args.host.now c.args.moment free) fresh is
+    c.sound.ensures).1

@@ -9,6 +9,9 @@ use Rattle.interleave.proofs.play.Play.made.Goals as goal
 pub invariant_of-result : goal.invariant_of-result
 invariant_of-result g c =
     let q = c.args.sendq in
-    subst (λ (m : Shown Waiting). IsKept m q c.new.result.items c.in-Ok-idle.jobs.items None) (sym c.in-Ok.ensures.ok.0)
-    (subst (λ (bs : List Held). IsKept (empty_book c.args.limit c.args.settings) q bs c.in-Ok-idle.jobs.items None) (sym c.new.ensures.items)
-    (subst (λ (js : List (Option ℕ)). IsKept (empty_book c.args.limit c.args.settings) q [] js None) (sym c.in-Ok-idle.ensures) (empty_kept c.args.limit c.args.settings q c.args.workers)))
+    subst (λ (m : Shown Waiting). IsKept m q c.new.result.items c.in-Ok-idle.jobs.items None)
+    (sym c.in-Ok.ensures.ok.0)
+    (subst (λ (bs : List Held). IsKept (empty_book c.args.limit c.args.settings) q bs c.in-Ok-idle.jobs.items None)
+    (sym c.new.ensures.items)
+    (subst (λ (js : List (Option ℕ)). IsKept (empty_book c.args.limit c.args.settings) q [] js None)
+    (sym c.in-Ok-idle.ensures) (empty_kept c.args.limit c.args.settings q c.args.workers)))

@@ -11,29 +11,39 @@ pub returns-clause-run : goal.returns-clause-run
 returns-clause-run g c =
     let l = c.loop-event in let es = c.args.events.now in
     let done : drop l.event-index es ≡ [] = grind (arith, common_steps) in
-    subst (λ rs. IsRun c.args.self.now es rs l.self) (append-nil l.notes.items) (l.invariant.run [] l.self (subst (λ xs. IsRun l.self xs [] l.self) (sym done) refl))
+    subst (λ rs. IsRun c.args.self.now es rs l.self) (append-nil l.notes.items)
+    (l.invariant.run [] l.self (subst (λ xs. IsRun l.self xs [] l.self) (sym done) refl))
 
 pub returns-clause-taken_is_owed : goal.returns-clause-taken_is_owed
-returns-clause-taken_is_owed g c = run_taken c.args.self.now c.loop-event.self c.args.events.now c.loop-event.notes.items c.sound-2.ensures (returns-clause-run g c)
+returns-clause-taken_is_owed g c = run_taken c.args.self.now c.loop-event.self c.args.events.now
+    c.loop-event.notes.items c.sound-2.ensures (returns-clause-run g c)
 
 pub returns-clause-accepted_is_sent : goal.returns-clause-accepted_is_sent
-returns-clause-accepted_is_sent g c = run_accepted c.args.self.now c.loop-event.self c.args.events.now c.loop-event.notes.items c.sound-2.ensures (returns-clause-run g c)
+returns-clause-accepted_is_sent g c = run_accepted c.args.self.now c.loop-event.self c.args.events.now
+    c.loop-event.notes.items c.sound-2.ensures (returns-clause-run g c)
 
 -- what waits and what is planned is the rest
 pub returns-clause-taken_is_prefix : goal.returns-clause-taken_is_prefix
 returns-clause-taken_is_prefix g c t from to =
-    let k = c.loop-event.self in
-    (queue_of k t ++ planned_for k t, sym (append_assoc (taken_of c.args.self.now t ++ took t c.args.events.now c.loop-event.notes.items) (queue_of k t) (planned_for k t)) ∙ returns-clause-taken_is_owed g c t from to)
+    let k = c.loop-event.self in (
+      queue_of k t ++ planned_for k t,
+      sym (append_assoc (taken_of c.args.self.now t ++ took t c.args.events.now
+          c.loop-event.notes.items) (queue_of k t) (planned_for k t)) ∙ returns-clause-taken_is_owed g c t from to,
+    )
 
 -- what no worker has begun is the rest
 pub returns-clause-accepted_is_prefix : goal.returns-clause-accepted_is_prefix
 returns-clause-accepted_is_prefix g c t from to =
-    let k = c.loop-event.self in
-    (in_hand k t ++ unread k t, sym (append_assoc (accepted k.book.history t) (in_hand k t) (unread k t)) ∙ returns-clause-accepted_is_sent g c t from to)
+    let k = c.loop-event.self in (
+      in_hand k t ++ unread k t,
+      sym (append_assoc (accepted k.book.history t) (in_hand k t) (unread k t))
+          ∙ returns-clause-accepted_is_sent g c t from to,
+    )
 
 pub returns-clause-in_order : goal.returns-clause-in_order
 returns-clause-in_order g c t from to =
-    prefix_rises c.loop-event.self.book.settings c.loop-event.self.book.history t (taken_of c.args.self.now t ++ took t c.args.events.now c.loop-event.notes.items) (returns-clause-taken_is_prefix g c t from to)
+    prefix_rises c.loop-event.self.book.settings c.loop-event.self.book.history t (taken_of c.args.self.now t
+    ++ took t c.args.events.now c.loop-event.notes.items) (returns-clause-taken_is_prefix g c t from to)
 
 pub returns-in_err-reserve-clause-answered_once : goal.returns-in_err-reserve-clause-answered_once
 returns-in_err-reserve-clause-answered_once g c = c.labelled_once.ensures _ _ c.sound.ensures.book.legal

@@ -10,5 +10,6 @@ abbrev pub invariant-loop-event : goal.invariant-loop-event
 invariant-loop-event g l =
     record {
       room : vec_len l.notes + length (drop l.event-index l.events) ≤ vec_capacity l.notes;
-      run : (rs : List (Result Note StepRefusal)) (k : State) → IsRun l.self (drop l.event-index l.events) rs k → IsRun l.fn.self l.events (l.notes.items ++ rs) k;
+      run : (rs : List (Result Note StepRefusal)) (k : State) → IsRun l.self (drop l.event-index l.events) rs k
+          → IsRun l.fn.self l.events (l.notes.items ++ rs) k;
     }

@@ -11,8 +11,14 @@ use Rattle.interleave.proofs.play.Play.sweep.Goals as goal
 
 pub invariant_of-self : goal.invariant_of-self
 invariant_of-self g c =
-    let a = c.self.inside in let m = a.book in let boxes = a.inboxes.items in let jobs = a.jobs.items in let w = c.args.worker in let p = c.in-Ok-Some.plan in
-    let free : own_refusal (state_of m a.sendq boxes jobs a.holder) (event.Sweep w c.args.moment) ≡ None = subst (λ (x : State). own_refusal x (event.Sweep w c.args.moment) ≡ None) (sym c.self.view_is) c.requires.free in
+    let a = c.self.inside in
+    let m = a.book in
+    let boxes = a.inboxes.items in let jobs = a.jobs.items in let w = c.args.worker in let p = c.in-Ok-Some.plan in
+    let free : own_refusal (state_of m a.sendq boxes jobs a.holder) (event.Sweep w c.args.moment) ≡ None = subst
+    (λ (x : State). own_refusal x (event.Sweep w c.args.moment) ≡ None) (sym c.self.view_is) c.requires.free in
     let may = sweeps m a.sendq boxes jobs a.holder w c.args.moment free in
-    let some : (book.to_sweep m.history ≡ Some p.session) × (c.begin_sweep-begun.new.self ≡ book.begun m (kind.Gone p.session) c.args.moment) × book.IsOut c.begin_sweep-begun.new.self p × (p.next ≡ None) = rw c.in-Ok-Some.field-0-is at c.in-Ok-Some.ensures.some in
-    silent_kept m c.begin_sweep-begun.new.self a.sendq boxes jobs a.holder w (kind.Gone p.session) c.args.moment p (λ t. refl) c.self.invariant may.0.worker may.0.there may.0.lock may.1 some.1 some.2 some.3 c.sound.ensures
+    let some : (book.to_sweep m.history ≡ Some p.session) × (c.begin_sweep-begun.new.self
+    ≡ book.begun m (kind.Gone p.session) c.args.moment) × book.IsOut c.begin_sweep-begun.new.self p
+    × (p.next ≡ None) = rw c.in-Ok-Some.field-0-is at c.in-Ok-Some.ensures.some in
+    silent_kept m c.begin_sweep-begun.new.self a.sendq boxes jobs a.holder w (kind.Gone p.session) c.args.moment p
+    (λ t. refl) c.self.invariant may.0.worker may.0.there may.0.lock may.1 some.1 some.2 some.3 c.sound.ensures
