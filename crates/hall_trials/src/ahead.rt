@@ -1,5 +1,5 @@
-//! A line that was read before it is done is done as one that is read then, and its label counts by the capabilities that its session
-//! has when it is done.
+//! A line that was read before it is done is done as one that is read then, and its label counts by the capabilities
+//! that its session has when it is done.
 use crate::again::{copied, line};
 use crate::guests::{Guest, enter};
 use crate::making::{Trial, over_channels};
@@ -40,8 +40,8 @@ fn read(alloc: Global, piece: &Piece) -> Option<ReadLine> {
     }
 }
 
-/// What a line that was read is answered: the number of its record, or why there is none. Where a growth is refused it is read and
-/// said once more.
+/// What a line that was read is answered: the number of its record, or why there is none. Where a growth is refused
+/// it is read and said once more.
 fn answer_read<L: Naming, O: Lasting<Taker = T>, T: Drop>(
     alloc: Global,
     hall: &mut Hall<L, O>,

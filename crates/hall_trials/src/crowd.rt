@@ -41,8 +41,8 @@ fn is_away<L: Naming, O: Lasting>(hall: &mut Hall<L, O>, session: SessionId) -> 
     hung == Err(HangRefusal::NoSession) && !hall.is_open(session)
 }
 
-/// A session of this number comes, takes the nickname, says its lines, ends and is reaped: how many items it left, if all is answered
-/// so.
+/// A session of this number comes, takes the nickname, says its lines, ends and is reaped: how many items it left,
+/// if all is answered so.
 fn visits<L: Naming, O: Made<R, T>, R, T: Drop>(
     rt: &R,
     alloc: Global,

@@ -126,8 +126,8 @@ const THREE: [Act; 9] = [
     Act::Says(3, "JOIN #a,#b", &[]),
 ];
 
-/// Al puts bo out of one channel, which all are told, and quits, which bo and cy are told once. Bo, who isn't on the one channel any
-/// more, is refused there, and hears cy on the other alone.
+/// Al puts bo out of one channel, which all are told, and quits, which bo and cy are told once. Bo, who isn't on the
+/// one channel any more, is refused there, and hears cy on the other alone.
 const KICK_AND_QUIT: [Act; 13] = [
     Act::Says(1, "KICK #a bo :out", &[]),
     Act::Says(2, "PRIVMSG #a :hi", &[]),

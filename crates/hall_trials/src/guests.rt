@@ -153,7 +153,8 @@ pub(crate) fn turned_away<L: Naming, O: Made<R, T>, R, T: Drop>(
     }
 }
 
-/// Sweeps one session, if there is one to sweep. Where a growth is refused the hall answers as before, and sweeps then.
+/// Sweeps one session, if there is one to sweep. Where a growth is refused the hall answers as before, and sweeps
+/// then.
 pub(crate) fn swept<L: Naming, O: Lasting>(hall: &mut Hall<L, O>) -> Option<Done> {
     let before = look(hall);
     match hall.sweep(Moment::new(0)) {

@@ -1,4 +1,5 @@
-//! Trials of what stands in a lock: who misses what and how sessions end, over both kinds of outbox, and threads that share a hall.
+//! Trials of what stands in a lock: who misses what and how sessions end, over both kinds of outbox, and threads
+//! that share a hall.
 #![tactic(auto)]
 
 #[cfg(test)]

@@ -46,8 +46,8 @@ pub(crate) trait Trial<O: Made<R, T>, R, T: Drop> {
     fn run<L: Naming>(&self, rt: &R, alloc: Global, hall: &mut Hall<L, O>) -> Result<(), Fail>;
 }
 
-/// A trial in a hall for so many sessions and records, whose sessions this register has. It answers whether there was memory for the
-/// hall.
+/// A trial in a hall for so many sessions and records, whose sessions this register has. It answers whether there
+/// was memory for the hall.
 fn tried_in<L: Naming, X: Trial<O, R, T>, O: Made<R, T>, R, T: Drop>(
     rt: &R,
     alloc: Global,
@@ -81,7 +81,8 @@ fn tried<X: Trial<O, R, T>, O: Made<R, T>, R, T: Drop>(
     tried_in::<Brand, X, O, R, T>(rt, alloc, register, trial, size)
 }
 
-/// A trial. Where a growth is refused in making the hall, that is told as want of memory, and a hall is made once more.
+/// A trial. Where a growth is refused in making the hall, that is told as want of memory, and a hall is made once
+/// more.
 fn over<X: Trial<O, R, T>, O: Made<R, T>, R, T: Drop>(
     rt: &R,
     alloc: Global,

@@ -1,4 +1,5 @@
-//! Threads share a hall whose journal is rolled by whoever finds it full: nothing is lost, and each base has the counts.
+//! Threads share a hall whose journal is rolled by whoever finds it full: nothing is lost, and each base has the
+//! counts.
 use crate::again::new_register;
 use crate::guests::Guest;
 use crate::threads::{LINES, Run, four_threads, is_said};
@@ -48,8 +49,8 @@ impl<'a> Speaker<'a> {
     }
 }
 
-/// What came of a session's lines: the numbers of their records, how many records were dropped to make room for them, and whether each
-/// base had the counts then.
+/// What came of a session's lines: the numbers of their records, how many records were dropped to make room for
+/// them, and whether each base had the counts then.
 #[derive(Drop)]
 pub(crate) struct Said {
     pub(crate) numbers: Vec<u64>,

@@ -296,7 +296,8 @@ fn serve_both<L: Naming + Send + Sync, R: Threads + Wait + Drop + Send + Sync>(
     )
 }
 
-/// Each line has a record, each record of a line that is kept is as it was said, and a base has the counts of the others.
+/// Each line has a record, each record of a line that is kept is as it was said, and a base has the counts of the
+/// others.
 fn look_back<L: Naming, R: Wait + Drop + Abort>(
     rt: &R,
     hall: &Hall<L, Sender<R>>,

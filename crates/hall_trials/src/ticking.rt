@@ -7,7 +7,8 @@ use std::alloc::Global;
 use std::process::Abort;
 use std::test::Fail;
 
-/// What a tick gave, once more where a growth was refused: the number of its record, or that there is none, or why there is none.
+/// What a tick gave, once more where a growth was refused: the number of its record, or that there is none, or why
+/// there is none.
 fn tick<L: Naming, O: Lasting>(
     hall: &mut Hall<L, O>,
     moment: i64,

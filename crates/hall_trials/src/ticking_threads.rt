@@ -1,5 +1,6 @@
-//! Threads share a hall by a lock and a clock: two say lines, a third pings and ends who is silent, and a fourth has sessions come that
-//! say nothing, which it ends where the third didn't. What each session took is what the journal owes it.
+//! Threads share a hall by a lock and a clock: two say lines, a third pings and ends who is silent, and a fourth has
+//! sessions come that say nothing, which it ends where the third didn't. What each session took is what the journal
+//! owes it.
 ghost use Rattle.std.specs.Prelude.{◌≡◌, []};
 
 use crate::again::{line, new_register};
@@ -202,7 +203,8 @@ fn beat_often<L: Naming, R: Wait + Drop>(
     beaten
 }
 
-/// Who came and said nothing: how many, how many of them weren't ended for their silence, what they took, and whether none left anything.
+/// Who came and said nothing: how many, how many of them weren't ended for their silence, what they took, and
+/// whether none left anything.
 #[derive(Drop)]
 struct Came {
     count: u64,
@@ -212,7 +214,8 @@ struct Came {
 }
 
 impl Came {
-    /// A session that stays until the clock was moved so often, is ended where it isn't yet, takes all, and is given up.
+    /// A session that stays until the clock was moved so often, is ended where it isn't yet, takes all, and is given
+    /// up.
     fn one<L: Naming, R: Wait + Copy + Drop>(
         &mut self,
         rt: &R,
@@ -264,8 +267,8 @@ impl Came {
     }
 }
 
-/// Sessions come one after another and say nothing, until it is over. Each stays for as many steps of the clock as another number says,
-/// too few to be pinged at first, and enough to be late at last.
+/// Sessions come one after another and say nothing, until it is over. Each stays for as many steps of the clock as
+/// another number says, too few to be pinged at first, and enough to be late at last.
 fn come_often<L: Naming, R: Wait + Copy + Drop>(
     rt: &R,
     alloc: Global,
@@ -439,7 +442,8 @@ fn beat_beside<L: Naming + Send + Sync, R: Threads + Wait + Copy + Drop + Send +
     )
 }
 
-/// Two say lines while a third looks who is silent and a fourth has others come. Then nobody says anything, and all are ended.
+/// Two say lines while a third looks who is silent and a fourth has others come. Then nobody says anything, and all
+/// are ended.
 fn meet<L: Naming + Send + Sync, R: Threads + Wait + Abort + Copy + Drop + Send + Sync>(
     rt: &R,
     alloc: Global,

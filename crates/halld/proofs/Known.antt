@@ -1,5 +1,6 @@
 -- What is told of the known bytes of a reader stays true as they are read.
-use Rattle.std.proofs.Common.{◌≡◌, ℕ, true, false, List, [], ◌++◌, Option, Some, None, Result, Ok, Err, is_ok, refl, sym, ap, ◌∙◌, subst}
+use Rattle.std.proofs.Common.{◌≡◌, ℕ, true, false, List, [], ◌++◌, Option, Some, None}
+use Rattle.std.proofs.Common.{Result, Ok, Err, is_ok, refl, sym, ap, ◌∙◌, subst}
 use Rattle.std.specs.Prelude.{IfSome, IfErr, OnOk}
 use Rattle.std.specs.Option.{option_map}
 use Rattle.std.specs.Io.KnownBytes.{Consumes, Keeps, IsAtEnd, Appends}
@@ -15,26 +16,33 @@ use Rattle.halld.specs.Printed.{steps_of, start_of, ArePerformed, PrintsAhead, I
 use Rattle.halld.specs.Faults.{IsFaultOf}
 use Rattle.halld.proofs.Ahead.{continued-nil}
 
-pub read_more : (old new : Option (List ℕ)) (bs : List ℕ) (f after : List ℕ → Told) (x : Told) → Consumes old new bs → ((rest : List ℕ) → after rest ≡ f (bs ++ rest)) → option_map f old ≡ Some x → option_map after new ≡ Some x
+pub read_more : (old new : Option (List ℕ)) (bs : List ℕ) (f after : List ℕ → Told) (x : Told) → Consumes old new bs
+    → ((rest : List ℕ) → after rest ≡ f (bs ++ rest)) → option_map f old ≡ Some x → option_map after new ≡ Some x
 read_more None new bs f after x read same is = cc
 read_more (Some xs) None bs f after x read same is = absurd read
 read_more (Some xs) (Some ys) bs f after x read same is = ap Some (same ys ∙ ap f (sym read)) ∙ is
 
-pub read_none : (old new : Option (List ℕ)) (f : List ℕ → Told) (x : Told) → Keeps old new → option_map f old ≡ Some x → option_map f new ≡ Some x
+pub read_none : (old new : Option (List ℕ)) (f : List ℕ → Told) (x : Told) → Keeps old new
+    → option_map f old ≡ Some x → option_map f new ≡ Some x
 read_none None new f x keeps is = cc
 read_none (Some xs) None f x keeps is = absurd keeps
 read_none (Some xs) (Some ys) f x keeps is = ap (λ bs. Some (f bs)) keeps ∙ is
 
-pub at_end : (old new : Option (List ℕ)) (f : List ℕ → Told) (x : Told) → Consumes old new [] → IsAtEnd new → option_map f old ≡ Some x → f [] ≡ x
+pub at_end : (old new : Option (List ℕ)) (f : List ℕ → Told) (x : Told) → Consumes old new [] → IsAtEnd new
+    → option_map f old ≡ Some x → f [] ≡ x
 at_end None new f x read end is = cc
 at_end (Some xs) None f x read end is = absurd read
-at_end (Some xs) (Some ys) f x read end is = let same : Some (f []) ≡ Some x = ap (λ bs. Some (f bs)) (sym (read ∙ end)) ∙ is in cc
+at_end (Some xs) (Some ys) f x read end is = let same : Some (f [])
+    ≡ Some x = ap (λ bs. Some (f bs)) (sym (read ∙ end)) ∙ is in cc
 
-pub fault_at : (old new : Option (List ℕ)) (bs : List ℕ) (f : List ℕ → Told) (x : Told) (e : PlayFault) → Consumes old new bs → ((rest : List ℕ) → IsFaultOf (f (bs ++ rest)) e) → option_map f old ≡ Some x → IsFaultOf x e
+pub fault_at : (old new : Option (List ℕ)) (bs : List ℕ) (f : List ℕ → Told) (x : Told) (e : PlayFault)
+    → Consumes old new bs → ((rest : List ℕ) → IsFaultOf (f (bs ++ rest)) e) → option_map f old ≡ Some x
+    → IsFaultOf x e
 fault_at None new bs f x e read fault is = absurd (cc)
 fault_at (Some xs) None bs f x e read fault is = absurd read
 fault_at (Some xs) (Some ys) bs f x e read fault is =
-    let same : f (bs ++ ys) ≡ x = (let h : Some (f xs) ≡ Some x = is in let k : f (bs ++ ys) ≡ f xs = ap f (sym read) in cc) in
+    let same : f (bs ++ ys)
+    ≡ x = (let h : Some (f xs) ≡ Some x = is in let k : f (bs ++ ys) ≡ f xs = ap f (sym read) in cc) in
     subst (λ y. IsFaultOf y e) same (fault ys)
 
 -- what was appended stays appended where nothing changes
@@ -48,23 +56,31 @@ appends_kept (Some xs) (Some ys) (Some zs) bs appended kept = kept ∙ appended
 pub start : (script : List ℕ) → told_ahead (Some default_limits) 0 [] script ≡ told_of script
 start script = ap (told_after (Some default_limits) 1) (continued-nil (lines_of script))
 
-pub if_known : (P : List ℕ → Type 0) (known : Option (List ℕ)) → ((script : List ℕ) → known ≡ Some script → P script) → IfSome known P
+pub if_known : (P : List ℕ → Type 0) (known : Option (List ℕ))
+    → ((script : List ℕ) → known ≡ Some script → P script) → IfSome known P
 if_known P None all = tt
 if_known P (Some script) all = all script refl
 
 -- ---- a whole script
 
-pub told_from_start : (head : Option Limits) (ended : ℕ) (line : List ℕ) → head ≡ Some default_limits → ended ≡ 0 → line ≡ [] → (script : List ℕ) → told_ahead head ended line script ≡ told_of script
+pub told_from_start : (head : Option Limits) (ended : ℕ) (line : List ℕ) → head ≡ Some default_limits → ended ≡ 0
+    → line ≡ [] → (script : List ℕ) → told_ahead head ended line script ≡ told_of script
 told_from_start head ended line h e l script =
-    ap (λ (x : Option Limits). told_ahead x ended line script) h ∙ ap (λ (n : ℕ). told_ahead (Some default_limits) n line script) e ∙ ap (λ (bs : List ℕ). told_ahead (Some default_limits) 0 bs script) l ∙ start script
+    ap (λ (x : Option Limits). told_ahead x ended line script) h ∙ ap
+    (λ (n : ℕ). told_ahead (Some default_limits) n line script) e ∙ ap
+    (λ (bs : List ℕ). told_ahead (Some default_limits) 0 bs script) l ∙ start script
 
-pub printed_from_start : {L : Type 0} (stage : Stage L) (line : List ℕ) → head_of stage ≡ Some default_limits → line ≡ [] → (script text : List ℕ) → PrintsAhead stage line script text → IsPrinted script text
+pub printed_from_start : {L : Type 0} (stage : Stage L) (line : List ℕ) → head_of stage ≡ Some default_limits
+    → line ≡ [] → (script text : List ℕ) → PrintsAhead stage line script text → IsPrinted script text
 printed_from_start (Head k) line h l script text p =
     let ls = lines_of script in
     let same : k ≡ default_limits = (let f : Some k ≡ Some default_limits = h in cc) in
-    subst (λ (xs : List (List ℕ)). ArePerformed (steps_of xs) [] (start_of (limits_after default_limits xs)) text) (continued-nil ls)
-    (subst (λ (x : Limits). ArePerformed (steps_of (continued [] ls)) [] (start_of (limits_after x (continued [] ls))) text) same
-    (subst (λ (bs : List ℕ). ArePerformed (steps_of (continued bs ls)) [] (start_of (limits_after k (continued bs ls))) text) l p))
+    subst (λ (xs : List (List ℕ)). ArePerformed (steps_of xs) [] (start_of (limits_after default_limits xs)) text)
+    (continued-nil ls)
+    (subst (λ (x : Limits). ArePerformed (steps_of (continued [] ls)) []
+    (start_of (limits_after x (continued [] ls))) text) same
+    (subst (λ (bs : List ℕ). ArePerformed (steps_of (continued bs ls)) []
+    (start_of (limits_after k (continued bs ls))) text) l p))
 printed_from_start (Steps player) line h l script text p = absurd (let f : None ≡ Some default_limits = h in cc)
 
 -- ---- a script was played, and its writer flushed

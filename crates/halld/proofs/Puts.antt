@@ -7,9 +7,16 @@ use Rattle.interleave.specs.State.{State}
 use Rattle.interleave.specs.Steps.{IsStep}
 use Rattle.halld.specs.Steps.{ArePut, Answer}
 
-pub put_more : (n : ℕ) (m l k : State) (w : ℕ) (note : Note) (a : Answer) → ArePut n m l → w ≡ 1 → a ≡ Ok note → IsStep l (event.Put w) a k → ArePut (n + 1) m k
+pub put_more : (n : ℕ) (m l k : State) (w : ℕ) (note : Note) (a : Answer) → ArePut n m l → w ≡ 1 → a ≡ Ok note
+    → IsStep l (event.Put w) a k → ArePut (n + 1) m k
 put_more n m l k w note a before one is step =
-    let all : ArePut (suc n) m k = (l, note, before, subst (λ (v : ℕ). IsStep l (event.Put v) (Ok note) k) one (subst (λ (b : Answer). IsStep l (event.Put w) b k) is step)) in
+    let all : ArePut (suc n) m k = (
+      l,
+      note,
+      before,
+      subst (λ (v : ℕ). IsStep l (event.Put v) (Ok note) k) one
+          (subst (λ (b : Answer). IsStep l (event.Put w) b k) is step),
+    ) in
     let e : suc n ≡ n + 1 = omega arith in
     subst (λ (j : ℕ). ArePut j m k) e all
 

@@ -1,5 +1,6 @@
 -- Items of a session, one after another, and what is printed of them.
-use Rattle.std.proofs.Common.{◌≡◌, inl, ℕ, ◌+◌, true, false, List, [], ◌++◌, Option, Some, None, Ok, Err, refl, sym, ap, ◌∙◌, append-nil, append_assoc, add-one, subst}
+use Rattle.std.proofs.Common.{◌≡◌, inl, ℕ, ◌+◌, true, false, List, [], ◌++◌, Option, Some, None, Ok, Err}
+use Rattle.std.proofs.Common.{refl, sym, ap, ◌∙◌, append-nil, append_assoc, add-one, subst}
 use Rattle.std.specs.Io.KnownBytes.{Appends}
 use Rattle.deliveries.specs.declared.delivery.Delivery.{Delivery}
 use Rattle.interleave.specs.declared.event.Event.TheVariants as event
@@ -36,21 +37,38 @@ item_of (Ok (note.Ticked n)) is = absurd (cc)
 item_of (Ok (note.Left n)) is = absurd (cc)
 item_of (Err e) is = absurd (cc)
 
-one_more : (n s : ℕ) (host : List ℕ) (m l k : State) (text : List ℕ) (item : Delivery) → AreTaken n s host m text l → IsStep l (event.Take s) (Ok (note.Item item)) k → AreTaken (n + 1) s host m (text ++ answer_text s host (Ok (note.Item item))) k
+one_more : (n s : ℕ) (host : List ℕ) (m l k : State) (text : List ℕ) (item : Delivery)
+    → AreTaken n s host m text l → IsStep l (event.Take s) (Ok (note.Item item)) k
+    → AreTaken (n + 1) s host m (text ++ answer_text s host (Ok (note.Item item))) k
 one_more n s host m l k text item taken is = rw add-one (l, item, text, taken, is, refl)
 
 -- so many items were taken and written
 abbrev pub Written : ℕ → ℕ → List ℕ → State → State → Option (List ℕ) → Option (List ℕ) → Type 0
 Written n s host m l old new = (text : List ℕ) × AreTaken n s host m text l × Appends old new text
 
-pub item_taken : (n s : ℕ) (hosts hosts' : List (List ℕ)) (m l k : State) (a : Answer) (x y z : Option (List ℕ)) → Written n s (host_of hosts s) m l x y → is_item a ≡ true → IsStep l (event.Take s) a k → Appends y z (answer_text s (host_of hosts' s) a) → hosts' ≡ hosts → Written (n + 1) s (host_of hosts s) m k x z
+pub item_taken : (n s : ℕ) (hosts hosts' : List (List ℕ)) (m l k : State) (a : Answer) (x y z : Option (List ℕ))
+    → Written n s (host_of hosts s) m l x y → is_item a ≡ true → IsStep l (event.Take s) a k → Appends y z
+    (answer_text s (host_of hosts' s) a) → hosts' ≡ hosts → Written (n + 1) s (host_of hosts s) m k x z
 item_taken n s hosts hosts' m l k a x y z taken is step wrote same =
     let item = item_of a is in
-    let stepped : IsStep l (event.Take s) (Ok (note.Item item.0)) k = subst (λ b. IsStep l (event.Take s) b k) item.1 step in
-    let written : Appends y z (answer_text s (host_of hosts s) (Ok (note.Item item.0))) = subst (λ b. Appends y z (answer_text s (host_of hosts s) b)) item.1 (subst (λ hs. Appends y z (answer_text s (host_of hs s) a)) same wrote) in
-    (taken.0 ++ answer_text s (host_of hosts s) (Ok (note.Item item.0)), one_more n s (host_of hosts s) m l k taken.0 item.0 taken.1 stepped, appends_more x y z _ _ taken.2 written)
+    let stepped : IsStep l (event.Take s) (Ok (note.Item item.0)) k = subst
+    (λ b. IsStep l (event.Take s) b k) item.1 step in
+    let written : Appends y z (answer_text s (host_of hosts s) (Ok (note.Item item.0))) = subst
+    (λ b. Appends y z (answer_text s (host_of hosts s) b)) item.1
+    (subst (λ hs. Appends y z (answer_text s (host_of hs s) a)) same wrote) in (
+      taken.0 ++ answer_text s (host_of hosts s) (Ok (note.Item item.0)),
+      one_more n s (host_of hosts s) m l k taken.0 item.0 taken.1 stepped,
+      appends_more x y z _ _ taken.2 written,
+    )
 
-pub last_taken : (n s : ℕ) (hosts hosts' : List (List ℕ)) (m l k : State) (a : Answer) (x y z : Option (List ℕ)) → Written n s (host_of hosts s) m l x y → is_item a ≡ false → IsStep l (event.Take s) a k → Appends y z (answer_text s (host_of hosts' s) a) → hosts' ≡ hosts → (text : List ℕ) × IsDrained s (host_of hosts s) m text k × Appends x z text
+pub last_taken : (n s : ℕ) (hosts hosts' : List (List ℕ)) (m l k : State) (a : Answer) (x y z : Option (List ℕ))
+    → Written n s (host_of hosts s) m l x y → is_item a ≡ false → IsStep l (event.Take s) a k
+    → Appends y z (answer_text s (host_of hosts' s) a) → hosts' ≡ hosts → (text : List ℕ)
+    × IsDrained s (host_of hosts s) m text k × Appends x z text
 last_taken n s hosts hosts' m l k a x y z taken is step wrote same =
-    let written : Appends y z (answer_text s (host_of hosts s) a) = subst (λ hs. Appends y z (answer_text s (host_of hs s) a)) same wrote in
-    (taken.0 ++ answer_text s (host_of hosts s) a, (n, inl (l, a, taken.0, taken.1, step, is, refl)), appends_more x y z _ _ taken.2 written)
+    let written : Appends y z (answer_text s (host_of hosts s) a) = subst
+    (λ hs. Appends y z (answer_text s (host_of hs s) a)) same wrote in (
+      taken.0 ++ answer_text s (host_of hosts s) a,
+      (n, inl (l, a, taken.0, taken.1, step, is, refl)),
+      appends_more x y z _ _ taken.2 written,
+    )

@@ -1,5 +1,6 @@
 -- How a script's text spells octets, and how a note prints them: this project's own choice.
-use Rattle.std.specs.Prelude.{ℕ, ◌+◌, ◌-◌, ◌<◌, ◌*◌, ◌/◌, ◌%◌, ◌==◌, ◌&&◌, ◌||◌, not, nat_le, if◌then◌else◌, List, [], ◌∷◌, Option, Some, None, flat_map}
+use Rattle.std.specs.Prelude.{ℕ, ◌+◌, ◌-◌, ◌<◌, ◌*◌, ◌/◌, ◌%◌, ◌==◌, ◌&&◌, ◌||◌, not, nat_le}
+use Rattle.std.specs.Prelude.{if◌then◌else◌, List, [], ◌∷◌, Option, Some, None, flat_map}
 use Rattle.std.specs.Char.{digit_char}
 use Rattle.std.specs.Option.{option_map}
 use Rattle.halld.specs.declared.escape.Place.{Place}
@@ -7,7 +8,8 @@ use Rattle.halld.specs.declared.escape.Place.TheVariants.{Between, Escape, First
 
 -- printable ASCII but the backslash stands for itself, any other octet is `\xhh`
 abbrev pub printed_octet : ℕ → List ℕ
-printed_octet b = if nat_le 32 b && nat_le b 126 && not (b == 92) then b ∷ [] else 92 ∷ 120 ∷ digit_char (b / 16) ∷ digit_char (b % 16) ∷ []
+printed_octet b = if nat_le 32 b && nat_le b 126 && not (b == 92) then b ∷ []
+    else 92 ∷ 120 ∷ digit_char (b / 16) ∷ digit_char (b % 16) ∷ []
 
 abbrev pub printed : List ℕ → List ℕ
 printed bs = flat_map printed_octet bs
@@ -18,11 +20,13 @@ then_octet b more = option_map (λ bs. b ∷ bs) more
 
 -- what a letter after a backslash stands for, `x` apart
 abbrev pub escaped_octet : ℕ → Option ℕ
-escaped_octet b = if b == 114 then Some 13 else if b == 110 then Some 10 else if b == 92 || b == 34 then Some b else None
+escaped_octet b = if b == 114 then Some 13 else if b == 110 then Some 10
+    else if b == 92 || b == 34 then Some b else None
 
 -- the value of a hexadecimal digit of either case
 abbrev pub hexadecimal : ℕ → Option ℕ
-hexadecimal b = if nat_le 48 b && nat_le b 57 then Some (b - 48) else if nat_le 97 b && nat_le b 102 then Some (b - 87) else if nat_le 65 b && nat_le b 70 then Some (b - 55) else None
+hexadecimal b = if nat_le 48 b && nat_le b 57 then Some (b - 48) else if nat_le 97 b
+    && nat_le b 102 then Some (b - 87) else if nat_le 65 b && nat_le b 70 then Some (b - 55) else None
 
 -- a first hexadecimal digit is below 16
 abbrev pub HasDigit : Place → Type 0
@@ -37,10 +41,15 @@ spelled Between [] = Some []
 spelled Escape [] = None
 spelled FirstDigit [] = None
 spelled (SecondDigit high) [] = None
-spelled Between (b ∷ bs) = if b == 92 then spelled Escape bs else if b == 34 then None else then_octet b (spelled Between bs)
-spelled Escape (b ∷ bs) = if b == 120 then spelled FirstDigit bs else elim (escaped_octet b) [ None ↦ None | Some e ↦ then_octet e (spelled Between bs) ]
+spelled Between (b ∷ bs) = if b == 92 then spelled Escape bs else if b == 34 then None
+    else then_octet b (spelled Between bs)
+spelled Escape (b ∷ bs) = if b == 120 then spelled FirstDigit bs
+    else elim (escaped_octet b) [ None ↦ None | Some e ↦ then_octet e (spelled Between bs) ]
 spelled FirstDigit (b ∷ bs) = elim (hexadecimal b) [ None ↦ None | Some high ↦ spelled (SecondDigit high) bs ]
-spelled (SecondDigit high) (b ∷ bs) = elim (hexadecimal b) [ None ↦ None | Some low ↦ then_octet (16 * high + low) (spelled Between bs) ]
+spelled (SecondDigit high) (b ∷ bs) = elim (hexadecimal b) [
+  | None ↦ None
+  | Some low ↦ then_octet (16 * high + low) (spelled Between bs)
+]
 
 -- the octets that the text between the quotes spells; nothing for a text with a quote or another escape
 abbrev pub unescaped : List ℕ → Option (List ℕ)

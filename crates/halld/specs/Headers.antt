@@ -1,5 +1,6 @@
 -- A header as a line of a script, and what headers set: this project's own choice.
-use Rattle.std.specs.Prelude.{ℕ, pos, ◌^◌, nat_le, ◌&&◌, Bool, if◌then◌else◌, List, [], ◌∷◌, ◌++◌, codes, Option, Some, None}
+use Rattle.std.specs.Prelude.{ℕ, pos, ◌^◌, nat_le, ◌&&◌, Bool, if◌then◌else◌, List}
+use Rattle.std.specs.Prelude.{[], ◌∷◌, ◌++◌, codes, Option, Some, None}
 use Rattle.std.specs.Str.{bytes_eq}
 use Rattle.std.specs.Result.{result_ok}
 use Rattle.line_grammar.specs.Lines.{before_space, after_space}
@@ -26,7 +27,8 @@ setting_of word =
 
 -- the setting with its value that a line writes
 abbrev pub header_of : List ℕ → Option Header
-header_of line = both (λ setting value. record { setting = setting; value = value }) (setting_of (before_space line)) (number_below (2 ^ 64) (after_space line))
+header_of line = both (λ setting value. record { setting = setting; value = value })
+    (setting_of (before_space line)) (number_below (2 ^ 64) (after_space line))
 
 -- where no header sets another: 1,000,000 records, 256 items in an outbox, 2 workers and 1,024 sessions, no message
 -- of the day and no account
@@ -61,7 +63,8 @@ abbrev pub with_header : Limits → List ℕ → Option Limits
 with_header l line =
     if bytes_eq line (codes "motd") then None
     else if bytes_eq (before_space line) (codes "motd") then Some (with_motd l (after_space line))
-    else if bytes_eq (before_space line) (codes "account") then with_accounts l (account_after l.accounts (after_space line))
+    else if bytes_eq (before_space line) (codes "account") then with_accounts l
+    (account_after l.accounts (after_space line))
     else with_number l (header_of line)
 
 abbrev pub unless_none : Limits → Option Limits → Limits
@@ -78,11 +81,20 @@ motd_of (line ∷ lines) = Some (line ∷ lines)
 
 -- what a script's server is told when it starts
 abbrev pub settings_of : Limits → Settings
-settings_of l = record { server = codes "irc.example"; info = codes "halld"; version = codes "halld-1"; created = pos 0; motd = motd_of l.motd; accounts = l.accounts; sessions = l.sessions }
+settings_of l = record {
+  server = codes "irc.example";
+  info = codes "halld";
+  version = codes "halld-1";
+  created = pos 0;
+  motd = motd_of l.motd;
+  accounts = l.accounts;
+  sessions = l.sessions;
+}
 
 abbrev pub is_within : ℕ → ℕ → ℕ → Bool
 is_within least most n = nat_le least n && nat_le n most
 
 -- whether a script's server may be set up so
 abbrev pub are_good : Limits → Bool
-are_good l = is_within 1 1024 l.sessions && (is_within 1 10000000 l.records && (is_within 1 64 l.workers && (is_within 1 4096 l.sendq && is_motd (motd_of l.motd))))
+are_good l = is_within 1 1024 l.sessions && (is_within 1 10000000 l.records
+    && (is_within 1 64 l.workers && (is_within 1 4096 l.sendq && is_motd (motd_of l.motd))))

@@ -1,5 +1,6 @@
 -- The lines of a script, the first that may not stand there, and the limits: this project's own choice.
-use Rattle.std.specs.Prelude.{ℕ, ◌+◌, ◌==◌, Bool, false, true, ◌&&◌, if◌then◌else◌, List, [], ◌∷◌, ◌++◌, Option, Some, None, is_none}
+use Rattle.std.specs.Prelude.{ℕ, ◌+◌, ◌==◌, Bool, false, true, ◌&&◌, if◌then◌else◌, List}
+use Rattle.std.specs.Prelude.{[], ◌∷◌, ◌++◌, Option, Some, None, is_none}
 use Rattle.std.specs.Option.{is_some}
 use Rattle.halld.specs.declared.header.Limits.{Limits}
 use Rattle.halld.specs.Script.{step_of}

@@ -1,5 +1,6 @@
 -- What a step gave, as it is written: this project's own choice.
-use Rattle.std.specs.Prelude.{ℕ, zero, suc, Bool, false, true, List, [], ◌∷◌, ◌++◌, Option, Some, None, Result, Ok, Err, codes, decimal, flat_map, filter, slice_index_or}
+use Rattle.std.specs.Prelude.{ℕ, zero, suc, Bool, false, true, List, [], ◌∷◌, ◌++◌, Option, Some, None}
+use Rattle.std.specs.Prelude.{Result, Ok, Err, codes, decimal, flat_map, filter, slice_index_or}
 use Rattle.line_grammar.specs.Lines.{ended}
 use Rattle.chronicle.specs.declared.names.SessionId.{SessionId}
 use Rattle.chronicle.specs.declared.names.RecordNumber.{RecordNumber}
@@ -25,7 +26,8 @@ numbered label n = label ++ (codes " " ++ (decimal n ++ 10 ∷ []))
 
 -- the label and the number of a record, and each session that missed it
 abbrev pub done_text : List ℕ → Done → List ℕ
-done_text label done = numbered label done.number ++ flat_map (λ (s : SessionId). numbered (codes "missed") s) done.missed
+done_text label done = numbered label done.number ++ flat_map
+    (λ (s : SessionId). numbered (codes "missed") s) done.missed
 
 -- whether the session missed its last item
 abbrev pub missed_word : Bool → List ℕ

@@ -28,7 +28,8 @@ start_of l = empty_state l.records (settings_of l) l.sendq l.workers
 abbrev pub ArePerformed : List Step → List (List ℕ) → State → List ℕ → Type 0
 ArePerformed [] hosts m text = text ≡ []
 ArePerformed (step ∷ more) hosts m text =
-    (first : List ℕ) × (rest : List ℕ) × (hosts' : List (List ℕ)) × (k : State) × IsPerformed step hosts m first hosts' k × ArePerformed more hosts' k rest × (text ≡ first ++ rest)
+    (first : List ℕ) × (rest : List ℕ) × (hosts' : List (List ℕ)) × (k : State)
+    × IsPerformed step hosts m first hosts' k × ArePerformed more hosts' k rest × (text ≡ first ++ rest)
 
 -- the steps of a script, on a server with the limits that it sets
 abbrev pub IsPrinted : List ℕ → List ℕ → Type 0
@@ -59,4 +60,5 @@ Writes old new P = (text : List ℕ) × Appends old new text × P text
 
 -- what is printed from the one stage on, after what was written, is printed from the other on
 abbrev pub GoesOn : {L : Type 0} → Stage L → List ℕ → Stage L → List ℕ → List ℕ → List ℕ → Type 0
-GoesOn stage line stage' line' octets written = (rest : List ℕ) (text : List ℕ) → PrintsAhead stage' line' rest text → PrintsAhead stage line (octets ++ rest) (written ++ text)
+GoesOn stage line stage' line' octets written = (rest : List ℕ) (text : List ℕ) → PrintsAhead stage' line' rest text
+    → PrintsAhead stage line (octets ++ rest) (written ++ text)

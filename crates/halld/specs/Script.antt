@@ -1,5 +1,6 @@
 -- A step as a line of a script: this project's own choice.
-use Rattle.std.specs.Prelude.{ℕ, ◌-◌, ◌^◌, ◌==◌, ◌&&◌, if◌then◌else◌, List, [], ◌∷◌, length, take, slice_index, codes, Option, Some, None}
+use Rattle.std.specs.Prelude.{ℕ, ◌-◌, ◌^◌, ◌==◌, ◌&&◌, if◌then◌else◌, List, [], ◌∷◌, length}
+use Rattle.std.specs.Prelude.{take, slice_index, codes, Option, Some, None}
 use Rattle.std.specs.Str.{bytes_eq}
 use Rattle.std.specs.Option.{option_map}
 use Rattle.line_grammar.specs.Lines.{before_space, after_space}
@@ -78,7 +79,8 @@ why_of word =
 -- what stands between a quote at the front and a quote at the end
 abbrev pub unquoted : List ℕ → Option (List ℕ)
 unquoted [] = None
-unquoted (q ∷ more) = if q == 34 && slice_index more (length more - 1) == 34 then Some (take (length more - 1) more) else None
+unquoted (q ∷ more) = if q == 34 && slice_index more (length more - 1) == 34 then Some (take (length more - 1) more)
+    else None
 
 abbrev pub text_of : Option (List ℕ) → Option (List ℕ)
 text_of None = None
@@ -91,8 +93,10 @@ hang_of worker session why moment = None
 
 -- what follows the first word makes the step: W S, W MS, W, S, W S WORD MS, S MS, or MS
 abbrev pub plain_step : Plain → List ℕ → Option Step
-plain_step plain.Pick words = both (λ worker session. step.One (event.Pick worker session)) (worker_of (before_space words)) (session_of (after_space words))
-plain_step plain.Begin words = both (λ worker moment. step.One (event.Begin worker moment)) (worker_of (before_space words)) (moment_of (after_space words))
+plain_step plain.Pick words = both (λ worker session. step.One (event.Pick worker session))
+    (worker_of (before_space words)) (session_of (after_space words))
+plain_step plain.Begin words = both (λ worker moment. step.One (event.Begin worker moment))
+    (worker_of (before_space words)) (moment_of (after_space words))
 plain_step plain.Put words = option_map (λ worker. step.One (event.Put worker)) (worker_of words)
 plain_step plain.End words = option_map (λ worker. step.One (event.End worker)) (worker_of words)
 plain_step plain.Back words = option_map (λ worker. step.One (event.Back worker)) (worker_of words)
@@ -100,19 +104,25 @@ plain_step plain.Take words = option_map (λ session. step.One (event.Take sessi
 plain_step plain.Hang words =
     let more = after_space words in
     let last = after_space more in
-    hang_of (worker_of (before_space words)) (session_of (before_space more)) (why_of (before_space last)) (moment_of (after_space last))
-plain_step plain.Sweep words = both (λ worker moment. step.One (event.Sweep worker moment)) (worker_of (before_space words)) (moment_of (after_space words))
+    hang_of (worker_of (before_space words)) (session_of (before_space more)) (why_of (before_space last))
+    (moment_of (after_space last))
+plain_step plain.Sweep words = both (λ worker moment. step.One (event.Sweep worker moment))
+    (worker_of (before_space words)) (moment_of (after_space words))
 plain_step plain.Reap words = option_map (λ session. step.One (event.Reap session)) (session_of words)
-plain_step plain.Do words = both (λ session moment. step.Do session moment) (session_of (before_space words)) (moment_of (after_space words))
+plain_step plain.Do words = both (λ session moment. step.Do session moment) (session_of (before_space words))
+    (moment_of (after_space words))
 plain_step plain.Tidy words = option_map (λ moment. step.Tidy moment) (moment_of words)
 plain_step plain.Drain words = option_map (λ session. step.Drain session) (session_of words)
-plain_step plain.Tick words = both (λ worker moment. step.One (event.Tick worker moment)) (worker_of (before_space words)) (moment_of (after_space words))
+plain_step plain.Tick words = both (λ worker moment. step.One (event.Tick worker moment))
+    (worker_of (before_space words)) (moment_of (after_space words))
 plain_step plain.Beat words = option_map (λ moment. step.Beat moment) (moment_of words)
 
 -- HOST MS, S "TEXT", or another
 abbrev pub step_with : Verb → List ℕ → Option Step
-step_with verb.Connect words = both (λ host moment. step.One (event.Connect host moment)) (host_of (before_space words)) (moment_of (after_space words))
-step_with verb.Feed words = both (λ session octets. step.One (event.Feed session octets)) (session_of (before_space words)) (text_of (unquoted (after_space words)))
+step_with verb.Connect words = both (λ host moment. step.One (event.Connect host moment))
+    (host_of (before_space words)) (moment_of (after_space words))
+step_with verb.Feed words = both (λ session octets. step.One (event.Feed session octets))
+    (session_of (before_space words)) (text_of (unquoted (after_space words)))
 step_with (verb.Plain plain) words = plain_step plain words
 
 abbrev pub step_by : Option Verb → List ℕ → Option Step

@@ -70,9 +70,14 @@ fn play_lines<L: Naming, R: Read, W: Write>(
 ) -> Result<(), PlayFault>
     requires few { reader.old.ended < 2 ^ 32 }
     requires ready { IsReady L.table reader.old.stage reader.old.register }
-    ensures good { OnOk result ((script : List ℕ) → R.remaining input.old ≡ Some script → IsGood (told_ahead (head_of reader.old.stage) reader.old.ended reader.old.line.items script)) }
-    ensures printed { OnOk result (Writes (W.contents output.old) (W.contents output.new) (λ written. (script : List ℕ) → R.remaining input.old ≡ Some script → PrintsAhead reader.old.stage reader.old.line.items script written)) }
-    ensures fault { IfErr result (λ e. (script : List ℕ) → R.remaining input.old ≡ Some script → IsFaultOf (told_ahead (head_of reader.old.stage) reader.old.ended reader.old.line.items script) e) }
+    ensures good { OnOk result ((script : List ℕ) → R.remaining input.old ≡ Some script → IsGood
+        (told_ahead (head_of reader.old.stage) reader.old.ended reader.old.line.items script)) }
+    ensures printed { OnOk result (Writes (W.contents output.old) (W.contents output.new)
+        (λ written. (script : List ℕ) → R.remaining input.old ≡ Some script
+        → PrintsAhead reader.old.stage reader.old.line.items script written)) }
+    ensures fault { IfErr result
+        (λ e. (script : List ℕ) → R.remaining input.old ≡ Some script → IsFaultOf (told_ahead
+        (head_of reader.old.stage) reader.old.ended reader.old.line.items script) e) }
 {
     let mut block = [0u8; BLOCK];
     for _ in 0..READS {
@@ -111,9 +116,12 @@ fn play_named<L: Naming, R: Read, W: Write>(
 ) -> Result<(), PlayFault>
     requires named { register.table ≡ L.table }
     requires empty { register.rows ≡ [] }
-    ensures good { OnOk result (IfSome (R.remaining input.old) (λ script. IsGood (told_of script))) }
-    ensures printed { OnOk result (Writes (W.contents output.old) (W.contents output.new) (λ written. IfSome (R.remaining input.old) (λ script. IsPrinted script written))) }
-    ensures fault { IfErr result (λ fault. IfSome (R.remaining input.old) (λ script. IsFaultOf (told_of script) fault)) }
+    ensures good { OnOk result
+        (IfSome (R.remaining input.old) (λ script. IsGood (told_of script))) }
+    ensures printed { OnOk result (Writes (W.contents output.old) (W.contents output.new)
+        (λ written. IfSome (R.remaining input.old) (λ script. IsPrinted script written))) }
+    ensures fault { IfErr result
+        (λ fault. IfSome (R.remaining input.old) (λ script. IsFaultOf (told_of script) fault)) }
 {
     let mut reader: Reader<L> = Reader::new(alloc, register);
     let played = play_lines(&mut reader, input, output);
@@ -128,9 +136,12 @@ pub fn play<R: Read, W: Write>(
     input: &mut R,
     output: &mut W,
 ) -> Result<(), PlayFault>
-    ensures good { OnOk result (IfSome (R.remaining input.old) (λ script. IsGood (told_of script))) }
-    ensures printed { OnOk result (Writes (W.contents output.old) (W.contents output.new) (λ written. IfSome (R.remaining input.old) (λ script. IsPrinted script written))) }
-    ensures fault { IfErr result (λ fault. IfSome (R.remaining input.old) (λ script. IsFaultOf (told_of script) fault)) }
+    ensures good { OnOk result
+        (IfSome (R.remaining input.old) (λ script. IsGood (told_of script))) }
+    ensures printed { OnOk result (Writes (W.contents output.old) (W.contents output.new)
+        (λ written. IfSome (R.remaining input.old) (λ script. IsPrinted script written))) }
+    ensures fault { IfErr result
+        (λ fault. IfSome (R.remaining input.old) (λ script. IsFaultOf (told_of script) fault)) }
 {
     let register = Register::new(alloc)?;
     play_named::<Brand, R, W>(alloc, register, input, output)

@@ -50,8 +50,10 @@ fn escaped_octet(octet: u8) -> Option<u8>
 fn next_place(place: Place, octet: u8, octets: &mut Vec<u8>) -> Result<Place, StepFault>
     requires { HasDigit place }
     ensures digit { IfOk result HasDigit }
-    ensures ok { IfOk result (λ after. (rest : List ℕ) → prepend_known octets.new.items (spelled after rest) ≡ prepend_known octets.old.items (spelled place (octet ∷ rest))) }
-    ensures bad { IsErrOf result StepFault.Bad → (rest : List ℕ) → spelled place (octet ∷ rest) ≡ None }
+    ensures ok { IfOk result (λ after. (rest : List ℕ) → prepend_known octets.new.items
+        (spelled after rest) ≡ prepend_known octets.old.items (spelled place (octet ∷ rest))) }
+    ensures bad { IsErrOf result StepFault.Bad → (rest : List ℕ)
+        → spelled place (octet ∷ rest) ≡ None }
 {
     match place {
         Place::Between => match octet {

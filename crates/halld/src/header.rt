@@ -2,7 +2,8 @@
 ghost use Rattle.std.specs.Prelude.{◌≡◌, ◌++◌, ◌∷◌, [], None, Some, OnOk, IfOk, IsErrOf};
 ghost use Rattle.halld.specs.declared.header.HeaderFault.TheVariants.{Memory};
 ghost use Rattle.halld.specs.HeaderFaults.{fault_of};
-ghost use Rattle.halld.specs.Headers.{setting_of, header_of, default_limits, with_value, account_after, with_accounts, with_header, motd_of};
+ghost use Rattle.halld.specs.Headers.{setting_of, header_of, default_limits, with_value};
+ghost use Rattle.halld.specs.Headers.{account_after, with_accounts, with_header, motd_of};
 
 use crate::number::number;
 use crate::split::split_at_space;
@@ -137,8 +138,10 @@ impl Limits {
 
     /// Adds the account of a line of an accounts file.
     fn add_account(&mut self, alloc: Global, line: &[u8]) -> Result<(), HeaderFault>
-        ensures ok { OnOk result (with_accounts self.old (account_after self.old.accounts line.now) ≡ Some self.new) }
-        ensures bad { IsErrOf result HeaderFault.Bad → with_accounts self.old (account_after self.old.accounts line.now) ≡ None }
+        ensures ok { OnOk result (with_accounts self.old (account_after self.old.accounts line.now)
+            ≡ Some self.new) }
+        ensures bad { IsErrOf result HeaderFault.Bad
+            → with_accounts self.old (account_after self.old.accounts line.now) ≡ None }
     {
         if line.is_empty() {
             return Err(HeaderFault::Bad);

@@ -2,7 +2,8 @@
 ghost use Rattle.std.specs.Prelude.{◌≡◌, ◌++◌, ◌∷◌, [], List, ℕ, OnOk, IfOk};
 ghost use Rattle.deliveries.specs.Text.{delivery_text};
 ghost use Rattle.halld.specs.Escapes.{printed};
-ghost use Rattle.halld.specs.Notes.{worded, numbered, done_text, hung_text, chosen_text, line_text, lines_after, note_text, refused_text, answer_text, whole_text};
+ghost use Rattle.halld.specs.Notes.{worded, numbered, done_text, hung_text, chosen_text, line_text};
+ghost use Rattle.halld.specs.Notes.{lines_after, note_text, refused_text, answer_text, whole_text};
 
 use crate::escape::print_octet;
 use crate::refusals::refusal_name;
@@ -110,7 +111,8 @@ fn write_octet(
     line: &mut Vec<u8>,
     octet: u8,
 ) -> Result<(), AllocError>
-    ensures { OnOk result ((rest : List ℕ) → out.new.items ++ lines_after session line.new.items rest ≡ out.old.items ++ lines_after session line.old.items (octet ∷ rest)) }
+    ensures { OnOk result ((rest : List ℕ) → out.new.items ++ lines_after session line.new.items
+        rest ≡ out.old.items ++ lines_after session line.old.items (octet ∷ rest)) }
 {
     if octet != b'\r' && octet != b'\n' {
         line.push(octet)?;
@@ -147,7 +149,8 @@ fn write_item(
     host: &[u8],
     item: &Delivery,
 ) -> Result<(), AllocError>
-    ensures { OnOk result (out.new.items ≡ out.old.items ++ lines_after session [] (delivery_text item.now host.now)) }
+    ensures { OnOk result (out.new.items
+        ≡ out.old.items ++ lines_after session [] (delivery_text item.now host.now)) }
 {
     let mut text = Vec::new(alloc);
     let (_, written) = write_out(item, host, &mut text);

@@ -4,7 +4,8 @@ ghost use Rattle.std.specs.Io.KnownBytes.{Appends};
 ghost use Rattle.interleave.specs.Steps.{IsWellShaped, IsStep};
 ghost use Rattle.halld.specs.Script.{NamesHost};
 ghost use Rattle.halld.specs.Notes.{named_by, host_of, opened_by, answer_text, whole_text};
-ghost use Rattle.halld.specs.Steps.{Answer, is_item, is_hung, late_text, IsLateHung, IsHungOut, IsBeat, IsDrained, IsPerformed};
+ghost use Rattle.halld.specs.Steps.{Answer, is_item, is_hung, late_text, IsLateHung};
+ghost use Rattle.halld.specs.Steps.{IsHungOut, IsBeat, IsDrained, IsPerformed};
 ghost use Rattle.halld.specs.Faults.{IsOutside};
 
 use crate::alone::{do_line, hang_late, tick, tidy};
@@ -56,7 +57,8 @@ fn is_item(answer: &Result<Note, StepRefusal>) -> bool
 
 /// Writes notes.
 fn write<W: Write>(notes: &[u8], output: &mut W) -> Result<(), PlayFault>
-    ensures written { OnOk result (Appends (W.contents output.old) (W.contents output.new) notes.now) }
+    ensures written { OnOk result
+        (Appends (W.contents output.old) (W.contents output.new) notes.now) }
     ensures fault { IfErr result IsOutside }
 {
     match output.write_all(notes) {
@@ -93,8 +95,10 @@ impl<L: Naming> Player<L> {
     fn take(&mut self, event: &Event) -> Result<Result<Note, StepRefusal>, AllocError>
         requires { IsWellShaped event.now }
         ensures step { IfOk result (λ answer. IsStep self.old.play event.now answer self.new.play) }
-        ensures hosts { IfOk result (λ answer. self.new.hosts.items ≡ self.old.hosts.items ++ opened_by event.now answer) }
-        ensures host { host_of self.new.hosts.items (named_by event.now) ≡ host_of self.old.hosts.items (named_by event.now) }
+        ensures hosts { IfOk result
+            (λ answer. self.new.hosts.items ≡ self.old.hosts.items ++ opened_by event.now answer) }
+        ensures host { host_of self.new.hosts.items (named_by event.now)
+            ≡ host_of self.old.hosts.items (named_by event.now) }
     {
         let Event::Connect { host, .. } = event else {
             return Ok(self.play.step(event));
@@ -116,8 +120,11 @@ impl<L: Naming> Player<L> {
     ) -> Result<Result<Note, StepRefusal>, PlayFault>
         requires { IsWellShaped event.now }
         ensures step { IfOk result (λ answer. IsStep self.old.play event.now answer self.new.play) }
-        ensures hosts { IfOk result (λ answer. self.new.hosts.items ≡ self.old.hosts.items ++ opened_by event.now answer) }
-        ensures written { IfOk result (λ answer. Appends (W.contents output.old) (W.contents output.new) (answer_text (named_by event.now) (host_of self.old.hosts.items (named_by event.now)) answer)) }
+        ensures hosts { IfOk result
+            (λ answer. self.new.hosts.items ≡ self.old.hosts.items ++ opened_by event.now answer) }
+        ensures written { IfOk result (λ answer. Appends (W.contents output.old)
+            (W.contents output.new) (answer_text (named_by event.now)
+            (host_of self.old.hosts.items (named_by event.now)) answer)) }
         ensures fault { IfErr result IsOutside }
     {
         let answer = self.take(event)?;
@@ -134,7 +141,8 @@ impl<L: Naming> Player<L> {
         answer: &Result<Note, StepRefusal>,
         output: &mut W,
     ) -> Result<(), PlayFault>
-        ensures written { OnOk result (Appends (W.contents output.old) (W.contents output.new) (whole_text label.now answer.now)) }
+        ensures written { OnOk result (Appends (W.contents output.old) (W.contents output.new)
+            (whole_text label.now answer.now)) }
         ensures fault { IfErr result IsOutside }
     {
         let notes = whole_notes(self.alloc, label, answer)?;
@@ -143,7 +151,10 @@ impl<L: Naming> Player<L> {
 
     /// Takes what is due to a session until there is nothing more.
     fn drain<W: Write>(&mut self, session: SessionId, output: &mut W) -> Result<(), PlayFault>
-        ensures step { OnOk result ((text : List ℕ) × IsDrained session (host_of self.old.hosts.items session) self.old.play text self.new.play × (self.new.hosts.items ≡ self.old.hosts.items) × Appends (W.contents output.old) (W.contents output.new) text) }
+        ensures step { OnOk result ((text : List ℕ) × IsDrained session
+            (host_of self.old.hosts.items session) self.old.play text self.new.play
+            × (self.new.hosts.items ≡ self.old.hosts.items)
+            × Appends (W.contents output.old) (W.contents output.new) text) }
         ensures fault { IfErr result IsOutside }
     {
         for _ in 0..u64::MAX {
@@ -157,7 +168,9 @@ impl<L: Naming> Player<L> {
 
     /// Hangs the late session of the lowest number and writes its notes, and answers whether one was hung.
     fn hang_next<W: Write>(&mut self, moment: Moment, output: &mut W) -> Result<bool, PlayFault>
-        ensures step { IfOk result (λ more. (a : Option Answer) × IsLateHung moment self.old.play a self.new.play × (more ≡ is_hung a) × Appends (W.contents output.old) (W.contents output.new) (late_text a)) }
+        ensures step { IfOk result (λ more. (a : Option Answer)
+            × IsLateHung moment self.old.play a self.new.play × (more ≡ is_hung a)
+            × Appends (W.contents output.old) (W.contents output.new) (late_text a)) }
         ensures hosts { self.new.hosts.items ≡ self.old.hosts.items }
         ensures fault { IfErr result IsOutside }
     {
@@ -171,7 +184,8 @@ impl<L: Naming> Player<L> {
 
     /// Hangs late sessions until there is none.
     fn hang_all<W: Write>(&mut self, moment: Moment, output: &mut W) -> Result<(), PlayFault>
-        ensures step { OnOk result ((text : List ℕ) × IsHungOut moment self.old.play text self.new.play × Appends (W.contents output.old) (W.contents output.new) text) }
+        ensures step { OnOk result ((text : List ℕ) × IsHungOut moment self.old.play text
+            self.new.play × Appends (W.contents output.old) (W.contents output.new) text) }
         ensures hosts { self.new.hosts.items ≡ self.old.hosts.items }
         ensures fault { IfErr result IsOutside }
     {
@@ -185,7 +199,8 @@ impl<L: Naming> Player<L> {
 
     /// Ticks, and hangs who is late.
     fn beat<W: Write>(&mut self, moment: Moment, output: &mut W) -> Result<(), PlayFault>
-        ensures step { OnOk result ((text : List ℕ) × IsBeat moment self.old.play text self.new.play × Appends (W.contents output.old) (W.contents output.new) text) }
+        ensures step { OnOk result ((text : List ℕ) × IsBeat moment self.old.play text self.new.play
+            × Appends (W.contents output.old) (W.contents output.new) text) }
         ensures hosts { self.new.hosts.items ≡ self.old.hosts.items }
         ensures fault { IfErr result IsOutside }
     {
@@ -200,7 +215,9 @@ impl<L: Naming> Player<L> {
     /// Does what a step of the script asks for.
     pub(crate) fn perform<W: Write>(&mut self, step: Step, output: &mut W) -> Result<(), PlayFault>
         requires { NamesHost step }
-        ensures step { OnOk result ((text : List ℕ) × IsPerformed step self.old.hosts.items self.old.play text self.new.hosts.items self.new.play × Appends (W.contents output.old) (W.contents output.new) text) }
+        ensures step { OnOk result ((text : List ℕ) × IsPerformed step
+            self.old.hosts.items self.old.play text self.new.hosts.items self.new.play
+            × Appends (W.contents output.old) (W.contents output.new) text) }
         ensures fault { IfErr result IsOutside }
     {
         match step {

@@ -1,5 +1,6 @@
 //! The lines of a script as they come.
-ghost use Rattle.std.specs.Prelude.{◌≡◌, ◌+◌, ◌<◌, ◌≤◌, ◌^◌, ◌++◌, ◌∷◌, [], List, ℕ, None, Some, true, length, OnOk, IfOk, IfErr};
+ghost use Rattle.std.specs.Prelude.{◌≡◌, ◌+◌, ◌<◌, ◌≤◌, ◌^◌, ◌++◌, ◌∷◌, [], List, ℕ, None};
+ghost use Rattle.std.specs.Prelude.{Some, true, length, OnOk, IfOk, IfErr};
 ghost use Rattle.std.specs.Io.KnownBytes.{Appends};
 ghost use Rattle.halld.specs.Headers.{default_limits, settings_of, are_good};
 ghost use Rattle.halld.specs.Script.{step_of, NamesHost};
@@ -101,7 +102,9 @@ fn begin<L: Naming, W: Write>(
     requires empty { register.rows ≡ [] }
     requires host { NamesHost step }
     ensures ok { IfOk result (λ player. are_good limits.now ≡ true) }
-    ensures performed { IfOk result (λ player. (text : List ℕ) × IsPerformed step [] (start_of limits.now) text player.hosts.items player.play × Appends (W.contents output.old) (W.contents output.new) text) }
+    ensures performed { IfOk result (λ player. (text : List ℕ)
+        × IsPerformed step [] (start_of limits.now) text player.hosts.items player.play
+        × Appends (W.contents output.old) (W.contents output.new) text) }
     ensures fault { IfErr result (IsFaultOf (told_after (Some limits.now) 1 [])) }
 {
     let mut player = new_player(alloc, register, limits)?;
@@ -138,7 +141,10 @@ impl<L: Naming> Reader<L> {
         ensures set { OnOk result (is_set_after (head_of self.old.stage) [] ≡ true) }
         ensures line { self.new.line ≡ self.old.line }
         ensures ended { self.new.ended ≡ self.old.ended }
-        ensures performed { OnOk result ((text : List ℕ) × IsPerformed step (hosts_of self.old.stage) (server_of self.old.stage []) text (hosts_of self.new.stage) (server_of self.new.stage []) × Appends (W.contents output.old) (W.contents output.new) text) }
+        ensures performed { OnOk result ((text : List ℕ)
+            × IsPerformed step (hosts_of self.old.stage) (server_of self.old.stage []) text
+            (hosts_of self.new.stage) (server_of self.new.stage [])
+            × Appends (W.contents output.old) (W.contents output.new) text) }
         ensures fault { IfErr result (IsFaultOf (told_after (head_of self.old.stage) 1 [])) }
     {
         match &mut self.stage {
@@ -159,12 +165,17 @@ impl<L: Naming> Reader<L> {
     fn header(&mut self) -> Result<(), PlayFault>
         requires some { 0 < length self.old.line.items }
         requires none { step_of self.old.line.items ≡ None }
-        ensures ready { IsReady L.table self.old.stage self.old.register → OnOk result (IsReady L.table self.new.stage self.new.register) }
+        ensures ready { IsReady L.table self.old.stage self.old.register
+            → OnOk result (IsReady L.table self.new.stage self.new.register) }
         ensures line { OnOk result (self.new.line.items ≡ []) }
         ensures ended { self.new.ended ≡ self.old.ended }
-        ensures ahead { OnOk result ((more : List (List ℕ)) → told_after (head_of self.new.stage) (self.new.ended + 1) more ≡ told_after (head_of self.old.stage) self.old.ended (self.old.line.items ∷ more)) }
-        ensures printed { OnOk result ((more : List (List ℕ)) (text : List ℕ) → Prints self.new.stage more text → Prints self.old.stage (self.old.line.items ∷ more) text) }
-        ensures fault { IfErr result (λ e. (more : List (List ℕ)) → IsFaultOf (told_after (head_of self.old.stage) self.old.ended (self.old.line.items ∷ more)) e) }
+        ensures ahead { OnOk result ((more : List (List ℕ))
+            → told_after (head_of self.new.stage) (self.new.ended + 1) more
+            ≡ told_after (head_of self.old.stage) self.old.ended (self.old.line.items ∷ more)) }
+        ensures printed { OnOk result ((more : List (List ℕ)) (text : List ℕ) → Prints
+            self.new.stage more text → Prints self.old.stage (self.old.line.items ∷ more) text) }
+        ensures fault { IfErr result (λ e. (more : List (List ℕ)) → IsFaultOf
+            (told_after (head_of self.old.stage) self.old.ended (self.old.line.items ∷ more)) e) }
     {
         let Stage::Head(limits) = &mut self.stage else {
             return Err(PlayFault::BadLine(self.ended));
@@ -186,9 +197,14 @@ impl<L: Naming> Reader<L> {
         ensures ready { OnOk result (IsReady L.table self.new.stage self.new.register) }
         ensures line { OnOk result (self.new.line.items ≡ []) }
         ensures ended { OnOk result (self.new.ended ≡ self.old.ended + 1) }
-        ensures ahead { OnOk result ((more : List (List ℕ)) → told_after (head_of self.new.stage) (self.new.ended + 1) more ≡ told_after (head_of self.old.stage) (self.old.ended + 1) (self.old.line.items ∷ more)) }
-        ensures printed { OnOk result (Writes (W.contents output.old) (W.contents output.new) (λ written. (more : List (List ℕ)) (text : List ℕ) → Prints self.new.stage more text → Prints self.old.stage (self.old.line.items ∷ more) (written ++ text))) }
-        ensures fault { IfErr result (λ e. (more : List (List ℕ)) → IsFaultOf (told_after (head_of self.old.stage) (self.old.ended + 1) (self.old.line.items ∷ more)) e) }
+        ensures ahead { OnOk result ((more : List (List ℕ))
+            → told_after (head_of self.new.stage) (self.new.ended + 1) more ≡ told_after
+            (head_of self.old.stage) (self.old.ended + 1) (self.old.line.items ∷ more)) }
+        ensures printed { OnOk result (Writes (W.contents output.old) (W.contents output.new)
+            (λ written. (more : List (List ℕ)) (text : List ℕ) → Prints self.new.stage more text
+            → Prints self.old.stage (self.old.line.items ∷ more) (written ++ text))) }
+        ensures fault { IfErr result (λ e. (more : List (List ℕ)) → IsFaultOf (told_after
+            (head_of self.old.stage) (self.old.ended + 1) (self.old.line.items ∷ more)) e) }
     {
         self.ended += 1;
         if self.line.is_empty() {
@@ -210,9 +226,14 @@ impl<L: Naming> Reader<L> {
         requires ready { IsReady L.table self.old.stage self.old.register }
         ensures ready { OnOk result (IsReady L.table self.new.stage self.new.register) }
         ensures ended { OnOk result (self.new.ended ≤ self.old.ended + 1) }
-        ensures ahead { OnOk result ((rest : List ℕ) → told_ahead (head_of self.new.stage) self.new.ended self.new.line.items rest ≡ told_ahead (head_of self.old.stage) self.old.ended self.old.line.items (octet ∷ rest)) }
-        ensures printed { OnOk result (Writes (W.contents output.old) (W.contents output.new) (GoesOn self.old.stage self.old.line.items self.new.stage self.new.line.items (octet ∷ []))) }
-        ensures fault { IfErr result (λ e. (rest : List ℕ) → IsFaultOf (told_ahead (head_of self.old.stage) self.old.ended self.old.line.items (octet ∷ rest)) e) }
+        ensures ahead { OnOk result ((rest : List ℕ) → told_ahead
+            (head_of self.new.stage) self.new.ended self.new.line.items rest ≡ told_ahead
+            (head_of self.old.stage) self.old.ended self.old.line.items (octet ∷ rest)) }
+        ensures printed { OnOk result (Writes (W.contents output.old) (W.contents output.new)
+            (GoesOn self.old.stage self.old.line.items self.new.stage self.new.line.items
+            (octet ∷ []))) }
+        ensures fault { IfErr result (λ e. (rest : List ℕ) → IsFaultOf (told_ahead
+            (head_of self.old.stage) self.old.ended self.old.line.items (octet ∷ rest)) e) }
     {
         if octet == b'\n' {
             return self.end_line(output);
@@ -227,9 +248,14 @@ impl<L: Naming> Reader<L> {
         requires ready { IsReady L.table self.old.stage self.old.register }
         ensures ready { OnOk result (IsReady L.table self.new.stage self.new.register) }
         ensures ended { OnOk result (self.new.ended ≤ self.old.ended + length block.now) }
-        ensures ahead { OnOk result ((rest : List ℕ) → told_ahead (head_of self.new.stage) self.new.ended self.new.line.items rest ≡ told_ahead (head_of self.old.stage) self.old.ended self.old.line.items (block.now ++ rest)) }
-        ensures printed { OnOk result (Writes (W.contents output.old) (W.contents output.new) (GoesOn self.old.stage self.old.line.items self.new.stage self.new.line.items block.now)) }
-        ensures fault { IfErr result (λ e. (rest : List ℕ) → IsFaultOf (told_ahead (head_of self.old.stage) self.old.ended self.old.line.items (block.now ++ rest)) e) }
+        ensures ahead { OnOk result ((rest : List ℕ) → told_ahead
+            (head_of self.new.stage) self.new.ended self.new.line.items rest ≡ told_ahead
+            (head_of self.old.stage) self.old.ended self.old.line.items (block.now ++ rest)) }
+        ensures printed { OnOk result
+            (Writes (W.contents output.old) (W.contents output.new) (GoesOn self.old.stage
+            self.old.line.items self.new.stage self.new.line.items block.now)) }
+        ensures fault { IfErr result (λ e. (rest : List ℕ) → IsFaultOf (told_ahead
+            (head_of self.old.stage) self.old.ended self.old.line.items (block.now ++ rest)) e) }
     {
         for octet in block {
             self.take_octet(*octet, output)?;
@@ -256,9 +282,12 @@ impl<L: Naming> Reader<L> {
     pub(crate) fn finish<W: Write>(&mut self, output: &mut W) -> Result<(), PlayFault>
         requires few { self.old.ended + 1 < 2 ^ 64 }
         requires ready { IsReady L.table self.old.stage self.old.register }
-        ensures good { OnOk result (IsGood (told_ahead (head_of self.old.stage) self.old.ended self.old.line.items [])) }
-        ensures printed { OnOk result (Writes (W.contents output.old) (W.contents output.new) (PrintsAhead self.old.stage self.old.line.items [])) }
-        ensures fault { IfErr result (IsFaultOf (told_ahead (head_of self.old.stage) self.old.ended self.old.line.items [])) }
+        ensures good { OnOk result
+            (IsGood (told_ahead (head_of self.old.stage) self.old.ended self.old.line.items [])) }
+        ensures printed { OnOk result (Writes (W.contents output.old) (W.contents output.new)
+            (PrintsAhead self.old.stage self.old.line.items [])) }
+        ensures fault { IfErr result (IsFaultOf
+            (told_ahead (head_of self.old.stage) self.old.ended self.old.line.items [])) }
     {
         self.end_line(output)?;
         self.set_up()

@@ -1,6 +1,7 @@
 //! The names of refusals.
 ghost use Rattle.std.specs.Prelude.{◌≡◌};
-ghost use Rattle.halld.specs.Refusals.{open_name, line_name, hang_name, sweep_name, tick_name, reap_name, book_name, refusal_name};
+ghost use Rattle.halld.specs.Refusals.{open_name, line_name, hang_name, sweep_name};
+ghost use Rattle.halld.specs.Refusals.{tick_name, reap_name, book_name, refusal_name};
 
 use interleave::{
     BookRefusal, HangRefusal, LineRefusal, OpenRefusal, ReapRefusal, StepRefusal, SweepRefusal,

@@ -178,7 +178,8 @@ fn parse_pick(words: &[u8]) -> Option<Event>
 
 /// `W MS`.
 fn worker_and_moment(words: &[u8]) -> Option<(WorkerId, Moment)>
-    ensures { result ≡ both (λ w ms. (w, ms)) (worker_of (before_space words.now)) (moment_of (after_space words.now)) }
+    ensures { result ≡ both (λ w ms. (w, ms)) (worker_of (before_space words.now))
+        (moment_of (after_space words.now)) }
 {
     let (name, milliseconds) = split_at_space(words);
     Some((worker(name)?, moment(milliseconds)?))

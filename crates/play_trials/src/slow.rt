@@ -67,8 +67,8 @@ const PING_AFTER: i64 = 120_000;
 
 const LATE_AFTER: i64 = 240_000;
 
-/// A session: whether it is open, when it was last heard of, whether it was pinged since, its nickname by place and spelling, whether a
-/// USER was accepted, and its ranks on `#a` and `#b`.
+/// A session: whether it is open, when it was last heard of, whether it was pinged since, its nickname by place and
+/// spelling, whether a USER was accepted, and its ranks on `#a` and `#b`.
 #[derive(Clone, Copy)]
 struct Person {
     is_open: bool,

@@ -1,5 +1,5 @@
-//! A thousand steps from a fixed list of numbers. After each the book says of its sessions, of its last moment and of who is late what
-//! a walk over its records says.
+//! A thousand steps from a fixed list of numbers. After each the book says of its sessions, of its last moment and
+//! of who is late what a walk over its records says.
 use crate::acts::{Act, Told, take_step};
 use crate::again::copied;
 use crate::plays::{SESSIONS, Story, tell_story};
@@ -176,8 +176,8 @@ fn compare_late<L: Naming>(rt: &impl Abort, play: &Play<L>, people: &People, ahe
     late.is_some()
 }
 
-/// Compares what a book says of each session that came, of its last moment, and of who is late then and two minutes later. It answers
-/// whether somebody is late at that moment.
+/// Compares what a book says of each session that came, of its last moment, and of who is late then and two minutes
+/// later. It answers whether somebody is late at that moment.
 fn compare<L: Naming>(rt: &impl Abort, play: &Play<L>, came: u64, channels: &[Octets]) -> bool {
     let book = play.book();
     let people = read_back(book);

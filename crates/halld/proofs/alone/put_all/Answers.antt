@@ -8,4 +8,5 @@ pub loop-preserved : goal.loop-preserved
 loop-preserved g c =
     let went : is_err c.step.result ≡ false = grind (arith, common_steps) in
     let note = not_err c.step.result went in
-    put_more c.loop.counter c.args.play.now c.loop.play c.step.new.self c.new-worker.result note.0 c.step.result c.loop.invariant c.new-worker.ensures note.1 c.step.ensures.step
+    put_more c.loop.counter c.args.play.now c.loop.play c.step.new.self c.new-worker.result note.0 c.step.result
+    c.loop.invariant c.new-worker.ensures note.1 c.step.ensures.step

@@ -12,13 +12,20 @@ use Rattle.halld.proofs.entry.play_lines.Goals.{in-Ok+in_ok-feed-in-Ok, in-Err}
 pub returns-in_err-feed-in-Ok-clause-fault : goal.returns-in_err-feed-in-Ok-clause-fault
 returns-in_err-feed-in-Ok-clause-fault g c =
     let p = err_from_is_err_and c.from_residual.result c.from_residual.ensures.1 in
-    rw (p.1, p.2) (λ script is. fault_at (g.R.Read.remaining c.loop.input) (g.R.Read.remaining c.read.new.self) (take c.in-Ok.count c.read.new.buf) (told_ahead (head_of c.loop.reader.stage) c.loop.reader.ended c.loop.reader.line.items) _ _ c.in-Ok.ensures.bytes.0 c.in_err-feed-in-Ok.ensures.fault (c.loop.invariant.ahead script is))
+    rw (p.1, p.2) (λ script is. fault_at (g.R.Read.remaining c.loop.input)
+    (g.R.Read.remaining c.read.new.self) (take c.in-Ok.count c.read.new.buf)
+    (told_ahead (head_of c.loop.reader.stage) c.loop.reader.ended c.loop.reader.line.items) _ _
+    c.in-Ok.ensures.bytes.0 c.in_err-feed-in-Ok.ensures.fault (c.loop.invariant.ahead script is))
 
 pub returns-in-Ok-eq0-clause-printed : goal.returns-in-Ok-eq0-clause-printed
 returns-in-Ok-eq0-clause-printed g c =
     let none : c.in-Ok-eq0.field-0 ≡ 0 = grind (arith, common_steps) in
     let some : 0 < length c.read.new.buf = grind (arith, common_steps) in
-    to_the_end c.finish.result (g.R.Read.remaining c.args.input.now) (g.R.Read.remaining c.loop.input) (g.R.Read.remaining c.read.new.self) _ _ _ (PrintsAhead c.args.reader.now.stage c.args.reader.now.line.items) (PrintsAhead c.loop.reader.stage c.loop.reader.line.items) (read_nothing c.read.result c.in-Ok-eq0.field-0 _ _ c.read.new.buf c.read.ensures.bytes c.in-Ok-eq0.is none some) c.loop.invariant.printed c.finish.ensures.printed
+    to_the_end c.finish.result (g.R.Read.remaining c.args.input.now) (g.R.Read.remaining c.loop.input)
+    (g.R.Read.remaining c.read.new.self) _ _ _ (PrintsAhead c.args.reader.now.stage
+    c.args.reader.now.line.items) (PrintsAhead c.loop.reader.stage c.loop.reader.line.items)
+    (read_nothing c.read.result c.in-Ok-eq0.field-0 _ _ c.read.new.buf c.read.ensures.bytes c.in-Ok-eq0.is none
+    some) c.loop.invariant.printed c.finish.ensures.printed
 
 pub loop-preserved : goal.loop-preserved
 loop-preserved g c =
@@ -27,14 +34,27 @@ loop-preserved g c =
           rw (w.reader-is, w.output-is) (record {
             ready = w.in_ok-feed-in-Ok.ensures.ready;
             ended = grind (arith, common_steps, w.in_ok-feed-in-Ok.ensures.ended);
-            ahead = λ script is. read_more (g.R.Read.remaining c.loop.input) (g.R.Read.remaining c.read.new.self) (take w.in-Ok.count c.read.new.buf) (told_ahead (head_of c.loop.reader.stage) c.loop.reader.ended c.loop.reader.line.items) (told_ahead (head_of w.feed.new.self.stage) w.feed.new.self.ended w.feed.new.self.line.items) _ w.in-Ok.ensures.bytes.0 w.in_ok-feed-in-Ok.ensures.ahead (c.loop.invariant.ahead script is);
-            printed = by_a_block (g.R.Read.remaining c.args.input.now) (g.R.Read.remaining c.loop.input) (g.R.Read.remaining c.read.new.self) (take w.in-Ok.count c.read.new.buf) _ _ _ (PrintsAhead c.args.reader.now.stage c.args.reader.now.line.items) (PrintsAhead c.loop.reader.stage c.loop.reader.line.items) (PrintsAhead w.feed.new.self.stage w.feed.new.self.line.items) w.in-Ok.ensures.bytes.0 c.loop.invariant.printed w.in_ok-feed-in-Ok.ensures.printed;
+            ahead = λ script is. read_more (g.R.Read.remaining c.loop.input)
+                (g.R.Read.remaining c.read.new.self) (take w.in-Ok.count c.read.new.buf)
+                (told_ahead (head_of c.loop.reader.stage) c.loop.reader.ended c.loop.reader.line.items)
+                (told_ahead (head_of w.feed.new.self.stage) w.feed.new.self.ended w.feed.new.self.line.items) _
+                w.in-Ok.ensures.bytes.0 w.in_ok-feed-in-Ok.ensures.ahead (c.loop.invariant.ahead script is);
+            printed = by_a_block (g.R.Read.remaining c.args.input.now) (g.R.Read.remaining c.loop.input)
+                (g.R.Read.remaining c.read.new.self) (take w.in-Ok.count c.read.new.buf) _ _ _
+                (PrintsAhead c.args.reader.now.stage c.args.reader.now.line.items) (PrintsAhead c.loop.reader.stage
+                c.loop.reader.line.items) (PrintsAhead w.feed.new.self.stage w.feed.new.self.line.items)
+                w.in-Ok.ensures.bytes.0 c.loop.invariant.printed w.in_ok-feed-in-Ok.ensures.printed;
           })
       | in-Err w ↦
           rw (w.reader-is, w.output-is) (record {
             ready = c.loop.invariant.ready;
             ended = omega (arith, c.loop.invariant.ended);
-            ahead = λ script is. read_none (g.R.Read.remaining c.loop.input) (g.R.Read.remaining c.read.new.self) (told_ahead (head_of c.loop.reader.stage) c.loop.reader.ended c.loop.reader.line.items) _ w.in-Err.ensures.bytes (c.loop.invariant.ahead script is);
-            printed = by_nothing (g.R.Read.remaining c.args.input.now) (g.R.Read.remaining c.loop.input) (g.R.Read.remaining c.read.new.self) _ _ (PrintsAhead c.args.reader.now.stage c.args.reader.now.line.items) (PrintsAhead c.loop.reader.stage c.loop.reader.line.items) w.in-Err.ensures.bytes c.loop.invariant.printed;
+            ahead = λ script is. read_none (g.R.Read.remaining c.loop.input) (g.R.Read.remaining c.read.new.self)
+                (told_ahead (head_of c.loop.reader.stage) c.loop.reader.ended c.loop.reader.line.items) _
+                w.in-Err.ensures.bytes (c.loop.invariant.ahead script is);
+            printed = by_nothing (g.R.Read.remaining c.args.input.now)
+                (g.R.Read.remaining c.loop.input) (g.R.Read.remaining c.read.new.self) _ _
+                (PrintsAhead c.args.reader.now.stage c.args.reader.now.line.items) (PrintsAhead c.loop.reader.stage
+                c.loop.reader.line.items) w.in-Err.ensures.bytes c.loop.invariant.printed;
           })
     ]

@@ -6,7 +6,8 @@ use Rattle.halld.specs.Lines.{Told, told_of, told_ahead}
 use Rattle.halld.specs.Stages.{head_of}
 use Rattle.halld.specs.Faults.{IsFaultOf, IsGood}
 use Rattle.halld.specs.Printed.{IsPrinted}
-use Rattle.halld.proofs.Known.{if_known, appends_kept, told_from_start, printed_from_start, ok_too, then_ok, err_too, then_err}
+use Rattle.halld.proofs.Known.{if_known, appends_kept, told_from_start}
+use Rattle.halld.proofs.Known.{printed_from_start, ok_too, then_ok, err_too, then_err}
 use Rattle.halld.proofs.entry.play_named.Goals as goal
 
 pub returns-clause-fault : goal.returns-clause-fault

@@ -8,7 +8,8 @@ use Rattle.halld.proofs.number.number.Goals as goal
 pub returns-in_err-value : goal.returns-in_err-value
 returns-in_err-value c =
     let at : c.loop-octet.octet-index < length c.args.text.now = grind (arith, common_steps) in
-    let tried : with_digit c.loop-octet.value (get_or c.args.text.now c.loop-octet.octet-index 0) ≡ None = grind (arith, common_steps) in
+    let tried : with_digit c.loop-octet.value (get_or c.args.text.now c.loop-octet.octet-index 0)
+    ≡ None = grind (arith, common_steps) in
     let none : c.from_residual.result ≡ None = grind (arith, common_steps) in
     none ∙ stops c.args.text.now c.loop-octet.octet-index c.loop-octet.value at c.loop-octet.invariant tried
 

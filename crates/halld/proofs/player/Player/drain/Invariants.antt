@@ -8,6 +8,8 @@ use Rattle.halld.proofs.player.Player.drain.Given as goal
 abbrev pub invariant-loop : goal.invariant-loop
 invariant-loop g l =
     record {
-      taken : (text : List ℕ) × AreTaken l.counter l.session (host_of l.fn.self.hosts.items l.session) l.fn.self.play text l.self.play × Appends (g.W.Write.contents l.fn.output) (g.W.Write.contents l.output) text;
+      taken : (text : List ℕ)
+          × AreTaken l.counter l.session (host_of l.fn.self.hosts.items l.session) l.fn.self.play text l.self.play
+          × Appends (g.W.Write.contents l.fn.output) (g.W.Write.contents l.output) text;
       hosts : l.self.hosts.items ≡ l.fn.self.hosts.items;
     }

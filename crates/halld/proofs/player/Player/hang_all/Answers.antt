@@ -7,11 +7,13 @@ pub loop-preserved : goal.loop-preserved
 loop-preserved g c =
     let is : c.in_ok-hang_next.field-0 ≡ true = grind (arith, common_steps) in
     record {
-      hung = one_more c.loop.counter c.args.moment c.args.self.now.play c.loop.self.play c.hang_next.new.self.play c.in_ok-hang_next.field-0 _ _ _ c.loop.invariant.hung c.in_ok-hang_next.ensures.step is;
+      hung = one_more c.loop.counter c.args.moment c.args.self.now.play c.loop.self.play c.hang_next.new.self.play
+          c.in_ok-hang_next.field-0 _ _ _ c.loop.invariant.hung c.in_ok-hang_next.ensures.step is;
       hosts = c.hang_next.ensures.hosts ∙ c.loop.invariant.hosts;
     }
 
 pub returns-then-not-branch-clause-step : goal.returns-then-not-branch-clause-step
 returns-then-not-branch-clause-step g c =
     let is : c.in_ok-hang_next.field-0 ≡ false = grind (arith, common_steps) in
-    last_one c.loop.counter c.args.moment c.args.self.now.play c.loop.self.play c.hang_next.new.self.play c.in_ok-hang_next.field-0 _ _ _ c.loop.invariant.hung c.in_ok-hang_next.ensures.step is
+    last_one c.loop.counter c.args.moment c.args.self.now.play c.loop.self.play c.hang_next.new.self.play
+    c.in_ok-hang_next.field-0 _ _ _ c.loop.invariant.hung c.in_ok-hang_next.ensures.step is

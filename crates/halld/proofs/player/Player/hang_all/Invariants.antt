@@ -6,6 +6,7 @@ use Rattle.halld.proofs.player.Player.hang_all.Given as goal
 abbrev pub invariant-loop : goal.invariant-loop
 invariant-loop g l =
     record {
-      hung : HungSoFar l.counter l.moment l.fn.self.play l.self.play (g.W.Write.contents l.fn.output) (g.W.Write.contents l.output);
+      hung : HungSoFar l.counter l.moment l.fn.self.play l.self.play (g.W.Write.contents l.fn.output)
+          (g.W.Write.contents l.output);
       hosts : l.self.hosts.items ≡ l.fn.self.hosts.items;
     }

@@ -7,15 +7,21 @@ use Rattle.halld.proofs.reader.Reader.end_line.Goals as goal
 
 pub returns-clause-ahead : goal.returns-clause-ahead
 returns-clause-ahead g c =
-    let read : step_of c.args.self.now.line.items ≡ Some c.in-Ok.step = ap step_of (sym c.deref.ensures.value) ∙ c.in-Ok.ensures.ok in
-    after_step c.step.result (head_of c.args.self.now.stage) (head_of c.step.new.self.stage) _ _ c.args.self.now.line.items c.in-Ok.step read c.step.ensures.ended c.step.ensures.head c.step.ensures.set
+    let read : step_of c.args.self.now.line.items ≡ Some c.in-Ok.step = ap step_of (sym c.deref.ensures.value)
+    ∙ c.in-Ok.ensures.ok in
+    after_step c.step.result (head_of c.args.self.now.stage) (head_of c.step.new.self.stage) _ _
+    c.args.self.now.line.items c.in-Ok.step read c.step.ensures.ended c.step.ensures.head c.step.ensures.set
 
 pub returns-clause-fault : goal.returns-clause-fault
 returns-clause-fault g c =
-    let read : step_of c.args.self.now.line.items ≡ Some c.in-Ok.step = ap step_of (sym c.deref.ensures.value) ∙ c.in-Ok.ensures.ok in
-    at_step c.step.result (head_of c.args.self.now.stage) _ c.args.self.now.line.items c.in-Ok.step read c.step.ensures.fault
+    let read : step_of c.args.self.now.line.items ≡ Some c.in-Ok.step = ap step_of (sym c.deref.ensures.value)
+    ∙ c.in-Ok.ensures.ok in
+    at_step c.step.result (head_of c.args.self.now.stage) _ c.args.self.now.line.items c.in-Ok.step read
+    c.step.ensures.fault
 
 pub returns-clause-printed : goal.returns-clause-printed
 returns-clause-printed g c =
-    let read : step_of c.args.self.now.line.items ≡ Some c.in-Ok.step = ap step_of (sym c.deref.ensures.value) ∙ c.in-Ok.ensures.ok in
-    printing.after_step c.step.result c.args.self.now.stage c.step.new.self.stage c.args.self.now.line.items c.in-Ok.step _ _ read c.step.ensures.head c.step.ensures.performed
+    let read : step_of c.args.self.now.line.items ≡ Some c.in-Ok.step = ap step_of (sym c.deref.ensures.value)
+    ∙ c.in-Ok.ensures.ok in
+    printing.after_step c.step.result c.args.self.now.stage c.step.new.self.stage c.args.self.now.line.items
+    c.in-Ok.step _ _ read c.step.ensures.head c.step.ensures.performed
