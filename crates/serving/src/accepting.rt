@@ -21,7 +21,8 @@ const EVENTS: usize = 4;
 /// Seconds between two times at which it is told what happened.
 const BETWEEN: u64 = 1;
 
-/// Milliseconds of the server's clock between two beats, in each of which who is quiet is pinged, and who is so for too long is ended.
+/// Milliseconds of the server's clock between two beats, in each of which who is quiet is pinged, and who is so for
+/// too long is ended.
 const BEAT: i64 = 10_000;
 
 /// Where clients connect.
@@ -61,8 +62,8 @@ fn accept_all<L: Naming, R: Wait + Copy + Drop>(
     true
 }
 
-/// Tells of connections that were refused and of rolls of the journal, where there were some and the last line about some is long
-/// enough ago. It answers whether there is nothing more to tell.
+/// Tells of connections that were refused and of rolls of the journal, where there were some and the last line about
+/// some is long enough ago. It answers whether there is nothing more to tell.
 fn tell_news<L: Naming, R: Wait + Clock + Eprint + Copy + Drop>(
     rt: &R,
     connections: &Connections<L, R>,
@@ -108,7 +109,8 @@ impl Beats {
         }
     }
 
-    /// Has a beat where it is time for one, or where the clock was set back, and answers in how many milliseconds the next is to be.
+    /// Has a beat where it is time for one, or where the clock was set back, and answers in how many milliseconds
+    /// the next is to be.
     fn beat_in_time<L: Naming, R: Wait + Clock + Copy + Drop, G: Gate, C: crew::Clock>(
         &mut self,
         rt: &R,
@@ -125,8 +127,8 @@ impl Beats {
     }
 }
 
-/// Accepts connections until the server is asked to stop, has a beat every so often, and tells of connections that are refused and of
-/// rolls of the journal, unless it is to be quiet.
+/// Accepts connections until the server is asked to stop, has a beat every so often, and tells of connections that
+/// are refused and of rolls of the journal, unless it is to be quiet.
 pub(crate) fn accept_on<L: Naming, R: Wait + Clock + Eprint + Copy + Drop, G: Gate, C: crew::Clock>(
     rt: &R,
     server: &Serving<'_, L, R, G, C>,

@@ -56,7 +56,8 @@ impl<I: Read> Read for Counted<'_, I> {
     }
 }
 
-/// Reads an input of a client once, where what waits for it lets that be, and has the lines done that end in what that brings.
+/// Reads an input of a client once, where what waits for it lets that be, and has the lines done that end in what
+/// that brings.
 fn read_counted<L: Naming, I: Read, R: Wait + Clock + Copy + Drop, G: Gate, C: crew::Clock>(
     rt: &R,
     server: &Serving<'_, L, R, G, C>,
@@ -72,8 +73,9 @@ fn read_counted<L: Naming, I: Read, R: Wait + Clock + Copy + Drop, G: Gate, C: c
     took
 }
 
-/// Reads a client once, and has the lines done that end in what that brings. It answers whether more is to be read: where that filled
-/// the room, or something was there and `has_ended` says that its input has an end, up to which it is read.
+/// Reads a client once, and has the lines done that end in what that brings. It answers whether more is to be read:
+/// where that filled the room, or something was there and `has_ended` says that its input has an end, up to which it
+/// is read.
 pub(crate) fn read_client<L: Naming, R: Wait + Clock + Copy + Drop, G: Gate, C: crew::Clock>(
     rt: &R,
     server: &Serving<'_, L, R, G, C>,

@@ -31,7 +31,8 @@ const ENDS: usize = 16;
 /// While more octets than these wait for a client, nothing more of it is done.
 const MUCH: u64 = 65_536;
 
-/// What a session's items go out on, to which several threads may write, one at a time: octets as they are, or frames of their lines.
+/// What a session's items go out on, to which several threads may write, one at a time: octets as they are, or
+/// frames of their lines.
 #[derive(Drop)]
 pub(crate) enum Output<R: Wait + Copy + Drop> {
     Octets(Arc<TcpStream>),
@@ -159,8 +160,8 @@ pub(crate) struct Connections<L: Naming, R: Wait + Copy + Drop> {
 }
 
 impl<L: Naming, R: Wait + Copy + Drop> Connections<L, R> {
-    /// No connection, of a server with these workers that is asked to stop in this way. So many octets may wait for a session besides
-    /// its newest delivery, and so many octets are read before the journal is rolled.
+    /// No connection, of a server with these workers that is asked to stop in this way. So many octets may wait for
+    /// a session besides its newest delivery, and so many octets are read before the journal is rolled.
     pub(crate) fn new(
         rt: R,
         alloc: Global,
@@ -349,8 +350,9 @@ impl<L: Naming, R: Wait + Copy + Drop> View<'_, L, R> {
         }
     }
 
-    /// Leaves what waits for a session, of so many records, to its worker to write, and answers whether that may be left to it. What
-    /// was put before the count grew is written by whoever takes the count back, since that writes after it.
+    /// Leaves what waits for a session, of so many records, to its worker to write, and answers whether that may be
+    /// left to it. What was put before the count grew is written by whoever takes the count back, since that writes
+    /// after it.
     fn leave(&self, session: SessionId, records: usize) -> bool {
         let connections = self.all.by_session.read(&self.all.rt);
         let Some(connection) = connections.get(&session.number()) else {

@@ -101,7 +101,8 @@ impl Guests {
         self.entries.is_empty()
     }
 
-    /// One more, who connected now at this place. It answers who is to go for it, where more than `most` are there then.
+    /// One more, who connected now at this place. It answers who is to go for it, where more than `most` are there
+    /// then.
     pub(crate) fn add(
         &mut self,
         place: usize,

@@ -17,7 +17,8 @@ fn address_text(alloc: Global, peer: SocketAddr) -> Result<Octets, AllocError> {
     Octets::copied(alloc, text.as_str().as_bytes())
 }
 
-/// The host of a peer: its address. It answers `None` where no memory is there for it, or it has not the shape of a host.
+/// The host of a peer: its address. It answers `None` where no memory is there for it, or it has not the shape of a
+/// host.
 pub(crate) fn host_of(alloc: Global, peer: SocketAddr) -> Option<Octets>
     ensures { IfSome result (λ host. host_shape host ≡ true) }
 {

@@ -1,8 +1,8 @@
 //! How much the journal has of what clients sent, as the threads of a server count it.
 use std::sync::atomic::{AtomicU64, Ordering};
 
-/// Octets that were read of clients since the journal was rolled, which are no fewer than its lines have, and the rolls of which nobody
-/// was told.
+/// Octets that were read of clients since the journal was rolled, which are no fewer than its lines have, and the
+/// rolls of which nobody was told.
 #[derive(Drop)]
 pub(crate) struct Kept {
     octets: AtomicU64,

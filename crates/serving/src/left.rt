@@ -42,7 +42,8 @@ impl Left {
     }
 }
 
-/// Clients to whom a worker has begun to write. Who is left to it meanwhile waits in its post until it has written to all these.
+/// Clients to whom a worker has begun to write. Who is left to it meanwhile waits in its post until it has written
+/// to all these.
 #[derive(Drop)]
 pub(crate) struct Batch {
     left: Left,
@@ -59,7 +60,8 @@ impl Batch {
         }
     }
 
-    /// Takes those who were left to a worker, if it has written to all whom it took before, and answers whether there is anybody.
+    /// Takes those who were left to a worker, if it has written to all whom it took before, and answers whether
+    /// there is anybody.
     pub(crate) fn fill<R: Wait>(&mut self, rt: &R, post: &Post) -> bool {
         if self.left.is_empty() {
             post.swap_left(rt, &mut self.left);
@@ -78,8 +80,8 @@ impl Batch {
         self.due = self.due.saturating_add(count);
     }
 
-    /// To how many the worker writes now: to few where little else happens, and to more by what it has read and told, so that nobody
-    /// waits long.
+    /// To how many the worker writes now: to few where little else happens, and to more by what it has read and
+    /// told, so that nobody waits long.
     fn begin(&mut self) -> usize {
         mem::replace(&mut self.due, 0).saturating_add(WRITES)
     }

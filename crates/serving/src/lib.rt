@@ -1,4 +1,5 @@
-//! A server on sockets: who connects is a session, whose lines one of a few threads does; whoever puts something for it writes it.
+//! A server on sockets: who connects is a session, whose lines one of a few threads does; whoever puts something for
+//! it writes it.
 #![tactic(auto)]
 
 mod accepting;

@@ -46,9 +46,9 @@ impl Lingering {
     }
 }
 
-/// Streams whose last lines were written, and that wait for their clients to close them. A stream that is closed while octets come
-/// that nobody read is reset, and its client loses what it hasn't read; so what still comes is read and dropped, until the client
-/// closes its side, for a while.
+/// Streams whose last lines were written, and that wait for their clients to close them. A stream that is closed
+/// while octets come that nobody read is reset, and its client loses what it hasn't read; so what still comes is
+/// read and dropped, until the client closes its side, for a while.
 #[derive(Drop)]
 pub(crate) struct Lingerers {
     // The oldest first.
@@ -68,8 +68,9 @@ impl Lingerers {
         self.streams.is_empty()
     }
 
-    /// Ends what is written to a stream, of whose time so many pauses are over, and has it wait for its client's end. Where more than
-    /// `most` wait then, the oldest is closed; where there is no memory for it, it is closed itself.
+    /// Ends what is written to a stream, of whose time so many pauses are over, and has it wait for its client's
+    /// end. Where more than `most` wait then, the oldest is closed; where there is no memory for it, it is closed
+    /// itself.
     pub(crate) fn add(&mut self, stream: Arc<TcpStream>, tries: u32, most: usize) {
         let _ = stream.shutdown(Shutdown::Write);
         let one = Lingering {

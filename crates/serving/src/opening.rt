@@ -64,7 +64,8 @@ fn host_twice(alloc: Global, peer: SocketAddr) -> Option<(Octets, Octets)>
 /// What opening a session gives.
 type Given<L, R> = (SessionId, Baton<L, Sender<R>>, Stub<L, ChannelName>);
 
-/// Opens a session in the hall. Where its journal has no room for it, that is rolled, and it is tried again, by the host's copy.
+/// Opens a session in the hall. Where its journal has no room for it, that is rolled, and it is tried again, by the
+/// host's copy.
 fn open_or_roll<L: Naming, R: Wait + Copy + Drop>(
     hall: &mut Hall<L, Sender<R>>,
     host: Octets,

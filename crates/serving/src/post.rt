@@ -62,8 +62,8 @@ impl Mail {
     }
 }
 
-/// Where other threads leave something for a worker, which empties it each time before it waits. So who finds it empty wakes the
-/// worker, and nobody else needs to.
+/// Where other threads leave something for a worker, which empties it each time before it waits. So who finds it
+/// empty wakes the worker, and nobody else needs to.
 #[derive(Drop)]
 pub(crate) struct Post {
     waker: Waker,

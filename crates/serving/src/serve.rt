@@ -73,8 +73,8 @@ impl From<BookFault> for ServeFault {
 /// The most lines that a worker does before what they put is written.
 const MOST_LINES: usize = 32;
 
-/// How many lines a worker may do before what they put is written: so few that what all workers put together fills at most an eighth
-/// of an outbox for so many items, where it has room for so many.
+/// How many lines a worker may do before what they put is written: so few that what all workers put together fills
+/// at most an eighth of an outbox for so many items, where it has room for so many.
 fn burst_of(sendq: usize, workers: usize) -> usize {
     (sendq / 8 / workers.max(1)).clamp(1, MOST_LINES)
 }
@@ -104,7 +104,8 @@ pub struct Options<'a, G: Gate, C: crew::Clock> {
     pub is_quiet: bool,
 }
 
-/// What all threads of a server share. Of the views there is one for each worker, and one more for a thread that is none.
+/// What all threads of a server share. Of the views there is one for each worker, and one more for a thread that is
+/// none.
 #[derive(Drop)]
 struct House<'a, L: Naming, R: Wait + Clock + Copy + Drop, G: Gate, C: crew::Clock> {
     hall: &'a Mutex<Hall<L, Sender<R>>>,
@@ -212,8 +213,8 @@ fn accept_in<L: Naming, R: Wait + Clock + Eprint + Copy + Drop, G: Gate, C: crew
     accept_on(rt, &server, beats, watch, listeners, is_quiet);
 }
 
-/// Has a thread for each of the workers, accepts connections until the server is asked to stop, then ends all sessions, and waits
-/// for the threads. It answers whether all could be started.
+/// Has a thread for each of the workers, accepts connections until the server is asked to stop, then ends all
+/// sessions, and waits for the threads. It answers whether all could be started.
 fn run_on<
     L: Naming + Send + Sync,
     R: Threads + Wait + Clock + Eprint + Copy + Drop + Send + Sync,
@@ -440,16 +441,16 @@ fn is_within(number: u64, limits: (u64, u64)) -> bool
 
 /// Serves whoever connects, until `stop` ends or fails.
 ///
-/// Names are hashed by keys that nobody outside knows. Each line is done by one of the workers, between two calls of the gate. Who
-/// connects is a session, by WebSocket after its handshake, whose host is its address. A connection that isn't taken is closed
-/// without a line, and told of on standard error: how many there were, at most once a second, unless the server is to be quiet; so
-/// are the times that the journal was rolled. At the end every session is told that the server shuts down, and all threads are
-/// joined but the one that reads `stop`.
+/// Names are hashed by keys that nobody outside knows. Each line is done by one of the workers, between two calls of
+/// the gate. Who connects is a session, by WebSocket after its handshake, whose host is its address. A connection
+/// that isn't taken is closed without a line, and told of on standard error: how many there were, at most once a
+/// second, unless the server is to be quiet; so are the times that the journal was rolled. At the end every session
+/// is told that the server shuts down, and all threads are joined but the one that reads `stop`.
 ///
 /// # Errors
 ///
-/// Where settings or numbers are beyond their limits, where a journal that was rolled is full still, and where a growth was refused
-/// or there were no random keys at the start.
+/// Where settings or numbers are beyond their limits, where a journal that was rolled is full still, and where a
+/// growth was refused or there were no random keys at the start.
 pub fn serve_with<
     R: Threads + Wait + Clock + Net + RandomSource + Eprint + Copy + Drop + Send + Sync + 'static,
     G: Gate + Sync,

@@ -1,4 +1,5 @@
-//! Clients that come by WebSocket, as the rest of a server sees them: what is read of one is octets, and so is what is written.
+//! Clients that come by WebSocket, as the rest of a server sees them: what is read of one is octets, and so is what
+//! is written.
 ghost use Rattle.std.specs.Prelude.{◌≤◌, length, IfOk};
 
 use deliveries::Item;
@@ -17,9 +18,13 @@ const TURNS: u32 = 64;
 
 /// What a request is answered that opens no WebSocket.
 pub(crate) const REFUSAL: &[u8] =
-    b"HTTP/1.1 426 Upgrade Required\r\nConnection: Upgrade, close\r\nUpgrade: websocket\r\nSec-WebSocket-Version: 13\r\nContent-Type: text/plain; charset=utf-8\r\nContent-Length: 89\r\n\r\nThis is an IRC server: connect to it by WebSocket (text.ircv3.net or binary.ircv3.net).\r\n";
+    b"HTTP/1.1 426 Upgrade Required\r\nConnection: Upgrade, close\r\nUpgrade: websocket\r\n\
+        Sec-WebSocket-Version: 13\r\nContent-Type: text/plain; charset=utf-8\r\n\
+        Content-Length: 89\r\n\r\n\
+        This is an IRC server: connect to it by WebSocket (text.ircv3.net or binary.ircv3.net).\r\n";
 
-/// A client's stream, as its WebSocket has it. Until something was written it gives no more octets than a request may have.
+/// A client's stream, as its WebSocket has it. Until something was written it gives no more octets than a request
+/// may have.
 #[derive(Drop)]
 pub(crate) struct WebStream {
     stream: Arc<TcpStream>,

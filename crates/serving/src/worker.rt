@@ -60,7 +60,8 @@ pub(crate) struct Worker<L: Naming, R: Wait + Copy + Drop> {
     paused: Option<Instant>,
 }
 
-/// Rolls the journal where so much was read since it was last rolled. Where there is no memory for that, it is put off.
+/// Rolls the journal where so much was read since it was last rolled. Where there is no memory for that, it is put
+/// off.
 fn roll_where_much<L: Naming, R: Wait + Clock + Copy + Drop, G: Gate, C: crew::Clock>(
     rt: &R,
     server: &Serving<'_, L, R, G, C>,
@@ -157,8 +158,8 @@ impl<L: Naming, R: Wait + Clock + Copy + Drop> Worker<L, R> {
         self.put(at, Place::Held(client));
     }
 
-    /// Puts a client back for which much waits. Where its stream takes nothing now, an event tells when it takes more; where another
-    /// thread writes for it, it is looked at again after a pause.
+    /// Puts a client back for which much waits. Where its stream takes nothing now, an event tells when it takes
+    /// more; where another thread writes for it, it is looked at again after a pause.
     fn hold_up(&mut self, rt: &R, at: usize, client: Client<L, R>) {
         // What another thread found of the stream may be older than the last event, so this thread tries for itself.
         let is_told = match client.connection.outlet.go_on(rt) {
@@ -229,8 +230,8 @@ impl<L: Naming, R: Wait + Clock + Copy + Drop> Worker<L, R> {
         }
     }
 
-    /// Reads one of those who may have more to be read, so that others have their turn before the next of them: who sends much keeps
-    /// nobody waiting for longer than one read of it takes.
+    /// Reads one of those who may have more to be read, so that others have their turn before the next of them: who
+    /// sends much keeps nobody waiting for longer than one read of it takes.
     fn read_one_more<G: Gate, C: crew::Clock>(&mut self, rt: &R, server: &Serving<'_, L, R, G, C>) {
         let Some(at) = self.more.pop_front() else {
             return;
@@ -534,8 +535,8 @@ impl<L: Naming, R: Wait + Clock + Copy + Drop> Worker<L, R> {
         }
     }
 
-    /// Has who connected by WebSocket greet at a place. Where too many do, who has greeted longest is given up. It answers whether the
-    /// place is taken now.
+    /// Has who connected by WebSocket greet at a place. Where too many do, who has greeted longest is given up. It
+    /// answers whether the place is taken now.
     fn receive(
         &mut self,
         rt: &R,

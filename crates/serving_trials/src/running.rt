@@ -29,7 +29,8 @@ fn settings(alloc: Global) -> Result<Settings, AllocError> {
     })
 }
 
-/// Serves with two workers, by the machine's clock, or by a clock that is set by hand where somebody is silent. Whether that ends well.
+/// Serves with two workers, by the machine's clock, or by a clock that is set by hand where somebody is silent.
+/// Whether that ends well.
 fn serves<R>(
     rt: &R,
     alloc: Global,

@@ -73,8 +73,9 @@ fn at_once<R: Clock + Drop>(
 }
 
 /// A request that opens a WebSocket, as RFC 6455 has it in section 1.3.
-const REQUEST: &[u8] =
-    b"GET /chat HTTP/1.1\r\nHost: server.example.com\r\nUpgrade: websocket\r\nConnection: Upgrade\r\nSec-WebSocket-Key: dGhlIHNhbXBsZSBub25jZQ==\r\nSec-WebSocket-Version: 13\r\n\r\n";
+const REQUEST: &[u8] = b"GET /chat HTTP/1.1\r\nHost: server.example.com\r\nUpgrade: websocket\r\n\
+        Connection: Upgrade\r\nSec-WebSocket-Key: dGhlIHNhbXBsZSBub25jZQ==\r\n\
+        Sec-WebSocket-Version: 13\r\n\r\n";
 
 /// Whether a session that comes by WebSocket and isn't registered is answered, and told of its end.
 fn by_websocket<R: Net<Stream = TcpStream>>(
@@ -113,7 +114,8 @@ fn hears_after<R: Net<Stream = TcpStream>>(
     Ok(is_heard)
 }
 
-/// Whether a session that is silent for two minutes is pinged, once more two minutes after it answered, and ended after four.
+/// Whether a session that is silent for two minutes is pinged, once more two minutes after it answered, and ended
+/// after four.
 fn silence<R: Net<Stream = TcpStream>>(
     rt: &R,
     alloc: Global,
