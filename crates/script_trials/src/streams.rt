@@ -87,8 +87,8 @@ const SCRIPT: &[u8] = b"take 1\ntake 2\n";
 
 const NOTES: &[u8] = b"refused NoSession\nrefused NoSession\n";
 
-/// How many reads and writes succeed, whether a write fails then or takes nothing, what the play ends with, and how many octets
-/// of its notes are written.
+/// How many reads and writes succeed, whether a write fails then or takes nothing, what the play ends with, and how
+/// many octets of its notes are written.
 const STREAMS: [(usize, usize, bool, Result<(), PlayFault>, usize); 6] = [
     (99, 99, true, Ok(()), 36),
     (14, 99, true, Err(PlayFault::ReadFailed), 36),
