@@ -148,7 +148,8 @@ fn listener<'a, R: Net<Listener = TcpListener, Stream = TcpStream>>(
     }
 }
 
-/// Tells on which address a listener listens, if there is one: on the one that was wanted, unless the system names another.
+/// Tells on which address a listener listens, if there is one: on the one that was wanted, unless the system names
+/// another.
 fn tell_of<R: Eprint>(rt: &R, listener: Option<&TcpListener>, wanted: Option<SocketAddr>) {
     if let (Some(listener), Some(wanted)) = (listener, wanted) {
         let address = listener.local_addr().unwrap_or(wanted);

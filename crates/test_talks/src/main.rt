@@ -1,4 +1,5 @@
-//! Plays stories that stand in files: talks, what sessions say and what each is told, and scripts, steps with their notes.
+//! Plays stories that stand in files: talks, what sessions say and what each is told, and scripts, steps with their
+//! notes.
 #![tactic(auto)]
 
 mod block;
@@ -113,7 +114,8 @@ struct Counts {
     failed: u32,
 }
 
-/// Plays the stories of a file. Its parts are left for its own stories, and those of a file of parts for later files, too.
+/// Plays the stories of a file. Its parts are left for its own stories, and those of a file of parts for later
+/// files, too.
 fn play_file<'a, R: Print + Alloc<A = Global>>(
     rt: &R,
     file: &'a File,

@@ -68,7 +68,8 @@ struct Played {
     end: String,
     fault: Option<PlayFault>,
     notes: Vec<u8>,
-    // Whether a line was refused for want of memory, and whether it was the last, which nothing follows that could come anew.
+    // Whether a line was refused for want of memory, and whether it was the last, which nothing follows that could
+    // come anew.
     was_refused: bool,
     is_owed: bool,
 }
@@ -173,8 +174,9 @@ fn first_difference(
     }))
 }
 
-/// Whether a play that differs only met a refused growth that ends it: the next one is whole. A fault that tells a line's number
-/// may tell another, since a line came anew, and one that ends the script without a line feed doesn't come anew.
+/// Whether a play that differs only met a refused growth that ends it: the next one is whole. A fault that tells a
+/// line's number may tell another, since a line came anew, and one that ends the script without a line feed doesn't
+/// come anew.
 fn may_go_again(story: &Story<'_>, played: &Played) -> bool {
     let is_cut = match played.fault {
         Some(PlayFault::Memory) => true,
@@ -184,8 +186,8 @@ fn may_go_again(story: &Story<'_>, played: &Played) -> bool {
     is_cut && story.notes.octets.starts_with(&played.notes)
 }
 
-/// Plays a story in which a line comes anew where it was refused for want of memory. So what is noted shows that the refusal
-/// changed nothing. Returns where the story differs, if it does.
+/// Plays a story in which a line comes anew where it was refused for want of memory. So what is noted shows that the
+/// refusal changed nothing. Returns where the story differs, if it does.
 pub(crate) fn tell(alloc: Global, story: &Story<'_>) -> Result<Option<Difference>, AllocError> {
     let mut played = play_once(alloc, story)?;
     if may_go_again(story, &played) {

@@ -1,8 +1,8 @@
 //! Reading a story from its lines.
 //!
-//! In each form a line that begins with `#` is a comment, and `use al bo` has the lines of these parts in its place. In a script a
-//! line with four spaces before it is a note of the step above, `!! FAULT` is what the play is to end with, and after
-//! `each FAULT` each line is a row: it ends a script of its own, whose front is what stands above.
+//! In each form a line that begins with `#` is a comment, and `use al bo` has the lines of these parts in its place.
+//! In a script a line with four spaces before it is a note of the step above, `!! FAULT` is what the play is to end
+//! with, and after `each FAULT` each line is a row: it ends a script of its own, whose front is what stands above.
 use crate::block::{Form, Part};
 use crate::story::Story;
 use crate::talk::Talk;

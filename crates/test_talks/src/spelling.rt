@@ -1,5 +1,5 @@
-//! Steps and notes as files spell them: `~` is the server's name, `%064` so many octets `V`, `%x0d` the octet of these two digits,
-//! and the note `1> welcome al!a@h1` the five lines by which session 1 is welcomed.
+//! Steps and notes as files spell them: `~` is the server's name, `%064` so many octets `V`, `%x0d` the octet of
+//! these two digits, and the note `1> welcome al!a@h1` the five lines by which session 1 is welcomed.
 use std::alloc::AllocError;
 
 /// The lines of a welcome (RFC 2812, section 5.1): `$` is the session, `^` its nickname, and `*` its whole source.
@@ -8,8 +8,8 @@ $> :irc.example 001 ^ :Welcome to the Internet Relay Network *
 $> :irc.example 002 ^ :Your host is irc.example, running version halld-1
 $> :irc.example 003 ^ :This server was created 1970-01-01T00:00:00.000Z
 $> :irc.example 004 ^ irc.example halld-1 i biklmnostv
-$> :irc.example 005 ^ AWAYLEN=200 CASEMAPPING=rfc1459 CHANLIMIT=#&:20 CHANMODES=b,k,l,imnst CHANNELLEN=50 CHANTYPES=#& \
-KICKLEN=200 MAXLIST=b:60 MODES=4 NICKLEN=30 PREFIX=(ov)@+ TOPICLEN=300 :are supported by this server
+$> :irc.example 005 ^ AWAYLEN=200 CASEMAPPING=rfc1459 CHANLIMIT=#&:20 CHANMODES=b,k,l,imnst CHANNELLEN=50 \
+CHANTYPES=#& KICKLEN=200 MAXLIST=b:60 MODES=4 NICKLEN=30 PREFIX=(ov)@+ TOPICLEN=300 :are supported by this server
 ";
 
 /// The number that digits spell.

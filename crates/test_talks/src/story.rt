@@ -39,8 +39,8 @@ impl Lines {
     }
 }
 
-/// Steps, the notes that they are to have, and what the fault says with which the play is to end, which is empty where it is to
-/// end well.
+/// Steps, the notes that they are to have, and what the fault says with which the play is to end, which is empty
+/// where it is to end well.
 #[derive(Drop)]
 pub(crate) struct Story<'a> {
     pub(crate) script: Lines,

@@ -1,8 +1,8 @@
 //! Talks: what sessions say, and what each is told then.
 //!
-//! A talk has a line for each thing that is said, `1 PING x`, and after it the lines that are told, `1> :~ PONG ~ x`, those of
-//! session 1 first. `connect h1` opens a session, `tidy` sweeps one, and any other line is a header. Nothing is told that
-//! doesn't stand there.
+//! A talk has a line for each thing that is said, `1 PING x`, and after it the lines that are told,
+//! `1> :~ PONG ~ x`, those of session 1 first. `connect h1` opens a session, `tidy` sweeps one, and any other line
+//! is a header. Nothing is told that doesn't stand there.
 use crate::story::Story;
 use std::alloc::{AllocError, Global};
 
