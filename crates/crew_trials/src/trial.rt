@@ -62,8 +62,8 @@ pub(crate) trait Trial<R: Wait + Drop> {
     ) -> Result<(), Fail>;
 }
 
-/// What stands around a hall, and a session that is opened.
-fn begin<L: Naming, R: Wait + Copy + Drop>(
+/// What stands around a hall, and a session that is opened, or nothing where either is refused.
+pub(crate) fn begin<L: Naming, R: Wait + Copy + Drop>(
     rt: &R,
     alloc: Global,
     lock: &Mutex<Hall<L, Sender<R>>>,
@@ -72,7 +72,7 @@ fn begin<L: Naming, R: Wait + Copy + Drop>(
     Some((around, open(rt, alloc, lock)?))
 }
 
-/// What stands around a hall, and a session that is opened. It begins once more where there was no memory.
+/// What stands around a hall, and a session that is opened.
 pub(crate) fn begun<L: Naming, R: Wait + Copy + Drop>(
     rt: &R,
     alloc: Global,
@@ -80,10 +80,7 @@ pub(crate) fn begun<L: Naming, R: Wait + Copy + Drop>(
 ) -> Result<(Surroundings, Tokens<L, R>), Fail> {
     match begin(rt, alloc, lock) {
         Some(begun) => Ok(begun),
-        None => match begin(rt, alloc, lock) {
-            Some(begun) => Ok(begun),
-            None => Err("a session".into()),
-        },
+        None => Err("a session".into()),
     }
 }
 
@@ -109,20 +106,24 @@ fn tried_in<L: Naming + Send + Sync, X: Trial<R>, R: Wait + Drop>(
 }
 
 /// A trial in a hall with a register of its own. It answers whether there was memory for both.
-fn tried<X: Trial<R>, R: Wait + Drop>(rt: &R, alloc: Global, trial: &X) -> Result<bool, Fail> {
+pub(crate) fn tried<X: Trial<R>, R: Wait + Drop>(
+    rt: &R,
+    alloc: Global,
+    trial: &X,
+) -> Result<bool, Fail> {
     let Ok(register) = Register::new(alloc) else {
         return Ok(false);
     };
     tried_in::<Brand, X, R>(rt, alloc, register, trial)
 }
 
-/// A trial in a hall, which is made once more where there was no memory for it.
+/// A trial in a hall.
 pub(crate) fn try_out<X: Trial<R>, R: Wait + Drop>(
     rt: &R,
     alloc: Global,
     trial: &X,
 ) -> Result<(), Fail> {
-    if tried(rt, alloc, trial)? || tried(rt, alloc, trial)? {
+    if tried(rt, alloc, trial)? {
         return Ok(());
     }
     Err("a hall".into())

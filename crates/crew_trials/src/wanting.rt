@@ -2,7 +2,7 @@
 //! all memory each line is done; `checks/growths --tests` refuses one allocation after another.
 use crate::fakes::Torn;
 use crate::making::{Tokens, hung_for, open};
-use crate::trial::{Stage, Trial, begun, try_out};
+use crate::trial::{Stage, Surroundings, Trial, begin, tried};
 use chronicle::{RecordNumber, SessionId, Why};
 use crew::{Intake, Next, NoBacklog, Sockets, hang, read_some};
 use hall::{Baton, Hall, Naming, Told};
@@ -26,6 +26,18 @@ fn opened<L: Naming, R: Wait + Copy + Drop>(
     match open(rt, alloc, lock) {
         Some(tokens) => Some(tokens),
         None => open(rt, alloc, lock),
+    }
+}
+
+/// What stands around a hall and its first session, asked for again where there was no memory.
+fn begun<L: Naming, R: Wait + Copy + Drop>(
+    rt: &R,
+    alloc: Global,
+    lock: &Mutex<Hall<L, Sender<R>>>,
+) -> Option<(Surroundings, Tokens<L, R>)> {
+    match begin(rt, alloc, lock) {
+        Some(begun) => Some(begun),
+        None => begin(rt, alloc, lock),
     }
 }
 
@@ -82,7 +94,7 @@ impl<R: Wait + Abort + Copy + Drop> Trial<R> for Wanting {
         alloc: Global,
         lock: &Mutex<Hall<L, Sender<R>>>,
     ) -> Result<(), Fail> {
-        let (around, tokens) = begun(rt, alloc, lock)?;
+        let (around, tokens) = begun(rt, alloc, lock).ok_or("a session")?;
         let stage = &around.stage(lock);
         let bo = opened(rt, alloc, stage.hall).ok_or("another session")?;
         let (speaker, other) = (tokens.baton.session(), bo.baton.session());
@@ -99,5 +111,9 @@ impl<R: Wait + Abort + Copy + Drop> Trial<R> for Wanting {
 
 #[test]
 fn who_finds_no_memory_is_ended(rt: HostRuntime) -> Result<(), Fail> {
-    try_out(&rt, rt.alloc(), &Wanting)
+    let alloc = rt.alloc();
+    if tried(&rt, alloc, &Wanting)? || tried(&rt, alloc, &Wanting)? {
+        return Ok(());
+    }
+    Err("a hall".into())
 }
