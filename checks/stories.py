@@ -1,4 +1,4 @@
-"""The stories of crates/test_talks, as they stand in its files, and the program that plays them, without its proof."""
+"""The scenarios of crates/test_talks, as they stand in its files, and the program that plays them, without its proof."""
 import os
 import re
 import tempfile
@@ -21,7 +21,7 @@ def files():
 
 
 def stories(file):
-    """The stories of a file: (name, rows), where a story without rows has None."""
+    """The scenarios of a file: (name, rows), where one without rows has None."""
     found = []
     for block in read(f"{FOLDER}/data/{file}").split("\n== ")[1:]:
         name, _, lines = block.partition("\n")
@@ -33,7 +33,7 @@ def stories(file):
 
 
 def printed():
-    """What the program is to print: a line for each story."""
+    """What the program is to print: a line for each scenario."""
     lines = []
     for file in files():
         for name, rows in stories(file):

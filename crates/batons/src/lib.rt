@@ -1,9 +1,3 @@
-//! Batons, which say whose line is next and what was done, and the roll of all sessions that they are tied to.
+//! What clauses see of a baton, and when the rows of a register stand for a history: definitions and their laws, and
+//! no code. The batons themselves are those of `hall`.
 #![tactic(auto)]
-
-mod baton;
-mod roll;
-
-pub use baton::Baton;
-pub use register::{Mark, Naming, Register, Stub};
-pub use roll::Roll;

@@ -35,7 +35,8 @@ use Rattle.deliveries.specs.Growth.{Grows}
 use Rattle.deliveries.specs.Owed.{delivery, owed}
 use Rattle.deliveries.specs.Base.{Base, base, dropped_part, kept_part}
 use Rattle.book.specs.Legal.{IsLegal}
-use Rattle.roster.specs.LookBack.{numbers}
+use Rattle.deeds.specs.Deeds.{facts}
+use Rattle.roster.specs.LookBack.{numbers, nick}
 
 -- the history, how many records may be kept of it and how many were dropped, the settings of the server, each
 -- session's outbox until it is reaped, the deliveries of the newest record that aren't put yet, and whether a plan
@@ -47,6 +48,10 @@ pub record Shown (O : Type 0) : Type 0 where
   pub outboxes : List (Option O)
   pub plan : List Planned
   pub busy : Bool
+
+-- the nickname of session s by what was accepted: none once it is gone
+abbrev pub nickname : {O : Type 0} → Shown O → ℕ → Option (List ℕ)
+nickname m s = nick (facts m.settings m.history) s
 
 -- the outbox of session t, until it is reaped
 abbrev pub box_at : {O : Type 0} → List (Option O) → ℕ → Option O

@@ -1,4 +1,8 @@
 //! What a book keeps of the records that it dropped.
+//!
+//! A roll notes the counts of those sessions alone that are there, in one walk over their outboxes: one that was
+//! reaped leaves nothing. No clause of `roll` shows the base that it makes, since what clauses see of a book has none;
+//! that it has just those counts is the contract of `note_base`, which is private.
 ghost use Rattle.std.specs.Prelude.{◌≡◌, Some, IfSome};
 ghost use Rattle.deeds.specs.Deeds.{facts};
 ghost use Rattle.book.specs.Noted.{base_by, counts_at, is_noted, AreCounts};

@@ -1,4 +1,7 @@
 //! What each hearer of a record hears.
+//!
+//! Each hearer of each line has the text as it takes it. A stable sort puts those of one session side by side, by the
+//! numbers of the sessions, in the order that they have.
 ghost use Rattle.std.specs.Prelude.{◌≡◌, ℕ, ◌++◌, map, IfOk, OnOk};
 ghost use Rattle.book.specs.Seats.{heard_text};
 ghost use Rattle.book.specs.Heard.{heard_by, all_heard, text_for, rises};

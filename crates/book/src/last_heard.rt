@@ -1,4 +1,8 @@
 //! When sessions were last heard of.
+//!
+//! A line moves its session to the front without memory, so those that are quiet stand together at the end: a tick
+//! reads from there until one isn't quiet for long enough. Who was pinged, or is shut, stays in its place and is
+//! passed over. The cache is of the kind that gives up what was used longest ago, and is never full.
 ghost use Rattle.std.specs.Prelude.{◌≡◌, ◌≢◌, ℕ, ℤ, ◌<◌, pos, ◌+ℤ◌, int_le, ◌∷◌, [], length, slice_index_or};
 ghost use Rattle.std.specs.Prelude.{nat_eq, true, false, is_some, Some, None, IfOk, OnOk, OnErr};
 ghost use Rattle.std.specs.List.{IsDistinct};

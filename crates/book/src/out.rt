@@ -1,4 +1,7 @@
 //! A plan that is handed out, and what comes of it.
+//!
+//! The deliveries of a plan stay in the book; what is handed out is a token, with the record's number, its session,
+//! and room to note who misses it. So a call needs only that the token is the one that is out.
 ghost use Rattle.std.specs.Prelude.{◌≡◌, ◌+◌, ◌<◌, ◌∷◌, ◌++◌, []};
 
 use chronicle::{RecordNumber, SessionId};

@@ -1,4 +1,7 @@
 //! The deliveries of a record, before they are put.
+//!
+//! The actor's own text is planned last, put first, and stands apart from the others', so no list takes memory where
+//! only the actor is told.
 ghost use Rattle.std.specs.Prelude.{◌≡◌, ◌≤◌, ◌≤ℤ◌, ◌++◌, [], false, not, length, pos};
 ghost use Rattle.std.specs.Prelude.{None, OnOk, IfOk, option_to_list};
 ghost use Rattle.chronicle.specs.History.{is_quit};

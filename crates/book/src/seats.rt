@@ -1,4 +1,9 @@
 //! The seats of all sessions, and what is counted over them.
+//!
+//! Seats stand apart from outboxes and know nothing of their kind, so the plan and most proofs don't either. Both are
+//! in maps until their sessions are reaped. A clause sees lists of all sessions that were opened: a seat that was
+//! taken out is `away`, which counts more accepted lines than a number of the program can, so that no seat in the map
+//! passes for it.
 ghost use Rattle.std.specs.Prelude.{◌≡◌, ◌≢◌, ℕ, ◌<◌, ◌≤◌, ◌+◌, ◌-◌, ◌^◌, ◌++◌, ◌∷◌, [], ◌&&◌, true, false, not};
 ghost use Rattle.std.specs.Prelude.{sum_by, length, slice_index_or, slice_set, Some, None, IfSome, OnOk, OnErr};
 ghost use Rattle.std.specs.VecDeque.{deque_capacity};

@@ -1,4 +1,8 @@
 //! Ticks: sessions that are quiet are pinged, and those that are late are found.
+//!
+//! A tick is a record of no session, so its plan has session 0, which nobody has. It looks for somebody to ping before
+//! it asks for room or memory, so a server where nobody is quiet ticks in a full journal. Whom it pings goes by
+//! moments, which facts don't have.
 ghost use Rattle.std.specs.Prelude.{◌≡◌, ◌<◌, ◌≤◌, ◌+◌, [], Some, None, true, false};
 ghost use Rattle.std.specs.Prelude.{length, IfOk, IfErr, IfSome, OnOk, OnErr};
 ghost use Rattle.chronicle.specs.declared.record.Kind.TheVariants as kind;

@@ -1,26 +1,19 @@
 -- What PART and KICK do: RFC 2812, sections 3.2.2 and 3.2.8.
 use Rattle.std.specs.Prelude.{ℕ, not, List, [], ◌∷◌, take, slice_get, Option, Some, None, if◌then◌else◌}
-use Rattle.channel_state.specs.declared.change.Change.TheVariants.{Left}
 use Rattle.channel_state.specs.State.{among}
-use Rattle.numerics.specs.declared.outgoing.Out.{Out}
 use Rattle.numerics.specs.declared.numeric.Numeric.TheVariants.{NoSuchChannel, NotOnChannel, ChanOPrivsNeeded}
 use Rattle.numerics.specs.declared.numeric.Numeric.TheVariants.{TooManyTargets, NoSuchNick, UserNotInChannel}
 use Rattle.registration.specs.declared.settings.Settings.{Settings}
 use Rattle.roster.specs.declared.deed.Deed.{Deed}
-use Rattle.roster.specs.declared.deed.Deed.TheVariants.{Changed}
 use Rattle.roster.specs.LookBack.{nick}
 use Rattle.drafts.specs.declared.effect.Effect.{Effect}
-use Rattle.drafts.specs.declared.effect.Effect.TheVariants.{Establish, Show}
 use Rattle.drafts.specs.Seen.{Seen}
 use Rattle.drafts.specs.Lines.{title, prefix}
 use Rattle.drafts.specs.Replies.{tells}
+use Rattle.departing.specs.Leaving.{leaves}
 use Rattle.channel_commands.specs.Found.{channel_of, user_of}
 use Rattle.channel_commands.specs.Each.{each}
 use Rattle.channel_commands.specs.Lines.{part_line, kick_line}
-
--- a member leaves a channel, by itself or put out: all members before it are shown a line
-abbrev pub leaves : Seen → ℕ → Out → List Effect
-leaves k t line = Show k.state.members line ∷ Establish (Changed k.name (Left t)) ∷ []
 
 -- ---- PART
 

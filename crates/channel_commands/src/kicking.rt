@@ -7,9 +7,9 @@ ghost use Rattle.channel_commands.specs.Leaving.{kick_text, kicks_user, kicks_ea
 
 use crate::each::{DoesFor, do_for_each};
 use crate::finding::{channel_of, user_of};
-use crate::leaving::leave;
 use crate::lines::{first_octets, kick_line};
 use chronicle::SessionId;
+use departing::leave;
 use drafts::{Denial, Draft, Seen, deny, deny_absent, prefix_of, title_of};
 use line_grammar::Octets;
 use std::alloc::AllocError;

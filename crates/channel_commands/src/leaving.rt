@@ -1,34 +1,16 @@
 //! PART (RFC 2812, section 3.2.2).
-ghost use Rattle.std.specs.Prelude.{◌≡◌, ◌∷◌, [], true, Some, IfSome, OnOk};
-ghost use Rattle.channel_state.specs.State.{among};
+ghost use Rattle.std.specs.Prelude.{◌≡◌, ◌∷◌, [], Some, IfSome, OnOk};
 ghost use Rattle.drafts.specs.Words.{IsSeen, grown};
-ghost use Rattle.channel_commands.specs.Leaving.{leaves, parts_seen, parts};
+ghost use Rattle.channel_commands.specs.Leaving.{parts_seen, parts};
 
 use crate::each::{DoesFor, do_for_each};
 use crate::finding::channel_of;
 use crate::lines::part_line;
-use crate::members::show_members;
 use chronicle::SessionId;
+use departing::leave;
 use drafts::{Denial, Draft, Seen, deny, prefix_of};
 use line_grammar::Octets;
-use numerics::Line;
 use std::alloc::AllocError;
-
-/// A member leaves a channel: all members before it are shown a line.
-#[tactic(auto, using(drafts::proofs::Replay::grown_grown))]
-pub(crate) fn leave(
-    draft: &mut Draft,
-    seen: &Seen,
-    member: SessionId,
-    line: Line,
-) -> Result<(), AllocError>
-    requires seen { IsSeen draft.old.facts seen.now }
-    requires member { among member seen.now.state.members ≡ true }
-    ensures { OnOk result (draft.new ≡ grown draft.old (leaves seen.now member line)) }
-{
-    show_members(draft, seen, line)?;
-    draft.leave(seen, member)
-}
 
 /// Leaves a channel that is there.
 fn part_seen(

@@ -13,7 +13,6 @@ mod joining;
 mod kicking;
 mod leaving;
 mod lines;
-mod members;
 mod topics;
 
 pub use channel::{

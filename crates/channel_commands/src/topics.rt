@@ -10,9 +10,9 @@ ghost use Rattle.channel_commands.specs.Topics.{topic_served, topics_seen, topic
 
 use crate::finding::channel_of;
 use crate::lines::{first_octets, topic_line};
-use crate::members::show_members;
 use channel_state::Change;
 use chronicle::SessionId;
+use departing::show_members;
 use drafts::{Denial, Draft, Seen, deny, prefix_of, tell};
 use line_grammar::Octets;
 use numerics::{Line, Numeric};

@@ -10,8 +10,9 @@ use Rattle.line_grammar.specs.declared.splitter.Piece.{Piece}
 use Rattle.line_grammar.specs.Lines.{is_line_end, longer, ended, piece_of, lines, left_by}
 use Rattle.crew.specs.declared.reading.Next.{Next}
 use Rattle.crew.specs.declared.reading.Next.TheVariants.{More, Short, Nothing, Left}
-use Rattle.crew.specs.Doing.{DoesFront, DoesLines, Taken, DoesRead, is_left, is_over}
-use Rattle.crew.specs.Taking.{TakesIn, DoesPieces, HasDone}
+use Rattle.intakes.specs.Taking.{TakesIn, Taken}
+use Rattle.crew.specs.Doing.{DoesFront, DoesLines, DoesRead, is_left, is_over}
+use Rattle.crew.specs.Taking.{DoesPieces, HasDone}
 
 -- what is done of pieces of which so many were done
 pub front_of : (old new pieces : List Piece) (n : ℕ) → new ≡ old ++ take n pieces → DoesFront old new pieces

@@ -16,9 +16,9 @@ use Rattle.book.specs.declared.out.Done.{Done}
 use Rattle.book.specs.declared.out.Hung.{Hung as Ended}
 use Rattle.book.specs.declared.refusals.HangRefusal.{HangRefusal}
 use Rattle.book.specs.Book.{Shown, begun, plan_of, newest_missed, IsPutNext, IsPutAll, IsDone, IsHangRefusal}
-use Rattle.crew.specs.Timing.{IsLater, older, IsAt, IsNext}
+use Rattle.session_ends.specs.Timing.{IsLater, older, IsAt, IsNext}
 use Rattle.crew.specs.Doing.{TellsOf, IsSeenTo}
-use Rattle.crew.specs.Hanging.{Hangs}
+use Rattle.session_ends.specs.Hanging.{Hangs}
 
 -- two histories with the same records but for who missed the newest
 record AreLike (h k : List Rec) : Type 0 where

@@ -9,7 +9,7 @@ use Rattle.book.specs.declared.out.Hung.{Hung}
 use Rattle.book.specs.declared.refusals.HangRefusal.{HangRefusal}
 use Rattle.book.specs.declared.refusals.TickRefusal.{TickRefusal}
 use Rattle.book.specs.Book.{Shown, IsDone, IsTickRefusal, newest_missed, to_ping, late}
-use Rattle.crew.specs.Hanging.{Hangs}
+use Rattle.session_ends.specs.Hanging.{Hangs}
 
 -- a record pings whoever is quiet at this moment, or nobody is; or the cause of the refusal holds, and nothing changed
 pub record Ticks (old new : Shown Puttings) (moment : ℤ) (answer : Result (Option Done) TickRefusal) : Type 0 where

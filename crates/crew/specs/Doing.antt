@@ -7,7 +7,8 @@ use Rattle.chronicle.specs.History.{Rec, shut}
 use Rattle.batons.specs.Turn.{Turn}
 use Rattle.book.specs.declared.out.Done.{Done as Told}
 use Rattle.book.specs.Book.{newest_missed}
-use Rattle.crew.specs.Timing.{IsAt}
+use Rattle.session_ends.specs.Timing.{IsAt}
+use Rattle.intakes.specs.Taking.{Taken}
 use Rattle.crew.specs.declared.reading.Next.{Next}
 use Rattle.crew.specs.declared.reading.Next.TheVariants.{More, Short, Nothing, Left, Over}
 
@@ -48,11 +49,6 @@ pub record DoesLines (before after : Option (List ℕ)) (old new : List Piece) (
   pub read : Consumes before after octets
   pub front : DoesFront old new (lines octets)
   pub whole : all ≡ true → new ≡ old ++ lines octets
-
--- what a clause sees of an intake: what is kept of the unfinished line, and the pieces that were read and aren't done
-pub record Taken : Type 0 where
-  pub kept : Option (List ℕ)
-  pub pieces : List Piece
 
 -- octets come after a stream: of the pieces that an intake had left and those that end in the octets the first were
 -- done, in order, after the old ones; where `all` is true the others are left in the intake, in order, and it keeps

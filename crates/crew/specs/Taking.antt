@@ -2,14 +2,9 @@
 use Rattle.std.specs.Prelude.{◌≡◌, ℕ, Bool, true, List, [], ◌++◌, length, take, Option}
 use Rattle.std.specs.Io.KnownBytes.{Consumes}
 use Rattle.line_grammar.specs.declared.splitter.Piece.{Piece}
-use Rattle.line_grammar.specs.Lines.{lines, left_by, Feeds}
-use Rattle.crew.specs.Doing.{Taken, DoesFront}
-
--- the next octets were read, and these are the pieces that end in them
-pub record TakesIn (before after : Option (List ℕ)) (kept now : Option (List ℕ)) (pieces : List Piece) : Type 0 where
-  pub octets : List ℕ
-  pub read : Consumes before after octets
-  pub feeds : (stream : List ℕ) → kept ≡ left_by stream → Feeds stream octets now [] pieces
+use Rattle.line_grammar.specs.Lines.{lines, left_by}
+use Rattle.intakes.specs.Taking.{Taken}
+use Rattle.crew.specs.Doing.{DoesFront}
 
 -- of the pieces of an intake the first were done, in order, after the old ones; where `all` is true the others are
 -- left in it, in order. What is unfinished stays as it was

@@ -1,4 +1,7 @@
 //! Lines are read before the hall is taken.
+//!
+//! As many lines are read as may be done in one hold of the lock. Where there is no memory for that, or a line is done
+//! again after a roll, the hall reads it under the lock; so want of memory to read ahead refuses nothing.
 ghost use Rattle.std.specs.Prelude.{◌≡◌, ◌∷◌, [], None, IfSome};
 ghost use Rattle.crew.specs.Taking.{IsFront};
 

@@ -1,16 +1,17 @@
 //! Who is quiet is pinged, and who is quiet for too long is ended.
+//!
+//! The lock is held for the tick, and anew for each session that is ended, so lines go on between. A tick that is
+//! refused, also after a roll, ends the beat and nobody is ended: the next beat tries both again.
 ghost use Rattle.std.specs.Prelude.{◌≡◌, ℤ, All, None, IfOk, IfSome, OnOk, OnErr, IsSomeAnd};
 ghost use Rattle.chronicle.specs.History.{last_moment};
 ghost use Rattle.crew.specs.Beating.{Ticks, HangsLate, IsLast};
-ghost use Rattle.crew.specs.Timing.{IsLater};
+ghost use Rattle.session_ends.specs.Timing.{IsLater};
 
-use crate::server::{Clock, Gate, Server, Sockets, later};
-use crate::shutting::{hang_at, shut_missed};
-use crate::telling::{tell, tell_many};
 use chronicle::{Moment, SessionId, Why};
 use ghosts::Snapshot;
 use hall::{Done, Hall, HangRefusal, Hung, Naming, TickRefusal, Told};
 use outbox::Sender;
+use session_ends::{Clock, Gate, Server, Sockets, hang_at, later, shut_missed, tell, tell_many};
 use std::sync::Wait;
 
 /// What came of a tick, with the hall before that and after it, which exist for clauses alone.

@@ -1,4 +1,7 @@
 //! The slots of workers.
+//!
+//! A slot is a number in a queue between threads: no clause says when one comes. A server's worker needs none, since
+//! it does one line at a time.
 ghost use Rattle.std.specs.Prelude.{◌<◌, ◌≤◌};
 
 use crossbeam_channel::{Receiver, Sender, bounded};

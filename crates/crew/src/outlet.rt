@@ -1,4 +1,11 @@
 //! A session's wire as threads share it.
+//!
+//! Three flags are looked at without the lock. Wanted is set before the lock is tried for, and looked at again after
+//! it was given back, so that a thread that didn't get the lock is written for by the one that had it. Behind is set
+//! when the stream didn't take all, and cleared by the next thread that writes before it takes anything. Busy is set
+//! while it is written to, so that an event which comes between a write that failed and the flag for it isn't lost. In
+//! another order, or with one left out, a client would hang now and then: `checks/outlet` tries all interleavings of a
+//! model, and of the model with each of these mistakes.
 ghost use Rattle.std.specs.Prelude.{◌≡◌, IfSome};
 ghost use Rattle.crew.specs.Writing.{Pumps};
 

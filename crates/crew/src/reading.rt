@@ -5,14 +5,12 @@ ghost use Rattle.crew.specs.Taking.{DoesPieces};
 
 use crate::backlog::{Backlog, NoBacklog};
 use crate::desk::Desk;
-use crate::intake::Intake;
-use crate::server::{Clock, Gate, Server, Sockets};
-use crate::shutting::hang;
-use crate::telling::tell;
 use crate::working::{Until, Worked, work_by};
 use chronicle::Why;
 use hall::{Baton, Naming, Told};
+use intakes::Intake;
 use outbox::Sender;
+use session_ends::{Clock, Gate, Server, Sockets, hang, tell};
 use std::alloc::Global;
 use std::io::Read;
 use std::sync::Wait;

@@ -1,19 +1,27 @@
 //! Doing lines.
+//!
+//! What was done under a lock is known by values that come out of it: a line's record is the newest of the history
+//! that its baton shows, so what is told of it, and its moment, are compared with that.
+//!
+//! No call holds the hall's lock while it waits for a slot, a bell, a stream or a client, and the gate is passed
+//! before the lock is asked for. The hall is held from one line of a read to the next, and given back when somebody is
+//! to be shut, many are to be written to, or a line was refused. Who got something is written to after so many lines
+//! (`burst`), so that the answers of one read don't fill their own session's outbox, and otherwise by the caller.
 ghost use Rattle.std.specs.Prelude.{◌≡◌, ◌≤◌, ◌++◌, ◌∷◌, [], length, take, true, false, IfOk, IfSome, OnOk, OnErr};
 ghost use Rattle.crew.specs.Doing.{TellsOf, IsSeenTo, IsNewestSeenTo, DoesFront};
 ghost use Rattle.crew.specs.Taking.{IsFront};
-ghost use Rattle.crew.specs.Timing.{IsAt, IsNext};
+ghost use Rattle.session_ends.specs.Timing.{IsAt, IsNext};
 
 use crate::ahead::{Ahead, read_now};
 use crate::backlog::{Backlog, NoBacklog};
 use crate::desk::Desk;
-use crate::server::{Clock, Gate, Server, Sockets, later};
-use crate::shutting::{end_refused, shut_those};
-use crate::telling::{are_many, tell, tell_many};
 use chronicle::{Moment, SessionId};
 use hall::{Baton, Done, Hall, LineRefusal, Naming, ReadLine, RollRefusal, Told};
 use line_grammar::Piece;
 use outbox::Sender;
+use session_ends::{
+    Clock, Gate, Server, Sockets, are_many, end_refused, later, shut_those, tell, tell_many,
+};
 use std::hint::spin_loop;
 use std::sync::{Mutex, MutexGuard, Wait};
 

@@ -5,11 +5,9 @@ ghost use Rattle.crew.specs.Writing.{IsOver, IsWritten};
 ghost use Rattle.wire.specs.Wired.{IsSameWire};
 
 use crate::outlet::{Outlet, Pumped};
-use crate::server::{Clock, Gate, Server, Sockets};
-use crate::shutting::hang;
-use crate::telling::tell;
 use chronicle::{SessionId, Why};
 use hall::{Naming, Told};
+use session_ends::{Clock, Gate, Server, Sockets, hang, tell};
 use std::alloc::Global;
 use std::io::Write;
 use std::sync::Wait;

@@ -180,6 +180,8 @@ impl<R: Wait + Abort + Copy + Drop> Trial<R> for Silent {
     }
 }
 
+/// A beat pings, ends who is late, tells and shuts those whom it should; rolls a full journal; and does nothing
+/// where its tick is refused.
 #[test]
 fn who_is_silent_is_pinged_and_then_ended(rt: HostRuntime) -> Result<(), Fail> {
     try_out(&rt, rt.alloc(), &Silent)

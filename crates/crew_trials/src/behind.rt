@@ -69,6 +69,8 @@ impl<R: Wait + Abort + Copy + Drop> Trial<R> for Behind {
     }
 }
 
+/// A stream takes nothing at its first write: it is left alone, whoever writes, until it is told to take more; then
+/// all goes out in one write.
 #[test]
 fn a_stream_that_took_nothing_is_left_alone(rt: HostRuntime) -> Result<(), Fail> {
     try_out(&rt, rt.alloc(), &Behind)

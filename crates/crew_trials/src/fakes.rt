@@ -9,16 +9,16 @@ use std::time::Duration;
 use std::{io, thread, time};
 
 /// How often a wait looks before it gives up.
-pub const TURNS: u32 = 10_000;
+pub(crate) const TURNS: u32 = 10_000;
 
 /// Waits a little between two looks.
-pub fn rest<R: time::Clock>(rt: &R) {
+pub(crate) fn rest<R: time::Clock>(rt: &R) {
     thread::sleep(rt, Duration::from_micros(100));
 }
 
 /// A gate that is always open.
 #[derive(Drop)]
-pub struct Open;
+pub(crate) struct Open;
 
 impl Gate for Open {
     fn enter(&self, _session: SessionId) {}
@@ -29,17 +29,17 @@ impl Gate for Open {
 /// A gate by which the first session leaves when another was answered, which enters when the first
 /// is about to leave; or each gives up.
 #[derive(Drop)]
-pub struct Turnstile<R: time::Clock + Drop> {
+pub(crate) struct Turnstile<R: time::Clock + Drop> {
     rt: R,
     first: SessionId,
     is_leaving: AtomicBool,
-    pub is_answered: AtomicBool,
-    pub has_given_up: AtomicBool,
+    pub(crate) is_answered: AtomicBool,
+    pub(crate) has_given_up: AtomicBool,
 }
 
 impl<R: time::Clock + Drop> Turnstile<R> {
     /// A gate by which this session leaves when another was answered.
-    pub fn new(rt: R, first: SessionId) -> Turnstile<R> {
+    pub(crate) fn new(rt: R, first: SessionId) -> Turnstile<R> {
         Turnstile {
             rt,
             first,
@@ -79,17 +79,17 @@ impl<R: time::Clock + Drop> Gate for Turnstile<R> {
 /// Connections of which is noted who was shut, who was told, how often a thread paused, how many
 /// records were dropped, and whether the server is to stop.
 #[derive(Drop)]
-pub struct Noted {
+pub(crate) struct Noted {
     shut: AtomicU64,
     told: AtomicU64,
-    pub paused: AtomicU64,
-    pub dropped: AtomicU64,
-    pub is_stopped: AtomicBool,
+    pub(crate) paused: AtomicU64,
+    pub(crate) dropped: AtomicU64,
+    pub(crate) is_stopped: AtomicBool,
 }
 
 impl Noted {
     /// Nobody is shut.
-    pub fn new() -> Noted {
+    pub(crate) fn new() -> Noted {
         Noted {
             shut: AtomicU64::new(0),
             told: AtomicU64::new(0),
@@ -100,7 +100,7 @@ impl Noted {
     }
 
     /// Whether a session was told since this was last asked of it.
-    pub fn was_told(&self, session: SessionId) -> bool {
+    pub(crate) fn was_told(&self, session: SessionId) -> bool {
         let told = self.told.fetch_and(!bit_of(session), Ordering::SeqCst);
         told & bit_of(session) != 0
     }
@@ -142,20 +142,20 @@ impl Sockets for Noted {
 
 /// A clock that is set by hand.
 #[derive(Drop)]
-pub struct Dial {
+pub(crate) struct Dial {
     moment: AtomicI64,
 }
 
 impl Dial {
     /// A clock that shows 0.
-    pub fn new() -> Dial {
+    pub(crate) fn new() -> Dial {
         Dial {
             moment: AtomicI64::new(0),
         }
     }
 
     /// From now on it shows this moment.
-    pub fn set(&self, moment: i64) {
+    pub(crate) fn set(&self, moment: i64) {
         self.moment.store(moment, Ordering::SeqCst);
     }
 }
@@ -168,14 +168,14 @@ impl Clock for Dial {
 
 /// A backlog that is much at each look at which it is told to be, and never after those.
 #[derive(Drop)]
-pub struct Heap<'a> {
+pub(crate) struct Heap<'a> {
     is_much: &'a [bool],
     looks: AtomicUsize,
 }
 
 impl<'a> Heap<'a> {
     /// A backlog of which this is so, one look after another.
-    pub fn new(is_much: &'a [bool]) -> Heap<'a> {
+    pub(crate) fn new(is_much: &'a [bool]) -> Heap<'a> {
         Heap {
             is_much,
             looks: AtomicUsize::new(0),
@@ -192,9 +192,9 @@ impl Backlog for Heap<'_> {
 
 /// A client's input, which comes in parts of so many octets at most, and then fails.
 #[derive(Drop)]
-pub struct Torn<'a> {
-    pub octets: &'a [u8],
-    pub most: usize,
+pub(crate) struct Torn<'a> {
+    pub(crate) octets: &'a [u8],
+    pub(crate) most: usize,
 }
 
 impl Read for Torn<'_> {
@@ -212,9 +212,9 @@ impl Read for Torn<'_> {
 
 /// A client's input that has nothing now at each second read, and ends after what it has.
 #[derive(Drop)]
-pub struct Waits<'a> {
-    pub octets: &'a [u8],
-    pub is_there: bool,
+pub(crate) struct Waits<'a> {
+    pub(crate) octets: &'a [u8],
+    pub(crate) is_there: bool,
 }
 
 impl Read for Waits<'_> {
@@ -233,7 +233,7 @@ impl Read for Waits<'_> {
 
 /// A stream that fails.
 #[derive(Drop)]
-pub struct Broken;
+pub(crate) struct Broken;
 
 impl Write for Broken {
     fn write(&mut self, _buf: &[u8]) -> io::Result<usize> {
@@ -247,13 +247,13 @@ impl Write for Broken {
 
 /// A stream that takes everything and counts its octets.
 #[derive(Drop)]
-pub struct Tally {
+pub(crate) struct Tally {
     written: Arc<AtomicU64>,
 }
 
 impl Tally {
     /// A stream that counts here.
-    pub fn new(written: Arc<AtomicU64>) -> Tally {
+    pub(crate) fn new(written: Arc<AtomicU64>) -> Tally {
         Tally { written }
     }
 }
@@ -271,14 +271,14 @@ impl Write for Tally {
 
 /// A stream that takes nothing so many times, and then everything, and counts its writes.
 #[derive(Drop)]
-pub struct Stuck {
+pub(crate) struct Stuck {
     left: u64,
     writes: Arc<AtomicU64>,
 }
 
 impl Stuck {
     /// A stream that takes nothing so many times, and counts here.
-    pub fn new(left: u64, writes: Arc<AtomicU64>) -> Stuck {
+    pub(crate) fn new(left: u64, writes: Arc<AtomicU64>) -> Stuck {
         Stuck { left, writes }
     }
 }

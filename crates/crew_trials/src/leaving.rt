@@ -95,11 +95,15 @@ impl<R: Wait + Abort + Copy + Drop> Trial<R> for Leaving {
     }
 }
 
+/// Five lines come in one read of a client for which much waits after each: one is done a call, in order, and the
+/// others stay; once little waits the rest are done, and then the end of the input is told.
 #[test]
 fn lines_wait_while_much_waits(rt: HostRuntime) -> Result<(), Fail> {
     try_out(&rt, rt.alloc(), &Leaving { calls: &ONE_BY_ONE })
 }
 
+/// Five lines come in one read of a client for which much waits after each: one is done a call, in order, and the
+/// others stay; once little waits the rest are done, and then the end of the input is told.
 #[test]
 fn lines_go_on_once_less_waits(rt: HostRuntime) -> Result<(), Fail> {
     let leaving = Leaving {

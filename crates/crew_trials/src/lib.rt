@@ -5,9 +5,11 @@
 mod beating;
 #[cfg(test)]
 mod behind;
+#[cfg(test)]
 mod fakes;
 #[cfg(test)]
 mod leaving;
+#[cfg(test)]
 mod making;
 #[cfg(test)]
 mod missing;
@@ -15,6 +17,8 @@ mod missing;
 mod reading;
 #[cfg(test)]
 mod refusing;
+#[cfg(test)]
+mod sweeping;
 #[cfg(test)]
 mod taking;
 #[cfg(test)]
@@ -25,6 +29,3 @@ mod trial;
 mod wanting;
 #[cfg(test)]
 mod writing;
-
-pub use fakes::{Dial, Heap, Noted, Open, TURNS, Tally, Torn, Turnstile, rest};
-pub use making::{Tokens, ends, hall, hung_for, line, open, work_two, work_under_slot};

@@ -1,14 +1,14 @@
 //! What the trials work with.
-ghost use Rattle.std.specs.Prelude.{◌≡◌, [], Some, IfSome};
+ghost use Rattle.std.specs.Prelude.{◌≡◌, Some, IfSome};
 
 use crate::fakes::{Dial, Noted, Open, Turnstile};
 use casemapping::is_host;
 use chronicle::{Kind, Moment, RecordNumber, SessionId, Why};
-use crew::{Desk, Gate, Job, Server, close_up, work, work_one};
-use hall::{Baton, Hall, Naming, Register, Settings, Stub, Told};
+use crew::{Desk, Server, close_up, work};
+use crew_apart::work_under_slot;
+use hall::{Baton, Hall, Naming, Stub, Told};
 use line_grammar::{Octets, Piece};
 use outbox::{ChannelName, Sender, Writer, pair};
-use registration::Accounts;
 use std::alloc::{AllocError, Global};
 use std::sync::atomic::Ordering;
 use std::sync::{Mutex, Wait};
@@ -17,41 +17,21 @@ use std::time::Clock;
 
 /// A session's tokens.
 #[derive(Drop)]
-pub struct Tokens<L: Naming, R: Wait + Drop> {
-    pub baton: Baton<L, Sender<R>>,
-    pub stub: Stub<L, ChannelName>,
-    pub writer: Writer,
+pub(crate) struct Tokens<L: Naming, R: Wait + Drop> {
+    pub(crate) baton: Baton<L, Sender<R>>,
+    pub(crate) stub: Stub<L, ChannelName>,
+    pub(crate) writer: Writer,
     ghost one: { stub.session ≡ baton.session },
     ghost own: { stub.outbox ≡ Some writer.channel },
 }
 
 /// A line.
-pub fn line(alloc: Global, octets: &[u8]) -> Result<Piece, AllocError> {
+pub(crate) fn line(alloc: Global, octets: &[u8]) -> Result<Piece, AllocError> {
     Ok(Piece::Line(Octets::copied(alloc, octets)?))
 }
 
-/// A hall for two sessions and 64 records, or nothing where it is refused.
-pub fn hall<L: Naming, R: Wait + Drop>(
-    alloc: Global,
-    register: Register<ChannelName>,
-) -> Option<Hall<L, Sender<R>>>
-    requires named { register.table ≡ L.table }
-    requires empty { register.rows ≡ [] }
-{
-    let settings = Settings {
-        server: Octets::copied(alloc, b"irc.example").ok()?,
-        info: Octets::copied(alloc, b"halld").ok()?,
-        version: Octets::copied(alloc, b"halld-1").ok()?,
-        created: Moment::new(0),
-        motd: None,
-        accounts: Accounts::new(alloc),
-        sessions: 2,
-    };
-    Hall::new(alloc, register, settings, 64).ok()
-}
-
 /// Opens a session with an outbox for sixteen items.
-pub fn open<L: Naming, R: Wait + Drop + Copy>(
+pub(crate) fn open<L: Naming, R: Wait + Drop + Copy>(
     rt: &R,
     alloc: Global,
     hall: &Mutex<Hall<L, Sender<R>>>,
@@ -75,31 +55,12 @@ pub fn open<L: Naming, R: Wait + Drop + Copy>(
     }
 }
 
-/// Does a line under a slot, and answers whether it was done.
-pub fn work_under_slot<L: Naming, R: Wait + Drop, G: Gate>(
-    rt: &R,
-    alloc: Global,
-    hall: &Mutex<Hall<L, Sender<R>>>,
-    desk: &Desk,
-    gate: &G,
-    baton: Baton<L, Sender<R>>,
-    piece: Piece,
-) -> (Baton<L, Sender<R>>, bool)
-    ensures { result.0.session ≡ baton.session }
-{
-    let Some(slot) = desk.slot(rt) else {
-        return (baton, false);
-    };
-    let mut told = Told::new(alloc);
-    let job = Job { baton, piece };
-    let back = work_one(rt, hall, job, Moment::new(0), gate, &mut told);
-    desk.back(rt, slot);
-    (back.baton, back.outcome.is_ok())
-}
-
 /// Has two sessions do a line each, on two threads, and tells a gate when the second was answered.
 /// It answers whether both were done.
-pub fn work_two<L: Naming + Send + Sync, R: Threads + Wait + Clock + Copy + Drop + Send + Sync>(
+pub(crate) fn work_two<
+    L: Naming + Send + Sync,
+    R: Threads + Wait + Clock + Copy + Drop + Send + Sync,
+>(
     rt: &R,
     alloc: Global,
     hall: &Mutex<Hall<L, Sender<R>>>,
@@ -141,7 +102,7 @@ pub fn work_two<L: Naming + Send + Sync, R: Threads + Wait + Clock + Copy + Drop
 }
 
 /// Whether a session quits, and is swept and reaped.
-pub fn ends<L: Naming, R: Wait + Drop>(
+pub(crate) fn ends<L: Naming, R: Wait + Drop>(
     rt: &R,
     alloc: Global,
     hall: &Mutex<Hall<L, Sender<R>>>,
@@ -170,7 +131,7 @@ pub fn ends<L: Naming, R: Wait + Drop>(
 }
 
 /// Whom the record of this number hung, and why.
-pub fn hung_for<L: Naming, R: Wait + Drop>(
+pub(crate) fn hung_for<L: Naming, R: Wait + Drop>(
     hall: &Hall<L, Sender<R>>,
     number: RecordNumber,
 ) -> Option<(SessionId, Why)> {

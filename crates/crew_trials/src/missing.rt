@@ -112,11 +112,15 @@ impl<R: Wait + Abort + Copy + Drop> Trial<R> for Rolled {
     }
 }
 
+/// One of two on a channel takes nothing of its outbox for sixteen: the fifteenth text is missed, it is shut, and
+/// nobody else is.
 #[test]
 fn who_misses_a_text_is_shut(rt: HostRuntime) -> Result<(), Fail> {
     try_out(&rt, rt.alloc(), &Missing)
 }
 
+/// Two hundred lines of one session in a journal for sixty-four records: each is done and answered, the journal was
+/// rolled, and the server goes on.
 #[test]
 fn a_full_journal_is_rolled(rt: HostRuntime) -> Result<(), Fail> {
     try_out(&rt, rt.alloc(), &Rolled)

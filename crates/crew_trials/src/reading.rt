@@ -190,16 +190,22 @@ impl<R: Wait + Abort + Copy + Drop> Trial<R> for Resting {
     }
 }
 
+/// The same input by a thread of the session's own: it pauses where nothing is there, twice, and the session ends
+/// with its input.
 #[test]
 fn a_thread_of_its_own_rests_where_nothing_is_there(rt: HostRuntime) -> Result<(), Fail> {
     try_out(&rt, rt.alloc(), &Resting)
 }
 
+/// A client that has nothing to say for now is no fault: its lines are done as they come, each by one read, and the
+/// end of its input is told as that; its session can't be given up before it is ended, and is reaped once it is.
 #[test]
 fn a_client_that_says_nothing_now_is_read_on(rt: HostRuntime) -> Result<(), Fail> {
     try_out(&rt, rt.alloc(), &Waiting)
 }
 
+/// A client's input fails in the middle of its third line: two lines are done and answered, the session is ended
+/// with `Read error`, and its baton comes back.
 #[test]
 fn a_session_is_hung_where_its_input_fails(rt: HostRuntime) -> Result<(), Fail> {
     let failing = Failing {
@@ -226,6 +232,8 @@ fn long_lines(alloc: Global, front: &[u8], end: &[u8]) -> Result<Vec<u8>, AllocE
     Ok(octets)
 }
 
+/// Four lines of 407 octets come in parts of 1, 511, 512, 513 or 4,096 octets: all are done and answered, then the
+/// session is ended, and the hall and the only slot are free again.
 #[test]
 fn a_client_that_sends_much_is_read_whole(rt: HostRuntime) -> Result<(), Fail> {
     let alloc = rt.alloc();

@@ -35,6 +35,8 @@ impl<R: Wait + Abort + Copy + Drop> Trial<R> for Refused {
     }
 }
 
+/// A session quits, and a line that was read with it is refused: the session is shut, and the only slot is there
+/// again.
 #[test]
 fn a_slot_comes_back_where_a_line_is_refused(rt: HostRuntime) -> Result<(), Fail> {
     try_out(&rt, rt.alloc(), &Refused)

@@ -71,6 +71,7 @@ pub(crate) fn take_meanwhile<
     Ok(())
 }
 
+/// An item is taken by another thread while the hall is locked.
 #[test]
 fn an_item_is_taken_while_the_hall_is_locked(rt: HostRuntime) -> Result<(), Fail> {
     try_with_threads(&rt, rt.alloc(), Threaded::Take)

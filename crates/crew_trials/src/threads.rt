@@ -2,11 +2,12 @@
 ghost use Rattle.std.specs.Prelude.{◌≡◌, []};
 
 use crate::fakes::Turnstile;
-use crate::making::{Tokens, ends, hall, line, open, work_two};
+use crate::making::{Tokens, ends, line, open, work_two};
 use crate::taking::take_meanwhile;
 use crate::trial::begun;
 use crate::writing::{written_by_its_own, written_meanwhile};
 use crew::Desk;
+use crew_apart::hall;
 use hall::{Hall, Naming, Register};
 use outbox::{ChannelName, Sender};
 use std::alloc::Global;
@@ -105,6 +106,8 @@ pub(crate) fn try_with_threads<R: Threads + Wait + Clock + Abort + Copy + Drop +
     tried_in::<Brand, R>(rt, alloc, register, trial)
 }
 
+/// Lines of two sessions are done at once by two workers, the first of which leaves its gate when the second was
+/// answered; then both quit, are swept and reaped.
 #[test]
 fn two_sessions_work_at_once(rt: HostRuntime) -> Result<(), Fail> {
     try_with_threads(&rt, rt.alloc(), Threaded::Work)

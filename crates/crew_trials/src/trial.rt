@@ -2,9 +2,10 @@
 ghost use Rattle.std.specs.Prelude.{◌≡◌, []};
 
 use crate::fakes::{Dial, Noted, Open};
-use crate::making::{Tokens, hall, hung_for, open};
+use crate::making::{Tokens, hung_for, open};
 use chronicle::{RecordNumber, SessionId, Why};
 use crew::{Desk, Server, Sockets};
+use crew_apart::hall;
 use hall::{Baton, Hall, Naming, Register};
 use line_grammar::Octets;
 use outbox::{ChannelName, Sender};

@@ -109,6 +109,9 @@ impl<R: Wait + Abort + Copy + Drop> Trial<R> for Wanting {
     }
 }
 
+/// Somebody says six lines in one read: with all memory each is done. If memory is wanting for a line, its session
+/// is ended for that and shut; nobody else is, the server goes on, and the hall is given back (`checks/growths`
+/// fails each allocation in turn).
 #[test]
 fn who_finds_no_memory_is_ended(rt: HostRuntime) -> Result<(), Fail> {
     let alloc = rt.alloc();

@@ -228,6 +228,8 @@ impl<R: Wait + Abort + Copy + Drop> Trial<R> for Failing {
     }
 }
 
+/// A session's stream fails: it is hung with WriteFailed, once, and shut, whether a worker or a thread of its own
+/// writes.
 #[test]
 fn a_session_is_hung_where_its_stream_fails(rt: HostRuntime) -> Result<(), Fail> {
     for has_own_thread in [false, true] {
@@ -236,11 +238,16 @@ fn a_session_is_hung_where_its_stream_fails(rt: HostRuntime) -> Result<(), Fail>
     Ok(())
 }
 
+/// What waits for a session is written by one thread while another has the hall; once the session is shut and
+/// nothing waits, its writing is over; its outlet keeps its wire from another session, gives it up once, and then
+/// has none.
 #[test]
 fn what_waits_is_written_while_the_hall_is_locked(rt: HostRuntime) -> Result<(), Fail> {
     try_with_threads(&rt, rt.alloc(), Threaded::WriteBeside)
 }
 
+/// The same by a thread of the session's own, which ends once the session is shut and nothing waits, and gives the
+/// session's wire back.
 #[test]
 fn what_waits_is_written_by_the_sessions_own_thread(rt: HostRuntime) -> Result<(), Fail> {
     try_with_threads(&rt, rt.alloc(), Threaded::WriteAlone)

@@ -41,8 +41,7 @@ IsReapRefusal m baton stub reaping.NotGone = (m.busy ≡ false) × IsKnown m bat
     × (gone m.history baton ≡ false)
 
 -- what a taker took of a session's outbox, then so many items that are left there, is what the history owes the
--- session what a taker took of a session's outbox, then so many items that are left there, is what the history owes
--- the session; without those that the base counts it is what the records that are kept owe from there
+-- session; without those that the base counts it is what the records that are kept owe from there
 pub record IsAllOwed {O W : Type 0} (sent : O → List Item) (taken : O → W → List Item) (m : Shown O) (s : ℕ)
     (taker : W) (count : ℕ) : Type 0 where
   pub outbox : O

@@ -1,4 +1,8 @@
 //! Whose line is next.
+//!
+//! It is the book's own baton with a mark and, for proofs alone, the book as it was when the newest of its lines was
+//! done. A line is done in the register when its plan is given back, and `finish` finds in the newest record which
+//! piece it was.
 ghost use Rattle.std.specs.Prelude.{◌≡◌};
 ghost use Rattle.batons.specs.Turn.{IsInTurn};
 

@@ -1,4 +1,7 @@
 //! A book whose sessions have tokens.
+//!
+//! A book is made with an empty register, since of rows that another left in it nothing could be said. A tick goes by
+//! the book's own calls: its record is of no session, so no token changes.
 ghost use Rattle.std.specs.Prelude.{◌≡◌, ◌≢◌, ◌<◌, ◌+◌, ◌++◌, [], ◌∷◌, ℕ, Some, None, true, false, length, IfOk};
 ghost use Rattle.std.specs.Prelude.{IfErr, IfSome, IsSome, OnOk, OnErr, slice_get, option_copied};
 ghost use Rattle.std.specs.List.{list_any};

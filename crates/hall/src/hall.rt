@@ -1,6 +1,6 @@
 //! What stands in a lock.
 ghost use Rattle.std.specs.Prelude.{◌≡◌, ◌≢◌, ◌<◌, ◌≤◌, ◌+◌, ◌↔◌, ◌==◌, [], ℕ, Some, None, true, false};
-ghost use Rattle.std.specs.Prelude.{length, IsTrue, IfOk, IfErr, IfSome, OnOk, OnErr};
+ghost use Rattle.std.specs.Prelude.{length, IsTrue, IfOk, IfErr, IfSome, OnOk, OnErr, option_copied};
 ghost use Rattle.std.specs.List.{list_any};
 ghost use Rattle.casemapping.specs.Names.{host_shape};
 ghost use Rattle.chronicle.specs.declared.record.Kind.TheVariants as kind;
@@ -54,7 +54,7 @@ impl<L: Naming, O: Lasting> Hall<L, O> {
     ghost use Rattle.book.specs.Book.{empty_book, opened, reaped, IsDone, IsSound, to_sweep, to_ping, late, MayOpen};
     ghost use Rattle.book.specs.Book.{MayBegin, MayHang, MaySweep, MayTick, IsSomebodyQuiet, HasRoom, IsOpenRefusal};
     ghost use Rattle.book.specs.Book.{IsLineRefusal, IsHangRefusal, IsSweepRefusal, IsTickRefusal, IsRollRefusal};
-    ghost use Rattle.book.specs.Book.{newest_missed, is_here, rolled, base_of};
+    ghost use Rattle.book.specs.Book.{newest_missed, is_here, rolled, base_of, nickname};
     ghost use Rattle.book.specs.Noted.{base_by, is_noted};
 
     /// An empty hall for at most `limit` records, whose tokens a register has that is named by `L` and has no
@@ -326,6 +326,16 @@ impl<L: Naming, O: Lasting> Hall<L, O> {
             × (shut self.now.history session ≡ false)) }
     {
         self.book.book().is_open(session)
+    }
+
+    /// The nickname that a session has: none before its first, and none once it is gone.
+    pub fn nick_of(&self, session: SessionId) -> Option<&Octets>
+        ensures opened { 0 < session → session ≤ sessions self.now.history
+            → option_copied result ≡ nickname self.now session }
+        ensures none { (0 < session → session ≤ sessions self.now.history → ⊥)
+            → result ≡ None }
+    {
+        self.book.book().nick_of(session)
     }
 
     /// What holds of every hall: its history is legal, what was put into each session's outbox is what the history

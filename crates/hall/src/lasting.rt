@@ -1,4 +1,7 @@
 //! Outboxes that keep their names.
+//!
+//! Whatever such an outbox accepts, it has the same name afterwards. The book's clauses describe a put by that
+//! relation alone, so a register that has the names needs this law.
 use outbox::{Outbox, Ring, Sender};
 use std::sync::Wait;
 

@@ -1,4 +1,7 @@
 //! What is left of an outbox that was given away: its name.
+//!
+//! A stub is given for an outbox that the book has by then, and a session is let into a register with an outbox: this
+//! one has the name, no octets, and nothing can be put into it.
 use deliveries::Item;
 use ghosts::Snapshot;
 use outbox::{Outbox, PutFault};

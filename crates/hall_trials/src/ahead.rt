@@ -190,6 +190,9 @@ impl<R: Wait + Abort + Copy + Drop> Trial<Sender<R>, R, Writer> for Alike {
     }
 }
 
+/// A line that was read before it is done leaves the same record and the same text as one that is read then: a
+/// PING, one with a label, an ACK, an unknown command, a text to oneself, several lines, a fault, and a line that
+/// is too long.
 #[test]
 fn a_line_that_was_read_leaves_the_same(rt: HostRuntime) -> Result<(), Fail> {
     over_channels(&rt, rt.alloc(), &Alike, (1, 32))
@@ -240,6 +243,7 @@ impl<R: Wait + Abort + Copy + Drop> Trial<Sender<R>, R, Writer> for Labelled {
     }
 }
 
+/// A label counts by the capabilities before its line is done, whatever they were when it was read.
 #[test]
 fn a_label_counts_when_its_line_is_done(rt: HostRuntime) -> Result<(), Fail> {
     over_channels(&rt, rt.alloc(), &Labelled, (1, 16))
@@ -298,6 +302,8 @@ impl<R: Wait + Abort + Copy + Drop> Trial<Sender<R>, R, Writer> for Refused {
     }
 }
 
+/// A line that was read is refused before the moment of the newest record, in a full journal, and once its session
+/// is shut; nothing changes, and the next goes where it may.
 #[test]
 fn a_refused_line_that_was_read_changes_nothing(rt: HostRuntime) -> Result<(), Fail> {
     over_channels(&rt, rt.alloc(), &Refused, (1, 8))

@@ -79,11 +79,19 @@ impl<O: Made<R, T>, R: Abort, T: Drop> Trial<O, R, T> for ComeAndGo {
     }
 }
 
+/// 100,000 sessions come, take the nickname of the one before, end, are swept and reaped one after the other in a
+/// hall, each with its answers and its last item left, over both outboxes. A hundred thousand sessions come and go
+/// one after another, each with the count of what it left, and a number that was given up answers as one that isn't
+/// there.
 #[test]
 fn a_hundred_thousand_come_and_go_over_rings(rt: HostRuntime) -> Result<(), Fail> {
     over_rings(&rt, rt.alloc(), &ComeAndGo, (2, RECORDS))
 }
 
+/// 100,000 sessions come, take the nickname of the one before, end, are swept and reaped one after the other in a
+/// hall, each with its answers and its last item left, over both outboxes. A hundred thousand sessions come and go
+/// one after another, each with the count of what it left, and a number that was given up answers as one that isn't
+/// there.
 #[test]
 fn a_hundred_thousand_come_and_go_over_channels(rt: HostRuntime) -> Result<(), Fail> {
     over_channels(&rt, rt.alloc(), &ComeAndGo, (2, RECORDS))

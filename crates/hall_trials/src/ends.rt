@@ -282,11 +282,15 @@ impl<R: Wait + Abort + Copy + Drop> Trial<Sender<R>, R, Writer> for One {
     }
 }
 
+/// An outbox of one item is full, its session misses the next record, is swept with the reason, and leaves nothing,
+/// over both outboxes.
 #[test]
 fn an_outbox_for_one_item_is_full(rt: HostRuntime) -> Result<(), Fail> {
     over_channels(&rt, rt.alloc(), &One, (2, 40))
 }
 
+/// Who takes no item while another speaks is missed when its outbox is full, and shut; what it was sent before
+/// stands, and nothing comes later, over both outboxes.
 #[test]
 fn who_takes_nothing_is_shut(rt: HostRuntime) -> Result<(), Fail> {
     let story = of_two(&[8, 4], &TEXTS);
@@ -294,6 +298,7 @@ fn who_takes_nothing_is_shut(rt: HostRuntime) -> Result<(), Fail> {
     over_channels(&rt, rt.alloc(), &story, (2, 40))
 }
 
+/// A full outbox misses the end of another, and its own last item.
 #[test]
 fn an_end_may_be_missed(rt: HostRuntime) -> Result<(), Fail> {
     for then in [AT_A_SWEEP.as_slice(), AT_A_HANG.as_slice()] {
@@ -304,6 +309,7 @@ fn an_end_may_be_missed(rt: HostRuntime) -> Result<(), Fail> {
     Ok(())
 }
 
+/// A full journal refuses lines and has room for the ends of all who are there, over both outboxes.
 #[test]
 fn a_full_journal_has_room_for_the_ends(rt: HostRuntime) -> Result<(), Fail> {
     let story = of_two(&[8, 8], &FULL_JOURNAL);
@@ -311,6 +317,7 @@ fn a_full_journal_has_room_for_the_ends(rt: HostRuntime) -> Result<(), Fail> {
     over_channels(&rt, rt.alloc(), &story, (2, 12))
 }
 
+/// Who is kicked is told, and who shares two channels with one that quits is told of it once, over both outboxes.
 #[test]
 fn a_quit_is_told_once(rt: HostRuntime) -> Result<(), Fail> {
     let story = Story {
@@ -322,6 +329,7 @@ fn a_quit_is_told_once(rt: HostRuntime) -> Result<(), Fail> {
     over_channels(&rt, rt.alloc(), &story, (3, 40))
 }
 
+/// Whose writer went is missed by the next record that is put for it, and shut.
 #[test]
 fn who_is_cut_off_is_shut(rt: HostRuntime) -> Result<(), Fail> {
     over_channels(&rt, rt.alloc(), &of_two(&[8, 8], &CUTS), (2, 40))

@@ -45,6 +45,11 @@ impl<O: Made<R, T>, R: Abort, T: Drop> Trial<O, R, T> for Meeting {
     }
 }
 
+/// An allocation that fails while a register, a hall or an outbox is made, a session is opened, a line is said or a
+/// session swept, reports Memory and changes nothing; the same call then goes. Who quits takes what was owed before
+/// and its last item; others are told when it is swept, and what is left is counted when it is reaped, over both
+/// outboxes. An allocation that fails while a session is opened, a line is begun or a sweep is, reports Memory and
+/// changes nothing; the outbox comes back, and the same call then goes.
 #[test]
 fn a_refused_growth_changes_nothing(rt: HostRuntime) -> Result<(), Fail> {
     over_rings(&rt, rt.alloc(), &Meeting, (2, 16))?;

@@ -6,7 +6,6 @@
 mod again;
 #[cfg(test)]
 mod ahead;
-mod apart;
 #[cfg(test)]
 mod crowd;
 #[cfg(test)]
@@ -33,5 +32,3 @@ mod threads;
 mod ticking;
 #[cfg(test)]
 mod ticking_threads;
-
-pub use apart::line_apart;

@@ -50,6 +50,8 @@ impl<O: Made<R, T>, R: Abort, T: Drop> Trial<O, R, T> for Full {
     }
 }
 
+/// 1,024 sessions are there, and one more is refused with its outbox handed back, also when one is gone; when that
+/// one is reaped one more comes, over both outboxes.
 #[test]
 fn a_full_hall_turns_away(rt: HostRuntime) -> Result<(), Fail> {
     over_rings(&rt, rt.alloc(), &Full, (SESSIONS as usize, 8192))?;

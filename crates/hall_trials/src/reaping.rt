@@ -75,6 +75,9 @@ impl<O: Made<R, T>, R: Abort, T: Drop> Trial<O, R, T> for Two {
     }
 }
 
+/// One session's baton with another's stub and taker is a stranger's, and all three are handed back; a session that
+/// isn't gone isn't reaped; then each ends with its own, with its answers and its last item left, over both
+/// outboxes.
 #[test]
 fn strangers_are_handed_back(rt: HostRuntime) -> Result<(), Fail> {
     over_rings(&rt, rt.alloc(), &Two, (2, 16))?;

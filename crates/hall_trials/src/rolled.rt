@@ -70,6 +70,12 @@ impl<O: Made<R, T>, R: Abort, T: Drop> Trial<O, R, T> for Six {
     }
 }
 
+/// With a journal for eight records: Al registers by three, and `PING x` is recorded as 4, 5 and 6; the next is
+/// refused, since two are kept free. It is rolled: six are dropped, and the next is 7; five of Al's lines were
+/// accepted, and four deliveries owed. `PING x` is record 7, and the only one that is kept, while record 6 isn't
+/// found any more. Al is hung by record 8 and swept by 9, and the six deliveries that it never took are what it
+/// leaves. Before the roll there is no base, and then it has no counts of a session that never came; over both
+/// outboxes.
 #[test]
 fn a_rolled_hall_goes_on(rt: HostRuntime) -> Result<(), Fail> {
     for line in ["PING x", "WHOIS al"] {

@@ -132,6 +132,9 @@ pub(crate) fn are_counted<L: Naming, R: Wait + Drop>(
 }
 
 /// An outbox has room for 256 items, the journal for 64 records, and four of these are kept free for the ends.
+/// Two threads say 100,000 lines each of two sessions under one lock, in a journal for 64 records that each of them
+/// rolls where it is full, while two more take; who is 200 items ahead of its taker waits; then both quit, are
+/// swept and reaped: the numbers of what each took rise by each record of the other, none twice and none left out.
 #[test]
 fn threads_share_a_hall_that_is_rolled(rt: HostRuntime) -> Result<(), Fail> {
     let register = new_register(rt.alloc())?;

@@ -141,6 +141,7 @@ impl<O: Made<R, T>, R: Abort, T: Drop> Trial<O, R, T> for Listed {
     }
 }
 
+/// Who got something by a line, a sweep or a hang is on the list of those to be written to, and nobody else.
 #[test]
 fn who_got_something_is_listed(rt: HostRuntime) -> Result<(), Fail> {
     over_rings(&rt, rt.alloc(), &Listed, (2, 40))?;

@@ -370,6 +370,9 @@ pub(crate) fn four_threads<
 }
 
 /// There is room for all items and all records, and for those that are kept free for the ends while both quit.
+/// Two threads say 100,000 lines each of two sessions under one lock while two more take what comes of them; then
+/// both quit, are swept and reaped, and what each took and left is what the other's records owe it, and its last
+/// item.
 #[test]
 fn four_threads_share_a_hall(rt: HostRuntime) -> Result<(), Fail> {
     let register = new_register(rt.alloc())?;

@@ -118,6 +118,8 @@ impl<O: Made<R, T>, R: Abort, T: Drop> Trial<O, R, T> for Full {
     }
 }
 
+/// The same over both kinds of outbox, and where the journal is rolled before the PING and after it; who is pinged
+/// is on the list of those to be written to.
 #[test]
 fn who_is_silent_is_pinged(rt: HostRuntime) -> Result<(), Fail> {
     for is_rolled in [false, true] {
@@ -127,6 +129,7 @@ fn who_is_silent_is_pinged(rt: HostRuntime) -> Result<(), Fail> {
     Ok(())
 }
 
+/// A tick's moment is looked at before who is silent, and want of room only after that.
 #[test]
 fn a_tick_needs_room(rt: HostRuntime) -> Result<(), Fail> {
     over_rings(&rt, rt.alloc(), &Full, (1, 3))?;

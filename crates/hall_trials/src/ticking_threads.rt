@@ -517,6 +517,8 @@ fn race_in_one<L: Naming + Send + Sync, R: Threads + Wait + Abort + Copy + Drop 
     Ok(())
 }
 
+/// While two threads say 100,000 lines each, a third moves the clock, pings and ends 100,000 times, and a fourth
+/// has sessions come and ends them: what each took is what the journal owes it.
 #[test]
 fn ticks_race_with_lines(rt: HostRuntime) -> Result<(), Fail> {
     let register = new_register(rt.alloc())?;

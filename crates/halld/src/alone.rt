@@ -1,4 +1,6 @@
 //! What worker 1 does alone for one step of a script.
+//!
+//! `beat` asks the play who is late before each hang, so no step has to know which sessions were silent.
 ghost use Rattle.halld.specs.Steps.{IsPutOut, IsEnded, IsBegun, IsDoing, IsTidying, IsTicking, IsLateHung};
 
 use interleave::{Event, Moment, Naming, Note, Play, SessionId, StepRefusal, Why, WorkerId};

@@ -1,4 +1,7 @@
 //! Playing a script from a reader to a writer.
+//!
+//! Reader and writer are lent, because only then can a clause name what the reader had. The register is made before
+//! anything is read, since a type with its name stays within this call.
 ghost use Rattle.std.specs.Prelude.{◌≡◌, ◌<◌, ◌^◌, [], List, ℕ, Some, true, is_ok, OnOk, IfErr, IfSome};
 ghost use Rattle.std.specs.Io.KnownBytes.{Keeps};
 ghost use Rattle.halld.specs.declared.entry.PlayFault.TheVariants.{WriteFailed};

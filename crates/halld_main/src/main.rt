@@ -1,18 +1,20 @@
 //! The program `halld`.
 #![tactic(auto)]
 
+mod account;
 mod script;
 mod start;
 
+use account::line_for;
 use clap::Error;
 use clap::error::ErrorKind;
 use halld::{PlayFault, play};
 use script::SCRIPT;
 use serving_options::{Asked, parse};
-use start::{Ended, serve_options};
+use start::{Ended, check_options, serve_options, tell_reason};
 use std::alloc::AllocError;
 use std::fmt::Display;
-use std::io::BufWriter;
+use std::io::{BufWriter, IsTerminal};
 use std::process::ExitCode;
 use std::{env, io};
 
@@ -36,13 +38,13 @@ fn refuse(rt: &(impl Print + Eprint), error: Error) -> ExitCode {
     if error.kind() == ErrorKind::OutOfMemory {
         return fault(rt, PlayFault::Memory);
     }
-    if error.print(rt).is_err() {
-        return fault(rt, PlayFault::WriteFailed);
-    }
+    let is_told = error.print(rt).is_ok();
     if error.use_stderr() {
         ExitCode::from(REFUSED)
-    } else {
+    } else if is_told {
         ExitCode::SUCCESS
+    } else {
+        fault(rt, PlayFault::WriteFailed)
     }
 }
 
@@ -58,14 +60,27 @@ fn play_standard(rt: &HostRuntime) -> ExitCode {
     }
 }
 
+/// Prints the line of an account of this name, for a password that is read from standard input.
+fn print_account(rt: &HostRuntime, name: &str) -> ExitCode {
+    let input = rt.stdin();
+    let is_terminal = input.is_terminal();
+    match line_for(rt, rt.alloc(), name, input, is_terminal) {
+        Ok(line) if rt.write_all(&line).is_ok() => ExitCode::SUCCESS,
+        Ok(_) => fault(rt, PlayFault::WriteFailed),
+        Err(why) => fault(rt, why),
+    }
+}
+
 /// Tells how a server ended.
 fn tell_ended(rt: &impl Eprint, ended: Ended) -> ExitCode {
-    if ended == Ended::Well {
-        return ExitCode::SUCCESS;
-    }
-    let is_full = ended == Ended::JournalFull;
-    let told = fault(rt, ended);
-    if is_full { ExitCode::from(FULL) } else { told }
+    let status = match ended {
+        Ended::Well => return ExitCode::SUCCESS,
+        Ended::JournalFull => FULL,
+        _ => FAULT,
+    };
+    let _ = eprintln!(rt; "halld: {ended}");
+    tell_reason(rt, &ended);
+    ExitCode::from(status)
 }
 
 fn main(rt: HostRuntime) -> ExitCode {
@@ -84,6 +99,8 @@ fn main(rt: HostRuntime) -> ExitCode {
     };
     match parse(alloc, words.as_slice(), SCRIPT) {
         Ok(Asked::Play) => play_standard(&rt),
+        Ok(Asked::Check(options)) => tell_ended(&rt, check_options(&rt, options)),
+        Ok(Asked::Account(name)) => print_account(&rt, name),
         Ok(Asked::Serve(options)) => tell_ended(&rt, serve_options(&rt, options, rt.stdin())),
         Err(error) => refuse(&rt, error),
     }

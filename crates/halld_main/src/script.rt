@@ -19,9 +19,12 @@ Steps of a session S, a worker W and a moment MS:
   end W               give the lock and the session back
   back W              give back a line that wasn't begun
   take S              take what is next due to a session
-  hang W S WORD MS    end a session: quit, sendq, ended, readfail, writefail, memory or shutdown
+  hang W S WORD MS    end a session: quit, sendq, ended, readfail, writefail, memory, shutdown or
+                      timeout
   sweep W MS          say that a session that was shut is gone, and take the lock
+  tick W MS           have a PING put for whoever is silent, and take the lock
   reap S              give up a session that is gone
   do S MS             worker 1: pick, begin, put all, end
   tidy MS             worker 1: sweep, put all, end
+  beat MS             worker 1: tick, put all, end, and hang each session that was silent for too long
   drain S             take until nothing is left";

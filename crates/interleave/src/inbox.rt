@@ -1,4 +1,7 @@
 //! What is read of a session and not accepted yet.
+//!
+//! The lines that no worker has begun are one list, so giving a line back needs no memory, and nothing is lost between
+//! two lists.
 ghost use Rattle.std.specs.Prelude.{◌≡◌, ◌≢◌, ◌+◌, ◌<◌, ◌≤◌, ◌++◌, [], length, Some, None};
 ghost use Rattle.std.specs.Prelude.{IfOk, IfErr, IfSome, IsSome, OnErr, OnOk};
 ghost use Rattle.std.specs.Option.{is_some};

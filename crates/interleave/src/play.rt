@@ -1,4 +1,9 @@
 //! Steps, and whole runs.
+//!
+//! A step's own causes of refusal are a table (`own_refusal`), looked up before anything is done; after that a step
+//! has to do with the book's causes and memory alone. `Connect` asks the book before it makes anything, so that
+//! running out of memory hides no other cause. A plan without a line is a sweep's or a tick's: a tick's is of session
+//! 0.
 ghost use Rattle.std.specs.Prelude.{◌≡◌, ◌<◌, ◌≤◌, ◌+◌, ◌-◌, ◌++◌, ◌∷◌, [], ℕ, true, false, length, replicate};
 ghost use Rattle.std.specs.Prelude.{slice_set, Some, None, IfOk, IfErr, IfSome, IsTrue, OnErr, All, ◌||◌, ◌↔◌};
 ghost use Rattle.std.specs.Option.{is_some};

@@ -1,4 +1,7 @@
 //! What a session has of its book until it is given up.
+//!
+//! Clauses see of these whose line is next, as of a baton of `book`. So a play's state, steps and promise don't
+//! mention tokens, and the name of its register is a parameter of the type alone.
 ghost use Rattle.std.specs.Prelude.{◌≡◌, ◌+◌, [], Some, length, IsSome, IfOk, IfErr, OnOk, OnErr};
 ghost use Rattle.chronicle.specs.declared.record.Kind.TheVariants as kind;
 ghost use Rattle.chronicle.specs.History.{shut};

@@ -1,4 +1,7 @@
 //! Workers, and where a session's baton is.
+//!
+//! A worker's job is kept by the worker, and the place of the baton by the session. One could be found from the other
+//! by a search; the promise says that they agree.
 ghost use Rattle.std.specs.Prelude.{◌≡◌};
 
 use std::marker::Model;

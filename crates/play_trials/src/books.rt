@@ -61,6 +61,7 @@ fn compare_busy(rt: &impl Abort, alloc: Global, book: &mut Book<Ring>) -> Result
     Ok(())
 }
 
+/// A line whose plan was dropped leaves its book busy for all that comes later.
 #[test]
 fn a_plan_that_is_dropped_leaves_the_book_busy(rt: HostRuntime) -> Result<(), Fail> {
     let mut book = book(rt.alloc(), 40)?;

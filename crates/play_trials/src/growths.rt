@@ -159,6 +159,8 @@ pub(crate) fn tell<L: Naming>(
     join(rt, alloc, play)
 }
 
+/// A labelled line for which there is no memory, when it is read or when it is begun, changes nothing, and is
+/// answered when it comes again.
 #[test]
 fn a_labelled_line_without_memory_changes_nothing(rt: HostRuntime) -> Result<(), Fail> {
     tell_story(&rt, rt.alloc(), Story::Growths)

@@ -118,6 +118,7 @@ pub(crate) fn tell<L: Naming>(
     Ok(())
 }
 
+/// Two workers share the lock; each refusal comes by its name, also where the events are taken in runs.
 #[test]
 fn each_event_of_a_run_is_answered(rt: HostRuntime) -> Result<(), Fail> {
     tell_story(&rt, rt.alloc(), Story::Run)

@@ -253,6 +253,8 @@ pub(crate) fn tell<L: Naming>(
     Ok(())
 }
 
+/// After each of 1,000 steps from a fixed list of numbers a book says of nicknames, channels and who is open what a
+/// walk over its records finds, by a plain list, and of who is late.
 #[test]
 fn look_ups_are_those_of_the_records(rt: HostRuntime) -> Result<(), Fail> {
     tell_story(&rt, rt.alloc(), Story::Thousand)

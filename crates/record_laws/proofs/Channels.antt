@@ -31,7 +31,8 @@ use Rattle.channel_commands.specs.Joining.{absence_shown, bar_of, entered, enter
 use Rattle.channel_commands.specs.Joining.{introduced, join_shown, joins, joins_one, joins_seen, makes}
 use Rattle.channel_commands.specs.Joining.{takes_extended, takes_plain, welcomed}
 use Rattle.channel_commands.specs.Leaving.{kick_text, kicks, kicks_each, kicks_found, kicks_one, kicks_seen}
-use Rattle.channel_commands.specs.Leaving.{kicks_user, leaves, parts, parts_one, parts_seen}
+use Rattle.channel_commands.specs.Leaving.{kicks_user, parts, parts_one, parts_seen}
+use Rattle.departing.specs.Leaving.{leaves}
 use Rattle.channel_commands.specs.Lines.{invite_line, kick_line, part_line, topic_line}
 use Rattle.channel_commands.specs.Topics.{sets_topic, topic_of, topic_served, topic_shown}
 use Rattle.channel_commands.specs.Topics.{topic_text, topics, topics_seen}

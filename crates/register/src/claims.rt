@@ -1,4 +1,8 @@
 //! What stands in a register, and what a seat of it knows. No value of these is ever made.
+//!
+//! A claim is three options: all rows, a session's pieces, a session's outbox. A spent claim has none of them, a
+//! token's one, the register's own the rows with what it has taken in; so splitting and joining claims move one
+//! option, and the rule says one thing of each.
 use chronicle::SessionId;
 use line_grammar::Piece;
 use std::collections::LinkedList;

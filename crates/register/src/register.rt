@@ -1,4 +1,8 @@
 //! The register of a book.
+//!
+//! `admit` splits two claims off; `advance` and `retire` join them with the register's own, look, and split or clear.
+//! A row is never taken out, since session numbers are never used again. A register has no name of its own, its tokens
+//! do: it is made before a program can name it.
 ghost use Rattle.std.specs.Prelude.{◌≡◌, ◌∷◌, [], ◌++◌, IfOk, Some, None};
 ghost use Rattle.register.specs.Rows.{outbox_at, pieces_at};
 ghost use Rattle.register.specs.Shown.{new_mark, longer_mark, new_stub, with_session, with_done};

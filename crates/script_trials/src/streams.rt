@@ -114,6 +114,8 @@ fn played_twice(
     Ok((result, octets))
 }
 
+/// A script is played alike from a reader that gives little at a time to a writer that takes little; a fault leaves
+/// the notes before it.
 #[test]
 fn readers_and_writers(rt: HostRuntime) -> Result<(), Fail> {
     for (reads, writes, fails, end, count) in &STREAMS {
@@ -158,6 +160,7 @@ fn played_with_interrupts(alloc: Global) -> Result<(Result<(), PlayFault>, Vec<u
     }
 }
 
+/// An input whose reads are interrupted is read on.
 #[test]
 fn an_interrupted_read_is_tried_again(rt: HostRuntime) -> Result<(), Fail> {
     let (result, notes) = twice(|| played_with_interrupts(rt.alloc()))?;
@@ -189,6 +192,7 @@ fn played_unflushed(alloc: Global, script: &[u8]) -> Result<Result<(), PlayFault
     }
 }
 
+/// An output that can't be flushed is `output failed`, unless the script has a bad line before that.
 #[test]
 fn a_flush_that_fails_is_told(rt: HostRuntime) -> Result<(), Fail> {
     for (script, want) in [

@@ -1,10 +1,17 @@
 //! Accepting connections.
+//!
+//! It waits for an event, for word that the server is to stop, or until the next beat is due. `listen` lets as many
+//! connections wait as the system does, where std's own would let 128. Refused connections are counted where that
+//! happens and reported here, at most once a second, so a flood of them is one line; with a log each is a line of it.
+//! Without file descriptors it tries again after 20 ms, and says so at most once a second.
 use crate::connections::{Connections, PAUSE};
+use crate::events::Event;
+use crate::news::{Counts, News, Teller};
 use crate::opening::Serving;
 use crate::post::{Arrival, WAKE, Watch};
 use crate::stopping::Stopping;
 use chronicle::Moment;
-use crew::{Gate, beat};
+use crew::{Gate, beat, tell, tick};
 use hall::{Naming, Told};
 use mio::net::TcpListener;
 use mio::{Interest, Registry, Token, Waker};
@@ -25,6 +32,13 @@ const BETWEEN: u64 = 1;
 /// too long is ended.
 const BEAT: i64 = 10_000;
 
+/// After so many milliseconds a beat is late: the clock was set forward, or the machine slept, and nobody could be
+/// heard meanwhile.
+const LATE: i64 = 60_000;
+
+/// How many connections of a listener are accepted before others have their turn.
+const ACCEPTS: u32 = 64;
+
 /// Where clients connect.
 #[derive(Drop)]
 pub(crate) struct Listeners {
@@ -32,19 +46,29 @@ pub(crate) struct Listeners {
     pub(crate) ws: Option<TcpListener>,
 }
 
-/// Accepts all who wait to connect, and answers whether that is all: where it isn't, the system refuses one for now.
-fn accept_all<L: Naming, R: Wait + Copy + Drop>(
-    rt: &R,
+/// Who waits to connect, after some were accepted.
+#[derive(Clone, Copy, PartialEq)]
+enum Waiting {
+    /// Nobody.
+    Nobody,
+    /// Maybe others, whose turn is next.
+    Others,
+    /// One whom the system refuses for now, by this error.
+    Refused(i32),
+}
+
+/// Accepts some of those who wait to connect, and answers who else waits.
+fn accept_some<L: Naming, R: Wait + Clock + Copy + Drop>(
     connections: &Connections<L, R>,
     listener: Option<&TcpListener>,
     is_web: bool,
-) -> bool {
+) -> Waiting {
     let Some(listener) = listener else {
-        return true;
+        return Waiting::Nobody;
     };
-    for _ in rt.forever() {
+    for _ in 0..ACCEPTS {
         if connections.is_stopping() {
-            break;
+            return Waiting::Nobody;
         }
         match listener.accept() {
             Ok((stream, peer)) => connections.bring(Arrival {
@@ -53,23 +77,59 @@ fn accept_all<L: Naming, R: Wait + Copy + Drop>(
                 is_web,
             }),
             Err(error) => match error.kind() {
-                ErrorKind::WouldBlock => break,
+                ErrorKind::WouldBlock => return Waiting::Nobody,
                 ErrorKind::Interrupted | ErrorKind::ConnectionAborted => {}
-                _ => return false,
+                _ => return Waiting::Refused(error.raw_os_error().unwrap_or(0)),
             },
         }
     }
-    true
+    Waiting::Others
 }
 
-/// Tells of connections that were refused and of rolls of the journal, where there were some and the last line about
-/// some is long enough ago. It answers whether there is nothing more to tell.
-fn tell_news<L: Naming, R: Wait + Clock + Eprint + Copy + Drop>(
+/// The system's error by which connections wait, if it is that for which they do.
+fn error_of(tcp: Waiting, ws: Waiting) -> Option<i32> {
+    match (tcp, ws) {
+        (Waiting::Refused(code), _) | (_, Waiting::Refused(code)) => Some(code),
+        _ => None,
+    }
+}
+
+/// Leaves for the log what it isn't told where it happens: that connections wait, and that events were lost.
+fn log_news<L: Naming, R: Wait + Clock + Copy + Drop>(
     rt: &R,
     connections: &Connections<L, R>,
-    told: &mut Option<Instant>,
+    waits: Option<i32>,
+) {
+    if let Some(code) = waits {
+        connections.note(Event::Waiting(code));
+    }
+    if let Some(log) = &connections.log {
+        log.leave_lost(rt);
+    }
+}
+
+/// Whether there is something to tell that wasn't told where it happened.
+fn has_news<L: Naming, R: Wait + Clock + Copy + Drop>(
+    connections: &Connections<L, R>,
+    waits: Option<i32>,
 ) -> bool {
-    if connections.refused() == 0 && !connections.kept.has_rolls() {
+    let has_lost = match &connections.log {
+        Some(log) => log.has_lost(),
+        None => false,
+    };
+    waits.is_some() || has_lost || connections.refused() != 0 || connections.kept.has_rolls()
+}
+
+/// Has it told that connections were refused or wait, and that the journal was rolled, where there is news, none wait
+/// to be told, and the last are long enough ago. It answers whether there is nothing more to tell.
+fn tell_news<L: Naming, R: Wait + Clock + Copy + Drop>(
+    rt: &R,
+    connections: &Connections<L, R>,
+    teller: &Teller,
+    told: &mut Option<Instant>,
+    waits: Option<i32>,
+) -> bool {
+    if !has_news(connections, waits) {
         return true;
     }
     let Ok(now) = Instant::now(rt) else {
@@ -80,16 +140,23 @@ fn tell_news<L: Naming, R: Wait + Clock + Eprint + Copy + Drop>(
             return false;
         }
     }
+    if connections.log.is_some() {
+        *told = Some(now);
+        log_news(rt, connections, waits);
+        return true;
+    }
+    if teller.is_behind() {
+        return false;
+    }
     *told = Some(now);
     let refused = connections.tell_refused();
-    if refused != 0 {
-        let _ = eprintln!(rt; "halld: connections refused: {refused}");
-    }
     let rolls = connections.kept.take_rolls();
-    if rolls.count != 0 {
-        let (count, dropped) = (rolls.count, rolls.dropped);
-        let _ = eprintln!(rt; "halld: journal rolled: {count}, records dropped: {dropped}");
-    }
+    let counts = Counts {
+        refused,
+        rolls,
+        waits,
+    };
+    teller.leave(rt, News::Counts(counts));
     true
 }
 
@@ -110,7 +177,7 @@ impl Beats {
     }
 
     /// Has a beat where it is time for one, or where the clock was set back, and answers in how many milliseconds
-    /// the next is to be.
+    /// the next is to be. Where it comes late nobody is ended before the next: who is quiet is pinged.
     fn beat_in_time<L: Naming, R: Wait + Clock + Copy + Drop, G: Gate, C: crew::Clock>(
         &mut self,
         rt: &R,
@@ -121,34 +188,62 @@ impl Beats {
         if 0 <= passed && passed < BEAT {
             return BEAT.saturating_sub(passed) as u64;
         }
-        self.last = now;
-        let _ = beat(rt, server, &mut self.told);
+        if passed < LATE {
+            self.last = now;
+            let _ = beat(rt, server, &mut self.told);
+            return BEAT as u64;
+        }
+        // Where nobody could be pinged the next is late as well.
+        if tick(rt, server, &mut self.told).answer.is_ok() {
+            self.last = now;
+        }
+        tell(server, &mut self.told);
         BEAT as u64
     }
 }
 
-/// Accepts connections until the server is asked to stop, has a beat every so often, and tells of connections that
-/// are refused and of rolls of the journal, unless it is to be quiet.
-pub(crate) fn accept_on<L: Naming, R: Wait + Clock + Eprint + Copy + Drop, G: Gate, C: crew::Clock>(
+/// Has it told why the server stops.
+fn tell_stop<L: Naming, R: Wait + Clock + Copy + Drop>(
+    rt: &R,
+    connections: &Connections<L, R>,
+    teller: &Teller,
+) {
+    if connections.is_full() {
+        connections.note(Event::Stopping("journal full"));
+    } else if connections.log.is_some() {
+        connections.note(Event::Stopping("standard input ended"));
+    } else {
+        teller.leave(rt, News::InputEnded);
+    }
+}
+
+/// Accepts connections until the server is asked to stop, has a beat every so often, and has it told that connections
+/// are refused and that the journal is rolled, where there is who tells it.
+pub(crate) fn accept_on<L: Naming, R: Wait + Clock + Copy + Drop, G: Gate, C: crew::Clock>(
     rt: &R,
     server: &Serving<'_, L, R, G, C>,
     mut beats: Beats,
     watch: &mut Watch,
     listeners: &Listeners,
-    is_quiet: bool,
+    teller: Option<&Teller>,
 ) {
     let connections = server.sockets.all;
     let Watch { poll, events } = watch;
     let mut told = None;
     for _ in rt.forever() {
-        let is_all_tcp = accept_all(rt, connections, listeners.tcp.as_ref(), false);
-        let is_all_ws = accept_all(rt, connections, listeners.ws.as_ref(), true);
+        let tcp = accept_some(connections, listeners.tcp.as_ref(), false);
+        let ws = accept_some(connections, listeners.ws.as_ref(), true);
         if connections.is_stopping() {
             break;
         }
         let next = Duration::from_millis(beats.beat_in_time(rt, server));
-        let is_told = is_quiet || tell_news(rt, connections, &mut told);
-        let wait = if !is_all_tcp || !is_all_ws {
+        let is_told = match teller {
+            Some(teller) => tell_news(rt, connections, teller, &mut told, error_of(tcp, ws)),
+            None => true,
+        };
+        let wait = if tcp == Waiting::Others || ws == Waiting::Others {
+            Duration::from_millis(0)
+        } else if error_of(tcp, ws).is_some() {
             Duration::from_millis(PAUSE)
         } else if !is_told {
             Duration::from_secs(BETWEEN).min(next)
@@ -159,8 +254,9 @@ pub(crate) fn accept_on<L: Naming, R: Wait + Clock + Eprint + Copy + Drop, G: Ga
             thread::sleep(rt, Duration::from_millis(PAUSE));
         }
     }
-    if !is_quiet {
-        let _ = tell_news(rt, connections, &mut None);
+    if let Some(teller) = teller {
+        let _ = tell_news(rt, connections, teller, &mut None, None);
+        tell_stop(rt, connections, teller);
     }
 }
 

@@ -25,7 +25,9 @@ pub(crate) struct Client<L: Naming, R: Wait + Copy + Drop> {
     pub(crate) is_held_up: bool,
     /// It is shut, and is looked at again at each pause.
     pub(crate) is_waiting: bool,
+    /// At how many pauses it was, and the number of the last of these.
     pub(crate) tries: u32,
+    pub(crate) pause: u64,
 }
 
 /// A place for a client.
@@ -73,6 +75,18 @@ fn read_counted<L: Naming, I: Read, R: Wait + Clock + Copy + Drop, G: Gate, C: c
     took
 }
 
+/// Writes what waits for a client where another thread wanted to, and found that its WebSocket was being read.
+fn write_where_wanted<L: Naming, R: Wait + Clock + Copy + Drop, G: Gate, C: crew::Clock>(
+    server: &Serving<'_, L, R, G, C>,
+    connection: &Connection<L, R>,
+) {
+    if let Some(web) = &connection.web {
+        if web.take_wanted() {
+            server.sockets.go_on(connection);
+        }
+    }
+}
+
 /// Reads a client once, and has the lines done that end in what that brings. It answers whether more is to be read:
 /// where that filled the room, or something was there and `has_ended` says that its input has an end, up to which it
 /// is read.
@@ -96,6 +110,7 @@ pub(crate) fn read_client<L: Naming, R: Wait + Clock + Copy + Drop, G: Gate, C: 
         is_held_up: _,
         is_waiting,
         tries,
+        pause,
     } = client;
     let to = &*connection;
     let took = match &mut payloads {
@@ -106,9 +121,10 @@ pub(crate) fn read_client<L: Naming, R: Wait + Clock + Copy + Drop, G: Gate, C: 
         }
     };
     let has_more = match &payloads {
-        Some(payloads) => payloads.has_more,
+        Some(payloads) => payloads.has_more(),
         None => false,
     };
+    write_where_wanted(server, &connection);
     let client = Client {
         baton: took.baton,
         connection,
@@ -118,6 +134,7 @@ pub(crate) fn read_client<L: Naming, R: Wait + Clock + Copy + Drop, G: Gate, C: 
         is_held_up: took.next == Next::Left,
         is_waiting,
         tries,
+        pause,
     };
     match took.next {
         Next::More => (client, true),

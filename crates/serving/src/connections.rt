@@ -1,8 +1,11 @@
 //! The connections of all sessions, as the threads of others know them.
+use crate::crowd::Crowd;
+use crate::events::{Event, Events};
 use crate::journal::Kept;
 use crate::post::{Arrival, Post};
 use crate::stopping::Stopping;
 use crate::web::Web;
+use crate::{guests, lingering};
 use chronicle::SessionId;
 use crew::{Backlog, Outlet, Pumped, Sockets};
 use hall::{Naming, Told};
@@ -11,7 +14,7 @@ use mio::net::TcpStream;
 use outbox::Gauge;
 use std::alloc::{AllocError, Global};
 use std::io::Write;
-use std::net::Shutdown;
+use std::net::{Shutdown, SocketAddr};
 use std::sync::atomic::{AtomicBool, AtomicU64, Ordering};
 use std::sync::{Arc, RwLock, Wait};
 use std::time::{Clock, Duration};
@@ -30,6 +33,12 @@ const ENDS: usize = 16;
 
 /// While more octets than these wait for a client, nothing more of it is done.
 const MUCH: u64 = 65_536;
+
+/// Why a connection is refused: there was no memory for it.
+pub(crate) const NO_MEMORY: &str = "no memory";
+
+/// Or the server has as many sessions as it may, or no room for another in its journal, or no memory.
+pub(crate) const NO_PLACE: &str = "no place";
 
 /// What a session's items go out on, to which several threads may write, one at a time: octets as they are, or
 /// frames of their lines.
@@ -84,6 +93,8 @@ pub(crate) struct Connection<L: Naming, R: Wait + Copy + Drop> {
     is_beyond: AtomicBool,
     // Of how many records it was told since it is left to its worker to write them; none where it isn't.
     left: AtomicU64,
+    // The log has its nickname.
+    is_named: AtomicBool,
 }
 
 impl<L: Naming, R: Wait + Copy + Drop> Connection<L, R> {
@@ -106,6 +117,7 @@ impl<L: Naming, R: Wait + Copy + Drop> Connection<L, R> {
             is_called: AtomicBool::new(false),
             is_beyond: AtomicBool::new(false),
             left: AtomicU64::new(0),
+            is_named: AtomicBool::new(false),
         }
     }
 
@@ -132,6 +144,16 @@ impl<L: Naming, R: Wait + Copy + Drop> Connection<L, R> {
         self.is_shut.load(Ordering::SeqCst)
     }
 
+    /// Whether the log has its nickname.
+    pub(crate) fn is_named(&self) -> bool {
+        self.is_named.load(Ordering::SeqCst)
+    }
+
+    /// The log has its nickname.
+    pub(crate) fn name(&self) {
+        self.is_named.store(true, Ordering::SeqCst);
+    }
+
     /// Its worker looks at it now: who finds something new from here on calls again.
     pub(crate) fn begin_look(&self) {
         self.is_called.store(false, Ordering::SeqCst);
@@ -146,8 +168,10 @@ impl<L: Naming, R: Wait + Copy + Drop> Backlog for Connection<L, R> {
 
 /// The connections of all sessions, and the workers that serve them.
 #[derive(Drop)]
-pub(crate) struct Connections<L: Naming, R: Wait + Copy + Drop> {
+pub(crate) struct Connections<L: Naming, R: Wait + Clock + Copy + Drop> {
     rt: R,
+    /// What happens, where there is a log.
+    pub(crate) log: Option<Events<R>>,
     by_session: RwLock<IndexMap<u64, Arc<Connection<L, R>>>>,
     posts: Vec<Post>,
     stopping: Arc<Stopping>,
@@ -157,14 +181,21 @@ pub(crate) struct Connections<L: Naming, R: Wait + Copy + Drop> {
     is_closed: AtomicBool,
     // Connections that were refused and aren't told of yet.
     refused: AtomicU64,
+    // Somebody was shut since all who are shut were swept.
+    has_unswept: AtomicBool,
+    /// Who greets, of all workers.
+    pub(crate) greeting: Crowd,
+    /// Whose stream lingers, of all workers.
+    pub(crate) lingering: Crowd,
 }
 
-impl<L: Naming, R: Wait + Copy + Drop> Connections<L, R> {
+impl<L: Naming, R: Wait + Clock + Copy + Drop> Connections<L, R> {
     /// No connection, of a server with these workers that is asked to stop in this way. So many octets may wait for
     /// a session besides its newest delivery, and so many octets are read before the journal is rolled.
     pub(crate) fn new(
         rt: R,
         alloc: Global,
+        log: Option<Events<R>>,
         posts: Vec<Post>,
         stopping: Arc<Stopping>,
         most: u64,
@@ -172,6 +203,7 @@ impl<L: Naming, R: Wait + Copy + Drop> Connections<L, R> {
     ) -> Connections<L, R> {
         Connections {
             rt,
+            log,
             by_session: RwLock::new(IndexMap::new(alloc)),
             posts,
             stopping,
@@ -179,20 +211,39 @@ impl<L: Naming, R: Wait + Copy + Drop> Connections<L, R> {
             kept: Kept::new(journal),
             is_closed: AtomicBool::new(false),
             refused: AtomicU64::new(0),
+            has_unswept: AtomicBool::new(false),
+            greeting: Crowd::new(guests::MOST),
+            lingering: Crowd::new(lingering::MOST),
         }
     }
 
-    /// A connection is refused, which the thread that accepts tells of, unless the server is to stop.
-    pub(crate) fn refuse(&self) {
-        if !self.is_stopping() {
+    /// An event for the log, where there is one.
+    pub(crate) fn note(&self, event: Event) {
+        if let Some(log) = &self.log {
+            log.leave(&self.rt, event);
+        }
+    }
+
+    /// A connection from this address is refused for this reason, unless the server is to stop. Where there is no log
+    /// the thread that accepts tells how many were.
+    pub(crate) fn refuse(&self, peer: SocketAddr, why: &'static str) {
+        if self.is_stopping() {
+            return;
+        }
+        self.note(Event::Refused(peer, why));
+        if self.log.is_none() {
             self.refused.fetch_add(1, Ordering::SeqCst);
             self.stopping.wake();
         }
     }
 
-    /// The journal was rolled, which the thread that accepts tells of.
+    /// The journal was rolled. Where there is no log the thread that accepts tells of it.
     pub(crate) fn rolled(&self, dropped: usize) {
         self.kept.rolled(dropped);
+        self.note(Event::Rolled(dropped));
+        if self.log.is_some() {
+            let _ = self.kept.take_rolls();
+        }
         self.stopping.wake();
     }
 
@@ -211,13 +262,25 @@ impl<L: Naming, R: Wait + Copy + Drop> Connections<L, R> {
         self.posts.get(worker)
     }
 
-    /// What one worker has of so many that all may have together.
-    pub(crate) fn share_of(&self, all: usize) -> usize {
-        (all / self.posts.len().max(1)).max(1)
+    /// Somebody may be to be swept.
+    pub(crate) fn leave_unswept(&self) {
+        self.has_unswept.store(true, Ordering::SeqCst);
+    }
+
+    /// Whether somebody may be to be swept now: while the server ends its sessions nobody is, since each would be told
+    /// of all others.
+    pub(crate) fn is_to_sweep(&self) -> bool {
+        self.has_unswept.load(Ordering::SeqCst) && (self.is_closed() || !self.is_stopping())
+    }
+
+    /// The same, and that who asks sweeps them. Who is shut from here on is told of again.
+    pub(crate) fn take_unswept(&self) -> bool {
+        self.is_to_sweep() && self.has_unswept.swap(false, Ordering::SeqCst)
     }
 
     /// Leaves a connection to the worker that has the fewest.
     pub(crate) fn bring(&self, arrival: Arrival) {
+        let peer = arrival.peer;
         let mut best: Option<&Post> = None;
         for post in self.posts.iter() {
             match best {
@@ -230,7 +293,7 @@ impl<L: Naming, R: Wait + Copy + Drop> Connections<L, R> {
             None => false,
         };
         if !is_left {
-            self.refuse();
+            self.refuse(peer, NO_MEMORY);
         }
     }
 
@@ -260,6 +323,11 @@ impl<L: Naming, R: Wait + Copy + Drop> Connections<L, R> {
         self.stopping.is_asked()
     }
 
+    /// Whether it was asked since its journal is full.
+    pub(crate) fn is_full(&self) -> bool {
+        self.stopping.is_full()
+    }
+
     /// Whether nobody is to connect any more, and who was connected is shut.
     pub(crate) fn is_closed(&self) -> bool {
         self.is_closed.load(Ordering::SeqCst)
@@ -287,7 +355,7 @@ impl<L: Naming, R: Wait + Copy + Drop> Connections<L, R> {
 
 /// The connections of all sessions, as one thread works with them.
 #[derive(Drop)]
-pub(crate) struct View<'a, L: Naming, R: Wait + Copy + Drop> {
+pub(crate) struct View<'a, L: Naming, R: Wait + Clock + Copy + Drop> {
     pub(crate) all: &'a Connections<L, R>,
     /// Which worker it is; of no worker where it is beyond their number.
     pub(crate) worker: usize,
@@ -295,7 +363,7 @@ pub(crate) struct View<'a, L: Naming, R: Wait + Copy + Drop> {
     pub(crate) burst: usize,
 }
 
-impl<L: Naming, R: Wait + Copy + Drop> View<'_, L, R> {
+impl<L: Naming, R: Wait + Clock + Copy + Drop> View<'_, L, R> {
     /// Has a connection's worker look at it.
     fn call(&self, connection: &Connection<L, R>) {
         if connection.is_called.swap(true, Ordering::SeqCst) {
@@ -384,6 +452,7 @@ impl<L: Naming, R: Wait + Copy + Drop> View<'_, L, R> {
 
 impl<L: Naming, R: Wait + Clock + Copy + Drop> Sockets for View<'_, L, R> {
     fn shut(&self, session: SessionId) {
+        self.all.leave_unswept();
         if let Some(connection) = self
             .all
             .by_session

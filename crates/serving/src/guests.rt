@@ -1,16 +1,18 @@
 //! Who connected by WebSocket and greets: no session yet.
-use crate::web::{REFUSAL, WebStream};
+use crate::crowd::Crowd;
+use crate::web::{REFUSAL, UNAVAILABLE, WebStream};
 use mio::net::TcpStream;
 use std::alloc::{AllocError, Global};
 use std::collections::VecDeque;
 use std::io::Write;
 use std::net::{Shutdown, SocketAddr};
 use std::sync::Arc;
+use std::sync::atomic::{AtomicBool, Ordering};
 use std::time::{Duration, Instant};
 use websocket_front::{Front, GreetFault, Greeted, Greeting};
 
-/// How many may greet at a time.
-pub(crate) const MOST: usize = 256;
+/// How many may greet at a time, of all workers.
+pub(crate) const MOST: u64 = 256;
 
 /// For how many seconds each may.
 const PATIENCE: u64 = 10;
@@ -21,6 +23,7 @@ pub(crate) struct Guest {
     greeting: Greeting<WebStream>,
     pub(crate) stream: Arc<TcpStream>,
     peer: SocketAddr,
+    is_request: Arc<AtomicBool>,
 }
 
 /// How far a guest came.
@@ -32,16 +35,31 @@ pub(crate) enum Came {
     Later(Guest),
     /// It is given up.
     Out(Arc<TcpStream>),
+    /// It is given up, since there was no memory.
+    Refused(Arc<TcpStream>, SocketAddr),
+}
+
+/// Answers a guest that is given up, by one write.
+fn answer(stream: &TcpStream, octets: &[u8]) {
+    let mut stream = stream;
+    let _ = stream.write(octets);
 }
 
 impl Guest {
     /// Who has just connected.
     pub(crate) fn new(alloc: Global, stream: Arc<TcpStream>, peer: SocketAddr) -> Option<Guest> {
-        match Greeting::new(alloc, WebStream::of(&stream)?) {
+        let Ok(is_request) = Arc::new(alloc, AtomicBool::new(false)) else {
+            return None;
+        };
+        let Ok(read) = WebStream::of(alloc, &stream, &is_request) else {
+            return None;
+        };
+        match Greeting::new(alloc, read) {
             Ok(greeting) => Some(Guest {
                 greeting,
                 stream,
                 peer,
+                is_request,
             }),
             Err(_) => None,
         }
@@ -53,6 +71,7 @@ impl Guest {
             greeting,
             stream,
             peer,
+            is_request,
         } = self;
         match greeting.go_on() {
             Ok(Greeted::Done(front)) => Came::In(front, stream, peer),
@@ -60,12 +79,19 @@ impl Guest {
                 greeting,
                 stream,
                 peer,
+                is_request,
             }),
-            Err(GreetFault::Handshake) => {
-                let _ = (&*stream).write(REFUSAL);
+            Err(GreetFault::Io) => Came::Out(stream),
+            Err(GreetFault::Memory) => Came::Refused(stream, peer),
+            // A whole request has its shape, so there was no memory to take it apart.
+            Err(GreetFault::Head) if is_request.load(Ordering::SeqCst) => {
+                answer(&stream, UNAVAILABLE);
+                Came::Refused(stream, peer)
+            }
+            Err(GreetFault::Head | GreetFault::Handshake) => {
+                answer(&stream, REFUSAL);
                 Came::Out(stream)
             }
-            Err(_) => Came::Out(stream),
         }
     }
 }
@@ -101,41 +127,45 @@ impl Guests {
         self.entries.is_empty()
     }
 
-    /// One more, who connected now at this place. It answers who is to go for it, where more than `most` are there
-    /// then.
+    /// One more, who connected now at this place. It answers who is to go for it, where more than may greet do then,
+    /// and others do at this worker.
     pub(crate) fn add(
         &mut self,
         place: usize,
         since: Instant,
-        most: usize,
+        all: &Crowd,
     ) -> Result<Option<usize>, AllocError> {
         self.entries.push_back(Entry { place, since })?;
-        if most < self.entries.len() {
-            return Ok(self.take_first());
+        if all.enter() && 1 < self.entries.len() {
+            return Ok(self.take_first(all));
         }
         Ok(None)
     }
 
     /// One less, at this place.
-    pub(crate) fn remove(&mut self, place: usize) {
+    pub(crate) fn remove(&mut self, place: usize, all: &Crowd) {
         if let Some(at) = self.entries.iter().position(|entry| entry.place == place) {
             let _ = self.entries.remove(at);
+            all.leave();
         }
     }
 
     /// Takes who has greeted longest off the list.
-    pub(crate) fn take_first(&mut self) -> Option<usize> {
+    pub(crate) fn take_first(&mut self, all: &Crowd) -> Option<usize> {
         match self.entries.pop_front() {
-            Some(entry) => Some(entry.place),
+            Some(entry) => {
+                all.leave();
+                Some(entry.place)
+            }
             None => None,
         }
     }
 
     /// The same where that is too long by now.
-    pub(crate) fn take_late(&mut self, now: Instant) -> Option<usize> {
+    pub(crate) fn take_late(&mut self, now: Instant, all: &Crowd) -> Option<usize> {
         match self.entries.front() {
             Some(entry) if now.duration_since(entry.since) >= Duration::from_secs(PATIENCE) => {
-                self.take_first()
+                self.take_first(all)
             }
             _ => None,
         }

@@ -1,4 +1,9 @@
 //! Clients for whom something was put that their workers are left to write.
+//!
+//! Of a long list of sessions that are told, each is left to its own worker, but for some at either end of the list:
+//! there stands who was told by a short line of the same round. A count at the connection says of how many records it
+//! was told since; whoever finds it 0 lists the place, and the worker takes the count back before it writes, so what
+//! was put before is written. Without memory for the list the worker writes to all its clients.
 use crate::client::Place;
 use crate::opening::Serving;
 use crate::post::Post;

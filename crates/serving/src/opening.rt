@@ -1,4 +1,8 @@
 //! How a session is opened for a connection.
+//!
+//! A connection is entered in the table before the hall's lock is given back, and stopping asks the table under the
+//! same lock: so no session is opened after the last was ended. A session that gets no wire for want of memory is sent
+//! its end by `write_out`, which needs none; a connection that can't be taken at all is closed without a line.
 ghost use Rattle.std.specs.Prelude.{◌≡◌, [], true, Some, IfSome};
 ghost use Rattle.casemapping.specs.Names.{host_shape};
 
@@ -66,7 +70,7 @@ type Given<L, R> = (SessionId, Baton<L, Sender<R>>, Stub<L, ChannelName>);
 
 /// Opens a session in the hall. Where its journal has no room for it, that is rolled, and it is tried again, by the
 /// host's copy.
-fn open_or_roll<L: Naming, R: Wait + Copy + Drop>(
+fn open_or_roll<L: Naming, R: Wait + Clock + Copy + Drop>(
     hall: &mut Hall<L, Sender<R>>,
     host: Octets,
     again: &Octets,

@@ -3,6 +3,7 @@ use crate::left::Left;
 use mio::net::TcpStream;
 use mio::{Events, Poll, Registry, Token, Waker};
 use std::alloc::Global;
+use std::collections::VecDeque;
 use std::net::{Net, SocketAddr};
 use std::sync::atomic::{AtomicU64, Ordering};
 use std::sync::{Mutex, Wait};
@@ -39,8 +40,8 @@ pub(crate) struct Arrival {
 /// What was left for a worker.
 #[derive(Drop)]
 pub(crate) struct Mail {
-    /// Connections that it is to serve.
-    pub(crate) arrivals: Vec<Arrival>,
+    /// Connections that it is to serve, the first first.
+    pub(crate) arrivals: VecDeque<Arrival>,
     /// Places of clients at which it is to look.
     pub(crate) calls: Vec<usize>,
     /// It is to look at all, since there was no memory for the list.
@@ -51,7 +52,7 @@ impl Mail {
     /// Nothing.
     pub(crate) fn new(alloc: Global) -> Mail {
         Mail {
-            arrivals: Vec::new(alloc),
+            arrivals: VecDeque::new(alloc),
             calls: Vec::new(alloc),
             is_all: false,
         }
@@ -92,7 +93,7 @@ impl Post {
     pub(crate) fn bring<R: Wait>(&self, rt: &R, arrival: Arrival) -> bool {
         let mut mail = self.mail.lock(rt);
         let was_empty = mail.is_empty();
-        let is_left = mail.arrivals.push(arrival).is_ok();
+        let is_left = mail.arrivals.push_back(arrival).is_ok();
         drop(mail);
         if is_left {
             self.clients.fetch_add(1, Ordering::SeqCst);

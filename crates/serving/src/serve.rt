@@ -5,6 +5,8 @@ ghost use Rattle.serving.specs.declared.serve.ServeFault.TheVariants.{BadSetting
 use crate::accepting::{Beats, Listeners, accept_on, door_of};
 use crate::clock::SystemClock;
 use crate::connections::{Connections, View};
+use crate::events::{Event, Events};
+use crate::news::Teller;
 use crate::opening::Serving;
 use crate::post::{Post, Watch};
 use crate::stopping::{Stopping, read_to_end};
@@ -100,8 +102,10 @@ pub struct Options<'a, G: Gate, C: crew::Clock> {
     /// What stands round the lines that are done in one hold of the lock.
     pub gate: &'a G,
     pub clock: &'a C,
-    /// Whether nothing is said of connections that are refused.
+    /// Whether nothing is said of connections that are refused or wait, of rolls, and of the end of `stop`.
     pub is_quiet: bool,
+    /// Whether each thing that happens is a line of standard error, whatever `is_quiet` says.
+    pub has_log: bool,
 }
 
 /// What all threads of a server share. Of the views there is one for each worker, and one more for a thread that is
@@ -191,13 +195,13 @@ fn end_all<L: Naming, R: Wait + Clock + Copy + Drop, G: Gate, C: crew::Clock>(
 }
 
 /// Accepts connections until the server is asked to stop.
-fn accept_in<L: Naming, R: Wait + Clock + Eprint + Copy + Drop, G: Gate, C: crew::Clock>(
+fn accept_in<L: Naming, R: Wait + Clock + Copy + Drop, G: Gate, C: crew::Clock>(
     rt: &R,
     alloc: Global,
     house: &House<'_, L, R, G, C>,
     watch: &mut Watch,
     listeners: &Listeners,
-    is_quiet: bool,
+    teller: Option<&Teller>,
 ) {
     let Some(view) = house.views.last() else {
         return;
@@ -210,14 +214,24 @@ fn accept_in<L: Naming, R: Wait + Clock + Eprint + Copy + Drop, G: Gate, C: crew
         burst: house.burst,
     };
     let beats = Beats::new(alloc, server.clock.now());
-    accept_on(rt, &server, beats, watch, listeners, is_quiet);
+    accept_on(rt, &server, beats, watch, listeners, teller);
+}
+
+/// Notes an event for the log, where there is one.
+fn note_in<L: Naming, R: Wait + Clock + Copy + Drop, G: Gate, C: crew::Clock>(
+    house: &House<'_, L, R, G, C>,
+    event: Event,
+) {
+    if let Some(view) = house.views.last() {
+        view.all.note(event);
+    }
 }
 
 /// Has a thread for each of the workers, accepts connections until the server is asked to stop, then ends all
 /// sessions, and waits for the threads. It answers whether all could be started.
 fn run_on<
     L: Naming + Send + Sync,
-    R: Threads + Wait + Clock + Eprint + Copy + Drop + Send + Sync,
+    R: Threads + Wait + Clock + Copy + Drop + Send + Sync,
     G: Gate + Sync,
     C: crew::Clock + Sync,
 >(
@@ -227,9 +241,10 @@ fn run_on<
     watches: Vec<Watch>,
     watch: &mut Watch,
     listeners: &Listeners,
-    is_quiet: bool,
+    teller: Option<&Teller>,
 ) -> bool {
-    thread::scope(thread::scope_env(), rt, |scope| {
+    note_in(house, Event::Started(watches.len()));
+    let is_run = thread::scope(thread::scope_env(), rt, |scope| {
         let mut are_started = true;
         for (worker, watch) in watches.into_iter().enumerate() {
             let started = Builder::new()
@@ -239,11 +254,13 @@ fn run_on<
             drop(started);
         }
         if are_started {
-            accept_in(rt, alloc, house, watch, listeners, is_quiet);
+            accept_in(rt, alloc, house, watch, listeners, teller);
         }
         end_all(rt, house);
         are_started
-    })
+    });
+    note_in(house, Event::Ended);
+    is_run
 }
 
 /// What the workers wait by, and where others leave something for them.
@@ -308,16 +325,45 @@ fn doors_of<R: Net>(
 }
 
 /// Has a thread read an input, which asks the server to stop at its end. It answers whether that could be started.
-fn has_stop<R: Threads + 'static, I: Read + Send + Drop + 'static>(
-    rt: &R,
-    stop: I,
-    asked: Arc<Stopping>,
-) -> bool {
+fn has_stop<R, I>(rt: &R, stop: I, asked: Arc<Stopping>) -> bool
+where
+    R: Threads + Wait + Clock + Copy + Drop + Send + 'static,
+    I: Read + Send + Drop + 'static,
+{
+    let own = *rt;
     let started = thread::spawn(rt, move || {
-        read_to_end(stop);
+        read_to_end(&own, stop);
         asked.ask();
     });
     started.is_ok()
+}
+
+/// Where what happens is left for the log, if there is one.
+fn log_of<R: Wait + Clock + Copy + Drop>(
+    rt: &R,
+    teller: Option<&Teller>,
+    has_log: bool,
+) -> Result<Option<Events<R>>, ServeFault> {
+    match teller {
+        Some(teller) if has_log => Ok(Some(Events::new(*rt, teller.sender()?))),
+        _ => Ok(None),
+    }
+}
+
+/// Who tells on standard error what happens, unless the server is to be quiet and has no log.
+fn teller_of<R: Threads + Wait + Eprint + Copy + Drop + Send + 'static>(
+    rt: &R,
+    alloc: Global,
+    is_quiet: bool,
+    has_log: bool,
+) -> Result<Option<Teller>, ServeFault> {
+    if is_quiet && !has_log {
+        return Ok(None);
+    }
+    match Teller::start(rt, alloc, has_log)? {
+        Some(teller) => Ok(Some(teller)),
+        None => Err(ServeFault::Memory),
+    }
 }
 
 /// What a server has besides its settings and its listener.
@@ -330,6 +376,7 @@ struct Terms<'a, G: Gate, C: crew::Clock> {
     sendq_bytes: u64,
     journal_bytes: u64,
     is_quiet: bool,
+    has_log: bool,
 }
 
 /// Serves in this hall whoever connects to a listener.
@@ -360,7 +407,9 @@ fn serve_in<
     } = doors;
     let asked = Arc::try_clone(&stopping)?;
     let (most, journal) = (terms.sendq_bytes, terms.journal_bytes);
-    let connections = Connections::new(*rt, alloc, posts, asked, most, journal);
+    let teller = teller_of(rt, alloc, terms.is_quiet, terms.has_log)?;
+    let log = log_of(rt, teller.as_ref(), terms.has_log)?;
+    let connections = Connections::new(*rt, alloc, log, posts, asked, most, journal);
     if !has_stop(rt, stop, Arc::try_clone(&stopping)?) {
         return Err(ServeFault::Memory);
     }
@@ -384,8 +433,12 @@ fn serve_in<
         sendq: terms.sendq,
         burst,
     };
-    let is_quiet = terms.is_quiet;
-    if !run_on(rt, alloc, &house, watches, &mut watch, &listeners, is_quiet) {
+    let told = teller.as_ref();
+    let is_run = run_on(rt, alloc, &house, watches, &mut watch, &listeners, told);
+    if let Some(teller) = teller {
+        teller.finish(rt);
+    }
+    if !is_run {
         return Err(ServeFault::Memory);
     }
     if stopping.is_full() {
@@ -419,6 +472,7 @@ fn serve_named<
         sendq_bytes: options.sendq_bytes,
         journal_bytes: options.journal_bytes,
         is_quiet: options.is_quiet,
+        has_log: options.has_log,
     };
     let Ok(state) = RandomState::new(rt) else {
         return Err(ServeFault::NoKeys);
@@ -444,8 +498,10 @@ fn is_within(number: u64, limits: (u64, u64)) -> bool
 /// Names are hashed by keys that nobody outside knows. Each line is done by one of the workers, between two calls of
 /// the gate. Who connects is a session, by WebSocket after its handshake, whose host is its address. A connection
 /// that isn't taken is closed without a line, and told of on standard error: how many there were, at most once a
-/// second, unless the server is to be quiet; so are the times that the journal was rolled. At the end every session
-/// is told that the server shuts down, and all threads are joined but the one that reads `stop`.
+/// second, unless the server is to be quiet; so are the times that the journal was rolled, and that connections wait
+/// for want of descriptors. With a log each of these is a line, and so is who comes and goes. At the end every session
+/// is told that the server shuts down, and all threads are joined but the one that reads `stop`, and the one that
+/// writes to standard error, for which it waits a second at most.
 ///
 /// # Errors
 ///
@@ -499,7 +555,7 @@ pub fn serve_on<
     gate: &G,
     stop: I,
 ) -> Result<(), ServeFault> {
-    let clock = SystemClock { rt: *rt };
+    let clock = SystemClock::new(*rt);
     let options = Options {
         tcp,
         ws,
@@ -512,6 +568,7 @@ pub fn serve_on<
         gate,
         clock: &clock,
         is_quiet: false,
+        has_log: false,
     };
     serve_with(rt, alloc, options, stop)
 }

@@ -1,7 +1,13 @@
 //! How a server is asked to stop.
+//!
+//! The thread that reads standard input isn't joined, since a read can't be ended from outside when the server stops
+//! because its journal is full.
 use mio::Waker;
-use std::io::Read;
+use std::io::{ErrorKind, Read};
+use std::sync::Wait;
 use std::sync::atomic::{AtomicBool, Ordering};
+use std::thread;
+use std::time::{Clock, Duration};
 
 /// Whether a server was asked to stop, and why. Asking wakes the thread that accepts.
 #[derive(Drop)]
@@ -49,14 +55,22 @@ impl Stopping {
     }
 }
 
-/// Reads until nothing comes any more.
-pub(crate) fn read_to_end<I: Read + Drop>(input: I) {
+/// Milliseconds between two reads of an input that has nothing now.
+const REST: u64 = 200;
+
+/// Reads until an input ends or fails. One that doesn't wait is read again and again.
+pub(crate) fn read_to_end<R: Wait + Clock, I: Read + Drop>(rt: &R, input: I) {
     let mut input = input;
     let mut buffer = [0u8; 64];
-    for _ in 0..u64::MAX {
+    for _ in rt.forever() {
         match input.read(&mut buffer) {
-            Ok(0) | Err(_) => return,
+            Ok(0) => return,
             Ok(_) => {}
+            Err(error) => match error.kind() {
+                ErrorKind::WouldBlock => thread::sleep(rt, Duration::from_millis(REST)),
+                ErrorKind::Interrupted => {}
+                _ => return,
+            },
         }
     }
 }

@@ -1,17 +1,24 @@
 //! A worker: a thread that does the lines of its clients, and opens and ends their sessions.
+//!
+//! What a worker has of its clients is in no lock: a client is registered and placed by its worker itself, so no event
+//! can come for a place that another thread fills; an event for a place that has another client by then does no harm.
+//! A client that sends much is read once between two looks at the events of all. A shut session whose client doesn't
+//! read is looked at every 20 ms, 250 times, since no event says that time went by.
 ghost use Rattle.std.specs.Prelude.{◌≡◌};
 
+mod greeting;
+
 use crate::client::{Client, Place, read_client};
-use crate::connections::{Connection, PAUSE};
-use crate::guests;
-use crate::guests::{Came, Guest, Guests};
+use crate::connections::{Connection, NO_MEMORY, NO_PLACE, PAUSE};
+use crate::guests::Guests;
 use crate::left::{Batch, write_batch};
 use crate::lingering::{Lingerers, TRIES};
+use crate::noting::{note_gone, note_nick, note_opened};
 use crate::opening::{Connected, Opened, Serving, Tokens, open_connected, write_rest};
 use crate::post::{Arrival, Mail, Post, WAKE};
 use crate::web::{Payloads, Web};
 use chronicle::Why;
-use crew::{Gate, Intake, Standing, close_now, hang, tell, write_some};
+use crew::{Gate, GivenUp, Intake, Standing, Swept, give_up, hang, sweep, tell, write_some};
 use hall::{Naming, Told};
 use mio::net::TcpStream;
 use mio::{Events, Interest, Poll, Token};
@@ -30,8 +37,8 @@ pub(crate) const EVENTS: usize = 256;
 /// How many sessions are opened before others have their turn.
 const OPENS: u32 = 16;
 
-/// How many streams may wait for their clients to close them, of all workers.
-const MOST_LINGERING: usize = 1024;
+/// How many sessions that are over are swept in a round, of which each who shares a channel is told.
+const SWEEPS: u32 = 4;
 
 /// What a worker has for itself.
 #[derive(Drop)]
@@ -47,17 +54,21 @@ pub(crate) struct Worker<L: Naming, R: Wait + Copy + Drop> {
     told: Told,
     mail: Mail,
     batch: Batch,
-    /// Who connected and isn't served yet, the first last.
-    arrivals: Vec<Arrival>,
+    /// Who connected and isn't served yet, the first first.
+    arrivals: VecDeque<Arrival>,
     /// Who may have more to be read, those who wait longest first.
     more: VecDeque<usize>,
     /// Whose session is to be given up now.
     closing: Vec<usize>,
-    lingerers: Lingerers,
+    lingerers: Lingerers<R>,
     /// Who is looked at again after a pause; all where there was no memory for the list.
     again: Vec<usize>,
     is_all_again: bool,
+    /// There was no memory for a sweep, which is tried again after a pause.
+    is_sweep_again: bool,
+    /// When the last pause was over, and how many were before that.
     paused: Option<Instant>,
+    pause: u64,
 }
 
 /// Rolls the journal where so much was read since it was last rolled. Where there is no memory for that, it is put
@@ -95,13 +106,15 @@ impl<L: Naming, R: Wait + Clock + Copy + Drop> Worker<L, R> {
             told: Told::new(alloc),
             mail: Mail::new(alloc),
             batch: Batch::new(alloc),
-            arrivals: Vec::new(alloc),
+            arrivals: VecDeque::new(alloc),
             more: VecDeque::new(alloc),
             closing: Vec::new(alloc),
             lingerers: Lingerers::new(alloc),
             again: Vec::new(alloc),
             is_all_again: false,
+            is_sweep_again: false,
             paused: None,
+            pause: 0,
         }
     }
 
@@ -182,6 +195,7 @@ impl<L: Naming, R: Wait + Clock + Copy + Drop> Worker<L, R> {
         has_ended: bool,
     ) {
         let (client, is_more) = read_client(rt, server, client, has_ended, &mut self.told);
+        note_nick(rt, server, client.baton.session(), &client.connection);
         self.batch.add_read();
         if is_more {
             self.list(rt, server, at, client);
@@ -209,7 +223,7 @@ impl<L: Naming, R: Wait + Clock + Copy + Drop> Worker<L, R> {
                 let mut is_readable = is_readable;
                 if is_writable {
                     if let Some(web) = &client.connection.web {
-                        web.go_on();
+                        let _ = web.go_on();
                         // A message may have waited for room for its answer.
                         is_readable = true;
                     }
@@ -253,17 +267,21 @@ impl<L: Naming, R: Wait + Clock + Copy + Drop> Worker<L, R> {
         code: CloseCode,
         tries: u32,
     ) {
-        let most = server.sockets.all.share_of(MOST_LINGERING);
         match Arc::try_clone(&connection.stream) {
             Ok(stream) => {
                 connection.close(code);
-                self.lingerers.add(stream, tries, most);
+                let web = match &connection.web {
+                    Some(web) => web.again(),
+                    None => None,
+                };
+                let all = &server.sockets.all.lingering;
+                self.lingerers.add(stream, web, tries, all);
             }
             Err(_) => connection.end(code),
         }
     }
 
-    /// Ends the connection of a session that nothing more is written for.
+    /// Ends the connection of a session that nothing more is written for, after a fault of its stream or without.
     fn end<G: Gate, C: crew::Clock>(
         &mut self,
         rt: &R,
@@ -271,6 +289,7 @@ impl<L: Naming, R: Wait + Clock + Copy + Drop> Worker<L, R> {
         post: &Post,
         at: usize,
         client: Client<L, R>,
+        is_fault: bool,
     ) {
         let Client {
             baton,
@@ -279,7 +298,9 @@ impl<L: Naming, R: Wait + Clock + Copy + Drop> Worker<L, R> {
             ..
         } = client;
         let session = baton.session();
-        let code = if server.sockets.all.is_stopping() {
+        let code = if is_fault {
+            CloseCode::Error
+        } else if server.sockets.all.is_stopping() {
             CloseCode::Away
         } else {
             CloseCode::Normal
@@ -319,12 +340,17 @@ impl<L: Naming, R: Wait + Clock + Copy + Drop> Worker<L, R> {
         }
         let is_shut = client.connection.is_shut();
         let outlet = &client.connection.outlet;
-        let standing = write_some(rt, server, session, outlet, is_shut, &mut self.told).standing;
-        if is_pause && client.is_waiting {
+        let written = write_some(rt, server, session, outlet, is_shut, &mut self.told);
+        if is_pause && client.is_waiting && client.pause != self.pause {
             client.tries = client.tries.saturating_add(1);
+            client.pause = self.pause;
         }
-        if standing == Standing::Over || TRIES <= client.tries {
-            return self.end(rt, server, post, at, client);
+        if written.standing == Standing::Over || TRIES <= client.tries {
+            let is_fault = match &written.pumped {
+                Some(pumped) => pumped.flow.is_err(),
+                None => false,
+            };
+            return self.end(rt, server, post, at, client, is_fault);
         }
         if is_shut && (is_pause || !client.is_waiting) {
             client.is_waiting = true;
@@ -347,7 +373,8 @@ impl<L: Naming, R: Wait + Clock + Copy + Drop> Worker<L, R> {
         }
     }
 
-    /// Gives a session up, or tries that again after a pause.
+    /// Gives a session up, or tries that again after a pause. Where it can't be given up and the server is closed its
+    /// place is free: all are shut then, and nobody is told that it is gone.
     fn close<G: Gate, C: crew::Clock>(
         &mut self,
         rt: &R,
@@ -362,9 +389,11 @@ impl<L: Naming, R: Wait + Clock + Copy + Drop> Worker<L, R> {
                     stub,
                     writer,
                 } = tokens;
-                match close_now(rt, server, baton, stub, writer, &mut self.told) {
+                let GivenUp { left, .. } = give_up(rt, server, baton, stub, writer);
+                match left {
                     Ok(_) => self.free_place(at, post),
-                    Err((baton, stub, writer)) => {
+                    Err(_) if server.sockets.all.is_closed() => self.free_place(at, post),
+                    Err((_, baton, stub, writer)) => {
                         let tokens = Tokens {
                             baton,
                             stub,
@@ -377,6 +406,32 @@ impl<L: Naming, R: Wait + Clock + Copy + Drop> Worker<L, R> {
             }
             other => self.put(at, other),
         }
+    }
+
+    /// Sweeps some of those who are shut, at most so many, and answers how many more may be swept now. Where there is
+    /// no memory for one it is tried again after a pause.
+    fn sweep_some<G: Gate, C: crew::Clock>(
+        &mut self,
+        rt: &R,
+        server: &Serving<'_, L, R, G, C>,
+        most: u32,
+    ) -> u32 {
+        if most == 0 || !server.sockets.all.take_unswept() {
+            return most;
+        }
+        for swept in 0..most {
+            let Swept { answer, .. } = sweep(rt, server, &mut self.told);
+            match answer {
+                Ok(Some(done)) => note_gone(rt, server, done.number),
+                Ok(None) => return most.saturating_sub(swept),
+                Err(_) => {
+                    self.is_sweep_again = true;
+                    return 0;
+                }
+            }
+        }
+        server.sockets.all.leave_unswept();
+        0
     }
 
     /// Gives up all sessions that are to be given up now.
@@ -392,12 +447,13 @@ impl<L: Naming, R: Wait + Clock + Copy + Drop> Worker<L, R> {
         }
     }
 
-    /// A place for another client.
+    /// A place for another client. The list of free places has room for all places, so none is lost.
     fn free_one(&mut self) -> Result<usize, AllocError> {
         if let Some(at) = self.free.pop() {
             return Ok(at);
         }
         let at = self.places.len();
+        self.free.reserve(at.saturating_add(1))?;
         self.places.push(Place::Empty)?;
         Ok(at)
     }
@@ -453,6 +509,7 @@ impl<L: Naming, R: Wait + Clock + Copy + Drop> Worker<L, R> {
         };
         match open_connected(rt, self.alloc, server, self.sendq, stream, web, at, peer) {
             Some(Connected::Wired(baton, connection)) => {
+                note_opened(server, baton.session(), peer, &connection);
                 let client = Client {
                     baton,
                     connection,
@@ -462,11 +519,18 @@ impl<L: Naming, R: Wait + Clock + Copy + Drop> Worker<L, R> {
                     is_held_up: false,
                     is_waiting: false,
                     tries: 0,
+                    pause: 0,
                 };
                 self.put(at, Place::Held(client));
                 true
             }
             Some(Connected::Refused(opened)) => {
+                note_opened(
+                    server,
+                    opened.tokens.baton.session(),
+                    peer,
+                    &opened.connection,
+                );
                 self.turn_away(rt, server, at, opened);
                 true
             }
@@ -474,7 +538,7 @@ impl<L: Naming, R: Wait + Clock + Copy + Drop> Worker<L, R> {
         }
     }
 
-    /// Serves who connected at a place, where the server takes one.
+    /// Serves who connected at a place, where the server takes one, and answers whether it does.
     fn open_or_free<G: Gate, C: crew::Clock>(
         &mut self,
         rt: &R,
@@ -484,106 +548,15 @@ impl<L: Naming, R: Wait + Clock + Copy + Drop> Worker<L, R> {
         stream: Arc<TcpStream>,
         web: Option<Web<R>>,
         peer: SocketAddr,
-    ) {
+    ) -> bool {
         if self.open_at(rt, server, at, stream, web, peer) {
             // Somebody may have put something before the connection had its wire.
             self.look(rt, server, post, at, false);
-        } else {
-            self.free_place(at, post);
-            server.sockets.all.refuse();
+            return true;
         }
-    }
-
-    /// Goes on with the handshake of who greets at a place.
-    fn greet<G: Gate, C: crew::Clock>(
-        &mut self,
-        rt: &R,
-        server: &Serving<'_, L, R, G, C>,
-        post: &Post,
-        at: usize,
-        guest: Guest,
-    ) {
-        match guest.go_on() {
-            Came::In(front, stream, peer) => {
-                self.guests.remove(at);
-                let web = Web::new(*rt, self.alloc, front);
-                if web.is_none() {
-                    self.free_place(at, post);
-                    return server.sockets.all.refuse();
-                }
-                self.open_or_free(rt, server, post, at, stream, web, peer);
-            }
-            Came::Later(guest) => self.put(at, Place::Greeting(guest)),
-            Came::Out(stream) => {
-                self.guests.remove(at);
-                self.show_out(post, at, &stream);
-            }
-        }
-    }
-
-    /// Ends the stream of who greeted at a place, which is free then.
-    fn show_out(&mut self, post: &Post, at: usize, stream: &TcpStream) {
-        guests::end(stream);
         self.free_place(at, post);
-    }
-
-    /// Gives up who greets at a place.
-    fn give_up(&mut self, post: &Post, at: usize) {
-        match self.take(at) {
-            Place::Greeting(guest) => self.show_out(post, at, &guest.stream),
-            other => self.put(at, other),
-        }
-    }
-
-    /// Has who connected by WebSocket greet at a place. Where too many do, who has greeted longest is given up. It
-    /// answers whether the place is taken now.
-    fn receive(
-        &mut self,
-        rt: &R,
-        post: &Post,
-        at: usize,
-        most: usize,
-        stream: Arc<TcpStream>,
-        peer: SocketAddr,
-    ) -> bool {
-        let Ok(now) = Instant::now(rt) else {
-            return false;
-        };
-        let Some(guest) = Guest::new(self.alloc, stream, peer) else {
-            return false;
-        };
-        let Ok(oldest) = self.guests.add(at, now, most) else {
-            return false;
-        };
-        self.put(at, Place::Greeting(guest));
-        if let Some(oldest) = oldest {
-            self.give_up(post, oldest);
-        }
-        true
-    }
-
-    /// Takes who has greeted longest off the list, if that is too long, or the server is closed.
-    fn take_late_guest(&mut self, rt: &R, is_closed: bool) -> Option<usize> {
-        if self.guests.is_empty() {
-            return None;
-        }
-        if is_closed {
-            return self.guests.take_first();
-        }
-        match Instant::now(rt) {
-            Ok(now) => self.guests.take_late(now),
-            Err(_) => None,
-        }
-    }
-
-    /// Gives up those who have greeted for too long, and all where the server is closed.
-    fn hurry(&mut self, rt: &R, post: &Post, is_closed: bool) {
-        for _ in 0..guests::MOST {
-            let Some(at) = self.take_late_guest(rt, is_closed) else {
-                return;
-            };
-            self.give_up(post, at);
-        }
+        server.sockets.all.refuse(peer, NO_PLACE);
+        false
     }
 
     /// Serves who connected, where the server takes one.
@@ -594,10 +567,10 @@ impl<L: Naming, R: Wait + Clock + Copy + Drop> Worker<L, R> {
         post: &Post,
         arrival: Arrival,
     ) {
+        let all = server.sockets.all;
         let Ok(at) = self.free_one() else {
             post.one_less();
-            server.sockets.all.refuse();
-            return;
+            return all.refuse(arrival.peer, NO_MEMORY);
         };
         self.live = self.live.saturating_add(1);
         let Arrival {
@@ -607,15 +580,15 @@ impl<L: Naming, R: Wait + Clock + Copy + Drop> Worker<L, R> {
         } = arrival;
         let Ok(stream) = self.watch(at, stream) else {
             self.free_place(at, post);
-            return server.sockets.all.refuse();
+            return all.refuse(peer, NO_MEMORY);
         };
         if !is_web {
-            return self.open_or_free(rt, server, post, at, stream, None, peer);
+            let _ = self.open_or_free(rt, server, post, at, stream, None, peer);
+            return;
         }
-        let most = server.sockets.all.share_of(guests::MOST);
-        if !self.receive(rt, post, at, most, stream, peer) {
+        if !self.receive(rt, post, at, &all.greeting, stream, peer) {
             self.free_place(at, post);
-            server.sockets.all.refuse();
+            all.refuse(peer, NO_MEMORY);
         }
     }
 
@@ -640,12 +613,12 @@ impl<L: Naming, R: Wait + Clock + Copy + Drop> Worker<L, R> {
         }
         mail.calls.clear();
         mail.is_all = false;
-        // The last first, so that the first is served first.
         for _ in 0..mail.arrivals.len() {
-            if let Some(arrival) = mail.arrivals.pop() {
-                if self.arrivals.push(arrival).is_err() {
+            if let Some(arrival) = mail.arrivals.pop_front() {
+                let peer = arrival.peer;
+                if self.arrivals.push_back(arrival).is_err() {
                     post.one_less();
-                    server.sockets.all.refuse();
+                    server.sockets.all.refuse(peer, NO_MEMORY);
                 }
             }
         }
@@ -661,14 +634,15 @@ impl<L: Naming, R: Wait + Clock + Copy + Drop> Worker<L, R> {
         post: &Post,
     ) {
         for _ in 0..OPENS {
-            let Some(arrival) = self.arrivals.pop() else {
+            let Some(arrival) = self.arrivals.pop_front() else {
                 return;
             };
             self.open(rt, server, post, arrival);
         }
     }
 
-    /// Does what others left and gives up whose session is to be, until nothing is left to do now.
+    /// Does what others left, sweeps who is shut, of many some, and gives up whose session is to be, until nothing is
+    /// left to do now.
     fn settle<G: Gate, C: crew::Clock>(
         &mut self,
         rt: &R,
@@ -676,18 +650,29 @@ impl<L: Naming, R: Wait + Clock + Copy + Drop> Worker<L, R> {
         post: &Post,
     ) {
         self.batch.add_told(self.told.sessions().len());
+        // Where the server is closed nobody waits, and nobody is told.
+        let most = if server.sockets.all.is_closed() {
+            u32::MAX
+        } else {
+            SWEEPS
+        };
+        let mut sweeps = most;
         for _ in rt.forever() {
             tell(server, &mut self.told);
-            if !self.do_mail(rt, server, post) && self.closing.is_empty() {
+            let is_any = self.do_mail(rt, server, post);
+            let left = self.sweep_some(rt, server, sweeps);
+            if !is_any && left == sweeps && self.closing.is_empty() {
                 break;
             }
+            sweeps = left;
             self.close_those(rt, server, post);
         }
     }
 
     /// Whether somebody is to be looked at again after a pause.
     fn is_waiting(&self) -> bool {
-        self.is_all_again || !self.again.is_empty() || !self.lingerers.is_empty()
+        let is_again = self.is_all_again || self.is_sweep_again || !self.again.is_empty();
+        is_again || !self.lingerers.is_empty()
     }
 
     /// Whether a pause is over.
@@ -701,6 +686,7 @@ impl<L: Naming, R: Wait + Clock + Copy + Drop> Worker<L, R> {
         };
         if is_over {
             self.paused = Some(now);
+            self.pause = self.pause.wrapping_add(1);
         }
         is_over
     }
@@ -715,7 +701,10 @@ impl<L: Naming, R: Wait + Clock + Copy + Drop> Worker<L, R> {
         if !self.is_waiting() || !self.is_pause_over(rt) {
             return;
         }
-        self.lingerers.look();
+        self.lingerers.look(&server.sockets.all.lingering);
+        if mem::replace(&mut self.is_sweep_again, false) {
+            server.sockets.all.leave_unswept();
+        }
         let again = mem::replace(&mut self.again, Vec::new(self.alloc));
         for at in again.iter() {
             self.look(rt, server, post, *at, true);
@@ -731,8 +720,8 @@ impl<L: Naming, R: Wait + Clock + Copy + Drop> Worker<L, R> {
     }
 
     /// How long to wait for an event.
-    fn wait(&self, has_left: bool) -> Option<Duration> {
-        if has_left || !self.more.is_empty() || !self.arrivals.is_empty() {
+    fn wait(&self, is_due: bool) -> Option<Duration> {
+        if is_due || !self.more.is_empty() || !self.arrivals.is_empty() {
             Some(Duration::from_millis(0))
         } else if self.is_waiting() {
             Some(Duration::from_millis(PAUSE))
@@ -757,12 +746,12 @@ impl<L: Naming, R: Wait + Clock + Copy + Drop> Worker<L, R> {
             write_batch(server, &mut self.batch, &self.places);
             self.settle(rt, server, post);
             let is_closed = server.sockets.all.is_closed();
-            self.hurry(rt, post, is_closed);
+            self.hurry(rt, post, &server.sockets.all.greeting, is_closed);
             if is_closed && self.live == 0 && self.lingerers.is_empty() {
                 return;
             }
             let has_left = self.batch.fill(rt, post);
-            let wait = self.wait(has_left);
+            let wait = self.wait(has_left || server.sockets.all.is_to_sweep());
             if self.poll.poll(events, wait).is_err() {
                 thread::sleep(rt, Duration::from_millis(PAUSE));
             }

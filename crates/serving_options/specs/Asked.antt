@@ -2,7 +2,7 @@
 use Rattle.std.specs.Prelude.{◌≡◌, ◌≤◌, ⊤, None, IsSome}
 use Rattle.serving_options.specs.declared.command_line.ServeOptions.{ServeOptions}
 use Rattle.serving_options.specs.declared.command_line.Asked.{Asked}
-use Rattle.serving_options.specs.declared.command_line.Asked.TheVariants.{Play, Serve}
+use Rattle.serving_options.specs.declared.command_line.Asked.TheVariants.{Play, Serve, Check, Account}
 
 pub record IsWithinLimits (o : ServeOptions) : Type 0 where
   pub some_workers : 1 ≤ o.workers
@@ -23,7 +23,11 @@ IsSomewhere o = o.tcp ≡ None → IsSome o.ws
 abbrev pub IsAskedWithinLimits : Asked → Type 0
 IsAskedWithinLimits Play = ⊤
 IsAskedWithinLimits (Serve o) = IsWithinLimits o
+IsAskedWithinLimits (Check o) = IsWithinLimits o
+IsAskedWithinLimits (Account name) = ⊤
 
 abbrev pub IsAskedSomewhere : Asked → Type 0
 IsAskedSomewhere Play = ⊤
 IsAskedSomewhere (Serve o) = IsSomewhere o
+IsAskedSomewhere (Check o) = IsSomewhere o
+IsAskedSomewhere (Account name) = ⊤

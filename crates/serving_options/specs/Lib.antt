@@ -1,2 +1,4 @@
+pub mod Accounts
 pub mod Asked
+pub mod Faults
 pub mod Files

@@ -16,6 +16,10 @@ pub enum Asked<'a> {
     Play,
     /// To serve clients.
     Serve(ServeOptions<'a>),
+    /// To say whether a server with these options would start.
+    Check(ServeOptions<'a>),
+    /// To print the line of an account of this name, of which nothing is checked yet.
+    Account(&'a str),
 }
 
 /// Options of `halld serve`.
@@ -41,9 +45,14 @@ pub struct ServeOptions<'a> {
     pub accounts: Option<&'a str>,
     /// The file of the message of the day.
     pub motd: Option<&'a str>,
-    /// Whether it says nothing of where it listens and whom it refuses.
+    /// Whether it says nothing of where it listens, whom it refuses and why it ends.
     pub is_quiet: bool,
+    /// Whether each thing that happens is a line of standard error.
+    pub has_log: bool,
 }
+
+/// The version. Who builds a commit may put its first eleven digits in the place of the word.
+const VERSION: &str = "1 (commit unspecified)";
 
 /// An option that takes a value.
 fn option<'a>(alloc: Global, id: &'a str, value: &'a str, help: &'a str) -> Arg<'a> {
@@ -67,8 +76,20 @@ fn number<'a>(
         .default_value(usual)
 }
 
-/// `serve` and its options.
-fn serve_command<'a>(alloc: Global) -> Result<Command<'a>, AllocError> {
+/// An option that is there or not.
+fn flag<'a>(alloc: Global, id: &'a str, help: &'a str) -> Arg<'a> {
+    Arg::new(alloc, id)
+        .long(id)
+        .action(ArgAction::SetTrue)
+        .help(help)
+}
+
+/// A command that takes the options of a server.
+fn serve_command<'a>(
+    alloc: Global,
+    name: &'a str,
+    about: &'a str,
+) -> Result<Command<'a>, AllocError> {
     let tcp = option(
         alloc,
         "tcp",
@@ -81,20 +102,21 @@ fn serve_command<'a>(alloc: Global) -> Result<Command<'a>, AllocError> {
         "ADDR",
         "Listen on this address for WebSocket, as 127.0.0.1:8067",
     );
-    let name = option(alloc, "name", "HOST", "The server's name");
-    let workers = "Lines that are worked on at a time, 1 to 64";
+    let host = option(alloc, "name", "HOST", "The server's name");
+    let workers = "Threads that serve clients, 1 to 64";
     let sendq = "Items that may wait for a session, 1 to 4096";
     let bytes = "Octets that may wait for a session besides its newest item, 65536 to 1073741824";
     let limit = "Records that the journal keeps, 1 to 10000000";
     let journal = "Octets that are read before the journal's records go, 65536 to 68719476736";
     let accounts = "Accounts, a line NAME SALT DIGEST each";
     let motd = "The message of the day";
-    let quiet = "Don't say where it listens, nor whom it refuses";
-    Command::new(alloc, "serve")
-        .about("Serve clients until standard input ends")
+    let quiet = "Don't say where it listens, whom it refuses and why it ends";
+    let log = "Print a line for each thing that happens, such as who comes and goes";
+    Command::new(alloc, name)
+        .about(about)
         .arg(tcp)?
         .arg(ws)?
-        .arg(name.default_value("irc.example"))?
+        .arg(host.default_value("irc.example"))?
         .arg(number(alloc, "workers", (1, 64), "2", workers))?
         .arg(number(alloc, "sendq", (1, 4096), "256", sendq))?
         .arg(number(
@@ -114,12 +136,18 @@ fn serve_command<'a>(alloc: Global) -> Result<Command<'a>, AllocError> {
         ))?
         .arg(option(alloc, "accounts", "FILE", accounts))?
         .arg(option(alloc, "motd", "FILE", motd))?
-        .arg(
-            Arg::new(alloc, "quiet")
-                .long("quiet")
-                .action(ArgAction::SetTrue)
-                .help(quiet),
-        )
+        .arg(flag(alloc, "quiet", quiet))?
+        .arg(flag(alloc, "log", log))
+}
+
+/// `account` and its name.
+fn account_command<'a>(alloc: Global) -> Result<Command<'a>, AllocError> {
+    let name = Arg::new(alloc, "NAME")
+        .required(true)
+        .help("The user's name, a nickname");
+    Command::new(alloc, "account")
+        .about("Read a password from standard input and print an account's line for --accounts")
+        .arg(name)
 }
 
 /// The whole command line, where this is told of scripts.
@@ -127,12 +155,17 @@ fn whole_command<'a>(alloc: Global, script: &'a str) -> Result<Command<'a>, Allo
     let play = Command::new(alloc, "play")
         .about("Play a script of steps from standard input and print what each step gave")
         .after_help(script);
+    let serve = serve_command(alloc, "serve", "Serve clients until standard input ends")?;
+    let about = "Say whether a server with these options would start, and listen nowhere";
+    let check = serve_command(alloc, "check", about)?;
     Command::new(alloc, "halld")
-        .version("1")
+        .version(VERSION)
         .about("An IRC server whose core is proved")
         .subcommand_required(true)
         .subcommand(play)?
-        .subcommand(serve_command(alloc)?)
+        .subcommand(serve)?
+        .subcommand(check)?
+        .subcommand(account_command(alloc)?)
 }
 
 /// A number where it lies within limits, else the usual one.
@@ -147,50 +180,57 @@ fn within(number: Option<u64>, limits: (u64, u64), usual: u64) -> u64
     }
 }
 
-/// A refusal of addresses.
-fn refusal(alloc: Global, kind: ErrorKind, text: &str) -> Result<Error, AllocError> {
-    serve_command(alloc)?
-        .bin_name("halld serve")?
+/// A refusal of a command's addresses.
+fn refusal(alloc: Global, command: &str, kind: ErrorKind, text: &str) -> Result<Error, AllocError> {
+    serve_command(alloc, "serve", "")?
+        .bin_name(command)?
         .error(kind, text)
 }
 
 /// The address of an option, if there is one.
 fn address(
     alloc: Global,
+    command: &str,
     matches: &ArgMatches<'_>,
     id: &str,
     refused: &str,
 ) -> Result<Option<SocketAddr>, Error> {
     match matches.try_get_one::<SocketAddr>(id) {
         Ok(found) => Ok(found),
-        Err(_) => Err(refusal(alloc, ErrorKind::ValueValidation, refused)?),
+        Err(_) => Err(refusal(alloc, command, ErrorKind::ValueValidation, refused)?),
     }
 }
 
 /// Where to listen, and where for WebSocket: somewhere at least.
 fn addresses(
     alloc: Global,
+    command: &str,
     matches: &ArgMatches<'_>,
 ) -> Result<(Option<SocketAddr>, Option<SocketAddr>), Error>
     ensures { IfOk result (λ a. a.0 ≡ None → IsSome a.1) }
 {
     let refused = "'--tcp <ADDR>' wants an address and a port, as 127.0.0.1:6667 or [::1]:6667";
-    let tcp = address(alloc, matches, "tcp", refused)?;
+    let tcp = address(alloc, command, matches, "tcp", refused)?;
     let refused = "'--ws <ADDR>' wants an address and a port, as 127.0.0.1:8067 or [::1]:8067";
-    let ws = address(alloc, matches, "ws", refused)?;
+    let ws = address(alloc, command, matches, "ws", refused)?;
     if tcp.is_none() && ws.is_none() {
         let missing = "'--tcp <ADDR>' or '--ws <ADDR>' is wanted";
-        return Err(refusal(alloc, ErrorKind::MissingRequiredArgument, missing)?);
+        let kind = ErrorKind::MissingRequiredArgument;
+        return Err(refusal(alloc, command, kind, missing)?);
     }
     Ok((tcp, ws))
 }
 
-/// The options of `serve`.
-fn serve_options<'a>(alloc: Global, matches: &ArgMatches<'a>) -> Result<ServeOptions<'a>, Error>
+/// The options of a command that takes those of a server.
+fn serve_options<'a>(
+    alloc: Global,
+    command: &str,
+    matches: &ArgMatches<'a>,
+) -> Result<ServeOptions<'a>, Error>
     ensures limits { IfOk result IsWithinLimits }
     ensures somewhere { IfOk result IsSomewhere }
 {
-    let (tcp, ws) = addresses(alloc, matches)?;
+    let (tcp, ws) = addresses(alloc, command, matches)?;
     Ok(ServeOptions {
         tcp,
         ws,
@@ -211,6 +251,7 @@ fn serve_options<'a>(alloc: Global, matches: &ArgMatches<'a>) -> Result<ServeOpt
         accounts: matches.get_str("accounts"),
         motd: matches.get_str("motd"),
         is_quiet: matches.get_flag("quiet"),
+        has_log: matches.get_flag("log"),
     })
 }
 
@@ -227,7 +268,13 @@ pub fn parse<'a, S: AsStr>(
 {
     let matches = whole_command(alloc, script)?.try_get_matches_from(words)?;
     match matches.subcommand() {
-        Some(("serve", matches)) => Ok(Asked::Serve(serve_options(alloc, matches)?)),
+        Some(("serve", matches)) => {
+            Ok(Asked::Serve(serve_options(alloc, "halld serve", matches)?))
+        }
+        Some(("check", matches)) => {
+            Ok(Asked::Check(serve_options(alloc, "halld check", matches)?))
+        }
+        Some(("account", matches)) => Ok(Asked::Account(matches.get_str("NAME").unwrap_or(""))),
         _ => Ok(Asked::Play),
     }
 }

@@ -9,28 +9,25 @@ ghost use Rattle.serving_options.specs.Files.{body_of, motd_in};
 use line_grammar::{Octets, OctetsList};
 use registration::{AccountFault, Accounts};
 use std::alloc::{AllocError, Global};
-use std::fs;
 use std::fs::Files;
-use std::io::ErrorKind;
+use std::{fs, io};
 
-/// Why a file gives nothing.
+/// Why a file of accounts gives none.
 #[derive(Clone, Copy, Debug, PartialEq)]
 pub enum FileFault {
-    /// It can't be read.
-    Unreadable,
-    /// This line of the accounts has a fault.
+    /// This line has a fault.
     Account(u64, AccountFault),
     /// A growth was refused.
     Memory,
 }
 
 /// What a file holds.
-pub fn content_of<R: Files + Alloc<A = Global>>(rt: &R, path: &str) -> Result<Vec<u8>, FileFault> {
-    match fs::read(rt, path) {
-        Ok(content) => Ok(content),
-        Err(error) if error.kind() == ErrorKind::OutOfMemory => Err(FileFault::Memory),
-        Err(_) => Err(FileFault::Unreadable),
-    }
+///
+/// # Errors
+///
+/// Those of the system, by which a file can't be read, and `OutOfMemory`.
+pub fn content_of<R: Files + Alloc<A = Global>>(rt: &R, path: &str) -> io::Result<Vec<u8>> {
+    fs::read(rt, path)
 }
 
 /// A text without the line feed at its end.

@@ -1,4 +1,4 @@
-//! Trials of a server on sockets, with its clients in the same process.
+//! Trials of a server on sockets, with its clients in the same process, and of a session's WebSocket.
 #![tactic(auto)]
 
 #[cfg(test)]
@@ -7,6 +7,12 @@ mod client;
 mod clocks;
 #[cfg(test)]
 mod gates;
+#[cfg(test)]
+mod greetings;
+#[cfg(test)]
+mod memory;
+#[cfg(test)]
+mod messages;
 #[cfg(test)]
 mod running;
 #[cfg(test)]

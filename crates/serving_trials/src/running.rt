@@ -29,7 +29,7 @@ fn settings(alloc: Global) -> Result<Settings, AllocError> {
     })
 }
 
-/// Serves with two workers, by the machine's clock, or by a clock that is set by hand where somebody is silent.
+/// Serves with two workers, by the machine's clock, or by a clock that is set by hand where a story tells of time.
 /// Whether that ends well.
 fn serves<R>(
     rt: &R,
@@ -49,7 +49,7 @@ where
         Story::ByWebSocket => (None, Some(listener)),
         _ => (Some(listener), None),
     };
-    if !matches!(story, Story::Silence) {
+    if !matches!(story, Story::Silence | Story::Jump) {
         return serve_on(rt, alloc, tcp, ws, settings, 1000, 2, 16, gate, stop).is_ok();
     }
     let options = Options {
@@ -64,6 +64,7 @@ where
         gate,
         clock,
         is_quiet: false,
+        has_log: false,
     };
     serve_with(rt, alloc, options, stop).is_ok()
 }

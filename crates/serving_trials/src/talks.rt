@@ -20,6 +20,8 @@ pub(crate) enum Story {
     ByWebSocket,
     /// One is silent by a clock that is set by hand, answers a PING, and is silent once more.
     Silence,
+    /// An hour passes at once by such a clock; of two who were silent meanwhile one answers a PING.
+    Jump,
 }
 
 /// A client that has registered.
@@ -98,41 +100,85 @@ fn by_websocket<R: Net<Stream = TcpStream>>(
     Ok(is_greeted && is_answered && is_told)
 }
 
-/// Time passes, and somebody connects, which wakes the thread that accepts. Whether a client then hears a line.
+/// So many milliseconds pass, and somebody connects, which wakes the thread that accepts. Whether a client then hears
+/// a line.
 fn hears_after<R: Net<Stream = TcpStream>>(
     rt: &R,
     alloc: Global,
     address: SocketAddr,
     dial: &Dial,
+    passed: i64,
     client: &mut Client,
     line: &[u8],
 ) -> io::Result<bool> {
-    dial.move_on(120_000);
+    dial.move_on(passed);
     let knocks = Client::connect(rt, alloc, address)?;
     let is_heard = client.hears(alloc, line)?;
     drop(knocks);
     Ok(is_heard)
 }
 
+/// What a client is sent that is silent, and at last.
+const PING: &[u8] = b":irc.example PING irc.example";
+
+const END: &[u8] = b"ERROR :Closing Link: 127.0.0.1 (Ping timeout)";
+
+/// A client whose PING was answered.
+fn answered<R: Net<Stream = TcpStream>>(
+    rt: &R,
+    alloc: Global,
+    address: SocketAddr,
+) -> io::Result<Option<Client>> {
+    let mut client = Client::connect(rt, alloc, address)?;
+    client.send(b"PING x\r\n")?;
+    if client.hears(alloc, b":irc.example PONG irc.example x")? {
+        Ok(Some(client))
+    } else {
+        Ok(None)
+    }
+}
+
 /// Whether a session that is silent for two minutes is pinged, once more two minutes after it answered, and ended
-/// after four.
+/// after four: by the beat after that of which another hears, since one that comes so late ends nobody.
 fn silence<R: Net<Stream = TcpStream>>(
     rt: &R,
     alloc: Global,
     address: SocketAddr,
     dial: &Dial,
 ) -> io::Result<bool> {
-    let mut client = Client::connect(rt, alloc, address)?;
-    client.send(b"PING x\r\n")?;
-    let is_there = client.hears(alloc, b":irc.example PONG irc.example x")?;
-    let ping: &[u8] = b":irc.example PING irc.example";
-    let is_pinged = hears_after(rt, alloc, address, dial, &mut client, ping)?;
+    let Some(mut client) = answered(rt, alloc, address)? else {
+        return Ok(false);
+    };
+    let is_pinged = hears_after(rt, alloc, address, dial, 120_000, &mut client, PING)?;
     client.send(b"PONG irc.example\r\nPING y\r\n")?;
     let is_heard = client.hears(alloc, b":irc.example PONG irc.example y")?;
-    let again = hears_after(rt, alloc, address, dial, &mut client, ping)?;
-    let end: &[u8] = b"ERROR :Closing Link: 127.0.0.1 (Ping timeout)";
-    let is_ended = hears_after(rt, alloc, address, dial, &mut client, end)?;
-    Ok(is_there && is_pinged && is_heard && again && is_ended)
+    let again = hears_after(rt, alloc, address, dial, 120_000, &mut client, PING)?;
+    let Some(mut other) = answered(rt, alloc, address)? else {
+        return Ok(false);
+    };
+    let is_late = hears_after(rt, alloc, address, dial, 120_000, &mut other, PING)?;
+    let is_ended = hears_after(rt, alloc, address, dial, 10_000, &mut client, END)?;
+    Ok(is_pinged && is_heard && again && is_late && is_ended)
+}
+
+/// Whether after an hour in which nobody could be heard who answers a PING goes on, and who doesn't is ended by the
+/// beat after that.
+fn jump<R: Net<Stream = TcpStream>>(
+    rt: &R,
+    alloc: Global,
+    address: SocketAddr,
+    dial: &Dial,
+    al: &mut Client,
+    bo: &mut Client,
+) -> io::Result<bool> {
+    let are_pinged = hears_after(rt, alloc, address, dial, 3_600_000, al, PING)?
+        && bo.hears(alloc, PING)?;
+    al.send(b"PING x\r\n")?;
+    let is_heard = al.hears(alloc, b":irc.example PONG irc.example x")?;
+    let is_ended = hears_after(rt, alloc, address, dial, 10_000, bo, END)?;
+    al.send(b"PING y\r\n")?;
+    let goes_on = al.hears(alloc, b":irc.example PONG irc.example y")?;
+    Ok(are_pinged && is_heard && is_ended && goes_on)
 }
 
 /// Two clients that have registered.
@@ -161,17 +207,20 @@ pub(crate) fn talk<R: Clock + Drop + Net<Stream = TcpStream>>(
     match story {
         Story::ByWebSocket => return by_websocket(rt, alloc, address),
         Story::Silence => return silence(rt, alloc, address, dial),
-        Story::TwoPeople | Story::AtOnce => {}
+        Story::TwoPeople | Story::AtOnce | Story::Jump => {}
     }
     let Some((mut al, mut bo)) = both(rt, alloc, address)? else {
         return Ok(false);
     };
     match story {
         Story::AtOnce => at_once(alloc, gate, &mut al, &mut bo),
+        Story::Jump => jump(rt, alloc, address, dial, &mut al, &mut bo),
         _ => two_people(alloc, &mut al, &mut bo),
     }
 }
 
+/// Over the loopback two people are on a channel, octets that are no UTF-8 arrive unchanged, who quits reads
+/// `ERROR`, and the other reads its `QUIT`.
 #[test]
 fn two_people_talk_over_the_loopback(rt: HostRuntime) -> Result<(), Fail> {
     let gate = Turnstile::new(rt);
@@ -179,6 +228,8 @@ fn two_people_talk_over_the_loopback(rt: HostRuntime) -> Result<(), Fail> {
     Ok(())
 }
 
+/// Over the loopback a message `PING x` of a session that isn't registered is answered by the message `:irc.example
+/// PONG irc.example x`; `QUIT` by its ERROR line and a close with 1000.
 #[test]
 fn ping_by_websocket_is_answered(rt: HostRuntime) -> Result<(), Fail> {
     let gate = Turnstile::new(rt);
@@ -186,6 +237,7 @@ fn ping_by_websocket_is_answered(rt: HostRuntime) -> Result<(), Fail> {
     Ok(())
 }
 
+/// Over the loopback a client that is silent is pinged, pinged again after an answer, and ended.
 #[test]
 fn who_is_silent_is_pinged_and_then_ended(rt: HostRuntime) -> Result<(), Fail> {
     let gate = Turnstile::new(rt);
@@ -193,6 +245,15 @@ fn who_is_silent_is_pinged_and_then_ended(rt: HostRuntime) -> Result<(), Fail> {
     Ok(())
 }
 
+/// After an hour in which nobody could be heard who answers a PING goes on, and who doesn't is ended by a later beat.
+#[test]
+fn who_answers_after_an_hour_that_jumped_by_goes_on(rt: HostRuntime) -> Result<(), Fail> {
+    let gate = Turnstile::new(rt);
+    assert!(rt; is_served(&rt, rt.alloc(), &gate, Story::Jump)?);
+    Ok(())
+}
+
+/// A server with two workers answers two clients at once, each of whose lines waits for the other's.
 #[test]
 fn lines_of_two_are_done_at_once(rt: HostRuntime) -> Result<(), Fail> {
     let gate = Turnstile::new(rt);

@@ -218,6 +218,8 @@ fn settings(alloc: Global) -> Result<Settings, AllocError> {
     })
 }
 
+/// A `JOIN` of three channels, a `MODE` of four parameters and a `KICK` of four are decided whole, also where an
+/// allocation failed before.
 #[test]
 fn a_line_that_does_much_is_done_whole(rt: HostRuntime) -> Result<(), Fail> {
     let settings = settings(rt.alloc())?;
@@ -228,6 +230,7 @@ fn a_line_that_does_much_is_done_whole(rt: HostRuntime) -> Result<(), Fail> {
     Ok(())
 }
 
+/// A roster whose names are hashed by the keys of a `RandomState` finds the same as one with fixed keys.
 #[test]
 fn names_are_found_by_the_keys_of_a_state(rt: HostRuntime) -> Result<(), Fail> {
     let settings = settings(rt.alloc())?;

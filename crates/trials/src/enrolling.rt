@@ -68,18 +68,20 @@ const FILES: [(&str, Option<(u64, AccountFault)>); 20] = [
     ("al a\n1 a b", Some((1, AccountFault::Shape))),
 ];
 
-/// Whether a file has this first fault, or none.
+/// Whether a file has this first fault, or none. Where there is no memory it is read once more.
 fn is_answered(alloc: Global, file: &str, want: Option<(u64, AccountFault)>) -> bool {
-    Accounts::read(alloc, file.as_bytes()).err() == want
+    let fault = match Accounts::read(alloc, file.as_bytes()).err() {
+        Some((_, AccountFault::Memory)) => Accounts::read(alloc, file.as_bytes()).err(),
+        fault => fault,
+    };
+    fault == want
 }
 
+/// A line `al a` of the accounts is out of shape, and the same account twice is told by its second line.
 #[test]
 fn files_are_read(rt: HostRuntime) {
     for (file, want) in &FILES {
-        assert!(rt;
-            is_answered(rt.alloc(), file, *want) || is_answered(rt.alloc(), file, *want),
-            "{file}"
-        );
+        assert!(rt; is_answered(rt.alloc(), file, *want), "{file}");
     }
 }
 
@@ -111,6 +113,7 @@ fn is_checked(
     }
 }
 
+/// Salt and password are hashed to the account's digest, in either case of the name.
 #[test]
 fn who_knows_a_password_logs_in(rt: HostRuntime) -> Result<(), Fail> {
     for (user, password, want) in &LOGINS {

@@ -14,6 +14,7 @@ const LINES: [(&[u8], Option<&[u8]>); 7] = [
     (b"@a PING \0", None),
 ];
 
+/// Tag data is what stands between `@` and the first space of a line that is a message.
 #[test]
 fn tag_data_of_lines(rt: HostRuntime) -> Result<(), Fail> {
     for (line, want) in &LINES {
@@ -33,6 +34,8 @@ const RAW_VALUES: [(&[u8], Option<&[u8]>); 7] = [
     (b"", None),
 ];
 
+/// Of a tag's key the last counts, as it stands; a value that isn't UTF-8, and a key that is out of shape, counts
+/// for none.
 #[test]
 fn raw_values(rt: HostRuntime) -> Result<(), Fail> {
     for (tags, want) in &RAW_VALUES {
@@ -51,6 +54,7 @@ const LENGTHS: [(&[u8], usize); 6] = [
     (b"\\:\\:\\b", 3),
 ];
 
+/// How many octets an escaped value means: a lone backslash at the end means none.
 #[test]
 fn lengths_of_values(rt: HostRuntime) -> Result<(), Fail> {
     for (value, want) in &LENGTHS {

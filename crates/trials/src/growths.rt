@@ -92,6 +92,7 @@ fn spelled(alloc: Global, reply: usize, copies: usize) -> Result<Octets, AllocEr
     answer_text(alloc, b"x", Some(label), number, reply, &copies, &to)
 }
 
+/// An answer is spelled with its label, and its copies without one, also where an allocation failed before.
 #[test]
 fn answers_are_spelled_whole(rt: HostRuntime) -> Result<(), Fail> {
     for (reply, copies, want) in &ANSWERS {
@@ -101,6 +102,7 @@ fn answers_are_spelled_whole(rt: HostRuntime) -> Result<(), Fail> {
     Ok(())
 }
 
+/// The same in two steps, wrapped and then rendered.
 #[test]
 fn answers_are_whole(rt: HostRuntime) -> Result<(), Fail> {
     for (reply, copies, want) in &ANSWERS {
@@ -118,6 +120,7 @@ fn time(alloc: Global, at: i64) -> Result<Octets, TimeFault> {
     }
 }
 
+/// A leap day is printed to the millisecond, a moment below 0 isn't, also where an allocation failed before.
 #[test]
 fn moments_are_texts(rt: HostRuntime) -> Result<(), Fail> {
     let text = time(rt.alloc(), 951782400123).ok().ok_or("a text")?;

@@ -1,6 +1,6 @@
-//! Tests of the crates that know lines, tags, names, moments and items: worked examples of the public standard, and
-//! what no clause says. They stand apart from the crates that they test, so that none of those is proved once more
-//! with its tests.
+//! Tests of the crates that know lines, tags, names, moments, items and the command line: worked examples of the
+//! public standard, and what no clause says. They stand apart from the crates that they test, so that none of those is
+//! proved once more with its tests.
 #![tactic(auto)]
 
 #[cfg(test)]
@@ -19,5 +19,7 @@ mod lines;
 mod moments;
 #[cfg(test)]
 mod names;
+#[cfg(test)]
+mod options;
 #[cfg(test)]
 mod tags;

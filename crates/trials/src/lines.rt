@@ -38,9 +38,41 @@ fn held_of_a_million(alloc: Global) -> Result<(usize, usize, usize), AllocError>
     Ok((held, splitter.held(), out.len()))
 }
 
+/// A million octets without a line's end are not held.
 #[test]
 fn a_million_octets_are_not_held(rt: HostRuntime) -> Result<(), Fail> {
     assert_eq!(rt; held_of_a_million(rt.alloc())?, (0, 2, 1));
+    Ok(())
+}
+
+/// Whether a million octets that come in one feed are no piece before their line ends, one that is too long then, and
+/// not held at any time.
+fn is_one_too_long(alloc: Global) -> Result<bool, AllocError> {
+    let octets = vec![in alloc; b'x'; 1_000_000]?;
+    let mut splitter = Splitter::new(alloc);
+    let mut out = Vec::new(alloc);
+    splitter.feed(&octets, &mut out)?;
+    let is_dropped = out.is_empty() && splitter.held() == 0;
+    splitter.feed(b"\r", &mut out)?;
+    Ok(is_dropped && are_lines(&out, &[None]) && splitter.held() == 0)
+}
+
+/// What is held of a line of so many octets before its end, where the first begins its tags.
+fn held_of(alloc: Global, tags: usize, rest: usize) -> Result<usize, AllocError> {
+    let mut splitter = Splitter::new(alloc);
+    let mut out = Vec::new(alloc);
+    splitter.feed(b"@", &mut out)?;
+    splitter.feed(&vec![in alloc; b'a'; tags]?, &mut out)?;
+    splitter.feed(b" ", &mut out)?;
+    splitter.feed(&vec![in alloc; b'x'; rest]?, &mut out)?;
+    Ok(splitter.held())
+}
+
+/// A million octets in one feed are one line that is too long, and the longest line with tags is held whole.
+#[test]
+fn a_million_octets_in_one_feed_are_one_line(rt: HostRuntime) -> Result<(), Fail> {
+    assert!(rt; is_one_too_long(rt.alloc())?);
+    assert_eq!(rt; held_of(rt.alloc(), 4094, 510)?, 4606);
     Ok(())
 }
 
@@ -81,12 +113,14 @@ fn are_fed(alloc: Global) -> Result<bool, AllocError> {
     Ok(are_lines(&out, &FED_LINES) && splitter.held() == 3)
 }
 
+/// A line that comes in pieces is the line that comes at once.
 #[test]
 fn feeds_after_a_refused_growth(rt: HostRuntime) -> Result<(), Fail> {
     assert!(rt; are_fed(rt.alloc())?);
     Ok(())
 }
 
+/// A line that comes in pieces is the line that comes at once.
 #[test]
 fn what_is_fed_in_turn_is_split_at_once(rt: HostRuntime) -> Result<(), Fail> {
     let pieces = copied_all(rt.alloc(), &FEEDS)?;
@@ -135,6 +169,8 @@ fn length_of(
     }
 }
 
+/// A piece of 510 octets is a line, one of 511 is too long. Tag data of 4,094 octets and a rest stand as a line,
+/// 4,095 are too long, with or without a rest.
 #[test]
 fn lines_have_limits(rt: HostRuntime) -> Result<(), Fail> {
     for (front, count, back, want) in &LIMITS {
@@ -332,10 +368,26 @@ fn is_message(message: &Message, reading: &Reading) -> bool {
 }
 
 /// The message of a line, with copies of its parts.
-fn message_of(alloc: Global, line: &[u8]) -> Result<Message, LineFault> {
+fn message_once(alloc: Global, line: &[u8]) -> Result<Message, LineFault> {
     match parse(alloc, line) {
         Ok(message) => Ok(message.to_message(alloc)?),
         Err(fault) => Err(fault),
+    }
+}
+
+/// The same, once more where a growth was refused.
+fn message_of(alloc: Global, line: &[u8]) -> Result<Message, LineFault> {
+    match message_once(alloc, line) {
+        Err(LineFault::Memory) => message_once(alloc, line),
+        answer => answer,
+    }
+}
+
+/// A line that is read, once more where a growth was refused.
+fn parsed(alloc: Global, line: &[u8]) -> Result<LineMessage<'_>, LineFault> {
+    match parse(alloc, line) {
+        Err(LineFault::Memory) => parse(alloc, line),
+        answer => answer,
     }
 }
 
@@ -347,29 +399,29 @@ fn is_read(alloc: Global, reading: &Reading) -> bool {
     }
 }
 
-/// Compares how lines are read, once more where a growth was refused.
+/// Compares how lines are read.
 fn compare_readings(rt: &impl Abort, alloc: Global, readings: &[Reading]) {
     for reading in readings {
-        assert!(rt;
-            is_read(alloc, reading) || is_read(alloc, reading),
-            "{:?}",
-            reading.0
-        );
+        assert!(rt; is_read(alloc, reading), "{:?}", reading.0);
     }
 }
 
+/// A command is letters or three digits; its parameters end with the one behind a colon (RFC 2812, section 2.3.1).
 #[test]
 fn reads_commands(rt: HostRuntime) -> Result<(), Fail> {
     compare_readings(&rt, rt.alloc(), &COMMANDS);
     Ok(())
 }
 
+/// A line may begin with tags and a source, each with a space behind it (IRCv3 message-tags; RFC 2812, section
+/// 2.3.1).
 #[test]
 fn reads_sources_and_tags(rt: HostRuntime) -> Result<(), Fail> {
     compare_readings(&rt, rt.alloc(), &SOURCES);
     Ok(())
 }
 
+/// A message has at most fifteen parameters: what stands behind the fourteenth is one (RFC 2812, section 2.3.1).
 #[test]
 fn reads_as_many_parameters_as_a_line_has(rt: HostRuntime) -> Result<(), Fail> {
     compare_readings(&rt, rt.alloc(), &FULL);
@@ -409,7 +461,7 @@ fn is_first(kept: &Option<Octets>, parameters: &[&[u8]]) -> bool {
 
 /// Whether a message is found in its line, and keeps its command.
 fn keeps_command(alloc: Global, reading: &Reading) -> bool {
-    match parse(alloc, reading.0) {
+    match parsed(alloc, reading.0) {
         Ok(message) => {
             is_found(&message, reading) && message.into_command().as_slice() == reading.3
         }
@@ -419,28 +471,21 @@ fn keeps_command(alloc: Global, reading: &Reading) -> bool {
 
 /// Whether a message keeps its first parameter.
 fn keeps_parameter(alloc: Global, reading: &Reading) -> bool {
-    match parse(alloc, reading.0) {
+    match parsed(alloc, reading.0) {
         Ok(message) => is_first(&message.into_first_param(), reading.4),
         Err(_) => false,
     }
 }
 
-/// Compares what is found and kept of lines, once more where a growth was refused.
+/// Compares what is found and kept of lines.
 fn compare_parts(rt: &impl Abort, alloc: Global, readings: &[Reading]) {
     for reading in readings {
-        assert!(rt;
-            keeps_command(alloc, reading) || keeps_command(alloc, reading),
-            "{:?}",
-            reading.0
-        );
-        assert!(rt;
-            keeps_parameter(alloc, reading) || keeps_parameter(alloc, reading),
-            "{:?}",
-            reading.0
-        );
+        let keeps = keeps_command(alloc, reading) && keeps_parameter(alloc, reading);
+        assert!(rt; keeps, "{:?}", reading.0);
     }
 }
 
+/// The parts of a message are found where they lie in the line, and kept as they are.
 #[test]
 fn finds_and_keeps_the_parts_of_messages(rt: HostRuntime) -> Result<(), Fail> {
     compare_parts(&rt, rt.alloc(), &COMMANDS);
@@ -470,6 +515,7 @@ const FAULTS: [(&[u8], LineFault); 17] = [
     (b"\x00", LineFault::HasNul),
 ];
 
+/// A line with NUL, or without a command, is no message.
 #[test]
 fn reads_no_message(rt: HostRuntime) -> Result<(), Fail> {
     for (line, fault) in &FAULTS {
@@ -495,7 +541,11 @@ fn is_spelled(alloc: Global, message: &Message, line: &[u8]) -> bool {
     if !is_writable(message) {
         return false;
     }
-    match write(alloc, message) {
+    let octets = match write(alloc, message) {
+        Err(WriteFault::Memory) => write(alloc, message),
+        answer => answer,
+    };
+    match octets {
         Ok(octets) => octets.as_slice() == line,
         Err(_) => false,
     }
@@ -509,13 +559,11 @@ fn is_respelled(alloc: Global, line: &[u8]) -> bool {
     }
 }
 
+/// A message is written as it is read; `PRIVMSG` with `#a` and `hi there` has a colon before its text.
 #[test]
 fn a_line_that_is_read_is_written(rt: HostRuntime) -> Result<(), Fail> {
     for line in &SPELLINGS {
-        assert!(rt;
-            is_respelled(rt.alloc(), line) || is_respelled(rt.alloc(), line),
-            "{line:?}"
-        );
+        assert!(rt; is_respelled(rt.alloc(), line), "{line:?}");
     }
     Ok(())
 }
@@ -560,6 +608,8 @@ fn is_written(alloc: Global, row: &Writing) -> Result<bool, AllocError> {
     }
 }
 
+/// A message is written as it is read; `PRIVMSG` with `#a` and `hi there` has a colon before its text. A parameter
+/// that is empty, has a space or begins with a colon can't be spelled before the last.
 #[test]
 fn what_needs_a_colon_stands_last(rt: HostRuntime) -> Result<(), Fail> {
     for row in &WRITINGS {

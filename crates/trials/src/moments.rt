@@ -13,20 +13,24 @@ const MOMENTS: [(i64, &str); 5] = [
     (253370764800000, ""),
 ];
 
+/// Whether a moment has this text, or none. Where there is no memory it is asked for once more.
 fn is_told(alloc: Global, moment: i64, want: &str) -> bool {
-    match time_text(alloc, moment) {
+    let first = time_text(alloc, moment);
+    let answer = match first {
+        Err(TimeFault::Memory) => time_text(alloc, moment),
+        answer => answer,
+    };
+    match answer {
         Ok(text) => text.as_slice() == want.as_bytes(),
         Err(fault) => want.is_empty() && fault == TimeFault::OutOfRange,
     }
 }
 
+/// The moment of a leap day is told to the millisecond, and one below 0 isn't told.
 #[test]
 fn moments_are_told(rt: HostRuntime) -> Result<(), Fail> {
     for (moment, want) in &MOMENTS {
-        assert!(rt;
-            is_told(rt.alloc(), *moment, want) || is_told(rt.alloc(), *moment, want),
-            "{moment}"
-        );
+        assert!(rt; is_told(rt.alloc(), *moment, want), "{moment}");
     }
     Ok(())
 }
@@ -39,6 +43,7 @@ fn is_of_record(moment: i64, want: bool) -> bool {
     }
 }
 
+/// A record may have just the moments that can be printed.
 #[test]
 fn records_have_moments_that_have_texts(rt: HostRuntime) -> Result<(), Fail> {
     for (moment, want) in &MOMENTS {

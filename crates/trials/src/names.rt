@@ -18,6 +18,7 @@ const PAIRS: [(&str, &str, bool); 10] = [
     ("zbc", "abc", false),
 ];
 
+/// Names are equal, and stand in order, by their fold.
 #[test]
 fn same_names(rt: HostRuntime) {
     for (a, b, want) in &PAIRS {
@@ -48,6 +49,7 @@ const CHANNELS: [(&str, bool); 16] = [
     (",#a", false),
 ];
 
+/// The shapes of channel names (RFC 2812, section 1.3), of at most 50 octets.
 #[test]
 fn channels(rt: HostRuntime) {
     for (name, want) in &CHANNELS {
@@ -70,6 +72,7 @@ const HOSTS: [(&str, bool); 12] = [
     ("a@b", false),
 ];
 
+/// The shapes of hosts (RFC 2812, section 2.3.1), of at most 63 octets.
 #[test]
 fn hosts(rt: HostRuntime) {
     for (name, want) in &HOSTS {
@@ -114,6 +117,7 @@ const MASKS: [(&str, &str, bool); 33] = [
     ("a*c?", "abcc", true),
 ];
 
+/// A mask with `?` and `*` matches by fold; `b` doesn't match `bo`.
 #[test]
 fn masks(rt: HostRuntime) {
     for (mask, text, want) in &MASKS {
@@ -133,6 +137,7 @@ fn stars(alloc: Global) -> Result<Vec<u8>, AllocError> {
     Ok(mask)
 }
 
+/// A mask of two hundred `a` and `*` is matched against five hundred octets without trying all ways.
 #[test]
 fn many_stars_are_quick(rt: HostRuntime) -> Result<(), Fail> {
     let mask = stars(rt.alloc())?;
@@ -158,6 +163,7 @@ fn order_of(alloc: Global, first: &str, second: &str) -> Result<(Ordering, bool)
     Ok((first.cmp(&second), first == second))
 }
 
+/// Names are equal, and stand in order, by their fold.
 #[test]
 fn folded_names_have_an_order(rt: HostRuntime) -> Result<(), Fail> {
     for (first, second, want) in &ORDERS {

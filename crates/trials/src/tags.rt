@@ -29,6 +29,8 @@ fn means(alloc: Global, escaped: &str, want: &str) -> bool {
     }
 }
 
+/// Of a tag's key the last counts; `\:` `\s` `\\` are read, another backslash and a lone one at the end are
+/// dropped.
 #[test]
 fn unescapes(rt: HostRuntime) -> Result<(), Fail> {
     for (escaped, want) in &ESCAPED {
@@ -59,6 +61,8 @@ fn is_escaped(alloc: Global, value: &str, want: &str) -> bool {
     }
 }
 
+/// Of a tag's key the last counts; `\:` `\s` `\\` are read, another backslash and a lone one at the end are
+/// dropped.
 #[test]
 fn escapes(rt: HostRuntime) -> Result<(), Fail> {
     for (value, want) in &UNESCAPED {
@@ -108,6 +112,7 @@ fn is_counted(alloc: Global, key: &str, counts: bool) -> bool {
     }
 }
 
+/// The shapes of a tag's key (IRCv3 message-tags).
 #[test]
 fn keys(rt: HostRuntime) -> Result<(), Fail> {
     for (key, counts) in &KEYS {
@@ -150,6 +155,8 @@ fn says(alloc: Global, tag_data: &[u8], want: Option<&str>) -> bool {
     }
 }
 
+/// Of a tag's key the last counts; `\:` `\s` `\\` are read, another backslash and a lone one at the end are
+/// dropped.
 #[test]
 fn values(rt: HostRuntime) -> Result<(), Fail> {
     for (tag_data, want) in &VALUES {
@@ -197,6 +204,8 @@ fn are_left(alloc: Global, tag_data: &str, want: &str) -> bool {
     }
 }
 
+/// `+k` is passed on by its last value, escaped; `TAGMSG` is passed on without the tags that have no `+`. Tags
+/// stand in the order label or batch, moment, passed on; these by the last of each key.
 #[test]
 fn client_only_tags(rt: HostRuntime) -> Result<(), Fail> {
     for (tag_data, want) in &CLIENT_TAGS {

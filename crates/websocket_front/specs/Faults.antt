@@ -3,6 +3,7 @@ use Rattle.std.specs.Prelude.{◌≡◌}
 use Rattle.tungstenite.specs.Failure.{IsIo}
 use Rattle.websocket.specs.declared.error.ProtocolError.{ProtocolError}
 use Rattle.websocket.specs.declared.error.ProtocolError.TheVariants as breach
+use Rattle.websocket.specs.declared.handshake.failure.HandshakeError.TheVariants as head
 use Rattle.tungstenite.specs.declared.error.Error.{Error}
 use Rattle.tungstenite.specs.declared.error.Error.TheVariants as error
 use Rattle.websocket_front.specs.declared.greeting.GreetFault.{GreetFault}
@@ -30,10 +31,13 @@ MeansOf meaning.Closed e = e ≡ error.ConnectionClosed
 MeansOf (meaning.Fault f) e = f ≡ fault_of e
 
 -- a handshake fails for the stream, for want of memory (the only cause by which a request is refused), or by its
--- request
+-- request; of a head without shape the library doesn't tell whether memory was wanting
 abbrev pub greet_fault_of : Error → GreetFault
 greet_fault_of (error.Io cause) = greet.Io
 greet_fault_of error.HandshakeIncomplete = greet.Io
 greet_fault_of error.OutOfMemory = greet.Memory
 greet_fault_of (error.Refused response) = greet.Memory
+greet_fault_of (error.Handshake head.OutOfMemory) = greet.Memory
+greet_fault_of (error.Handshake head.InvalidHeader) = greet.Head
+greet_fault_of error.Url = greet.Head
 greet_fault_of other = greet.Handshake

@@ -1,7 +1,9 @@
 //! A session's WebSocket after its handshake.
 ghost use Rattle.std.specs.Prelude.{◌≡◌, [], true, false, IfOk, OnOk, IfErr};
 ghost use Rattle.websocket.specs.declared.protocol.config.Role.TheVariants.{Server};
+ghost use Rattle.websocket.specs.declared.protocol.frame.coding.CloseCode.TheVariants as codes;
 ghost use Rattle.websocket_front.specs.Faults.{fault_of_breach, MeansOf};
+ghost use Rattle.websocket_front.specs.Fronted.{close_of_code};
 ghost use Rattle.websocket_front.specs.Reading.{Gives, GivesOne, Fails, FailsOnce, IsGiven, GoesOn, GoesOnOne};
 
 use crate::subprotocol::Subprotocol;
@@ -11,7 +13,7 @@ use std::io;
 use std::io::{ErrorKind, Read, Write};
 use std::marker::Model;
 use tungstenite::{
-    CloseCode, CloseFrame, Error, Message, NoMask, Utf8Bytes, WebSocket, WebSocketConfig,
+    Bytes, CloseCode, CloseFrame, Error, Message, NoMask, Utf8Bytes, WebSocket, WebSocketConfig,
 };
 use websocket::error::ProtocolError;
 
@@ -153,6 +155,7 @@ fn close_code(error: &Error) -> Option<CloseCode> {
         Error::Protocol(_) => Some(CloseCode::Protocol),
         Error::Utf8 => Some(CloseCode::Invalid),
         Error::Capacity(_) => Some(CloseCode::Size),
+        Error::OutOfMemory => Some(CloseCode::Error),
         _ => None,
     }
 }
@@ -168,9 +171,39 @@ pub(crate) fn close_frame(code: CloseCode) -> CloseFrame
     }
 }
 
-/// Sends a client that broke the protocol a close that says so, as far as the stream takes it now.
-fn refuse<S: Read + Write + Drop>(socket: &mut WebSocket<S, NoMask>, error: &Error) {
-    if let Some(code) = close_code(error) {
+/// A close for want of memory without words, as a server sends it (RFC 6455, sections 5.2 and 5.5.1): the octets that
+/// [`Front`] would write, for where there is no memory to have it write them.
+pub fn close_for_memory() -> [u8; 4]
+    ensures { result ≡ close_of_code codes.Error }
+{
+    [0x88, 0x02, 0x03, 0xF3]
+}
+
+/// Whether the library took a socket for ended that was open before, since it had no memory for a whole message of
+/// its client: then it sends no close. Nothing is written to find out, since one that is open is never asked.
+fn is_given_up<S: Read + Write + Drop>(socket: &mut WebSocket<S, NoMask>) -> bool {
+    !socket.can_write()
+        && matches!(
+            socket.write(Message::Ping(Bytes::new())),
+            Err(Error::AlreadyClosed)
+        )
+}
+
+/// Sends a client a close that says what was wrong, as far as the stream takes it now: that it broke the protocol, or
+/// that memory was wanting. `was_open` says that no close had been sent when the error came.
+fn refuse<S: Read + Write + Drop>(
+    socket: &mut WebSocket<S, NoMask>,
+    error: &Error,
+    was_open: bool,
+) {
+    let Some(code) = close_code(error) else {
+        return;
+    };
+    if was_open && is_given_up(socket) {
+        if socket.flush().is_ok() {
+            let _ = socket.get_mut().write(&close_for_memory());
+        }
+    } else {
         let _ = socket.close(Some(close_frame(code)));
     }
 }
@@ -217,8 +250,8 @@ impl<S: Read + Write + Drop> Front<S> {
     ///
     /// A payload has at most 8,192 octets, and is given as it is, whatever the subprotocol. After `Closed` the
     /// client's close is answered, as far as the stream takes it; a later flush sends the rest. After a breach of the
-    /// protocol the client is sent a close that says which, as far as the stream takes it now. After a fault the front
-    /// is of no more use.
+    /// protocol, and for want of memory, the client is sent a close that says which, in the same way. After a fault
+    /// nothing more is read, and no line is taken.
     pub fn next(&mut self) -> Result<Got, FrontFault>
         ensures gives { self.old.is_open ≡ true
             → IfOk result (Gives S.remaining self.old.socket self.new.socket) }
@@ -267,6 +300,7 @@ impl<S: Read + Write + Drop> Front<S> {
         ensures rest { self.new.is_open ≡ true → self.new.rest ≡ self.old.rest }
         ensures subprotocol { self.new.subprotocol ≡ self.old.subprotocol }
     {
+        let was_open = self.socket.can_write();
         match self.socket.read() {
             Ok(Message::Text(text)) => self.payload(text.as_str().as_bytes()),
             Ok(Message::Binary(octets)) => self.payload(octets.as_slice()),
@@ -286,7 +320,7 @@ impl<S: Read + Write + Drop> Front<S> {
                     Ok(Some(Got::Closed))
                 }
                 Meaning::Fault(fault) => {
-                    refuse(&mut self.socket, &error);
+                    refuse(&mut self.socket, &error, was_open);
                     self.begun = None;
                     self.ending = Some(Ending::Failed(fault));
                     Err(fault)
@@ -308,6 +342,8 @@ impl<S: Read + Write + Drop> Front<S> {
         match octets.to_vec(self.alloc) {
             Ok(octets) => Ok(Some(Got::Payload(octets))),
             Err(_) => {
+                let was_open = self.socket.can_write();
+                refuse(&mut self.socket, &Error::OutOfMemory, was_open);
                 self.begun = None;
                 self.ending = Some(Ending::Failed(FrontFault::Memory));
                 Err(FrontFault::Memory)

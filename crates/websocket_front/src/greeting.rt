@@ -1,4 +1,8 @@
 //! The opening handshake (RFC 6455, section 4.2).
+//!
+//! `tungstenite` refuses a request of more than 64 KiB, one that comes in more than 64 reads of fewer than 128 octets
+//! each, and one that something follows before it was answered. Where memory for a request's headers runs out it
+//! answers as for one that isn't a request.
 ghost use Rattle.std.specs.Prelude.{◌≡◌, IfOk, IfErr};
 ghost use Rattle.websocket_front.specs.Faults.{greet_fault_of};
 ghost use Rattle.websocket_front.specs.Fronted.{IsGreeted};
@@ -10,6 +14,7 @@ use std::alloc::{AllocError, Global};
 use std::io::{Read, Write};
 use tungstenite::handshake::server::start;
 use tungstenite::{Error, HandshakeError, MidHandshake, ServerHandshake};
+use websocket::handshake::HandshakeError as HeadError;
 
 /// How often `greet` goes on where the stream has or takes nothing.
 const TRIES: u32 = 1024;
@@ -19,6 +24,8 @@ const TRIES: u32 = 1024;
 pub enum GreetFault {
     /// The client's request isn't one that opens a WebSocket, or it came in too many parts or with something after it.
     Handshake,
+    /// The head of the request has no shape, or there was no memory to take it apart: the library doesn't tell which.
+    Head,
     /// The stream failed or ended.
     Io,
     /// There was no memory.
@@ -61,6 +68,8 @@ fn fault_of(error: &Error) -> GreetFault
         Error::Io(_) | Error::HandshakeIncomplete => GreetFault::Io,
         // A request is refused for want of memory alone.
         Error::OutOfMemory | Error::Refused(_) => GreetFault::Memory,
+        Error::Handshake(HeadError::OutOfMemory) => GreetFault::Memory,
+        Error::Handshake(HeadError::InvalidHeader) | Error::Url => GreetFault::Head,
         _ => GreetFault::Handshake,
     }
 }

@@ -8,7 +8,7 @@ mod laws;
 mod sending;
 mod subprotocol;
 
-pub use front::{Front, FrontFault, Got};
+pub use front::{Front, FrontFault, Got, close_for_memory};
 pub use greeting::{GreetFault, Greeted, Greeting, greet};
 pub use laws::lines_stay;
 pub use subprotocol::Subprotocol;

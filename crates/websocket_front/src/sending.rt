@@ -1,4 +1,8 @@
 //! A session's items as messages, a line each.
+//!
+//! What waits is octets, then lines: frames wait in the output, and the lines of an item for which it has no room wait
+//! as they are and share the item's text. Nothing is written before a flush, so lines that come together go out
+//! together. A line for which there is no memory stays where it is, and a later flush goes on.
 ghost use Rattle.std.specs.Prelude.{◌≡◌, ◌≤◌, ◌<◌, ◌+◌, ◌↔◌, [], true, false, length};
 ghost use Rattle.std.specs.Prelude.{drop, IsTrue, Ok, Err, IfOk, OnOk, IfErr};
 ghost use Rattle.deliveries.specs.Text.{delivery_text};
@@ -310,7 +314,8 @@ impl<S: Read + Write + Drop> Front<S> {
     }
 
     /// Writes what waits, and answers whether all is out: if not, the stream takes no more now. For want of memory
-    /// nothing is lost, and it may be called again.
+    /// nothing is lost, and it may be called again. After the client's close, or a fault that isn't the stream's, what
+    /// waits are the frames up to the answer, or to the close that says what was wrong.
     pub fn flush(&mut self) -> Result<bool, FrontFault>
         ensures ok { OnOk result
             (GoesOut S.contents self.old.socket.stream (waiting self.old) self.new) }
@@ -322,8 +327,8 @@ impl<S: Read + Write + Drop> Front<S> {
         ensures subprotocol { self.new.subprotocol ≡ self.old.subprotocol }
     {
         match self.ending {
-            Some(Ending::Closed) => return self.send_output(),
-            Some(Ending::Failed(fault)) => return Err(fault),
+            Some(Ending::Failed(FrontFault::Io)) => return Err(FrontFault::Io),
+            Some(Ending::Closed | Ending::Failed(_)) => return self.send_output(),
             None => {}
         }
         let mut is_out = false;

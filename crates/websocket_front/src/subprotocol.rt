@@ -1,4 +1,7 @@
 //! Which kind of messages a client asks for.
+//!
+//! The handshake's callback sets a flag, since `tungstenite` hands nothing else back; no clause ties it to the
+//! request.
 
 ghost use Rattle.std.specs.Prelude.{◌≡◌, map};
 ghost use Rattle.websocket_front.specs.Offers.{name_of, named, first_named, chosen, is_separator};

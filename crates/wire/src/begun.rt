@@ -1,4 +1,6 @@
 //! An item on its way to a stream.
+//!
+//! An item counts as begun until its last octet is in the wire.
 ghost use Rattle.std.specs.Prelude.{◌≡◌, ◌≤◌, ◌<◌, [], Some, drop, OnOk, IfErr};
 ghost use Rattle.deliveries.specs.Text.{delivery_text};
 ghost use Rattle.wire.specs.declared.stream.Stop.TheVariants.{Later};

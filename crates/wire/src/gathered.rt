@@ -1,4 +1,8 @@
 //! A stream, and the octets that wait to be written to it in one write.
+//!
+//! In place of `BufWriter`, which can't grow and drops its stream where it can't be made. Room for 512 octets is
+//! always there, so that the line of a session's end needs no memory. If more room is refused, what waits goes out
+//! first and then each item by itself.
 ghost use Rattle.std.specs.Prelude.{◌≡◌, ◌≤◌, ◌<◌, ◌++◌, [], true, false, length, take};
 ghost use Rattle.std.specs.Prelude.{drop, vec_len, IfOk, IfErr, OnOk};
 ghost use Rattle.std.specs.Io.KnownBytes.{Appends, Keeps, WriteAppends};

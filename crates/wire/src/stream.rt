@@ -1,4 +1,7 @@
 //! A stream, of which clauses know how often it took nothing for now.
+//!
+//! That an answer says that the stream takes nothing now, an error of the kind WouldBlock, TimedOut or Interrupted, is
+//! read in `stop_of`.
 ghost use Rattle.std.specs.Prelude.{◌≡◌, ◌≤◌, ◌<◌, length, IfOk, IfErr};
 ghost use Rattle.std.specs.Io.KnownBytes.{Keeps, WriteAppends};
 ghost use Rattle.wire.specs.declared.stream.Stop.TheVariants.{Later};

@@ -1,4 +1,8 @@
 //! A session's writer and the stream on which its items go out.
+//!
+//! A wire stands in a lock of its own (`crew::Outlet`), and its invariant holds whoever pumps it. That the stub is of
+//! the writer's outbox is what the type keeps; which session it is of is compared when the lock is ended. After a
+//! fault the wire is broken for good: nothing is written after octets that may be lost.
 ghost use Rattle.std.specs.Prelude.{◌≡◌, ◌≤◌, ◌<◌, [], true, false, Some, length, IfOk, IfErr, OnOk, OnErr};
 ghost use Rattle.std.specs.Io.KnownBytes.{append_known};
 ghost use Rattle.outbox.specs.Ends.{IsAllTaken};

@@ -1,6 +1,6 @@
 use Rattle.std.proofs.Common.{true}
 use Rattle.crew.proofs.LinesRead.{does_none, reads, reads_none, reads_nothing, unless_err}
-use Rattle.crew.specs.Taking.{TakesIn}
+use Rattle.intakes.specs.Taking.{TakesIn}
 use Rattle.crew.proofs.reading.read_by.Goals as goal
 
 pub returns-then-is_much-clause-lines : goal.returns-then-is_much-clause-lines

@@ -1,6 +1,6 @@
 use Rattle.std.proofs.Common.{ℤ, subst}
 use Rattle.std.proofs.lemmas.Result.{on_ok_weaker}
-use Rattle.crew.specs.Timing.{IsLater}
+use Rattle.session_ends.specs.Timing.{IsLater}
 use Rattle.crew.proofs.Moments.{at_later}
 use Rattle.crew.proofs.working.line_at.Goals as goal
 

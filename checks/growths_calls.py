@@ -1,0 +1,27 @@
+"""The calls that take memory, and what reaches each: stories of crates/test_talks, and tests of other crates."""
+
+# Where every nth allocation alone is refused: runs of a thousand steps by chance, each of which takes so many.
+SELDOM = "oracle-"
+
+EACH_SELDOM = 20
+
+# What is said by clients and what scripts give, a file a topic: lines are fed and read, sessions opened, lines
+# decided, their deliveries prepared and rendered, ended sessions swept, who is silent pinged, and steps taken.
+BY_STORIES = ["feed", "parse", "read", "decide", "prepare", "render", "open", "line", "sweep", "tick", "Play::step"]
+
+# Calls by the tests that reach them: of a crate, each test named by its module and its function.
+BY_TESTS = {
+    "trials": {
+        "feed": ["lines::feeds_after_a_refused_growth"],
+        "parse": ["lines::reads_commands", "lines::reads_sources_and_tags", "lines::a_line_that_is_read_is_written"],
+        "parse, read": ["lines::finds_and_keeps_the_parts_of_messages"],
+        "Accounts::read": ["enrolling::files_are_read"],
+        "time_text": ["moments::moments_are_told", "growths::moments_are_texts"],
+        "render": ["growths::answers_are_whole", "growths::answers_are_spelled_whole"],
+    },
+    "hall_trials": {
+        "Register::new, pair, Hall::new, open, line, sweep": ["growths::a_refused_growth_changes_nothing"],
+    },
+    "play_trials": {"Play::step": ["growths::a_labelled_line_without_memory_changes_nothing"]},
+    "crew_trials": {"work_one": ["wanting::who_finds_no_memory_is_ended"]},
+}

@@ -1,6 +1,0 @@
-use Rattle.std.proofs.Common.{ℤ, subst}
-use Rattle.crew.specs.Timing.{IsLater}
-use Rattle.crew.proofs.server.moment_in.Goals as goal
-
-pub returns : goal.returns
-returns g c = subst (λ (m : ℤ). IsLater c.args.moment m c.later.result) c.last_moment.ensures c.later.ensures

@@ -1,0 +1,144 @@
+//! Sessions are ended, and connections shut.
+ghost use Rattle.std.specs.Prelude.{◌≡◌, ℤ, All, true, OnOk, IsSomeAnd};
+ghost use Rattle.chronicle.specs.History.{last_moment};
+ghost use Rattle.session_ends.specs.Hanging.{Hangs};
+ghost use Rattle.session_ends.specs.Timing.{IsLater};
+
+use crate::server::{Clock, Gate, Server, Sockets, later};
+use crate::telling::tell_many;
+use chronicle::{Moment, SessionId, Why};
+use ghosts::Snapshot;
+use hall::{Done, Hall, HangRefusal, Hung, LineRefusal, Naming, Told};
+use outbox::Sender;
+use std::sync::Wait;
+
+/// What came of ending a session, with the hall before that and after it, which exist for clauses alone: there is
+/// one hall for all that `L` names, so it is the server's.
+#[derive(Drop)]
+pub struct Ending<L: Naming, R: Wait + Drop> {
+    pub hung: Result<Hung, HangRefusal>,
+    pub moment: Moment,
+    pub before: Snapshot<Hall<L, Sender<R>>>,
+    pub after: Snapshot<Hall<L, Sender<R>>>,
+}
+
+/// Ends a session in the hall, at this moment, and adds who got something.
+pub fn hang_at<L: Naming, R: Wait + Drop>(
+    hall: &mut Hall<L, Sender<R>>,
+    session: SessionId,
+    why: Why,
+    moment: Moment,
+    told: &mut Told,
+) -> Ending<L, R>
+    ensures hangs { Hangs result.before.value result.after.value session why
+        result.moment result.hung }
+    ensures moment { result.moment ≡ moment }
+    ensures before { result.before.value ≡ hall.old }
+{
+    told.begin();
+    hall.swap_told(told);
+    let before = Snapshot::of(&*hall);
+    let hung = hall.hang(session, why, moment);
+    let after = Snapshot::of(&*hall);
+    hall.swap_told(told);
+    Ending {
+        hung,
+        moment,
+        before,
+        after,
+    }
+}
+
+/// Ends a session in the hall, at this moment or at that of the newest record where that is later, and adds who got
+/// something.
+fn hang_in<L: Naming, R: Wait + Drop>(
+    hall: &mut Hall<L, Sender<R>>,
+    session: SessionId,
+    why: Why,
+    moment: Moment,
+    told: &mut Told,
+) -> Ending<L, R>
+    ensures hangs { Hangs result.before.value result.after.value session why
+        result.moment result.hung }
+    ensures moment { IsLater moment (last_moment result.before.value.history) result.moment }
+{
+    let moment = later(moment, hall.last_moment());
+    hang_at(hall, session, why, moment, told)
+}
+
+/// Ends a session for a reason, where it is open, and shuts its connection. Who got something is added to `told`.
+///
+/// The answer tells what came of it in the server's hall: the record that ends the session, at a moment that the
+/// clock showed or at that of the newest record where that is later; or why there is none.
+pub fn hang<L: Naming, R: Wait + Drop, G: Gate, S: Sockets, C: Clock>(
+    rt: &R,
+    server: &Server<'_, L, R, G, S, C>,
+    session: SessionId,
+    why: Why,
+    told: &mut Told,
+) -> Ending<L, R>
+    ensures hangs { Hangs result.before.value result.after.value session why
+        result.moment result.hung }
+    ensures moment { (t : ℤ) × C.shows server.now.clock.now t
+        × IsLater t (last_moment result.before.value.history) result.moment }
+    ensures shut { OnOk result.hung (S.shuts server.now.sockets.now session) }
+{
+    let moment = server.clock.now();
+    let ending = hang_in(&mut *server.hall.lock(rt), session, why, moment, told);
+    tell_many(server, told);
+    match ending.hung {
+        Ok(_) => {
+            server.sockets.shut(session);
+            ending
+        }
+        Err(_) => ending,
+    }
+}
+
+/// Shuts the connections of all who missed a record.
+pub fn shut_missed<S: Sockets>(sockets: &S, done: &Done)
+    ensures { All (S.shuts sockets.now) done.now.missed }
+{
+    for missed in done.missed.as_slice() {
+        sockets.shut(*missed);
+    }
+}
+
+/// Shuts the connections of all whom a record of this session shut.
+pub fn shut_those<S: Sockets>(sockets: &S, session: SessionId, done: &Done)
+    ensures missed { All (S.shuts sockets.now) done.now.missed }
+    ensures own { done.now.shut ≡ true → S.shuts sockets.now session }
+{
+    shut_missed(sockets, done);
+    if !done.shut {
+        return;
+    }
+    sockets.shut(session);
+}
+
+/// Ends a session whose line was refused for want of memory, or of room for its record: then the server is asked to
+/// stop, too. It answers what came of that.
+pub fn end_refused<L: Naming, R: Wait + Drop, G: Gate, S: Sockets, C: Clock>(
+    rt: &R,
+    server: &Server<'_, L, R, G, S, C>,
+    session: SessionId,
+    refusal: LineRefusal,
+    told: &mut Told,
+) -> Option<Ending<L, R>>
+    ensures memory { refusal ≡ LineRefusal.Memory → IsSomeAnd result
+        (λ e. Hangs e.before.value e.after.value session Why.Memory e.moment e.hung) }
+    ensures full { refusal ≡ LineRefusal.JournalFull → IsSomeAnd result
+        (λ e. Hangs e.before.value e.after.value session Why.Shutdown e.moment e.hung) }
+    ensures stops { refusal ≡ LineRefusal.JournalFull → S.stops server.now.sockets.now }
+{
+    match refusal {
+        LineRefusal::Memory => Some(hang(rt, server, session, Why::Memory, told)),
+        LineRefusal::JournalFull => {
+            let ending = hang(rt, server, session, Why::Shutdown, told);
+            server.sockets.stop();
+            Some(ending)
+        }
+        LineRefusal::Busy | LineRefusal::WrongTurn | LineRefusal::Shut | LineRefusal::BadMoment =>
+            None,
+    }
+}

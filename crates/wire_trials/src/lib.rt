@@ -1,5 +1,0 @@
-//! Trials of wires.
-#![tactic(auto)]
-
-#[cfg(test)]
-mod wires;
