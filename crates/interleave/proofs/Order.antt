@@ -179,6 +179,9 @@ closing g r h t false false true is e = ([], tt, refl)
 closing g r h t false false false is e = absurd (let f : false ≡ true = e in cc)
 
 pub error_at_most : ErrorAtMostAfterTheClose
-error_at_most g later r h t e =
-    let one = closing g r h t (misses r t) (ends r.kind t) (shut h t) refl e in
-    (one.0, one.1, (shut_stays g later (r ∷ h) t e).1 ∙ one.2)
+error_at_most g history later r h t is e =
+    let one = closing g r h t (misses r t) (ends r.kind t) (shut h t) refl e in (
+      one.0,
+      one.1,
+      ap (λ (x : List Rec). owed g x t) is ∙ (shut_stays g later (r ∷ h) t e).1 ∙ one.2,
+    )

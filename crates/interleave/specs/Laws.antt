@@ -47,11 +47,15 @@ IsErrorAtMost [] = Unit {0}
 IsErrorAtMost (Last n why ∷ []) = Unit {0}
 IsErrorAtMost xs = ⊥
 
--- a record after which a session is shut owes it the ERROR line at most, beside what it was owed before, and later
+-- the record after which a session is shut owes it the ERROR line at most, beside what it was owed before, and later
 -- records nothing
+abbrev pub IsQuietAfterTheClose : Settings → List Rec → Type 0
+IsQuietAfterTheClose g history = (later : List Rec) (r : Rec) (h : List Rec) (t : ℕ)
+    → history ≡ later ++ r ∷ h → shut (r ∷ h) t ≡ true
+    → (end : List Delivery) × IsErrorAtMost end × (owed g history t ≡ owed g h t ++ end)
+
 abbrev pub ErrorAtMostAfterTheClose : Type 0
-ErrorAtMostAfterTheClose = (g : Settings) (later : List Rec) (r : Rec) (h : List Rec) (t : ℕ) → shut (r ∷ h) t
-    ≡ true → (end : List Delivery) × IsErrorAtMost end × (owed g (later ++ r ∷ h) t ≡ owed g h t ++ end)
+ErrorAtMostAfterTheClose = (g : Settings) (history : List Rec) → IsQuietAfterTheClose g history
 
 -- ---- lines with a label
 

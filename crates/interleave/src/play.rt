@@ -22,7 +22,10 @@ use crate::event::{
 };
 use crate::inbox;
 use crate::inbox::{Inbox, move_to, tell_taken};
-use crate::laws::{batch_closed, labelled_first, labelled_once, lone_line_unbatched};
+use crate::laws::{
+    accepted_is_prefix_of_sent, batch_closed, error_at_most_after_the_close, labelled_first,
+    labelled_once, lone_line_unbatched, taken_in_order,
+};
 use crate::tokens::Tokens;
 use crate::worker::{Place, WorkerId};
 use chronicle::{Moment, SessionId, Why};
@@ -145,6 +148,7 @@ impl<L: Naming> Play<L> {
     ghost use Rattle.interleave.specs.Runs.{IsRun, sent, took};
     ghost use Rattle.interleave.specs.Order.{IsPrefix, IsRising};
     ghost use Rattle.interleave.specs.Laws.{IsAnsweredOnce, IsBatchClosed, IsLabelledFirst, IsLoneUnbatched};
+    ghost use Rattle.interleave.specs.Laws.{IsQuietAfterTheClose};
 
     /// A play with no sessions. Names are hashed by the keys of a state, where one is given.
     fn made(
@@ -679,8 +683,8 @@ impl<L: Naming> Play<L> {
 
     /// Takes one event. A refusal changes nothing. After each: what was taken of a session, then what waits for it
     /// or was left, then what the plan still has for it, is what the history owes it; the accepted lines, then the
-    /// line in a worker's hand, then the unread ones, are the lines of what was fed; and each accepted line with a
-    /// label that counts is answered once, whole.
+    /// line in a worker's hand, then the unread ones, are the lines of what was fed; after the close of a session
+    /// comes the ERROR line at most; and each accepted line with a label that counts is answered once, whole.
     pub fn step(&mut self, event: &Event) -> Result<Note, StepRefusal>
         requires { IsWellShaped event.now }
         ensures step { IsStep self.old event.now result self.new }
@@ -690,11 +694,20 @@ impl<L: Naming> Play<L> {
             ++ planned_for self.new t ≡ owed self.new.book.settings self.new.book.history t) }
         ensures accepted_is_sent { ForEach self.new (λ t. accepted self.new.book.history t
             ++ in_hand self.new t ++ unread self.new t ≡ lines (inbox_at self.new t).fed) }
+        ensures taken_is_prefix { ForEach self.new (λ t. IsPrefix (taken_of self.new t)
+            (owed self.new.book.settings self.new.book.history t)) }
+        ensures accepted_is_prefix { ForEach self.new
+            (λ t. IsPrefix (accepted self.new.book.history t) (lines (inbox_at self.new t).fed)) }
+        ensures in_order { ForEach self.new (λ t. IsRising (taken_of self.new t)) }
+        ensures error_at_most { IsQuietAfterTheClose self.new.book.settings self.new.book.history }
         ensures answered_once { IsAnsweredOnce self.new.book.settings self.new.book.history }
         ensures labelled_first { IsLabelledFirst self.new.book.settings self.new.book.history }
         ensures lone_unbatched { IsLoneUnbatched self.new.book.settings self.new.book.history }
         ensures batch_closed { IsBatchClosed self.new.book.settings self.new.book.history }
     {
+        taken_in_order();
+        accepted_is_prefix_of_sent();
+        error_at_most_after_the_close();
         labelled_once();
         labelled_first();
         lone_line_unbatched();
@@ -729,12 +742,14 @@ impl<L: Naming> Play<L> {
             (lines ((inbox_at self.old t).fed ++ sent t events.now notes.items)))) }
         ensures in_order { IfOk result (λ notes. ForEach self.new
             (λ t. IsRising (taken_of self.old t ++ took t events.now notes.items))) }
+        ensures error_at_most { IsQuietAfterTheClose self.new.book.settings self.new.book.history }
         ensures answered_once { IsAnsweredOnce self.new.book.settings self.new.book.history }
         ensures labelled_first { IsLabelledFirst self.new.book.settings self.new.book.history }
         ensures lone_unbatched { IsLoneUnbatched self.new.book.settings self.new.book.history }
         ensures batch_closed { IsBatchClosed self.new.book.settings self.new.book.history }
     {
         self.sound();
+        error_at_most_after_the_close();
         labelled_once();
         labelled_first();
         lone_line_unbatched();

@@ -45,6 +45,12 @@ returns-clause-in_order g c t from to =
     prefix_rises c.loop-event.self.book.settings c.loop-event.self.book.history t (taken_of c.args.self.now t
     ++ took t c.args.events.now c.loop-event.notes.items) (returns-clause-taken_is_prefix g c t from to)
 
+pub returns-in_err-reserve-clause-error_at_most : goal.returns-in_err-reserve-clause-error_at_most
+returns-in_err-reserve-clause-error_at_most g c = c.error_at_most_after_the_close.ensures _ _
+
+pub returns-clause-error_at_most : goal.returns-clause-error_at_most
+returns-clause-error_at_most g c = c.error_at_most_after_the_close.ensures _ _
+
 pub returns-in_err-reserve-clause-answered_once : goal.returns-in_err-reserve-clause-answered_once
 returns-in_err-reserve-clause-answered_once g c = c.labelled_once.ensures _ _ c.sound.ensures.book.legal
 

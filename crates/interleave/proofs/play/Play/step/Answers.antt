@@ -7,6 +7,18 @@ returns-clause-taken_is_owed g c = sound_owed _ c.sound.ensures
 pub returns-clause-accepted_is_sent : goal.returns-clause-accepted_is_sent
 returns-clause-accepted_is_sent g c = sound_accepted _ c.sound.ensures
 
+pub returns-clause-taken_is_prefix : goal.returns-clause-taken_is_prefix
+returns-clause-taken_is_prefix g c t from to = (c.taken_in_order.ensures _ c.sound.ensures t from to).1
+
+pub returns-clause-accepted_is_prefix : goal.returns-clause-accepted_is_prefix
+returns-clause-accepted_is_prefix g c = c.accepted_is_prefix_of_sent.ensures _ c.sound.ensures
+
+pub returns-clause-in_order : goal.returns-clause-in_order
+returns-clause-in_order g c t from to = (c.taken_in_order.ensures _ c.sound.ensures t from to).0
+
+pub returns-clause-error_at_most : goal.returns-clause-error_at_most
+returns-clause-error_at_most g c = c.error_at_most_after_the_close.ensures _ _
+
 pub returns-clause-answered_once : goal.returns-clause-answered_once
 returns-clause-answered_once g c = c.labelled_once.ensures _ _ c.sound.ensures.book.legal
 
