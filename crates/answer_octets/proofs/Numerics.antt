@@ -1,0 +1,143 @@
+-- A numeric is a clean line, where whom it names, its words and its text have no NUL, CR or LF.
+use Rattle.std.proofs.Common.{◌≡◌, ℕ, ◌≤◌, true, List, [], ◌∷◌, ◌++◌, length, length-append, map}
+use Rattle.std.proofs.Common.{Option, Some, None, refl, ◌∙◌, arith}
+use Rattle.std.specs.Prelude.{IfSome, is_some, option_to_list}
+use Rattle.std.specs.List.{list_all}
+use Rattle.std.proofs.lemmas.Bool.{and_from, and_parts, cond_both}
+use Rattle.std.proofs.lemmas.List.Folds.{list_all-append}
+use Rattle.line_grammar.specs.Reading.{is_command}
+use Rattle.line_grammar.specs.Spelling.{is_text_octet, needs_colon}
+use Rattle.numerics.specs.declared.numeric.Numeric.{Numeric}
+use Rattle.numerics.specs.declared.numeric.Numeric.TheVariants.{Welcome, YourHost, Created, MyInfo, ISupport, UModeIs}
+use Rattle.numerics.specs.declared.numeric.Numeric.TheVariants.{Away, UnAway, NowAway, WhoisUser, WhoisServer}
+use Rattle.numerics.specs.declared.numeric.Numeric.TheVariants.{EndOfWho, EndOfWhois, WhoisChannels, ListReply}
+use Rattle.numerics.specs.declared.numeric.Numeric.TheVariants.{ListEnd, ChannelModeIs, NoTopic, Topic, Inviting}
+use Rattle.numerics.specs.declared.numeric.Numeric.TheVariants.{WhoReply, NamReply, EndOfNames, BanList, EndOfBanList}
+use Rattle.numerics.specs.declared.numeric.Numeric.TheVariants.{Motd, MotdStart, EndOfMotd, NoSuchNick, NoSuchServer}
+use Rattle.numerics.specs.declared.numeric.Numeric.TheVariants.{NoSuchChannel, CannotSendToChan, TooManyChannels}
+use Rattle.numerics.specs.declared.numeric.Numeric.TheVariants.{TooManyTargets, NoOrigin, InvalidCapCmd, NoRecipient}
+use Rattle.numerics.specs.declared.numeric.Numeric.TheVariants.{NoTextToSend, InputTooLong, UnknownCommand, NoMotd}
+use Rattle.numerics.specs.declared.numeric.Numeric.TheVariants.{NoNicknameGiven, ErroneousNickname, NicknameInUse}
+use Rattle.numerics.specs.declared.numeric.Numeric.TheVariants.{UserNotInChannel, NotOnChannel, UserOnChannel}
+use Rattle.numerics.specs.declared.numeric.Numeric.TheVariants.{NotRegistered, NeedMoreParams, AlreadyRegistered}
+use Rattle.numerics.specs.declared.numeric.Numeric.TheVariants.{ChannelIsFull, UnknownMode, InviteOnlyChan}
+use Rattle.numerics.specs.declared.numeric.Numeric.TheVariants.{BannedFromChan, BadChannelKey, ChanOPrivsNeeded}
+use Rattle.numerics.specs.declared.numeric.Numeric.TheVariants.{UModeUnknownFlag, UsersDontMatch, LoggedIn}
+use Rattle.numerics.specs.declared.numeric.Numeric.TheVariants.{SaslSuccess, SaslFail, SaslTooLong, SaslAborted}
+use Rattle.numerics.specs.declared.numeric.Numeric.TheVariants.{SaslAlready, SaslMechs}
+use Rattle.numerics.specs.Numerics.{Row, numeric, row, row_line, shown}
+use Rattle.answer_octets.specs.Clean.{IsClean, IsServer, IsTextRow}
+use Rattle.answer_octets.specs.Laws.{LineIsClean, NumericIsClean}
+
+shown-text : (word : List ℕ) → list_all is_text_octet word ≡ true → list_all is_text_octet (shown word) ≡ true
+shown-text word text =
+    cond_both (needs_colon word) _ _ (λ w. list_all is_text_octet w ≡ true) (λ _. refl) (λ _. text)
+
+all-shown : (words : List (List ℕ)) → list_all (list_all is_text_octet) words ≡ true
+    → list_all (list_all is_text_octet) (map shown words) ≡ true
+all-shown [] text = refl
+all-shown (w ∷ ws) text = let parts = and_parts _ _ text in and_from _ _ (shown-text w parts.0) (all-shown ws parts.1)
+
+pub line-clean : LineIsClean
+line-clean from command params colon word is text fits = record {
+  source = word;
+  command = is;
+  params = text;
+  tags = refl;
+  clients = refl;
+  fits = omega (arith, fits, length-append (from ++ 32 ∷ []) command, length-append from (32 ∷ []));
+}
+
+row-text : (to : List ℕ) (words : List (List ℕ)) (text : Option (List ℕ)) → list_all is_text_octet to ≡ true
+    → list_all (list_all is_text_octet) words ≡ true → IfSome text (λ t. list_all is_text_octet t ≡ true)
+    → list_all (list_all is_text_octet) (to ∷ (map shown words ++ option_to_list text)) ≡ true
+row-text to words None to-is words-are text-is =
+    and_from _ _ to-is (list_all-append (list_all is_text_octet) (map shown words) []
+    ∙ and_from _ _ (all-shown words words-are) refl)
+row-text to words (Some t) to-is words-are text-is =
+    and_from _ _ to-is (list_all-append (list_all is_text_octet) (map shown words) (t ∷ [])
+    ∙ and_from _ _ (all-shown words words-are) (and_from _ _ text-is refl))
+
+-- each code is three digits
+record IsCode (code : List ℕ) : Type 0 where
+  command : is_command code ≡ true
+  short : length code ≤ 3
+
+code-is : (server : List ℕ) (n : Numeric) → IsCode (row server n).code
+code-is server (Welcome source) = record { command = refl; short = omega arith }
+code-is server (YourHost version) = record { command = refl; short = omega arith }
+code-is server (Created time) = record { command = refl; short = omega arith }
+code-is server (MyInfo version) = record { command = refl; short = omega arith }
+code-is server (ISupport tokens) = record { command = refl; short = omega arith }
+code-is server (UModeIs modes) = record { command = refl; short = omega arith }
+code-is server (Away nick text) = record { command = refl; short = omega arith }
+code-is server UnAway = record { command = refl; short = omega arith }
+code-is server NowAway = record { command = refl; short = omega arith }
+code-is server (WhoisUser nick user host real) = record { command = refl; short = omega arith }
+code-is server (WhoisServer nick info) = record { command = refl; short = omega arith }
+code-is server (EndOfWho name) = record { command = refl; short = omega arith }
+code-is server (EndOfWhois nick) = record { command = refl; short = omega arith }
+code-is server (WhoisChannels nick channels) = record { command = refl; short = omega arith }
+code-is server (ListReply channel members topic) = record { command = refl; short = omega arith }
+code-is server ListEnd = record { command = refl; short = omega arith }
+code-is server (ChannelModeIs channel modes params) = record { command = refl; short = omega arith }
+code-is server (NoTopic channel) = record { command = refl; short = omega arith }
+code-is server (Topic channel topic) = record { command = refl; short = omega arith }
+code-is server (Inviting nick channel) = record { command = refl; short = omega arith }
+code-is server (WhoReply who) = record { command = refl; short = omega arith }
+code-is server (NamReply secret channel names) = record { command = refl; short = omega arith }
+code-is server (EndOfNames channel) = record { command = refl; short = omega arith }
+code-is server (BanList channel mask) = record { command = refl; short = omega arith }
+code-is server (EndOfBanList channel) = record { command = refl; short = omega arith }
+code-is server (Motd text) = record { command = refl; short = omega arith }
+code-is server MotdStart = record { command = refl; short = omega arith }
+code-is server EndOfMotd = record { command = refl; short = omega arith }
+code-is server (NoSuchNick name) = record { command = refl; short = omega arith }
+code-is server (NoSuchServer name) = record { command = refl; short = omega arith }
+code-is server (NoSuchChannel channel) = record { command = refl; short = omega arith }
+code-is server (CannotSendToChan channel) = record { command = refl; short = omega arith }
+code-is server (TooManyChannels channel) = record { command = refl; short = omega arith }
+code-is server (TooManyTargets target) = record { command = refl; short = omega arith }
+code-is server NoOrigin = record { command = refl; short = omega arith }
+code-is server (InvalidCapCmd subcommand) = record { command = refl; short = omega arith }
+code-is server (NoRecipient command) = record { command = refl; short = omega arith }
+code-is server NoTextToSend = record { command = refl; short = omega arith }
+code-is server InputTooLong = record { command = refl; short = omega arith }
+code-is server (UnknownCommand command) = record { command = refl; short = omega arith }
+code-is server NoMotd = record { command = refl; short = omega arith }
+code-is server NoNicknameGiven = record { command = refl; short = omega arith }
+code-is server (ErroneousNickname nick) = record { command = refl; short = omega arith }
+code-is server (NicknameInUse nick) = record { command = refl; short = omega arith }
+code-is server (UserNotInChannel nick channel) = record { command = refl; short = omega arith }
+code-is server (NotOnChannel channel) = record { command = refl; short = omega arith }
+code-is server (UserOnChannel nick channel) = record { command = refl; short = omega arith }
+code-is server NotRegistered = record { command = refl; short = omega arith }
+code-is server (NeedMoreParams command) = record { command = refl; short = omega arith }
+code-is server AlreadyRegistered = record { command = refl; short = omega arith }
+code-is server (ChannelIsFull channel) = record { command = refl; short = omega arith }
+code-is server (UnknownMode letter channel) = record { command = refl; short = omega arith }
+code-is server (InviteOnlyChan channel) = record { command = refl; short = omega arith }
+code-is server (BannedFromChan channel) = record { command = refl; short = omega arith }
+code-is server (BadChannelKey channel) = record { command = refl; short = omega arith }
+code-is server (ChanOPrivsNeeded channel) = record { command = refl; short = omega arith }
+code-is server UModeUnknownFlag = record { command = refl; short = omega arith }
+code-is server UsersDontMatch = record { command = refl; short = omega arith }
+code-is server (LoggedIn source account) = record { command = refl; short = omega arith }
+code-is server SaslSuccess = record { command = refl; short = omega arith }
+code-is server SaslFail = record { command = refl; short = omega arith }
+code-is server SaslTooLong = record { command = refl; short = omega arith }
+code-is server SaslAborted = record { command = refl; short = omega arith }
+code-is server SaslAlready = record { command = refl; short = omega arith }
+code-is server SaslMechs = record { command = refl; short = omega arith }
+
+clean-row : (server to : List ℕ) (r : Row) → IsServer server → list_all is_text_octet to ≡ true → IsTextRow r
+    → IsCode r.code → IsClean (row_line server to r)
+unfolding row_line
+clean-row server to r is to-is text code =
+    line-clean server r.code (to ∷ (map shown r.words ++ option_to_list r.text)) (is_some r.text) is.word code.command
+    (row-text to r.words r.text to-is text.words text.text)
+    (let short = is.short in let few = code.short in omega arith)
+
+pub numeric-clean : NumericIsClean
+unfolding numeric
+numeric-clean server to n is to-is text = clean-row server to (row server n) is to-is text (code-is server n)
