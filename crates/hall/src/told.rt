@@ -1,9 +1,9 @@
 //! Who got something.
 //!
 //! A thread swaps its own list in before a step and out after it, so it collects over many lines. A record that
-//! reaches the same sessions as the one before moves a place along the list, so several lines of one speaker to one
-//! channel cost its members one write each.
-ghost use Rattle.std.specs.Prelude.{◌≡◌, ◌≤◌, ℕ, true, false, [], IsTrue};
+//! reaches nearly the same sessions as the one before moves a place along the list, so several lines of a few speakers
+//! to one channel cost its members one write each.
+ghost use Rattle.std.specs.Prelude.{◌≡◌, ◌≤◌, ℕ, true, false, [], IfSome};
 ghost use Rattle.hall.specs.Telling.{is_told};
 
 use chronicle::SessionId;
@@ -11,15 +11,18 @@ use smallvec::SmallVec;
 use std::alloc::Global;
 use std::marker::Model;
 
+/// How many places of the list are searched for a session that the newest record tells.
+const AHEAD: usize = 4;
+
 /// Sessions into whose outboxes something was put, in the order of the puts; or all, where there was no memory for
-/// the list. A record that tells those whom one before it told adds nothing. Two of them take no memory of their
-/// own.
+/// the list. A record that tells those whom one before it told adds nothing, and few where some are left out. Two of
+/// them take no memory of their own.
 #[derive(Drop)]
 pub struct Told {
     sessions: SmallVec<SessionId, 2>,
     all: bool,
     records: usize,
-    // How many of the list the newest record told again, in their order.
+    // Where the newest record is in the list: behind the last that it told again.
     place: usize,
 }
 
@@ -57,11 +60,18 @@ impl Told {
         let _ = self.sessions.reserve(1);
     }
 
-    /// Whether a session stands where the newest record is in the list.
-    fn is_next(&self, session: SessionId) -> bool
-        ensures { IsTrue result → is_told self.now session ≡ true }
+    /// Where a session stands in the list, if that is where the newest record is or little behind.
+    fn next_place(&self, session: SessionId) -> Option<usize>
+        ensures { IfSome result (λ _. is_told self.now session ≡ true) }
     {
-        self.place < self.sessions.len() && self.sessions.as_slice()[self.place] == session
+        let sessions = self.sessions.as_slice();
+        let end = sessions.len().min(self.place.saturating_add(AHEAD));
+        for place in self.place..end {
+            if sessions[place] == session {
+                return Some(place);
+            }
+        }
+        None
     }
 
     /// Notes a session. Where there is no memory for it, all are told.
@@ -69,8 +79,8 @@ impl Told {
         ensures told { is_told self.new session ≡ true }
         ensures kept { (t : ℕ) → is_told self.old t ≡ true → is_told self.new t ≡ true }
     {
-        if self.is_next(session) {
-            self.place = self.place.saturating_add(1);
+        if let Some(place) = self.next_place(session) {
+            self.place = place.saturating_add(1);
         } else if self.sessions.push(session).is_err() {
             self.all = true;
         }
@@ -81,8 +91,8 @@ impl Told {
         ensures told { is_told self.new session ≡ true }
         ensures kept { (t : ℕ) → is_told self.old t ≡ true → is_told self.new t ≡ true }
     {
-        if self.is_next(session) {
-            self.place = self.place.saturating_add(1);
+        if let Some(place) = self.next_place(session) {
+            self.place = place.saturating_add(1);
         } else if self.sessions.len() < self.sessions.capacity() {
             self.sessions.push_reserved(session);
         } else {
