@@ -7,7 +7,9 @@ use Rattle.std.specs.Io.KnownBytes.{Appends, Keeps, append_known}
 use Rattle.deliveries.specs.declared.item.Item.{Item}
 use Rattle.deliveries.specs.Text.{delivery_text}
 use Rattle.wire.specs.declared.begun.Begun.{Begun}
-use Rattle.wire.specs.Wired.{texts, rest_of, is_last, ends, GoesOut}
+use Rattle.crossbeam_channel.specs.Claims.{Pass}
+use Rattle.outbox.specs.declared.rule.Log.{Log}
+use Rattle.wire.specs.Wired.{texts, rest_of, is_last, ends, GoesOut, IsInStep, Wired}
 
 -- one part and then the next
 pub goes_on : (a b c : Option (List ℕ)) (xs ys zs : List ℕ) → GoesOut a b xs ys → GoesOut b c ys zs → GoesOut a c xs zs
@@ -88,6 +90,49 @@ out_more host lent a b c since left ys begun x same is rest before now =
     let from : rest_of lent (Some x) ≡ left = ap (λ l. rest_of l (Some x)) same ∙ ap (rest_of host) (sym is)
     ∙ sym rest in
     goes_on a b c (texts host since) left ys before (subst (λ l. GoesOut b c l ys) from now)
+
+-- nothing goes out where the octets are as they were
+pub goes_none : (a b : Option (List ℕ)) (xs : List ℕ) → b ≡ a → GoesOut a b xs xs
+goes_none a b xs same = subst (λ o. GoesOut a o xs xs) (sym same)
+    (record { gone = []; appended = Appends-nil a; parts = refl })
+
+-- a whole text waits, after the octets that waited
+pub goes_whole : (a b : Option (List ℕ)) (xs ys text : List ℕ) → b ≡ a → ys ≡ xs ++ text
+    → GoesOut (append_known a xs) (append_known b ys) text []
+goes_whole a b xs ys text same more = subst (λ o. GoesOut (append_known a xs) (append_known o ys) text []) (sym same)
+    (record { gone = text; appended = longer a; parts = sym (append-nil text) })
+  where
+    longer : (o : Option (List ℕ)) → Appends (append_known o xs) (append_known o ys) text
+    longer None = tt
+    longer (Some zs) = ap (λ l. zs ++ l) more ∙ sym (append_assoc zs xs text)
+
+-- an item more was taken, of which this is left
+pub one_more : (w : Wired) (now : List Item) (channel : Pass Item Log) (told : Option (List ℕ)) (waiting left : List ℕ)
+    (pauses : ℕ) (item : Item) (i : IsInStep w) → i.left ≡ [] → now ≡ w.taken ++ item ∷ []
+    → GoesOut w.told told (delivery_text item.delivery w.host) left
+    → IsInStep (record {
+      session = w.session;
+      taken = now;
+      channel = channel;
+      told = told;
+      waiting = waiting;
+      rest = left;
+      pauses = pauses;
+      host = w.host;
+      is_broken = w.is_broken;
+      taken_before = w.taken_before;
+      told_before = w.told_before;
+    })
+one_more w now channel told waiting left pauses item i none took goes =
+    let text = delivery_text item.delivery w.host in
+    record {
+      since = i.since ++ item ∷ [];
+      left = left;
+      taken = took ∙ ap (λ l. l ++ item ∷ []) i.taken ∙ append_assoc w.taken_before i.since (item ∷ []);
+      out = goes_on w.told_before w.told told (texts w.host (i.since ++ item ∷ [])) text left
+          (out_begun w.host i.since item w.told_before w.told i.left none i.out) goes;
+      whole = λ e. refl;
+    }
 
 -- the newest item is the last of these
 pub ends_more : (xs : List Item) (x : Item) → ends (xs ++ x ∷ []) ≡ is_last x.delivery

@@ -24,12 +24,14 @@ const SOME: usize = 4096;
 /// How many octets may wait to be written in one write.
 const MOST: usize = 65_536;
 
-/// A stream, and the octets that wait to be written to it. There is room for many while many wait, and else for few,
-/// so that a wire on which nothing goes out takes little memory.
+/// A stream, and the octets that wait to be written to it. There is room for many while many wait, for some where more
+/// than few went out twice in a row, and else for few, so that a wire on which little goes out takes little memory.
 #[derive(Drop)]
 pub(crate) struct Gathered<W: Write + Drop> {
     pub(crate) stream: Stream<W>,
     pub(crate) waiting: Vec<u8>,
+    /// Whether more than few went out the last time.
+    was_long: bool,
     /// It is told what the stream took.
     gauge: Gauge,
 }
@@ -74,6 +76,7 @@ impl<W: Write + Drop> Gathered<W> {
         Ok(Gathered {
             stream: Stream::new(stream),
             waiting,
+            was_long: false,
             gauge,
         })
     }
@@ -111,7 +114,7 @@ impl<W: Write + Drop> Gathered<W> {
     }
 
     /// Has octets wait, where there is room for them, and answers whether there was.
-    fn keep(&mut self, octets: &[u8]) -> bool
+    pub(crate) fn keep(&mut self, octets: &[u8]) -> bool
         ensures stream { self.new.stream ≡ self.old.stream }
         ensures kept { result ≡ true → self.new.waiting.items
             ≡ self.old.waiting.items ++ octets.now }
@@ -162,8 +165,11 @@ impl<W: Write + Drop> Gathered<W> {
         ensures pauses { pauses_of self.old ≤ pauses_of self.new }
         ensures later { IfErr result (λ s. s ≡ Later → pauses_of self.old < pauses_of self.new) }
     {
+        let is_long = KEPT < self.waiting.len();
+        let kept = if is_long && self.was_long { SOME } else { KEPT };
+        self.was_long = is_long;
         self.write_waiting()?;
-        self.waiting.shrink_to(KEPT);
+        self.waiting.shrink_to(kept);
         self.stream.flush()
     }
 }

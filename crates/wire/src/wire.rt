@@ -3,7 +3,9 @@
 //! A wire stands in a lock of its own (`crew::Outlet`), and its invariant holds whoever pumps it. That the stub is of
 //! the writer's outbox is what the type keeps; which session it is of is compared when the lock is ended. After a
 //! fault the wire is broken for good: nothing is written after octets that may be lost.
-ghost use Rattle.std.specs.Prelude.{◌≡◌, ◌≤◌, ◌<◌, [], true, false, Some, length, IfOk, IfErr, OnOk, OnErr};
+ghost use Rattle.std.specs.Prelude.{◌≡◌, ◌≤◌, ◌<◌, ℕ, List, [], ◌++◌, true, false, Some, length};
+ghost use Rattle.std.specs.Prelude.{IfOk, IfErr, OnOk, OnErr};
+ghost use Rattle.deliveries.specs.Text.{delivery_text};
 ghost use Rattle.std.specs.Io.KnownBytes.{append_known};
 ghost use Rattle.outbox.specs.Ends.{IsAllTaken};
 ghost use Rattle.wire.specs.declared.wire.Flow.TheVariants.{Idle, More, Behind, Ended};
@@ -134,7 +136,8 @@ impl<L: Naming, W: Write + Drop> Wire<L, W> {
         })
     }
 
-    /// Begins the item that waits longest, and answers whether there was one.
+    /// Takes the item that waits longest, and answers whether there was one. It waits whole where there is room for
+    /// that; else it is begun.
     fn begin_next<R: Wait>(&mut self, rt: &R) -> bool
         requires rest { self.old.rest ≡ [] }
         requires whole { self.old.is_broken ≡ false }
@@ -148,7 +151,9 @@ impl<L: Naming, W: Write + Drop> Wire<L, W> {
             return false;
         };
         self.has_last = is_last(item.delivery());
-        self.begun = Some(Begun::new(item));
+        if !keeps(item.delivery(), &mut self.out) {
+            self.begun = Some(Begun::new(item));
+        }
         true
     }
 
@@ -297,5 +302,19 @@ fn is_last(delivery: &Delivery) -> bool
     match delivery {
         Delivery::Lines { .. } => false,
         Delivery::Last { .. } => true,
+    }
+}
+
+/// Has the text of lines wait, where there is room for all of it, and answers whether there was. A session's last item
+/// never waits so.
+fn keeps<W: Write + Drop>(delivery: &Delivery, out: &mut Gathered<W>) -> bool
+    ensures stream { out.new.stream ≡ out.old.stream }
+    ensures kept { result ≡ true → (host : List ℕ) → out.new.waiting.items
+        ≡ out.old.waiting.items ++ delivery_text delivery.now host }
+    ensures not { result ≡ false → out.new.waiting.items ≡ out.old.waiting.items }
+{
+    match delivery {
+        Delivery::Lines { text, .. } => out.keep(text.as_slice()),
+        Delivery::Last { .. } => false,
     }
 }
