@@ -1,0 +1,5 @@
+pub mod Texts
+pub mod Shapes
+pub mod Lookups
+pub mod Effects
+pub mod Own
