@@ -54,12 +54,24 @@ filter-passes p q f (x ∷ xs) =
     cond_both (q x) _ _ (λ ys. list_all p ys ≡ true) (λ is. and_from _ _ (f x is) (filter-passes p q f xs))
     (λ _. filter-passes p q f xs)
 
+pub take-short : (n : ℕ) (xs : List ℕ) → length (take n xs) ≤ n
+take-short zero xs = omega arith
+take-short (suc n) [] = omega arith
+take-short (suc n) (x ∷ xs) = omega (arith, take-short n xs)
+
 -- ---- the digits of a number
 
-high-text : (b : ℕ) → 48 ≤ b → is_text_octet b ≡ true
+pub high-text : (b : ℕ) → 48 ≤ b → is_text_octet b ≡ true
 high-text b high =
     let n : b ≢ 0 = omega arith in let r : b ≢ 13 = omega arith in let l : b ≢ 10 = omega arith in
     rw (ne_eqb b 0 n, ne_eqb b 13 r, ne_eqb b 10 l) refl
+
+-- from 33 on, no octet ends a word
+pub high-word : (b : ℕ) → 33 ≤ b → is_word_octet b ≡ true
+high-word b high =
+    let s : b ≢ 32 = omega arith in let n : b ≢ 0 = omega arith in
+    let r : b ≢ 13 = omega arith in let l : b ≢ 10 = omega arith in
+    rw (ne_eqb b 32 s, ne_eqb b 0 n, ne_eqb b 13 r, ne_eqb b 10 l) refl
 
 glyph-text : (d : ℕ) → is_text_octet (digit_glyph false d) ≡ true
 glyph-text d =

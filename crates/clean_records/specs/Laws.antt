@@ -1,12 +1,29 @@
 -- Every line that a record makes is clean: this project's own promise.
-use Rattle.std.specs.Prelude.{◌≡◌, true, List}
+use Rattle.std.specs.Prelude.{◌≡◌, ℕ, true, List, Some, Ok}
+use Rattle.line_grammar.specs.declared.message.Message.{Message}
 use Rattle.chronicle.specs.declared.record.Kind.{Kind}
 use Rattle.registration.specs.declared.settings.Settings.{Settings}
 use Rattle.roster.specs.declared.deed.Deed.{Deed}
+use Rattle.session_commands.specs.declared.session.SessionCommand.{SessionCommand}
+use Rattle.session_commands.specs.Registration.{completed}
+use Rattle.session_commands.specs.Session.{serves_session, session_by_name}
 use Rattle.deeds.specs.Deeds.{effects}
-use Rattle.clean_records.specs.Clean.{AreClean, AreCleanEffects, IsCleanKind, is_own}
+use Rattle.answer_octets.specs.Clean.{HasText}
+use Rattle.clean_records.specs.Clean.{AreClean, AreCleanEffects, IsCleanKind, IsServing, is_own}
 
 -- the records that are the program's own
 abbrev pub OwnRecordsAreClean : Type 0
 OwnRecordsAreClean = (g : Settings) (fs : List Deed) (k : Kind) → AreClean fs → is_own k ≡ true → IsCleanKind k
     → AreCleanEffects (effects g fs k)
+
+-- ---- commands, each read of a clean message
+
+abbrev pub SessionCommandsAreClean : Type 0
+SessionCommandsAreClean = (g : Settings) (fs : List Deed) (s : ℕ) (k : SessionCommand) (m : Message) → IsServing g
+    → AreClean fs → HasText m → session_by_name m.command m.params ≡ Some (Ok k)
+    → AreCleanEffects (serves_session g fs s k)
+
+-- and the welcome that follows where a session is complete
+abbrev pub WelcomesAreClean : Type 0
+WelcomesAreClean = (g : Settings) (fs : List Deed) (s : ℕ) → IsServing g → AreClean fs
+    → AreCleanEffects (completed g fs s)

@@ -2,9 +2,19 @@
 //! states a law.
 #![tactic(auto)]
 
-ghost use Rattle.clean_records.specs.Laws.{OwnRecordsAreClean};
+ghost use Rattle.clean_records.specs.Laws.{OwnRecordsAreClean, SessionCommandsAreClean, WelcomesAreClean};
 
 /// What the program itself records, of clean facts, makes clean lines and facts.
 pub fn own_records_are_clean()
     ensures { OwnRecordsAreClean }
+{}
+
+/// So does each command of a session's own: CAP, AUTHENTICATE, PASS, NICK, USER, PING, PONG and QUIT.
+pub fn session_commands_are_clean()
+    ensures { SessionCommandsAreClean }
+{}
+
+/// And the welcome of a session that is complete.
+pub fn welcomes_are_clean()
+    ensures { WelcomesAreClean }
 {}

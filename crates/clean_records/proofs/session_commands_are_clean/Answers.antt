@@ -1,0 +1,5 @@
+use Rattle.clean_records.proofs.Sessions.{session-commands}
+use Rattle.clean_records.proofs.session_commands_are_clean.Goals as goal
+
+pub returns : goal.returns
+returns c = session-commands
