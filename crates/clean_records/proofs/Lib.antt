@@ -6,3 +6,4 @@ pub mod Own
 pub mod Lists
 pub mod Asking
 pub mod Sessions
+pub mod Talks

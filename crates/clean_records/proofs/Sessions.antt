@@ -109,7 +109,7 @@ requesting g fs s words (Acknowledged new) serves facts are = let d = Establish 
 requesting g fs s words Refused serves facts are = only (lists g fs s (codes "NAK") (spaced words))
     (listing g fs s (codes "NAK") (spaced words) serves facts refl (spaced-kept words are))
 
-abbrev IsCleanSub : CapSubcommand → Type 0
+abbrev pub IsCleanSub : CapSubcommand → Type 0
 IsCleanSub (Req words) = AreTexts words
 IsCleanSub sub = Unit {0}
 
@@ -279,7 +279,7 @@ ponging g token serves is =
 
 -- ---- what is read
 
-abbrev IsCleanSession : SessionCommand → Type 0
+abbrev pub IsCleanSession : SessionCommand → Type 0
 IsCleanSession (session.Cap sub) = IsCleanSub sub
 IsCleanSession (session.Nick n) = IsText n
 IsCleanSession (session.User u r) = IsWordOf 16 u × IsText r

@@ -7,6 +7,8 @@ use Rattle.roster.specs.declared.deed.Deed.{Deed}
 use Rattle.session_commands.specs.declared.session.SessionCommand.{SessionCommand}
 use Rattle.session_commands.specs.Registration.{completed}
 use Rattle.session_commands.specs.Session.{serves_session, session_by_name}
+use Rattle.talk_commands.specs.declared.talk.TalkCommand.{TalkCommand}
+use Rattle.talk_commands.specs.Talk.{serves_talk, talk_of}
 use Rattle.deeds.specs.Deeds.{effects}
 use Rattle.answer_octets.specs.Clean.{HasText}
 use Rattle.clean_records.specs.Clean.{AreClean, AreCleanEffects, IsCleanKind, IsServing, is_own}
@@ -27,3 +29,8 @@ SessionCommandsAreClean = (g : Settings) (fs : List Deed) (s : ℕ) (k : Session
 abbrev pub WelcomesAreClean : Type 0
 WelcomesAreClean = (g : Settings) (fs : List Deed) (s : ℕ) → IsServing g → AreClean fs
     → AreCleanEffects (completed g fs s)
+
+abbrev pub TalkCommandsAreClean : Type 0
+TalkCommandsAreClean = (g : Settings) (fs : List Deed) (s : ℕ) (k : TalkCommand) (m : Message) → IsServing g
+    → AreClean fs → HasText m → talk_of m.command m.tags m.params ≡ Some (Ok k)
+    → AreCleanEffects (serves_talk g fs s k)

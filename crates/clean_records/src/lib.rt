@@ -3,6 +3,7 @@
 #![tactic(auto)]
 
 ghost use Rattle.clean_records.specs.Laws.{OwnRecordsAreClean, SessionCommandsAreClean, WelcomesAreClean};
+ghost use Rattle.clean_records.specs.Laws.{TalkCommandsAreClean};
 
 /// What the program itself records, of clean facts, makes clean lines and facts.
 pub fn own_records_are_clean()
@@ -17,4 +18,9 @@ pub fn session_commands_are_clean()
 /// And the welcome of a session that is complete.
 pub fn welcomes_are_clean()
     ensures { WelcomesAreClean }
+{}
+
+/// So does what is sent: PRIVMSG, NOTICE, TAGMSG and AWAY.
+pub fn talk_commands_are_clean()
+    ensures { TalkCommandsAreClean }
 {}

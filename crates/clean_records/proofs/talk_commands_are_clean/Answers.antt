@@ -1,0 +1,5 @@
+use Rattle.clean_records.proofs.Talks.{talk-commands}
+use Rattle.clean_records.proofs.talk_commands_are_clean.Goals as goal
+
+pub returns : goal.returns
+returns c = talk-commands
