@@ -7,3 +7,4 @@ pub mod Lists
 pub mod Asking
 pub mod Sessions
 pub mod Talks
+pub mod Queries

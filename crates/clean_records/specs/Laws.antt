@@ -9,6 +9,8 @@ use Rattle.session_commands.specs.Registration.{completed}
 use Rattle.session_commands.specs.Session.{serves_session, session_by_name}
 use Rattle.talk_commands.specs.declared.talk.TalkCommand.{TalkCommand}
 use Rattle.talk_commands.specs.Talk.{serves_talk, talk_of}
+use Rattle.query_commands.specs.declared.query.Query.{Query}
+use Rattle.query_commands.specs.Query.{queries, query_of}
 use Rattle.deeds.specs.Deeds.{effects}
 use Rattle.answer_octets.specs.Clean.{HasText}
 use Rattle.clean_records.specs.Clean.{AreClean, AreCleanEffects, IsCleanKind, IsServing, is_own}
@@ -34,3 +36,7 @@ abbrev pub TalkCommandsAreClean : Type 0
 TalkCommandsAreClean = (g : Settings) (fs : List Deed) (s : ℕ) (k : TalkCommand) (m : Message) → IsServing g
     → AreClean fs → HasText m → talk_of m.command m.tags m.params ≡ Some (Ok k)
     → AreCleanEffects (serves_talk g fs s k)
+
+abbrev pub QueriesAreClean : Type 0
+QueriesAreClean = (g : Settings) (fs : List Deed) (s : ℕ) (q : Query) (m : Message) → IsServing g → AreClean fs
+    → HasText m → query_of m.command m.params ≡ Some (Ok q) → AreCleanEffects (queries g fs s q)

@@ -4,6 +4,7 @@
 
 ghost use Rattle.clean_records.specs.Laws.{OwnRecordsAreClean, SessionCommandsAreClean, WelcomesAreClean};
 ghost use Rattle.clean_records.specs.Laws.{TalkCommandsAreClean};
+ghost use Rattle.clean_records.specs.Laws.{QueriesAreClean};
 
 /// What the program itself records, of clean facts, makes clean lines and facts.
 pub fn own_records_are_clean()
@@ -23,4 +24,9 @@ pub fn welcomes_are_clean()
 /// So does what is sent: PRIVMSG, NOTICE, TAGMSG and AWAY.
 pub fn talk_commands_are_clean()
     ensures { TalkCommandsAreClean }
+{}
+
+/// So does each command that only asks: NAMES, LIST, WHO, WHOIS and MOTD.
+pub fn queries_are_clean()
+    ensures { QueriesAreClean }
 {}
