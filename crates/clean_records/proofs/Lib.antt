@@ -8,3 +8,4 @@ pub mod Asking
 pub mod Sessions
 pub mod Talks
 pub mod Queries
+pub mod Channels

@@ -11,6 +11,8 @@ use Rattle.talk_commands.specs.declared.talk.TalkCommand.{TalkCommand}
 use Rattle.talk_commands.specs.Talk.{serves_talk, talk_of}
 use Rattle.query_commands.specs.declared.query.Query.{Query}
 use Rattle.query_commands.specs.Query.{queries, query_of}
+use Rattle.channel_commands.specs.declared.channel.ChannelCommand.{ChannelCommand}
+use Rattle.channel_commands.specs.Channel.{channel_command_of, serves_channel}
 use Rattle.deeds.specs.Deeds.{effects}
 use Rattle.answer_octets.specs.Clean.{HasText}
 use Rattle.clean_records.specs.Clean.{AreClean, AreCleanEffects, IsCleanKind, IsServing, is_own}
@@ -40,3 +42,8 @@ TalkCommandsAreClean = (g : Settings) (fs : List Deed) (s : ℕ) (k : TalkComman
 abbrev pub QueriesAreClean : Type 0
 QueriesAreClean = (g : Settings) (fs : List Deed) (s : ℕ) (q : Query) (m : Message) → IsServing g → AreClean fs
     → HasText m → query_of m.command m.params ≡ Some (Ok q) → AreCleanEffects (queries g fs s q)
+
+abbrev pub ChannelCommandsAreClean : Type 0
+ChannelCommandsAreClean = (g : Settings) (fs : List Deed) (s : ℕ) (k : ChannelCommand) (m : Message) → IsServing g
+    → AreClean fs → HasText m → channel_command_of m.command m.params ≡ Some (Ok k)
+    → AreCleanEffects (serves_channel g fs s k)

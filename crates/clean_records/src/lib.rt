@@ -5,6 +5,7 @@
 ghost use Rattle.clean_records.specs.Laws.{OwnRecordsAreClean, SessionCommandsAreClean, WelcomesAreClean};
 ghost use Rattle.clean_records.specs.Laws.{TalkCommandsAreClean};
 ghost use Rattle.clean_records.specs.Laws.{QueriesAreClean};
+ghost use Rattle.clean_records.specs.Laws.{ChannelCommandsAreClean};
 
 /// What the program itself records, of clean facts, makes clean lines and facts.
 pub fn own_records_are_clean()
@@ -29,4 +30,9 @@ pub fn talk_commands_are_clean()
 /// So does each command that only asks: NAMES, LIST, WHO, WHOIS and MOTD.
 pub fn queries_are_clean()
     ensures { QueriesAreClean }
+{}
+
+/// So does each command about channels: JOIN, PART, KICK, INVITE and TOPIC.
+pub fn channel_commands_are_clean()
+    ensures { ChannelCommandsAreClean }
 {}
