@@ -9,3 +9,4 @@ pub mod Sessions
 pub mod Talks
 pub mod Queries
 pub mod Channels
+pub mod Modes

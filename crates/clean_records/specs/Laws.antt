@@ -13,6 +13,8 @@ use Rattle.query_commands.specs.declared.query.Query.{Query}
 use Rattle.query_commands.specs.Query.{queries, query_of}
 use Rattle.channel_commands.specs.declared.channel.ChannelCommand.{ChannelCommand}
 use Rattle.channel_commands.specs.Channel.{channel_command_of, serves_channel}
+use Rattle.mode_commands.specs.declared.modes.ModeCommand.{ModeCommand}
+use Rattle.mode_commands.specs.Modes.{mode_of, serves_mode}
 use Rattle.deeds.specs.Deeds.{effects}
 use Rattle.answer_octets.specs.Clean.{HasText}
 use Rattle.clean_records.specs.Clean.{AreClean, AreCleanEffects, IsCleanKind, IsServing, is_own}
@@ -47,3 +49,7 @@ abbrev pub ChannelCommandsAreClean : Type 0
 ChannelCommandsAreClean = (g : Settings) (fs : List Deed) (s : ℕ) (k : ChannelCommand) (m : Message) → IsServing g
     → AreClean fs → HasText m → channel_command_of m.command m.params ≡ Some (Ok k)
     → AreCleanEffects (serves_channel g fs s k)
+
+abbrev pub ModeCommandsAreClean : Type 0
+ModeCommandsAreClean = (g : Settings) (fs : List Deed) (s : ℕ) (k : ModeCommand) (m : Message) → IsServing g
+    → AreClean fs → HasText m → mode_of m.command m.params ≡ Some (Ok k) → AreCleanEffects (serves_mode g fs s k)

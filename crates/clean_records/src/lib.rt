@@ -6,6 +6,7 @@ ghost use Rattle.clean_records.specs.Laws.{OwnRecordsAreClean, SessionCommandsAr
 ghost use Rattle.clean_records.specs.Laws.{TalkCommandsAreClean};
 ghost use Rattle.clean_records.specs.Laws.{QueriesAreClean};
 ghost use Rattle.clean_records.specs.Laws.{ChannelCommandsAreClean};
+ghost use Rattle.clean_records.specs.Laws.{ModeCommandsAreClean};
 
 /// What the program itself records, of clean facts, makes clean lines and facts.
 pub fn own_records_are_clean()
@@ -35,4 +36,9 @@ pub fn queries_are_clean()
 /// So does each command about channels: JOIN, PART, KICK, INVITE and TOPIC.
 pub fn channel_commands_are_clean()
     ensures { ChannelCommandsAreClean }
+{}
+
+/// So does MODE, of a channel and of oneself.
+pub fn mode_commands_are_clean()
+    ensures { ModeCommandsAreClean }
 {}

@@ -1,0 +1,5 @@
+use Rattle.clean_records.proofs.Modes.{mode-commands}
+use Rattle.clean_records.proofs.mode_commands_are_clean.Goals as goal
+
+pub returns : goal.returns
+returns c = mode-commands
