@@ -10,3 +10,5 @@ pub mod Talks
 pub mod Queries
 pub mod Channels
 pub mod Modes
+pub mod Rows
+pub mod Histories

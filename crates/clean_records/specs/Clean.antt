@@ -16,6 +16,7 @@ use Rattle.roster.specs.declared.deed.Deed.{Deed}
 use Rattle.roster.specs.declared.deed.Deed.TheVariants as deed
 use Rattle.drafts.specs.declared.effect.Effect.{Effect}
 use Rattle.drafts.specs.declared.effect.Effect.TheVariants.{Establish, Answer, Show, Copy}
+use Rattle.drafts.specs.Effects.{copies, due, reply}
 use Rattle.answer_octets.specs.Clean.{IsClean, IsWordOf, is_one_line}
 
 -- no NUL, CR or LF
@@ -60,6 +61,12 @@ IsCleanEffect (Copy line) = IsClean line
 
 abbrev pub AreCleanEffects : List Effect → Type 0
 AreCleanEffects es = All IsCleanEffect es
+
+-- the lines of effects: the answer to whoever it is that asked, what it sent to itself, and what others are shown
+pub record AreCleanLines (es : List Effect) : Type 0 where
+  pub reply_is : (s : ℕ) → All IsClean (reply s es)
+  pub copies_are : All IsClean (copies es)
+  pub shown_are : (t : ℕ) → All IsClean (due es t)
 
 -- each account's name has the shape of a nickname
 abbrev pub AreNamed : List Account → Type 0

@@ -2,6 +2,7 @@
 use Rattle.std.specs.Prelude.{◌≡◌, ℕ, true, List, Some, Ok}
 use Rattle.line_grammar.specs.declared.message.Message.{Message}
 use Rattle.chronicle.specs.declared.record.Kind.{Kind}
+use Rattle.chronicle.specs.History.{Rec}
 use Rattle.registration.specs.declared.settings.Settings.{Settings}
 use Rattle.roster.specs.declared.deed.Deed.{Deed}
 use Rattle.session_commands.specs.declared.session.SessionCommand.{SessionCommand}
@@ -15,9 +16,11 @@ use Rattle.channel_commands.specs.declared.channel.ChannelCommand.{ChannelComman
 use Rattle.channel_commands.specs.Channel.{channel_command_of, serves_channel}
 use Rattle.mode_commands.specs.declared.modes.ModeCommand.{ModeCommand}
 use Rattle.mode_commands.specs.Modes.{mode_of, serves_mode}
-use Rattle.deeds.specs.Deeds.{effects}
-use Rattle.answer_octets.specs.Clean.{HasText}
-use Rattle.clean_records.specs.Clean.{AreClean, AreCleanEffects, IsCleanKind, IsServing, is_own}
+use Rattle.deeds.specs.Deeds.{effects, facts}
+use Rattle.deeds.specs.Ping.{ping_line}
+use Rattle.answer_octets.specs.Clean.{HasText, IsClean}
+use Rattle.clean_records.specs.Clean.{AreClean, AreCleanEffects, AreCleanLines, IsCleanHistory, IsCleanKind}
+use Rattle.clean_records.specs.Clean.{IsServing, is_own}
 
 -- the records that are the program's own
 abbrev pub OwnRecordsAreClean : Type 0
@@ -53,3 +56,21 @@ ChannelCommandsAreClean = (g : Settings) (fs : List Deed) (s : ℕ) (k : Channel
 abbrev pub ModeCommandsAreClean : Type 0
 ModeCommandsAreClean = (g : Settings) (fs : List Deed) (s : ℕ) (k : ModeCommand) (m : Message) → IsServing g
     → AreClean fs → HasText m → mode_of m.command m.params ≡ Some (Ok k) → AreCleanEffects (serves_mode g fs s k)
+
+-- ---- any record, and any history
+
+abbrev pub RecordsAreClean : Type 0
+RecordsAreClean = (g : Settings) (fs : List Deed) (k : Kind) → IsServing g → AreClean fs → IsCleanKind k
+    → AreCleanEffects (effects g fs k)
+
+abbrev pub FactsAreClean : Type 0
+FactsAreClean = (g : Settings) (h : List Rec) → IsServing g → IsCleanHistory h → AreClean (facts g h)
+
+-- the lines of the record that comes next, to its own session and to each other
+abbrev pub LinesAreClean : Type 0
+LinesAreClean = (g : Settings) (h : List Rec) (k : Kind) → IsServing g → IsCleanHistory h → IsCleanKind k
+    → AreCleanLines (effects g (facts g h) k)
+
+-- what a tick asks a session that is quiet
+abbrev pub PingIsClean : Type 0
+PingIsClean = (g : Settings) → IsServing g → IsClean (ping_line g.server)

@@ -7,6 +7,7 @@ ghost use Rattle.clean_records.specs.Laws.{TalkCommandsAreClean};
 ghost use Rattle.clean_records.specs.Laws.{QueriesAreClean};
 ghost use Rattle.clean_records.specs.Laws.{ChannelCommandsAreClean};
 ghost use Rattle.clean_records.specs.Laws.{ModeCommandsAreClean};
+ghost use Rattle.clean_records.specs.Laws.{FactsAreClean, LinesAreClean, PingIsClean, RecordsAreClean};
 
 /// What the program itself records, of clean facts, makes clean lines and facts.
 pub fn own_records_are_clean()
@@ -41,4 +42,24 @@ pub fn channel_commands_are_clean()
 /// So does MODE, of a channel and of oneself.
 pub fn mode_commands_are_clean()
     ensures { ModeCommandsAreClean }
+{}
+
+/// Any record, of clean facts, makes clean lines and facts: of a client's line, where that is one line.
+pub fn records_are_clean()
+    ensures { RecordsAreClean }
+{}
+
+/// The facts of a history are clean whose pieces are one line each and whose hosts have their shape.
+pub fn facts_are_clean()
+    ensures { FactsAreClean }
+{}
+
+/// So is every line that the next record answers, copies or shows.
+pub fn lines_are_clean()
+    ensures { LinesAreClean }
+{}
+
+/// And the PING of a tick.
+pub fn ping_is_clean()
+    ensures { PingIsClean }
 {}

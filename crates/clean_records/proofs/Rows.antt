@@ -1,0 +1,176 @@
+-- What any record does: a line of a client's is read, and what it asks for is done by its topic.
+use Rattle.std.proofs.Common.{◌≡◌, ℕ, Bool, true, false, not, ◌&&◌, List, [], ◌∷◌, ◌++◌, codes, Option, Some, None}
+use Rattle.std.proofs.Common.{Result, Ok, Err, refl}
+use Rattle.std.specs.Bool.{if◌then◌else◌}
+use Rattle.chronicle.specs.declared.record.Kind.{Kind}
+use Rattle.chronicle.specs.declared.record.Kind.TheVariants as kind
+use Rattle.line_grammar.specs.declared.message.Message.{Message}
+use Rattle.line_grammar.specs.declared.splitter.Piece.{Piece}
+use Rattle.line_grammar.specs.declared.splitter.Piece.TheVariants as piece
+use Rattle.line_grammar.specs.Reading.{reading}
+use Rattle.numerics.specs.declared.numeric.Numeric.{Numeric}
+use Rattle.numerics.specs.declared.numeric.Numeric.TheVariants as numeric
+use Rattle.numerics.specs.Numerics.{row}
+use Rattle.registration.specs.declared.settings.Settings.{Settings}
+use Rattle.roster.specs.declared.deed.Deed.{Deed}
+use Rattle.roster.specs.LookBack.{after, registered}
+use Rattle.drafts.specs.Effects.{deeds_of}
+use Rattle.drafts.specs.Replies.{tells}
+use Rattle.command_params.specs.declared.fault.ReadFault.{ReadFault}
+use Rattle.command_params.specs.declared.fault.ReadFault.TheVariants.{UnknownCommand, NeedMoreParams}
+use Rattle.command_params.specs.declared.fault.ReadFault.TheVariants.{NoNicknameGiven, NoRecipient, NoTextToSend}
+use Rattle.command_params.specs.declared.fault.ReadFault.TheVariants.{NoOrigin, InvalidCapSubcommand, Memory}
+use Rattle.commands.specs.Asked.{asked_by, asked_of, read_as}
+use Rattle.commands.specs.Commands.{as_topic, by_name, command_of}
+use Rattle.commands.specs.declared.asked.Asked.{Asked}
+use Rattle.commands.specs.declared.asked.Asked.TheVariants.{Nothing, TooLong, Command as Asks, Fault as Fails}
+use Rattle.commands.specs.declared.command.Command.{Command}
+use Rattle.commands.specs.declared.command.Command.TheVariants.{Session, Channel, Mode, Talk, Query}
+use Rattle.session_commands.specs.Registration.{completed}
+use Rattle.session_commands.specs.Session.{session_by_name}
+use Rattle.channel_commands.specs.Channel.{channel_command_of}
+use Rattle.mode_commands.specs.Modes.{mode_of}
+use Rattle.talk_commands.specs.Talk.{talk_of}
+use Rattle.query_commands.specs.Query.{query_of}
+use Rattle.deeds.specs.Deeds.{effects}
+use Rattle.deeds.specs.Rows.{asked, fault_numeric, is_for_registered, is_silent, of_asked, of_command, refused, served}
+use Rattle.deeds.specs.Rows.{turned_away}
+use Rattle.answer_octets.specs.Clean.{HasText, IsTextRow, is_one_line}
+use Rattle.answer_octets.proofs.Pieces.{read-text}
+use Rattle.clean_records.specs.Clean.{IsCleanKind, IsServing, IsText}
+use Rattle.clean_records.specs.Laws.{RecordsAreClean}
+use Rattle.clean_records.proofs.Asking.{IfRead, IsCleanFault, IsCleanRead, command-text}
+use Rattle.clean_records.proofs.Channels.{IsCleanChannel, channel-read, of_channel}
+use Rattle.clean_records.proofs.Effects.{Clean, IsTextNumeric, clean-effects, either, facts-of, joined, later, none}
+use Rattle.clean_records.proofs.Effects.{told_only}
+use Rattle.clean_records.proofs.Lookups.{Facts}
+use Rattle.clean_records.proofs.Modes.{IsCleanModes, mode-read, of_mode}
+use Rattle.clean_records.proofs.Own.{own}
+use Rattle.clean_records.proofs.Queries.{IsCleanQuery, of_query, query-read}
+use Rattle.clean_records.proofs.Sessions.{IsCleanSession, completing, of_session, session-read}
+use Rattle.clean_records.proofs.Talks.{IsCleanCommand as IsCleanTalk, of_talk, talk-read}
+use Rattle.clean_records.proofs.Texts.{both, one}
+
+-- ---- what is read
+
+abbrev IsCleanCommand : Command → Type 0
+IsCleanCommand (Session k) = IsCleanSession k
+IsCleanCommand (Channel k) = IsCleanChannel k
+IsCleanCommand (Mode k) = IsCleanModes k
+IsCleanCommand (Talk k) = IsCleanTalk k
+IsCleanCommand (Query q) = IsCleanQuery q
+
+abbrev IsReadCommand : Result Command ReadFault → Type 0
+IsReadCommand read = IsCleanRead IsCleanCommand read
+
+as-topic : {K : Type 0} (P : K → Type 0) (topic : K → Command) (read : Result K ReadFault)
+    → ((k : K) → P k → IsCleanCommand (topic k)) → IsCleanRead P read → IsReadCommand (as_topic topic read)
+as-topic P topic (Ok k) f is = f k is
+as-topic P topic (Err fault) f is = is
+
+by-name : {K : Type 0} (P : K → Type 0) (topic : K → Command) (o : Option (Result K ReadFault))
+    (other : Result Command ReadFault) → ((k : K) → P k → IsCleanCommand (topic k)) → IfRead P o
+    → IsReadCommand other → IsReadCommand (by_name topic o other)
+by-name P topic None other f is less = less
+by-name P topic (Some read) other f is less = as-topic P topic read f is
+
+command-read : (m : Message) → HasText m → IsReadCommand (command_of m)
+unfolding command_of
+command-read m text =
+    by-name IsCleanSession Session (session_by_name m.command m.params) _ (λ k is. is)
+    (session-read m.command m.params text.params)
+    (by-name IsCleanChannel Channel (channel_command_of m.command m.params) _ (λ k is. is)
+    (channel-read m.command m.params text.params)
+    (by-name IsCleanModes Mode (mode_of m.command m.params) _ (λ k is. is)
+    (mode-read m.command m.params text.params)
+    (by-name IsCleanTalk Talk (talk_of m.command m.tags m.params) _ (λ k is. is)
+    (talk-read m.command m.tags m.params text.tags text.params)
+    (by-name IsCleanQuery Query (query_of m.command m.params) _ (λ k is. is)
+    (query-read m.command m.params text.params) (command-text m.command text.command)))))
+
+abbrev IsCleanAsked : Asked → Type 0
+IsCleanAsked Nothing = Unit {0}
+IsCleanAsked TooLong = Unit {0}
+IsCleanAsked (Asks k) = IsCleanCommand k
+IsCleanAsked (Fails fault) = IsCleanFault fault
+
+read-as : (read : Result Command ReadFault) → IsReadCommand read → IsCleanAsked (read_as read)
+read-as (Ok k) is = is
+read-as (Err fault) is = is
+
+asked-clean : (line : List ℕ) (o : Option Message) → is_one_line (piece.Line line) ≡ true → reading line ≡ o
+    → IsCleanAsked (asked_by o)
+asked-clean line None is read = tt
+asked-clean line (Some m) is read = read-as (command_of m) (command-read m (read-text line m is read))
+
+piece-clean : (p : Piece) → is_one_line p ≡ true → IsCleanAsked (asked_of p)
+unfolding asked_of
+piece-clean piece.TooLong is = tt
+piece-clean (piece.Line line) is = asked-clean line (reading line) is refl
+
+-- ---- what is done
+
+serving : (g : Settings) (fs : List Deed) (s : ℕ) (k : Command) → IsServing g → Facts fs → IsCleanCommand k
+    → Clean (served g fs s k)
+serving g fs s (Session k) serves facts is = of_session g fs s k serves facts is
+serving g fs s (Channel k) serves facts is = of_channel g fs s k serves facts is
+serving g fs s (Mode k) serves facts is = of_mode g fs s k serves facts is
+serving g fs s (Talk k) serves facts is = of_talk g fs s k serves facts is
+serving g fs s (Query q) serves facts is = of_query g fs s q serves facts is
+
+turning_away : (g : Settings) (fs : List Deed) (s : ℕ) (k : Command) → IsServing g → Facts fs
+    → Clean (turned_away g fs s k)
+turning_away g fs s k serves facts = either (is_silent k) [] (tells g fs s numeric.NotRegistered ∷ []) none
+    (told_only g fs s numeric.NotRegistered serves facts (record { words = refl; text = refl }))
+
+asking : (g : Settings) (fs : List Deed) (s : ℕ) (k : Command) → IsServing g → Facts fs → IsCleanCommand k
+    → Clean (asked g fs s k)
+asking g fs s k serves facts is = either (is_for_registered k && not (registered fs s)) (turned_away g fs s k)
+    (served g fs s k) (turning_away g fs s k serves facts) (serving g fs s k serves facts is)
+
+commanding : (g : Settings) (fs : List Deed) (s : ℕ) (k : Command) → IsServing g → Facts fs → IsCleanCommand k
+    → Clean (of_command g fs s k)
+commanding g fs s k serves facts is =
+    let es = asked g fs s k in let first = asking g fs s k serves facts is in
+    joined es (completed g (after fs (deeds_of es)) s) first
+    (completing g (after fs (deeds_of es)) s serves (later es fs first facts))
+
+refusing : (g : Settings) (fs : List Deed) (s : ℕ) (fault : ReadFault) → IsServing g → Facts fs → IsCleanFault fault
+    → Clean (refused g fs s (fault_numeric fault))
+refusing g fs s (UnknownCommand name) serves facts is =
+    told_only g fs s (numeric.UnknownCommand name) serves facts (record { words = one name is; text = refl })
+refusing g fs s (NeedMoreParams command) serves facts is =
+    told_only g fs s (numeric.NeedMoreParams command) serves facts (record { words = one command is; text = refl })
+refusing g fs s NoNicknameGiven serves facts is =
+    told_only g fs s numeric.NoNicknameGiven serves facts (record { words = refl; text = refl })
+refusing g fs s (NoRecipient command) serves facts is =
+    told_only g fs s (numeric.NoRecipient command) serves facts
+    (record { words = refl; text = both command (codes ")" ++ []) is refl })
+refusing g fs s NoTextToSend serves facts is =
+    told_only g fs s numeric.NoTextToSend serves facts (record { words = refl; text = refl })
+refusing g fs s NoOrigin serves facts is =
+    told_only g fs s numeric.NoOrigin serves facts (record { words = refl; text = refl })
+refusing g fs s (InvalidCapSubcommand sub) serves facts is =
+    told_only g fs s (numeric.InvalidCapCmd sub) serves facts (record { words = one sub is; text = refl })
+refusing g fs s Memory serves facts is = none
+
+of_any : (g : Settings) (fs : List Deed) (s : ℕ) (a : Asked) → IsServing g → Facts fs → IsCleanAsked a
+    → Clean (of_asked g fs s a)
+of_any g fs s Nothing serves facts is = none
+of_any g fs s TooLong serves facts is =
+    told_only g fs s numeric.InputTooLong serves facts (record { words = refl; text = refl })
+of_any g fs s (Asks k) serves facts is = commanding g fs s k serves facts is
+of_any g fs s (Fails fault) serves facts is = refusing g fs s fault serves facts is
+
+-- ---- any record
+
+pub of_record : (g : Settings) (fs : List Deed) (k : Kind) → IsServing g → Facts fs → IsCleanKind k
+    → Clean (effects g fs k)
+of_record g fs (kind.Opened s host) serves facts is = own g fs (kind.Opened s host) facts refl is
+of_record g fs (kind.Said s i p) serves facts is = of_any g fs s (asked_of p) serves facts (piece-clean p is)
+of_record g fs (kind.Hung s why) serves facts is = own g fs (kind.Hung s why) facts refl is
+of_record g fs (kind.Gone s) serves facts is = own g fs (kind.Gone s) facts refl is
+of_record g fs kind.Ticked serves facts is = own g fs kind.Ticked facts refl is
+
+pub records : RecordsAreClean
+records g fs k serves are is = clean-effects (effects g fs k) (of_record g fs k serves (facts-of fs are) is)
