@@ -75,7 +75,7 @@ ends-clean server n is small = record {
 
 -- ---- the lines of an answer
 
-tagged-clean : (t : Option AnswerTag) → IsCleanTag t → (ls : List Out) → All IsClean ls
+pub tagged-clean : (t : Option AnswerTag) → IsCleanTag t → (ls : List Out) → All IsClean ls
     → All IsCleanTagged (map (tagged_as t) ls)
 tagged-clean t is ls are =
     All-map IsCleanTagged (tagged_as t) ls (All-weaker IsClean (λ l. IsCleanTagged (tagged_as t l))
@@ -113,8 +113,8 @@ answered-clean server label n (l ∷ k ∷ ls) copies own is small are after =
     rw (ne_eqb (length xs) 0 some) (rw (ne_eqb (length xs) 1 more)
     (batched-clean server label n xs copies own is small are after))
 
-clean : (m : ℤ) (server label : List ℕ) (n : ℕ) (reply copies : List Out) → IsCleanAnswer m server label n reply copies
-    → All IsCleanTagged (answered server (Some label) n reply copies)
+pub clean : (m : ℤ) (server label : List ℕ) (n : ℕ) (reply copies : List Out)
+    → IsCleanAnswer m server label n reply copies → All IsCleanTagged (answered server (Some label) n reply copies)
 clean m server label n reply copies c =
     answered-clean server label n reply copies c.server_is c.label_is c.number c.reply_is c.copies_are
 

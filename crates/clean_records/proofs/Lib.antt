@@ -12,3 +12,4 @@ pub mod Channels
 pub mod Modes
 pub mod Rows
 pub mod Histories
+pub mod Answered

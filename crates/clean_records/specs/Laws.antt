@@ -1,10 +1,13 @@
 -- Every line that a record makes is clean: this project's own promise.
-use Rattle.std.specs.Prelude.{◌≡◌, ℕ, true, List, Some, Ok}
+use Rattle.std.specs.Prelude.{◌≡◌, ℕ, ◌<◌, ◌^◌, ℤ, true, List, map, Some, Ok}
+use Rattle.std.specs.List.{list_all}
 use Rattle.line_grammar.specs.declared.message.Message.{Message}
+use Rattle.line_grammar.specs.Spelling.{is_text_octet}
 use Rattle.chronicle.specs.declared.record.Kind.{Kind}
-use Rattle.chronicle.specs.History.{Rec}
+use Rattle.chronicle.specs.History.{Rec, actor}
 use Rattle.registration.specs.declared.settings.Settings.{Settings}
 use Rattle.roster.specs.declared.deed.Deed.{Deed}
+use Rattle.roster.specs.LookBack.{caps}
 use Rattle.session_commands.specs.declared.session.SessionCommand.{SessionCommand}
 use Rattle.session_commands.specs.Registration.{completed}
 use Rattle.session_commands.specs.Session.{serves_session, session_by_name}
@@ -16,9 +19,12 @@ use Rattle.channel_commands.specs.declared.channel.ChannelCommand.{ChannelComman
 use Rattle.channel_commands.specs.Channel.{channel_command_of, serves_channel}
 use Rattle.mode_commands.specs.declared.modes.ModeCommand.{ModeCommand}
 use Rattle.mode_commands.specs.Modes.{mode_of, serves_mode}
-use Rattle.deeds.specs.Deeds.{effects, facts}
+use Rattle.drafts.specs.Effects.{copies, reply}
+use Rattle.deeds.specs.Deeds.{effects, facts, label_in, lines, text}
 use Rattle.deeds.specs.Ping.{ping_line}
-use Rattle.answer_octets.specs.Clean.{HasText, IsClean}
+use Rattle.answer_octets.specs.Clean.{HasText, IsClean, IsCleanAnswer, IsMoment}
+use Rattle.answer_octets.specs.Laws.{line_of}
+use Rattle.answer_octets.specs.TextLines.{text_lines}
 use Rattle.clean_records.specs.Clean.{AreClean, AreCleanEffects, AreCleanLines, IsCleanHistory, IsCleanKind}
 use Rattle.clean_records.specs.Clean.{IsServing, is_own}
 
@@ -74,3 +80,19 @@ LinesAreClean = (g : Settings) (h : List Rec) (k : Kind) → IsServing g → IsC
 -- what a tick asks a session that is quiet
 abbrev pub PingIsClean : Type 0
 PingIsClean = (g : Settings) → IsServing g → IsClean (ping_line g.server)
+
+-- ---- and so, as octets
+
+-- the answer to a line with a label that counts meets what the laws of whole answers ask for
+abbrev pub AnswersAreClean : Type 0
+AnswersAreClean = (g : Settings) (h : List Rec) (k : Kind) (m : ℤ) (n : ℕ) (label : List ℕ) → IsServing g
+    → IsCleanHistory h → IsCleanKind k → IsMoment m → n < 2 ^ 64 → label_in (facts g h) k ≡ Some label
+    → IsCleanAnswer m g.server label n (reply (actor k) (effects g (facts g h) k)) (copies (effects g (facts g h) k))
+
+-- the text of a record to a session is cut into its lines again, and none of them has a NUL, a CR or an LF
+abbrev pub TextsAreCut : Type 0
+TextsAreCut = (g : Settings) (h : List Rec) (k : Kind) (m : ℤ) (n t : ℕ) → IsServing g → IsCleanHistory h
+    → IsCleanKind k → IsMoment m → n < 2 ^ 64
+    → (text_lines (text g (facts g h) k m n t) ≡ map (line_of (caps (facts g h) t) m)
+      (lines g (actor k) (label_in (facts g h) k) (effects g (facts g h) k) n t))
+    × (list_all (list_all is_text_octet) (text_lines (text g (facts g h) k m n t)) ≡ true)

@@ -8,6 +8,7 @@ ghost use Rattle.clean_records.specs.Laws.{QueriesAreClean};
 ghost use Rattle.clean_records.specs.Laws.{ChannelCommandsAreClean};
 ghost use Rattle.clean_records.specs.Laws.{ModeCommandsAreClean};
 ghost use Rattle.clean_records.specs.Laws.{FactsAreClean, LinesAreClean, PingIsClean, RecordsAreClean};
+ghost use Rattle.clean_records.specs.Laws.{AnswersAreClean, TextsAreCut};
 
 /// What the program itself records, of clean facts, makes clean lines and facts.
 pub fn own_records_are_clean()
@@ -62,4 +63,14 @@ pub fn lines_are_clean()
 /// And the PING of a tick.
 pub fn ping_is_clean()
     ensures { PingIsClean }
+{}
+
+/// So the answer under a label that counts is clean, as the laws of `answer_octets` ask of it.
+pub fn answers_are_clean()
+    ensures { AnswersAreClean }
+{}
+
+/// And the text of any record to any session is cut into its lines again, none of which has a NUL, a CR or an LF.
+pub fn texts_are_cut()
+    ensures { TextsAreCut }
 {}
