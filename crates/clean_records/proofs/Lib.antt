@@ -13,3 +13,5 @@ pub mod Modes
 pub mod Rows
 pub mod Histories
 pub mod Answered
+pub mod Accounts
+mod Examples

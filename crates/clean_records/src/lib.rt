@@ -9,6 +9,7 @@ ghost use Rattle.clean_records.specs.Laws.{ChannelCommandsAreClean};
 ghost use Rattle.clean_records.specs.Laws.{ModeCommandsAreClean};
 ghost use Rattle.clean_records.specs.Laws.{FactsAreClean, LinesAreClean, PingIsClean, RecordsAreClean};
 ghost use Rattle.clean_records.specs.Laws.{AnswersAreClean, TextsAreCut};
+ghost use Rattle.clean_records.specs.Laws.{AccountsAreNamed};
 
 /// What the program itself records, of clean facts, makes clean lines and facts.
 pub fn own_records_are_clean()
@@ -73,4 +74,9 @@ pub fn answers_are_clean()
 /// And the text of any record to any session is cut into its lines again, none of which has a NUL, a CR or an LF.
 pub fn texts_are_cut()
     ensures { TextsAreCut }
+{}
+
+/// Accounts that are read from a file are named as nicknames are.
+pub fn accounts_are_named()
+    ensures { AccountsAreNamed }
 {}
