@@ -1,5 +1,5 @@
 -- The lines of a record with their tags are clean, and so is their text.
-use Rattle.std.proofs.Common.{◌≡◌, ℕ, ◌<◌, ◌^◌, ◌==◌, ℤ, Bool, true, false, cond, List, [], ◌∷◌, ◌++◌, map, Option, Some}
+use Rattle.std.proofs.Common.{◌≡◌, ℕ, ◌<◌, ◌^◌, ◌==◌, ℤ, List, map, Option, Some}
 use Rattle.std.proofs.Common.{None, refl}
 use Rattle.std.specs.List.{All}
 use Rattle.std.proofs.lemmas.Bool.{cond_both}
@@ -7,19 +7,17 @@ use Rattle.std.proofs.lemmas.List.Elements.{All-append}
 use Rattle.chronicle.specs.declared.record.Kind.{Kind}
 use Rattle.chronicle.specs.declared.record.Kind.TheVariants as kind
 use Rattle.chronicle.specs.History.{Rec, actor}
-use Rattle.numerics.specs.declared.outgoing.Out.{Out}
 use Rattle.registration.specs.declared.settings.Settings.{Settings}
-use Rattle.labels_batches.specs.declared.answers.Tagged.{Tagged}
 use Rattle.labels_batches.specs.Answers.{answered, tagged_as}
 use Rattle.roster.specs.declared.deed.Deed.{Deed}
 use Rattle.roster.specs.LookBack.{caps}
 use Rattle.drafts.specs.Effects.{copies, due, reply}
-use Rattle.deeds.specs.Deeds.{effects, facts, label_in, lines, text}
-use Rattle.answer_octets.specs.Clean.{IsClean, IsCleanAnswer, IsCleanTagged, IsMoment, IsTagText}
+use Rattle.deeds.specs.Deeds.{effects, facts, label_in, lines}
+use Rattle.answer_octets.specs.Clean.{IsCleanTagged, IsMoment, IsTagText}
 use Rattle.answer_octets.proofs.Answers.{clean, lines-cut, tagged-clean}
 use Rattle.answer_octets.proofs.Counted.{counted-text}
 use Rattle.answer_octets.proofs.Names.{settings-server}
-use Rattle.clean_records.specs.Clean.{AreCleanLines, IsCleanHistory, IsCleanKind, IsServing}
+use Rattle.clean_records.specs.Clean.{IsCleanHistory, IsCleanKind, IsServing}
 use Rattle.clean_records.specs.Laws.{AnswersAreClean, TextsAreCut}
 use Rattle.clean_records.proofs.Histories.{lines-clean}
 
@@ -45,7 +43,7 @@ answers g h k m n label serves are is moment small counted =
 own-lines : (g : Settings) (h : List Rec) (k : Kind) (m : ℤ) (n : ℕ) (o : Option (List ℕ)) → IsServing g
     → IsCleanHistory h → IsCleanKind k → IsMoment m → n < 2 ^ 64 → label_in (facts g h) k ≡ o
     → All IsCleanTagged (answered g.server o n (reply (actor k) (effects g (facts g h) k))
-      (copies (effects g (facts g h) k)))
+    (copies (effects g (facts g h) k)))
 own-lines g h k m n None serves are is moment small e =
     let es = effects g (facts g h) k in let all = lines-clean g h k serves are is in
     All-append IsCleanTagged (map (tagged_as None) (reply (actor k) es)) (map (tagged_as None) (copies es))

@@ -1,6 +1,7 @@
 -- What is read of a clean message: a command whose texts are clean, or a fault that names a text.
-use Rattle.std.proofs.Common.{◌≡◌, ℕ, ◌==◌, ◌≤◌, Bool, true, false, not, ◌&&◌, ◌||◌, nat_le, nat_lt, cond, List, []}
-use Rattle.std.proofs.Common.{◌∷◌, filter, length, IfSome, Option, Some, None, Result, Ok, Err, refl, sym, subst, inl, inr, arith}
+use Rattle.std.proofs.Common.{◌≡◌, ℕ, ◌==◌, ◌≤◌, Bool, true, not, ◌&&◌, nat_le, nat_lt, List, []}
+use Rattle.std.proofs.Common.{◌∷◌, filter, length, IfSome, Option, Some, None, Result, Ok, Err, refl, subst, inl, inr}
+use Rattle.std.proofs.Common.{arith}
 use Rattle.std.specs.List.{AllByRecursion, list_all, slice_split}
 use Rattle.std.proofs.lemmas.Bool.{and_from, and_parts, leb-true, or_cases}
 use Rattle.line_grammar.specs.Parts.{is_present}
@@ -9,8 +10,8 @@ use Rattle.line_grammar.specs.Spelling.{is_text_octet}
 use Rattle.casemapping.specs.Fold.{is_same}
 use Rattle.command_params.specs.declared.fault.ReadFault.{ReadFault}
 use Rattle.command_params.specs.declared.fault.ReadFault.TheVariants.{UnknownCommand, NeedMoreParams}
-use Rattle.command_params.specs.declared.fault.ReadFault.TheVariants.{NoNicknameGiven, NoRecipient, NoTextToSend}
-use Rattle.command_params.specs.declared.fault.ReadFault.TheVariants.{NoOrigin, InvalidCapSubcommand, Memory}
+use Rattle.command_params.specs.declared.fault.ReadFault.TheVariants.{NoRecipient}
+use Rattle.command_params.specs.declared.fault.ReadFault.TheVariants.{InvalidCapSubcommand}
 use Rattle.command_params.specs.Lists.{distinct, is_comma, names_of}
 use Rattle.command_params.specs.Params.{first_or_empty, first_or_none}
 use Rattle.answer_octets.proofs.Kept.{filter-all, split-kept}

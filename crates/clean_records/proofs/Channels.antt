@@ -1,23 +1,20 @@
 -- What JOIN, PART, KICK, INVITE and TOPIC do.
-use Rattle.std.proofs.Common.{◌≡◌, ℕ, zero, suc, ◌+◌, Bool, true, false, not, ◌&&◌, ◌==◌, nat_le, List, [], ◌∷◌, ◌++◌}
-use Rattle.std.proofs.Common.{codes, cond, filter, is_some, length, slice_get, take, IfSome, Option, Some, None, Result, Ok}
-use Rattle.std.proofs.Common.{Err, refl, arith, unwrap_or, ◌≤◌}
-use Rattle.std.specs.Bool.{if◌then◌else◌}
-use Rattle.std.specs.List.{AllByRecursion, list_all, slice_split}
+use Rattle.std.proofs.Common.{◌≡◌, ℕ, zero, suc, ◌+◌, Bool, true, false, not, ◌&&◌, nat_le, List, [], ◌∷◌}
+use Rattle.std.proofs.Common.{codes, filter, length, slice_get, IfSome, Option, Some, None, Result}
+use Rattle.std.proofs.Common.{refl, arith, unwrap_or, ◌≤◌}
+use Rattle.std.specs.List.{AllByRecursion, slice_split}
 use Rattle.std.specs.Str.{str_eq_ignore_ascii_case}
 use Rattle.std.proofs.lemmas.Bool.{and_from, and_parts, cond_both, not-false}
 use Rattle.casemapping.specs.Names.{channel_shape}
-use Rattle.line_grammar.specs.declared.message.Message.{Message}
 use Rattle.line_grammar.specs.Parts.{is_present}
 use Rattle.line_grammar.specs.Reading.{is_command}
 use Rattle.line_grammar.specs.Spelling.{is_text_octet}
 use Rattle.channel_state.specs.declared.change.Change.TheVariants.{Joined, Left, Invited, TopicSet}
-use Rattle.channel_state.specs.State.{State, among, changed, made_by, without}
+use Rattle.channel_state.specs.State.{among, changed, made_by, without}
 use Rattle.command_params.specs.declared.fault.ReadFault.{ReadFault}
 use Rattle.command_params.specs.declared.join_targets.JoinTarget.{JoinTarget}
-use Rattle.command_params.specs.Lists.{distinct, is_comma, names_of, paired, targets_of}
-use Rattle.command_params.specs.Params.{first_or_empty, first_or_none}
-use Rattle.numerics.specs.declared.numeric.Numeric.{Numeric}
+use Rattle.command_params.specs.Lists.{is_comma, paired, targets_of}
+use Rattle.command_params.specs.Params.{first_or_empty}
 use Rattle.numerics.specs.declared.numeric.Numeric.TheVariants.{Away, ChanOPrivsNeeded, Inviting, NoSuchChannel}
 use Rattle.numerics.specs.declared.numeric.Numeric.TheVariants.{NoSuchNick, NotOnChannel, NoTopic, TooManyChannels}
 use Rattle.numerics.specs.declared.numeric.Numeric.TheVariants.{TooManyTargets, Topic, UserNotInChannel, UserOnChannel}
@@ -43,28 +40,32 @@ use Rattle.departing.specs.Leaving.{leaves}
 use Rattle.query_commands.specs.Names.{names_told}
 use Rattle.channel_commands.specs.declared.channel.ChannelCommand.{ChannelCommand}
 use Rattle.channel_commands.specs.declared.channel.ChannelCommand.TheVariants as channel
-use Rattle.channel_commands.specs.Channel.{channel_command_of, invite_command, join_command, kick_command, part_command}
+use Rattle.channel_commands.specs.Channel.{channel_command_of, invite_command, join_command, kick_command}
+use Rattle.channel_commands.specs.Channel.{part_command}
 use Rattle.channel_commands.specs.Channel.{serves_channel, topic_command}
 use Rattle.channel_commands.specs.Each.{each, each_counted}
 use Rattle.channel_commands.specs.Found.{channel_of, user_of}
-use Rattle.channel_commands.specs.Inviting.{away_told, invites, invites_found, invites_seen, invites_user}
-use Rattle.channel_commands.specs.Joining.{absence_shown, bar_of, entered, enters, enters_unless, introduced, join_shown}
+use Rattle.channel_commands.specs.Inviting.{away_told, invites_found, invites_seen, invites_user}
+use Rattle.channel_commands.specs.Joining.{absence_shown, bar_of, entered, enters, enters_unless, introduced}
+use Rattle.channel_commands.specs.Joining.{join_shown}
 use Rattle.channel_commands.specs.Joining.{joins, joins_one, joins_seen, makes, takes_extended, takes_plain}
 use Rattle.channel_commands.specs.Joining.{topic_told, welcomed}
-use Rattle.channel_commands.specs.Leaving.{kick_text, kicks, kicks_each, kicks_found, kicks_one, kicks_seen, kicks_user}
+use Rattle.channel_commands.specs.Leaving.{kick_text, kicks, kicks_each, kicks_found, kicks_one, kicks_seen}
+use Rattle.channel_commands.specs.Leaving.{kicks_user}
 use Rattle.channel_commands.specs.Leaving.{parts, parts_one, parts_seen}
 use Rattle.channel_commands.specs.Lines.{invite_line, kick_line, part_line, topic_line}
-use Rattle.channel_commands.specs.Topics.{sets_topic, topic_of, topic_served, topic_shown, topic_text, topics, topics_seen}
-use Rattle.answer_octets.specs.Clean.{HasText, IsClean, IsTextRow, IsWordOf}
+use Rattle.channel_commands.specs.Topics.{sets_topic, topic_of, topic_served, topic_shown, topic_text, topics_seen}
+use Rattle.answer_octets.specs.Clean.{IsClean, IsWordOf}
 use Rattle.answer_octets.proofs.Kept.{split-kept, take-kept}
 use Rattle.answer_octets.proofs.Numerics.{line-clean}
-use Rattle.clean_records.specs.Clean.{IsChannel, IsCleanEffect, IsServing, IsText}
+use Rattle.clean_records.specs.Clean.{IsChannel, IsServing, IsText}
 use Rattle.clean_records.specs.Laws.{ChannelCommandsAreClean}
-use Rattle.clean_records.proofs.Asking.{IfRead, IsCleanRead, distinct-all, first-if_any, first-text, names-texts, was-read}
+use Rattle.clean_records.proofs.Asking.{IfRead, IsCleanRead, distinct-all, first-if_any, first-text, names-texts}
+use Rattle.clean_records.proofs.Asking.{was-read}
 use Rattle.clean_records.proofs.Effects.{Clean, IsTextNumeric, clean-effects, either, facts-of, from-session, joined}
 use Rattle.clean_records.proofs.Effects.{later, more, none, only, some_shown, told, told_all, told_only}
 use Rattle.clean_records.proofs.Lists.{all-both, all-filter, all-texts, texts-all}
-use Rattle.clean_records.proofs.Lookups.{Facts, IfSeen, IsCleanSeen, IsCleanState, account-shown, away-is, changed-clean}
+use Rattle.clean_records.proofs.Lookups.{Facts, IfSeen, IsCleanSeen, account-shown, away-is, changed-clean}
 use Rattle.clean_records.proofs.Lookups.{made-clean, nick-shown, prefix-is, real-shown, seen-is, with-fact}
 use Rattle.clean_records.proofs.Queries.{names-clean}
 use Rattle.clean_records.proofs.Texts.{AreTexts, channel-text, one, two}
@@ -173,7 +174,8 @@ denial-row g _ n is = record { words = one n is; text = refl }
 
 unless_barred : (g : Settings) (fs0 fs : List Deed) (s : ℕ) (from : List ℕ) (k : Seen) (bar : Option Denial)
     → IsServing g → Facts fs0 → Facts fs → IsFrom from → IsCleanSeen k → Clean (enters_unless g fs0 fs s from k bar)
-unless_barred g fs0 fs s from k None serves before facts is seen = entering g fs0 fs s from k serves before facts is seen
+unless_barred g fs0 fs s from k None serves before facts is seen =
+    entering g fs0 fs s from k serves before facts is seen
 unless_barred g fs0 fs s from k (Some bar) serves before facts is seen = told_only g fs s (denied bar k.name) serves
     facts (denial-row g bar k.name (channel-text k.name seen.name))
 

@@ -1,12 +1,10 @@
 -- What every effect keeps: its line is clean, or its fact.
-use Rattle.std.proofs.Common.{◌≡◌, ℕ, ◌+◌, ◌≤◌, ◌==◌, Bool, true, false, cond, List, [], ◌∷◌, ◌++◌}
-use Rattle.std.proofs.Common.{codes, length, map, Option, Some, None, refl, arith, flat_map}
+use Rattle.std.proofs.Common.{◌≡◌, ℕ, ◌≤◌, ◌==◌, Bool, true, false, List, [], ◌∷◌, ◌++◌}
+use Rattle.std.proofs.Common.{length, arith, flat_map}
 use Rattle.std.specs.Bool.{if◌then◌else◌}
-use Rattle.std.specs.List.{All, AllByRecursion, list_all}
-use Rattle.std.proofs.lemmas.Bool.{and_from}
+use Rattle.std.specs.List.{AllByRecursion}
 use Rattle.std.proofs.lemmas.List.Elements.{All-from_recursion, recursion_from_All}
 use Rattle.line_grammar.specs.Reading.{is_command}
-use Rattle.line_grammar.specs.Spelling.{is_text_octet}
 use Rattle.numerics.specs.declared.numeric.Numeric.{Numeric}
 use Rattle.numerics.specs.declared.outgoing.Out.{Out}
 use Rattle.numerics.specs.Numerics.{row}
@@ -20,10 +18,10 @@ use Rattle.drafts.specs.Effects.{deeds_of}
 use Rattle.drafts.specs.Hearers.{shown}
 use Rattle.drafts.specs.Lines.{prefix, title}
 use Rattle.drafts.specs.Replies.{tells, tells_all}
-use Rattle.answer_octets.specs.Clean.{IsClean, IsServer, IsTextRow}
+use Rattle.answer_octets.specs.Clean.{IsClean, IsTextRow}
 use Rattle.answer_octets.proofs.Names.{settings-server}
 use Rattle.answer_octets.proofs.Numerics.{line-clean, numeric-clean}
-use Rattle.clean_records.specs.Clean.{AreClean, AreCleanEffects, IsCleanDeed, IsCleanEffect, IsServing, IsText}
+use Rattle.clean_records.specs.Clean.{AreClean, AreCleanEffects, IsCleanDeed, IsCleanEffect, IsServing}
 use Rattle.clean_records.proofs.Lookups.{Facts, nick-shown, prefix-is}
 use Rattle.clean_records.proofs.Texts.{AreTexts}
 
@@ -88,7 +86,8 @@ pub from-session : (fs : List Deed) (s : ℕ) (command : List ℕ) (params : Lis
     → IsClean (line (prefix fs s) command params colon)
 from-session fs s command params colon facts is short texts =
     let from = prefix-is fs s facts in
-    line-clean (prefix fs s) command params colon from.word is texts (let few = from.short in omega (arith, few, short))
+    line-clean (prefix fs s) command params colon from.word is texts
+    (let few = from.short in omega (arith, few, short))
 
 -- a line of the server's
 pub from-server : (g : Settings) (command : List ℕ) (params : List (List ℕ)) (colon : Bool) → IsServing g

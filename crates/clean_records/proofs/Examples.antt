@@ -10,12 +10,10 @@ use Rattle.chronicle.specs.History.{Rec}
 use Rattle.line_grammar.specs.declared.splitter.Piece.TheVariants.{Line, TooLong}
 use Rattle.registration.specs.declared.accounts.Account.{Account}
 use Rattle.registration.specs.declared.settings.Settings.{Settings}
-use Rattle.registration.specs.Settings.{IsWellSet}
-use Rattle.roster.specs.declared.deed.Deed.{Deed}
 use Rattle.roster.specs.declared.deed.Deed.TheVariants as deed
 use Rattle.drafts.specs.declared.effect.Effect.TheVariants.{Answer, Establish}
 use Rattle.drafts.specs.Lines.{go_on_line, pong_line}
-use Rattle.clean_records.specs.Clean.{AreClean, IsCleanChange, IsCleanDeed, IsCleanEffect, IsCleanHistory, IsCleanKind}
+use Rattle.clean_records.specs.Clean.{IsCleanDeed, IsCleanEffect, IsCleanHistory, IsCleanKind}
 use Rattle.clean_records.specs.Clean.{IsServing, IsText, is_own}
 
 no : {X : Type 0} → false ≡ true → X

@@ -1,17 +1,14 @@
 -- Over any history: its facts are clean, and so is each line of the record that comes next.
-use Rattle.std.proofs.Common.{◌≡◌, ℕ, ◌==◌, true, false, List, [], ◌∷◌, ◌++◌, codes, filter, map, refl, arith}
+use Rattle.std.proofs.Common.{ℕ, ◌==◌, false, List, [], ◌∷◌, codes, filter, map, refl, arith}
 use Rattle.std.specs.List.{All, AllByRecursion}
 use Rattle.std.proofs.lemmas.List.Elements.{All-append, All-cons, All-nil, recursion_from_All}
-use Rattle.chronicle.specs.declared.record.Kind.{Kind}
 use Rattle.chronicle.specs.History.{Rec}
 use Rattle.numerics.specs.declared.outgoing.Out.{Out}
 use Rattle.registration.specs.declared.settings.Settings.{Settings}
-use Rattle.roster.specs.declared.deed.Deed.{Deed}
 use Rattle.drafts.specs.declared.effect.Effect.{Effect}
 use Rattle.drafts.specs.declared.effect.Effect.TheVariants.{Establish, Answer, Show, Copy}
 use Rattle.drafts.specs.Effects.{copied, copies, due, heard, replied, reply, shown_by}
 use Rattle.deeds.specs.Deeds.{effects, facts}
-use Rattle.deeds.specs.Ping.{ping_line}
 use Rattle.answer_octets.specs.Clean.{IsClean}
 use Rattle.answer_octets.proofs.Blocks.{word-text}
 use Rattle.answer_octets.proofs.Names.{settings-server}

@@ -1,9 +1,8 @@
 -- Of lists: what holds of each, holds of each after they are put together, and texts that are cut into lines.
-use Rattle.std.proofs.Common.{◌≡◌, ℕ, ◌==◌, Bool, true, false, not, cond, List, [], ◌∷◌, ◌++◌, map, filter, flat_map}
-use Rattle.std.proofs.Common.{IfSome, Option, Some, None, find, refl, sym, subst, inl, inr}
-use Rattle.std.specs.List.{AllByRecursion, list_all}
+use Rattle.std.proofs.Common.{ℕ, Bool, List, [], ◌∷◌, ◌++◌, map, filter, flat_map}
+use Rattle.std.proofs.Common.{IfSome, Some, find, refl, sym, subst, inl, inr}
+use Rattle.std.specs.List.{AllByRecursion}
 use Rattle.std.proofs.lemmas.Bool.{and_from, and_parts, cases_Bool, cond_both}
-use Rattle.line_grammar.specs.Spelling.{is_text_octet}
 use Rattle.numerics.specs.Cut.{cut, filled, takes}
 use Rattle.numerics.proofs.Cuts.{filled-full, filled-more}
 use Rattle.clean_records.proofs.Texts.{AreTexts, one, texts-both}
@@ -67,7 +66,8 @@ filled-texts room most line (w ∷ ws) a b =
       )
     ]
 
-pub cut-texts : (room most : ℕ) (words : List (List ℕ)) → AreTexts words → AllByRecursion AreTexts (cut room most words)
+pub cut-texts : (room most : ℕ) (words : List (List ℕ)) → AreTexts words
+    → AllByRecursion AreTexts (cut room most words)
 unfolding cut
 cut-texts room most [] are = tt
 cut-texts room most (w ∷ ws) are =

@@ -1,10 +1,9 @@
 -- What is read back from clean facts is clean.
-use Rattle.std.proofs.Common.{◌≡◌, ℕ, ◌==◌, Bool, true, false, not, ◌&&◌, ◌||◌, cond, List, [], ◌∷◌, ◌++◌}
-use Rattle.std.proofs.Common.{codes, filter, length, unwrap_or, IfSome, Option, Some, None, refl, sym, subst, ◌∙◌, arith}
+use Rattle.std.proofs.Common.{◌≡◌, ℕ, ◌==◌, Bool, true, false, not, cond, List, [], ◌∷◌}
+use Rattle.std.proofs.Common.{filter, unwrap_or, IfSome, Option, Some, None, refl, arith}
 use Rattle.std.specs.List.{AllByRecursion, list_all}
 use Rattle.std.proofs.lemmas.Bool.{and_from, cond_both}
 use Rattle.casemapping.specs.Fold.{is_same}
-use Rattle.casemapping.specs.Names.{channel_shape, host_shape, nick_shape}
 use Rattle.channel_state.specs.declared.change.Change.{Change}
 use Rattle.channel_state.specs.declared.change.Change.TheVariants.{Joined, Left, RankSet, FlagSet, KeySet, LimitSet}
 use Rattle.channel_state.specs.declared.change.Change.TheVariants.{TopicSet, BanSet, BanLifted, Invited}
@@ -12,20 +11,20 @@ use Rattle.channel_state.specs.declared.change.Rank.TheVariants.{Operator, Voice
 use Rattle.channel_state.specs.declared.modes.Flag.TheVariants.{InviteOnly, Moderated, NoOutside, Secret, TopicLocked}
 use Rattle.channel_state.specs.declared.modes.Flag.{Flag}
 use Rattle.channel_state.specs.declared.modes.Modes.{Modes}
-use Rattle.channel_state.specs.State.{State, changed, departed, flagged, is_some_one, lasting, made_by, nothing, without}
-use Rattle.line_grammar.specs.Spelling.{is_text_octet, is_word_octet}
+use Rattle.channel_state.specs.State.{State, changed, departed, flagged, is_some_one, lasting, made_by, nothing}
+use Rattle.line_grammar.specs.Spelling.{is_text_octet}
 use Rattle.roster.specs.declared.deed.Deed.{Deed}
-use Rattle.roster.specs.declared.deed.Deed.TheVariants.{Opened, NickSet, UserSet, HoldSet, CapsSet}
-use Rattle.roster.specs.declared.deed.Deed.TheVariants.{ExchangeSet, LoggedIn, Enrolled, AwaySet}
-use Rattle.roster.specs.declared.deed.Deed.TheVariants.{InvisibleSet, ChannelMade, Changed, Ended, Gone}
-use Rattle.roster.specs.LookBack.{account, after, away, has_member, host, name, name_of, newest, nick, parting, real}
+use Rattle.roster.specs.declared.deed.Deed.TheVariants.{Opened, NickSet, UserSet}
+use Rattle.roster.specs.declared.deed.Deed.TheVariants.{LoggedIn, AwaySet}
+use Rattle.roster.specs.declared.deed.Deed.TheVariants.{ChannelMade, Changed, Ended, Gone}
+use Rattle.roster.specs.LookBack.{account, away, has_member, host, name, name_of, newest, nick, parting, real}
 use Rattle.roster.specs.LookBack.{reshaped, state, tells_account, tells_away, tells_host, tells_name, tells_nick}
 use Rattle.roster.specs.LookBack.{tells_parting, tells_real, tells_user, user}
 use Rattle.drafts.specs.Lines.{prefix, title}
 use Rattle.drafts.specs.Seen.{Seen, seen}
 use Rattle.answer_octets.specs.Clean.{IsWordOf}
 use Rattle.answer_octets.proofs.Kept.{filter-all}
-use Rattle.answer_octets.proofs.Names.{channels-words, hosts-words, nicks-words, prefix-word}
+use Rattle.answer_octets.proofs.Names.{hosts-words, nicks-words, prefix-word}
 use Rattle.clean_records.specs.Clean.{IsChannel, IsCleanChange, IsCleanDeed, IsNick, IsText}
 use Rattle.clean_records.proofs.Shapes.{same-shape}
 use Rattle.clean_records.proofs.Texts.{AreTexts, texts-both, word-is_text}

@@ -1,25 +1,18 @@
 -- What MODE does.
-use Rattle.std.proofs.Common.{◌≡◌, ℕ, ◌-◌, Bool, true, false, not, ◌&&◌, ◌||◌, ◌==◌, nat_le, List, [], ◌∷◌, ◌++◌, codes}
-use Rattle.std.proofs.Common.{cond, decimal, filter, is_some, length, map, option_to_list, take, IfSome, Option, Some, None}
-use Rattle.std.proofs.Common.{Result, Ok, Err, refl, arith, ◌≤◌}
-use Rattle.std.specs.Bool.{if◌then◌else◌}
-use Rattle.std.specs.List.{AllByRecursion, list_all, list_any}
+use Rattle.std.proofs.Common.{◌≡◌, ℕ, Bool, true, false, not, ◌||◌, ◌==◌, nat_le, List, [], ◌∷◌, ◌++◌, codes}
+use Rattle.std.proofs.Common.{decimal, is_some, length, map, option_to_list, take, IfSome, Option, Some, None}
+use Rattle.std.proofs.Common.{refl, arith}
+use Rattle.std.specs.List.{AllByRecursion, list_any}
 use Rattle.std.specs.Str.{str_eq_ignore_ascii_case}
 use Rattle.std.proofs.lemmas.Bool.{and_from, and_parts, cond_both}
-use Rattle.line_grammar.specs.declared.message.Message.{Message}
 use Rattle.line_grammar.specs.Spelling.{is_text_octet, needs_colon}
-use Rattle.channel_state.specs.declared.change.Change.{Change}
 use Rattle.channel_state.specs.declared.change.Change.TheVariants.{RankSet, FlagSet, KeySet, LimitSet, BanSet, BanLifted}
 use Rattle.channel_state.specs.declared.change.Rank.{Rank}
 use Rattle.channel_state.specs.declared.change.Rank.TheVariants.{Operator, Voice}
 use Rattle.channel_state.specs.declared.modes.Flag.{Flag}
 use Rattle.channel_state.specs.declared.modes.Modes.{Modes}
 use Rattle.channel_state.specs.State.{State, among, is_set}
-use Rattle.command_params.specs.declared.fault.ReadFault.{ReadFault}
-use Rattle.numerics.specs.declared.numeric.Numeric.{Numeric}
 use Rattle.numerics.specs.declared.numeric.Numeric.TheVariants as numeric
-use Rattle.numerics.specs.declared.outgoing.Out.{Out}
-use Rattle.numerics.specs.Numerics.{row}
 use Rattle.registration.specs.declared.settings.Settings.{Settings}
 use Rattle.roster.specs.declared.deed.Deed.{Deed}
 use Rattle.roster.specs.declared.deed.Deed.TheVariants.{Changed, InvisibleSet}
@@ -40,9 +33,10 @@ use Rattle.mode_commands.specs.ChannelModes.{refusal_numeric, shows_changes, tak
 use Rattle.mode_commands.specs.ChannelModes as modes_of
 use Rattle.mode_commands.specs.Letters.{Reading, asked, asked_changes, asks, past, past_next, takes_param, with_next}
 use Rattle.mode_commands.specs.Letters as letters_of
-use Rattle.mode_commands.specs.Lines.{key_told, letter_where, letters_after, letters_set, limit_told, mode_line, params_of}
+use Rattle.mode_commands.specs.Lines.{key_told, letter_where, letters_after, letters_set, limit_told, mode_line}
+use Rattle.mode_commands.specs.Lines.{params_of}
 use Rattle.mode_commands.specs.Lines.{params_set, sign, sign_after}
-use Rattle.mode_commands.specs.Modes.{mode_command, mode_of, modes, names_channel, of_channel, of_user, serves_mode}
+use Rattle.mode_commands.specs.Modes.{mode_command, mode_of, names_channel, of_channel, of_user, serves_mode}
 use Rattle.mode_commands.specs.Parameters.{after_bang, completed, completed_by, has_octet, is_key, limit_of}
 use Rattle.mode_commands.specs.Steps.{agree, all_shown, ban_step, flag_of, flag_step, has_ban, has_key, has_limit}
 use Rattle.mode_commands.specs.Steps.{has_rank, key_given, key_lifted, key_set, key_step, limit_given, limit_lifted}
@@ -50,15 +44,15 @@ use Rattle.mode_commands.specs.Steps.{limit_set, limit_step, mask_step, member_s
 use Rattle.mode_commands.specs.Steps.{stepped, steps, user_step}
 use Rattle.mode_commands.specs.Steps as steps_of
 use Rattle.mode_commands.specs.UserModes.{hides, invisible_after, is_known, modes_text, own_modes, tells_unknown}
-use Rattle.answer_octets.specs.Clean.{HasText, IsClean, IsTextRow}
+use Rattle.answer_octets.specs.Clean.{IsClean}
 use Rattle.answer_octets.proofs.Kept.{take-kept}
 use Rattle.clean_records.specs.Clean.{IsChannel, IsCleanChange, IsServing, IsText}
 use Rattle.clean_records.specs.Laws.{ModeCommandsAreClean}
 use Rattle.clean_records.proofs.Asking.{IfRead, IsCleanRead, was-read}
 use Rattle.clean_records.proofs.Effects.{Clean, IsTextNumeric, clean-effects, either, facts-of, from-session, joined}
 use Rattle.clean_records.proofs.Effects.{later, more, none, only, told, told_all, told_only}
-use Rattle.clean_records.proofs.Lists.{all-both, all-texts, texts-all}
-use Rattle.clean_records.proofs.Lookups.{Facts, IfSeen, IsCleanSeen, IsCleanState, nick-shown, seen-is}
+use Rattle.clean_records.proofs.Lists.{all-both, all-texts}
+use Rattle.clean_records.proofs.Lookups.{Facts, IfSeen, IsCleanSeen, nick-shown, seen-is}
 use Rattle.clean_records.proofs.Texts.{AreTexts, both, channel-text, decimal-text, one, texts-both, two}
 
 -- ---- letters with their parameters
@@ -172,7 +166,8 @@ ban-clean k a (Some mask) is text =
     cond_both (needs_colon mask) step.Nothing (mask_step k a (completed mask)) IsCleanStep (λ _. tt)
     (λ _. mask-clean k a (completed mask) is (completed-text mask text))
 
-key_set-clean : (k : State) (a : ModeChange) (key : List ℕ) → IsCleanMode a → IsText key → IsCleanStep (key_set k a key)
+key_set-clean : (k : State) (a : ModeChange) (key : List ℕ) → IsCleanMode a → IsText key
+    → IsCleanStep (key_set k a key)
 key_set-clean k a key is text =
     cond_both (has_key k.modes.key key) step.Nothing (step.Changes (KeySet (Some key)) (shown_with a (Some key)))
     IsCleanStep (λ _. tt) (λ _. (text, record { letter = is.letter; param = text }))
@@ -377,7 +372,8 @@ changing_by : (g : Settings) (fs : List Deed) (s : ℕ) (k : Seen) (bs : List Mo
 changing_by g fs s k bs serves facts seen are =
     either (asks_bans bs) (tells_all g fs s (ban_numerics k)) _
     (told_all g fs s (ban_numerics k) serves facts (all-bans g k seen))
-    (either (among s k.state.operators) (takes_changes g fs s k bs) (tells g fs s (numeric.ChanOPrivsNeeded k.name) ∷ [])
+    (either (among s k.state.operators) (takes_changes g fs s k bs)
+    (tells g fs s (numeric.ChanOPrivsNeeded k.name) ∷ [])
     (changing g fs s k bs serves facts seen are)
     (told_only g fs s (numeric.ChanOPrivsNeeded k.name) serves facts
     (record { words = one k.name (channel-text k.name seen.name); text = refl })))

@@ -1,11 +1,9 @@
 -- What NAMES, LIST, WHO, WHOIS and MOTD are told.
-use Rattle.std.proofs.Common.{◌≡◌, ℕ, Bool, true, false, not, ◌||◌, ◌&&◌, cond, List, [], ◌∷◌, ◌++◌, codes, decimal, map}
-use Rattle.std.proofs.Common.{filter, length, flat_map, unwrap_or, is_some, IfSome, Option, Some, None, Result, Ok, Err, refl}
-use Rattle.std.specs.Bool.{if◌then◌else◌}
-use Rattle.std.specs.List.{AllByRecursion, list_all}
+use Rattle.std.proofs.Common.{ℕ, Bool, true, false, List, [], ◌∷◌, ◌++◌, codes, decimal, map}
+use Rattle.std.proofs.Common.{length, flat_map, is_some, IfSome, Option, Some, None, Result, Err, refl}
+use Rattle.std.specs.List.{AllByRecursion}
 use Rattle.std.specs.Str.{str_eq_ignore_ascii_case}
 use Rattle.std.proofs.lemmas.Bool.{and_from, and_parts, cond_both}
-use Rattle.line_grammar.specs.declared.message.Message.{Message}
 use Rattle.line_grammar.specs.Parts.{is_empty}
 use Rattle.casemapping.specs.Fold.{is_same}
 use Rattle.channel_state.specs.State.{State}
@@ -14,29 +12,26 @@ use Rattle.numerics.specs.declared.numeric.Numeric.TheVariants as numeric
 use Rattle.numerics.specs.declared.prefix.Prefix.{Prefix}
 use Rattle.numerics.specs.declared.prefix.Prefix.TheVariants.{Operator, Voice}
 use Rattle.numerics.specs.Cut.{cut}
-use Rattle.numerics.specs.Numerics.{flags, marks, row, sign, spaced}
+use Rattle.numerics.specs.Numerics.{flags, marks, sign}
 use Rattle.registration.specs.declared.settings.Settings.{Settings}
-use Rattle.registration.specs.Settings.{is_motd}
 use Rattle.roster.specs.declared.deed.Deed.{Deed}
-use Rattle.roster.specs.LookBack.{away, channels, channels_on, found, host, nick, real, user}
+use Rattle.roster.specs.LookBack.{away, channels_on, found, nick}
 use Rattle.drafts.specs.Lines.{title}
 use Rattle.drafts.specs.Seen.{Seen, seen}
 use Rattle.command_params.specs.declared.fault.ReadFault.{ReadFault}
 use Rattle.command_params.specs.declared.fault.ReadFault.TheVariants.{NoNicknameGiven}
 use Rattle.command_params.specs.Lists.{list_given}
-use Rattle.command_params.specs.Params.{first_or_empty}
 use Rattle.query_commands.specs.declared.query.Query.{Query}
 use Rattle.query_commands.specs.declared.query.Query.TheVariants as query
 use Rattle.query_commands.specs.Listing.{channels_asked, listed, listed_seen, lists_told}
-use Rattle.query_commands.specs.Motd.{motd_asked, motd_numerics}
-use Rattle.query_commands.specs.Names.{all_told, member_name, member_names, name_lines, names_asked, names_of, names_room}
+use Rattle.query_commands.specs.Motd.{motd_asked}
+use Rattle.query_commands.specs.Names.{member_name, member_names, name_lines, names_asked, names_of, names_room}
 use Rattle.query_commands.specs.Names.{names_seen, names_told, rank_of}
 use Rattle.query_commands.specs.Query.{queries, query_of, told}
 use Rattle.query_commands.specs.Visible.{channel_for, members_for, seen_by, sees}
 use Rattle.query_commands.specs.Who.{who_asked, who_of, who_seen}
-use Rattle.query_commands.specs.Whois.{away_told, channel_lines, channel_titles, channels_room, channels_told, nick_asked}
-use Rattle.query_commands.specs.Whois.{title_seen, user_told, whois_asked, whois_found, whois_query}
-use Rattle.answer_octets.specs.Clean.{HasText, IsTextRow}
+use Rattle.query_commands.specs.Whois.{away_told, channel_titles, channels_room, channels_told, nick_asked}
+use Rattle.query_commands.specs.Whois.{title_seen, user_told, whois_found, whois_query}
 use Rattle.answer_octets.proofs.Blocks.{word-text}
 use Rattle.answer_octets.proofs.Kept.{spaced-kept}
 use Rattle.answer_octets.proofs.Names.{settings-server}
@@ -44,8 +39,8 @@ use Rattle.clean_records.specs.Clean.{IsServing, IsText}
 use Rattle.clean_records.specs.Laws.{QueriesAreClean}
 use Rattle.clean_records.proofs.Asking.{IfRead, IsCleanRead, first-if_any, first-text, names-texts, was-read}
 use Rattle.clean_records.proofs.Effects.{Clean, IsTextNumeric, clean-effects, facts-of, told_all}
-use Rattle.clean_records.proofs.Lists.{all-both, all-flat, all-map, each-flat, each-map, texts-all, cut-texts}
-use Rattle.clean_records.proofs.Lookups.{Facts, IfSeen, IsCleanSeen, IsCleanState, away-is, host-shown, nick-shown}
+use Rattle.clean_records.proofs.Lists.{all-both, all-flat, each-flat, each-map, texts-all, cut-texts}
+use Rattle.clean_records.proofs.Lookups.{Facts, IfSeen, IsCleanSeen, away-is, host-shown, nick-shown}
 use Rattle.clean_records.proofs.Lookups.{real-shown, seen-is, user-shown}
 use Rattle.clean_records.proofs.Sessions.{motd-clean}
 use Rattle.clean_records.proofs.Texts.{AreTexts, both, channel-text, decimal-text, one, or-text, texts-map, two}
@@ -86,8 +81,10 @@ sign-text false = refl
 name-lines : (g : Settings) (secret : Bool) (c : List ℕ) (ls : List (List (List ℕ))) → IsText c
     → AllByRecursion AreTexts ls → AllTold g (map (numeric.NamReply secret c) ls)
 name-lines g secret c [] is are = tt
-name-lines g secret c (l ∷ ls) is are =
-    (record { words = two (sign secret) c (sign-text secret) is; text = spaced-kept l are.0 }, name-lines g secret c ls is are.1)
+name-lines g secret c (l ∷ ls) is are = (
+  record { words = two (sign secret) c (sign-text secret) is; text = spaced-kept l are.0 },
+  name-lines g secret c ls is are.1,
+)
 
 ended : (g : Settings) (c : List ℕ) → IsText c → AllTold g (numeric.EndOfNames c ∷ [])
 ended g c is = last g (numeric.EndOfNames c) (record { words = one c is; text = refl })
@@ -166,7 +163,8 @@ who-of-one g fs s n (Some k) serves facts text is =
 who-all : (g : Settings) (fs : List Deed) (s : ℕ) (o : Option (List ℕ)) → IsServing g → Facts fs → IfSome o IsText
     → AllTold g (who_asked fs s o)
 who-all g fs s None serves facts is = last g (numeric.EndOfWho (codes "*")) (record { words = refl; text = refl })
-who-all g fs s (Some n) serves facts is = who-of-one g fs s n (channel_for fs s n) serves facts is (for-is fs s n facts)
+who-all g fs s (Some n) serves facts is =
+    who-of-one g fs s n (channel_for fs s n) serves facts is (for-is fs s n facts)
 
 -- ---- WHOIS
 
@@ -206,7 +204,8 @@ user-clean g fs s t n serves facts is =
       },
       all-both (IsTextNumeric g) (channels_told g fs s t n ++ numeric.WhoisServer n g.info ∷ away_told n (away fs t))
           (numeric.EndOfWhois n ∷ [])
-          (all-both (IsTextNumeric g) (channels_told g fs s t n) (numeric.WhoisServer n g.info ∷ away_told n (away fs t))
+          (all-both (IsTextNumeric g) (channels_told g fs s t n)
+          (numeric.WhoisServer n g.info ∷ away_told n (away fs t))
           (channels-clean g fs s t n facts is) (
             record { words = two n g.server is server; text = info-text g serves },
             away-clean g n (away fs t) is (away-is fs t facts),
@@ -216,8 +215,10 @@ user-clean g fs s t n serves facts is =
 
 whois-all : (g : Settings) (fs : List Deed) (s : ℕ) (n : List ℕ) (o : Option ℕ) → IsServing g → Facts fs → IsText n
     → AllTold g (whois_found g fs s n o)
-whois-all g fs s n None serves facts is =
-    (record { words = one n is; text = refl }, last g (numeric.EndOfWhois n) (record { words = one n is; text = refl }))
+whois-all g fs s n None serves facts is = (
+  record { words = one n is; text = refl },
+  last g (numeric.EndOfWhois n) (record { words = one n is; text = refl }),
+)
 whois-all g fs s n (Some t) serves facts is = user-clean g fs s t (title (nick fs t)) serves facts
     (nick-shown fs t facts)
 

@@ -1,16 +1,13 @@
 -- What any record does: a line of a client's is read, and what it asks for is done by its topic.
-use Rattle.std.proofs.Common.{◌≡◌, ℕ, Bool, true, false, not, ◌&&◌, List, [], ◌∷◌, ◌++◌, codes, Option, Some, None}
+use Rattle.std.proofs.Common.{◌≡◌, ℕ, true, not, ◌&&◌, List, [], ◌∷◌, ◌++◌, codes, Option, Some, None}
 use Rattle.std.proofs.Common.{Result, Ok, Err, refl}
-use Rattle.std.specs.Bool.{if◌then◌else◌}
 use Rattle.chronicle.specs.declared.record.Kind.{Kind}
 use Rattle.chronicle.specs.declared.record.Kind.TheVariants as kind
 use Rattle.line_grammar.specs.declared.message.Message.{Message}
 use Rattle.line_grammar.specs.declared.splitter.Piece.{Piece}
 use Rattle.line_grammar.specs.declared.splitter.Piece.TheVariants as piece
 use Rattle.line_grammar.specs.Reading.{reading}
-use Rattle.numerics.specs.declared.numeric.Numeric.{Numeric}
 use Rattle.numerics.specs.declared.numeric.Numeric.TheVariants as numeric
-use Rattle.numerics.specs.Numerics.{row}
 use Rattle.registration.specs.declared.settings.Settings.{Settings}
 use Rattle.roster.specs.declared.deed.Deed.{Deed}
 use Rattle.roster.specs.LookBack.{after, registered}
@@ -35,13 +32,13 @@ use Rattle.query_commands.specs.Query.{query_of}
 use Rattle.deeds.specs.Deeds.{effects}
 use Rattle.deeds.specs.Rows.{asked, fault_numeric, is_for_registered, is_silent, of_asked, of_command, refused, served}
 use Rattle.deeds.specs.Rows.{turned_away}
-use Rattle.answer_octets.specs.Clean.{HasText, IsTextRow, is_one_line}
+use Rattle.answer_octets.specs.Clean.{HasText, is_one_line}
 use Rattle.answer_octets.proofs.Pieces.{read-text}
-use Rattle.clean_records.specs.Clean.{IsCleanKind, IsServing, IsText}
+use Rattle.clean_records.specs.Clean.{IsCleanKind, IsServing}
 use Rattle.clean_records.specs.Laws.{RecordsAreClean}
 use Rattle.clean_records.proofs.Asking.{IfRead, IsCleanFault, IsCleanRead, command-text}
 use Rattle.clean_records.proofs.Channels.{IsCleanChannel, channel-read, of_channel}
-use Rattle.clean_records.proofs.Effects.{Clean, IsTextNumeric, clean-effects, either, facts-of, joined, later, none}
+use Rattle.clean_records.proofs.Effects.{Clean, clean-effects, either, facts-of, joined, later, none}
 use Rattle.clean_records.proofs.Effects.{told_only}
 use Rattle.clean_records.proofs.Lookups.{Facts}
 use Rattle.clean_records.proofs.Modes.{IsCleanModes, mode-read, of_mode}

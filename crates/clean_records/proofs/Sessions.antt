@@ -1,29 +1,25 @@
 -- What CAP, AUTHENTICATE, NICK, USER, PASS, PING and QUIT do, and the welcome.
-use Rattle.std.proofs.Common.{◌≡◌, ℕ, ℤ, pos, ◌≤ℤ◌, ◌≤◌, Bool, true, false, not, ◌&&◌, ◌||◌, ◌==◌, cond, List, []}
-use Rattle.std.proofs.Common.{◌∷◌, ◌++◌, map, filter, take, length, codes, IfSome, Option, Some, None, Result, Ok, Err}
-use Rattle.std.proofs.Common.{find, is_some, nat_le, nat_lt, option_and_then, refl, sym, subst, inl, inr, arith}
-use Rattle.std.specs.Bool.{if◌then◌else◌}
-use Rattle.std.specs.List.{All, AllByRecursion, list_all, slice_split}
+use Rattle.std.proofs.Common.{◌≡◌, ℕ, ℤ, pos, ◌≤ℤ◌, ◌≤◌, Bool, true, false, not, ◌==◌, List, []}
+use Rattle.std.proofs.Common.{◌∷◌, ◌++◌, map, filter, length, codes, IfSome, Option, Some, None, Result, Err}
+use Rattle.std.proofs.Common.{find, is_some, option_and_then, refl, inl, inr, arith}
+use Rattle.std.specs.List.{AllByRecursion, list_all}
 use Rattle.std.specs.Str.{bytes_eq, str_eq_ignore_ascii_case}
 use Rattle.std.proofs.lemmas.Bool.{and_from, and_parts, cond_both, leb-true, not-false}
 use Rattle.std.proofs.lemmas.Int.{ints}
 use Rattle.std.proofs.lemmas.List.Elements.{recursion_from_All}
 use Rattle.chronicle.specs.declared.why.Why.TheVariants.{Quit}
-use Rattle.line_grammar.specs.declared.message.Message.{Message}
-use Rattle.line_grammar.specs.Parts.{is_empty, is_present}
+use Rattle.line_grammar.specs.Parts.{is_empty}
 use Rattle.line_grammar.specs.Spelling.{is_text_octet, is_word_octet, needs_colon}
 use Rattle.casemapping.specs.Fold.{is_same}
 use Rattle.casemapping.specs.Names.{nick_shape}
-use Rattle.numerics.specs.declared.numeric.Numeric.{Numeric}
 use Rattle.numerics.specs.declared.numeric.Numeric.TheVariants as numeric
-use Rattle.numerics.specs.CivilTime.{LiesOutside, time_text}
+use Rattle.numerics.specs.CivilTime.{time_text}
 use Rattle.numerics.specs.Cut.{cut, most_tokens}
-use Rattle.numerics.specs.Numerics.{row, spaced}
+use Rattle.numerics.specs.Numerics.{spaced}
 use Rattle.numerics.specs.Support.{tokens}
 use Rattle.registration.specs.declared.accounts.Account.{Account}
 use Rattle.registration.specs.declared.caps.Cap.{Cap}
-use Rattle.registration.specs.declared.caps.Cap.TheVariants.{AwayNotify, Batch, EchoMessage, ExtendedJoin}
-use Rattle.registration.specs.declared.caps.Cap.TheVariants.{LabeledResponse, MessageTags, Sasl, ServerTime}
+use Rattle.registration.specs.declared.caps.Cap.TheVariants.{Sasl}
 use Rattle.registration.specs.declared.settings.Settings.{Settings}
 use Rattle.registration.specs.declared.enrol.CapAnswer.{CapAnswer}
 use Rattle.registration.specs.declared.enrol.CapAnswer.TheVariants.{Acknowledged, Refused}
@@ -36,22 +32,22 @@ use Rattle.registration.specs.declared.enrol.UserAnswer.{UserAnswer}
 use Rattle.registration.specs.declared.enrol.UserAnswer.TheVariants.{AlreadyTold, Accepted}
 use Rattle.registration.specs.declared.sasl.Credentials.{Credentials}
 use Rattle.registration.specs.Accounts.{logged_in, name_by}
-use Rattle.registration.specs.Caps.{all_caps, cap_name, is_on, list_of}
-use Rattle.registration.specs.Enrol.{Enrolment, account_by, added, begun, cap_answer, ended_by, gone_on, holds, is_own}
+use Rattle.registration.specs.Caps.{all_caps, is_on, list_of}
+use Rattle.registration.specs.Enrol.{Enrolment, account_by, added, cap_answer, ended_by, gone_on, holds, is_own}
 use Rattle.registration.specs.Enrol.{is_ready, is_too_long, nick_answer, sasl_answer, sasl_step, user_answer}
 use Rattle.registration.specs.Plain.{credentials_of}
-use Rattle.registration.specs.Settings.{IsWellSet, is_motd, is_text, lines_of}
+use Rattle.registration.specs.Settings.{IsWellSet, is_motd, is_text}
 use Rattle.roster.specs.declared.deed.Deed.{Deed}
 use Rattle.roster.specs.declared.deed.Deed.TheVariants as deed
-use Rattle.roster.specs.LookBack.{after, caps, enrol, exchange, nick, registered, sharers}
-use Rattle.drafts.specs.declared.effect.Effect.TheVariants.{Establish, Answer, Show}
+use Rattle.roster.specs.LookBack.{after, caps, enrol, exchange, nick, registered}
+use Rattle.drafts.specs.declared.effect.Effect.TheVariants.{Establish, Answer}
 use Rattle.drafts.specs.Effects.{deeds_of}
-use Rattle.drafts.specs.Lines.{go_on_line, nick_line, pong_line, prefix, title}
+use Rattle.drafts.specs.Lines.{go_on_line, pong_line, prefix, title}
 use Rattle.drafts.specs.Replies.{tells, tells_all}
-use Rattle.command_params.specs.Lists.{is_space, words_of}
-use Rattle.command_params.specs.Params.{first_or_empty, needs_more}
+use Rattle.command_params.specs.Lists.{is_space}
+use Rattle.command_params.specs.Params.{first_or_empty}
 use Rattle.command_params.specs.declared.fault.ReadFault.{ReadFault}
-use Rattle.command_params.specs.declared.fault.ReadFault.TheVariants.{NoNicknameGiven, NoOrigin, InvalidCapSubcommand}
+use Rattle.command_params.specs.declared.fault.ReadFault.TheVariants.{NoNicknameGiven, NoOrigin}
 use Rattle.query_commands.specs.Motd.{motd_numerics}
 use Rattle.session_commands.specs.declared.session.CapSubcommand.{CapSubcommand}
 use Rattle.session_commands.specs.declared.session.CapSubcommand.TheVariants.{Ls, List as ListCaps, Req, End}
@@ -61,26 +57,28 @@ use Rattle.session_commands.specs.declared.session.SessionName.{SessionName}
 use Rattle.session_commands.specs.declared.session.SessionName.TheVariants as name
 use Rattle.session_commands.specs.Negotiation.{authenticates, cap_list, cap_text, closes, lists, negotiates}
 use Rattle.session_commands.specs.Negotiation.{requested, sasl_answered, waits}
-use Rattle.session_commands.specs.Registration.{aborts, completed, enrolls, introduces, is_held, nick_answered, passes}
-use Rattle.session_commands.specs.Registration.{quits, registers, renames, shows_nick, takes_nick, user_answered}
-use Rattle.session_commands.specs.Session.{cap_command, cap_req, cap_subcommand, is_user_octet, named_or_not, nick_command}
-use Rattle.session_commands.specs.Session.{ping_command, serves_session, session_by_name, session_named, session_of}
-use Rattle.session_commands.specs.Session.{shows_values, told, user_command, user_name}
+use Rattle.session_commands.specs.Registration.{aborts, completed, enrolls, is_held, nick_answered, passes}
+use Rattle.session_commands.specs.Registration.{registers, renames, shows_nick, takes_nick, user_answered}
+use Rattle.session_commands.specs.Session.{cap_req, cap_subcommand, is_user_octet, named_or_not}
+use Rattle.session_commands.specs.Session.{serves_session, session_by_name, session_named, session_of}
+use Rattle.session_commands.specs.Session.{told, user_command, user_name}
 use Rattle.session_commands.specs.Welcome.{support_numerics, welcome_numerics}
-use Rattle.answer_octets.specs.Clean.{HasText, IsClean, IsTextRow, IsWordOf}
+use Rattle.answer_octets.specs.Clean.{IsClean, IsMoment, IsWordOf}
 use Rattle.answer_octets.proofs.Blocks.{word-text}
 use Rattle.answer_octets.proofs.Kept.{spaced-kept, take-kept}
 use Rattle.answer_octets.proofs.Lines.{value-word}
 use Rattle.answer_octets.proofs.Moments.{moment-value}
 use Rattle.answer_octets.proofs.Names.{settings-server}
-use Rattle.clean_records.specs.Clean.{AreNamed, IsCleanEffect, IsNick, IsServing, IsText}
+use Rattle.clean_records.specs.Clean.{IsCleanEffect, IsNick, IsServing, IsText}
 use Rattle.clean_records.specs.Laws.{SessionCommandsAreClean, WelcomesAreClean}
-use Rattle.clean_records.proofs.Effects.{Clean, IsTextNumeric, clean-effects, either, facts-of, from-server, from-session}
+use Rattle.clean_records.proofs.Effects.{Clean, IsTextNumeric, clean-effects, either, facts-of, from-server}
+use Rattle.clean_records.proofs.Effects.{from-session}
 use Rattle.clean_records.proofs.Effects.{joined, later, more, none, only, told as tells-clean, told_all, told_only}
-use Rattle.clean_records.proofs.Lists.{all-both, all-map, all-texts, cut-texts, find-is}
+use Rattle.clean_records.proofs.Lists.{all-both, all-texts, cut-texts, find-is}
 use Rattle.clean_records.proofs.Lookups.{Facts, nick-shown, prefix-shown}
 use Rattle.clean_records.proofs.Asking.{IfRead, IsCleanRead, first-text, present-parts, was-read}
-use Rattle.clean_records.proofs.Texts.{AreTexts, both, filter-passes, high-word, nick-text, one, take-short, texts-map, two}
+use Rattle.clean_records.proofs.Texts.{AreTexts, both, filter-passes, high-word, nick-text, one, take-short, texts-map}
+use Rattle.clean_records.proofs.Texts.{two}
 
 -- ---- CAP
 
@@ -366,7 +364,8 @@ of_session g fs s (session.Quit text) serves facts is = only (Establish (deed.En
 pub session-commands : SessionCommandsAreClean
 session-commands g fs s k m serves are text read =
     clean-effects (serves_session g fs s k) (of_session g fs s k serves (facts-of fs are)
-    (was-read IsCleanSession (session_by_name m.command m.params) k (session-read m.command m.params text.params) read))
+    (was-read IsCleanSession (session_by_name m.command m.params) k
+    (session-read m.command m.params text.params) read))
 
 -- ---- the welcome
 
@@ -395,11 +394,15 @@ support-lines : (g : Settings) (ls : List (List (List ℕ))) → AllByRecursion 
 support-lines g [] are = tt
 support-lines g (l ∷ ls) are = (record { words = are.0; text = refl }, support-lines g ls are.1)
 
+-- a moment from 1970 to the end of the year 9998 has a text
+pub moment-inside : (m : ℤ) → pos 0 ≤ℤ m → m ≤ℤ pos 253370764799999 → IsMoment m
+moment-inside m from to (inl early) = grind (arith, ints, from, early)
+moment-inside m from to (inr late) = grind (arith, ints, to, late)
+
 created-text : (g : Settings) → IsWellSet g → IsText (time_text g.created)
 created-text g set =
-    let inside : LiesOutside g.created → ⊥ = λ out. let a = set.from_1970 in let b = set.to_9998 in
-    elim out [ inl early ↦ grind (arith, ints, a, early) | inr late ↦ grind (arith, ints, b, late) ] in
-    word-text (time_text g.created) (value-word (time_text g.created) (moment-value g.created inside))
+    word-text (time_text g.created) (value-word (time_text g.created) (moment-value g.created
+    (moment-inside g.created set.from_1970 set.to_9998)))
 
 welcome-clean : (g : Settings) (source : List ℕ) → IsServing g → IsText source
     → AllByRecursion (IsTextNumeric g) (welcome_numerics g source)
@@ -413,7 +416,8 @@ welcome-clean g source serves is =
           record { words = refl; text = created-text g serves.set },
           (
             record { words = and_from _ _ server (and_from _ _ version refl); text = tt },
-            all-both (IsTextNumeric g) support_numerics (motd_numerics g.motd) (support-lines g (cut 370 most_tokens tokens)
+            all-both (IsTextNumeric g) support_numerics (motd_numerics g.motd)
+                (support-lines g (cut 370 most_tokens tokens)
                 (cut-texts 370 most_tokens tokens refl)) (motd-clean g g.motd serves serves.set.motd),
           ),
         ),

@@ -1,34 +1,30 @@
 -- What PRIVMSG, NOTICE, TAGMSG and AWAY do.
-use Rattle.std.proofs.Common.{◌≡◌, ℕ, zero, suc, Bool, true, false, not, ◌&&◌, ◌||◌, ◌==◌, nat_lt, List, [], ◌∷◌, ◌++◌}
-use Rattle.std.proofs.Common.{codes, cond, filter, length, slice_index_or, flat_map, is_some, option_to_list, IfSome, Option}
-use Rattle.std.proofs.Common.{Some, None, Result, Ok, Err, refl, arith, ◌≤◌}
+use Rattle.std.proofs.Common.{◌≡◌, ℕ, zero, suc, true, false, ◌&&◌, ◌||◌, ◌==◌, nat_lt, List, [], ◌∷◌}
+use Rattle.std.proofs.Common.{codes, filter, length, slice_index_or, flat_map, is_some, option_to_list, IfSome, Option}
+use Rattle.std.proofs.Common.{Some, None, Result, refl, arith, ◌≤◌}
 use Rattle.std.specs.Bool.{if◌then◌else◌}
 use Rattle.std.specs.List.{AllByRecursion, list_all}
 use Rattle.std.specs.Str.{str_eq_ignore_ascii_case}
 use Rattle.std.proofs.lemmas.Bool.{and_from, and_parts, cond_both}
-use Rattle.line_grammar.specs.declared.message.Message.{Message}
 use Rattle.line_grammar.specs.Parts.{is_empty}
 use Rattle.line_grammar.specs.Reading.{is_command}
 use Rattle.line_grammar.specs.Spelling.{is_text_octet, is_word_octet}
-use Rattle.message_tags.specs.Tags.{parts_of}
 use Rattle.channel_state.specs.State.{State, without}
 use Rattle.numerics.specs.declared.numeric.Numeric.{Numeric}
 use Rattle.numerics.specs.declared.numeric.Numeric.TheVariants.{Away as IsAway, CannotSendToChan, NoSuchChannel}
-use Rattle.numerics.specs.declared.numeric.Numeric.TheVariants.{NoSuchNick, TooManyTargets, NowAway, UnAway}
+use Rattle.numerics.specs.declared.numeric.Numeric.TheVariants.{NoSuchNick, TooManyTargets}
 use Rattle.numerics.specs.declared.outgoing.Out.{Out}
-use Rattle.numerics.specs.Numerics.{row}
-use Rattle.registration.specs.declared.caps.Cap.TheVariants.{AwayNotify, EchoMessage}
+use Rattle.registration.specs.declared.caps.Cap.TheVariants.{EchoMessage}
 use Rattle.registration.specs.declared.settings.Settings.{Settings}
 use Rattle.registration.specs.Caps.{is_on}
 use Rattle.roster.specs.declared.deed.Deed.{Deed}
 use Rattle.roster.specs.declared.deed.Deed.TheVariants.{AwaySet}
 use Rattle.roster.specs.LookBack.{away, caps, found, name_of, nick, state}
 use Rattle.drafts.specs.declared.effect.Effect.TheVariants.{Establish, Answer, Show, Copy}
-use Rattle.drafts.specs.Hearers.{shown, takes}
+use Rattle.drafts.specs.Hearers.{shown}
 use Rattle.drafts.specs.Lines.{away_line, prefix, title}
 use Rattle.drafts.specs.Replies.{tells}
 use Rattle.command_params.specs.declared.fault.ReadFault.{ReadFault}
-use Rattle.command_params.specs.declared.fault.ReadFault.TheVariants.{NoRecipient, NoTextToSend}
 use Rattle.command_params.specs.Lists.{names_of}
 use Rattle.command_params.specs.Params.{first_or_empty}
 use Rattle.talk_commands.specs.declared.talk.TalkCommand.{TalkCommand}
@@ -37,19 +33,20 @@ use Rattle.talk_commands.specs.declared.verb.Verb.{Verb}
 use Rattle.talk_commands.specs.declared.verb.Verb.TheVariants as verb
 use Rattle.talk_commands.specs.Away.{away_answer, goes_away, kept, notified}
 use Rattle.talk_commands.specs.Lines.{Sent, sent_line, verb_text}
-use Rattle.talk_commands.specs.Talk.{away_command, notice_command, privmsg_command, relayed, second_or_empty, serves_talk}
+use Rattle.talk_commands.specs.Talk.{notice_command, privmsg_command, relayed, second_or_empty, serves_talk}
 use Rattle.talk_commands.specs.Talk.{tagmsg_command, talk_of}
 use Rattle.talk_commands.specs.Talking.{answers, delivers, echoes, keeps, may_speak, names_channel, reaches, sends}
-use Rattle.talk_commands.specs.Talking.{shows, tells_away, to_channel, to_one, to_open, to_user}
-use Rattle.answer_octets.specs.Clean.{HasText, IsClean, IsRelayed, is_client_part, is_no_nul}
+use Rattle.talk_commands.specs.Talking.{tells_away, to_channel, to_one, to_open, to_user}
+use Rattle.answer_octets.specs.Clean.{IsClean, IsRelayed, is_no_nul}
 use Rattle.answer_octets.proofs.Kept.{take-kept}
 use Rattle.answer_octets.proofs.Relayed.{relayed-clients}
 use Rattle.clean_records.specs.Clean.{IsChannel, IsServing, IsText}
 use Rattle.clean_records.specs.Laws.{TalkCommandsAreClean}
 use Rattle.clean_records.proofs.Asking.{IfRead, IsCleanRead, first-text, names-texts, was-read}
-use Rattle.clean_records.proofs.Effects.{Clean, IsTextNumeric, clean-effects, either, facts-of, from-session, joined, more}
+use Rattle.clean_records.proofs.Effects.{Clean, IsTextNumeric, clean-effects, either, facts-of, from-session, joined}
+use Rattle.clean_records.proofs.Effects.{more}
 use Rattle.clean_records.proofs.Effects.{none, of_all, only, some_shown, told, told_only}
-use Rattle.clean_records.proofs.Lookups.{Facts, away-is, name_of-is, nick-shown, prefix-is}
+use Rattle.clean_records.proofs.Lookups.{Facts, away-is, name_of-is, nick-shown}
 use Rattle.clean_records.proofs.Texts.{AreTexts, channel-text, one}
 
 -- ---- what is sent
@@ -112,7 +109,8 @@ to_a_channel : (g : Settings) (fs : List Deed) (s : ℕ) (b : Sent) (c : List �
     → Facts fs → IsCleanSent b → IsText c → IfSome o IsText → Clean (to_channel g fs s b c o)
 to_a_channel g fs s b c None serves facts sent text is = answered g fs s b.verb (NoSuchChannel c) serves facts
     (record { words = one c text; text = refl })
-to_a_channel g fs s b c (Some n) serves facts sent text is = to_an_open_one g fs s b n (state fs c) serves facts sent is
+to_a_channel g fs s b c (Some n) serves facts sent text is =
+    to_an_open_one g fs s b n (state fs c) serves facts sent is
 
 copied : (fs : List Deed) (s : ℕ) (b : Sent) (l : Out) → IsClean l → Clean (keeps fs s b l)
 copied fs s b l is = either (reaches fs b s) (Copy l ∷ []) [] (only (Copy l) is) none

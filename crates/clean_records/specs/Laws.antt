@@ -5,23 +5,23 @@ use Rattle.line_grammar.specs.declared.message.Message.{Message}
 use Rattle.line_grammar.specs.Spelling.{is_text_octet}
 use Rattle.chronicle.specs.declared.record.Kind.{Kind}
 use Rattle.chronicle.specs.History.{Rec, actor}
+use Rattle.registration.specs.declared.accounts.Account.{Account}
 use Rattle.registration.specs.declared.settings.Settings.{Settings}
+use Rattle.registration.specs.Accounts.{accounts_in}
 use Rattle.roster.specs.declared.deed.Deed.{Deed}
 use Rattle.roster.specs.LookBack.{caps}
+use Rattle.drafts.specs.Effects.{copies, reply}
 use Rattle.session_commands.specs.declared.session.SessionCommand.{SessionCommand}
 use Rattle.session_commands.specs.Registration.{completed}
 use Rattle.session_commands.specs.Session.{serves_session, session_by_name}
-use Rattle.talk_commands.specs.declared.talk.TalkCommand.{TalkCommand}
-use Rattle.talk_commands.specs.Talk.{serves_talk, talk_of}
-use Rattle.query_commands.specs.declared.query.Query.{Query}
-use Rattle.query_commands.specs.Query.{queries, query_of}
 use Rattle.channel_commands.specs.declared.channel.ChannelCommand.{ChannelCommand}
 use Rattle.channel_commands.specs.Channel.{channel_command_of, serves_channel}
 use Rattle.mode_commands.specs.declared.modes.ModeCommand.{ModeCommand}
 use Rattle.mode_commands.specs.Modes.{mode_of, serves_mode}
-use Rattle.drafts.specs.Effects.{copies, reply}
-use Rattle.registration.specs.declared.accounts.Account.{Account}
-use Rattle.registration.specs.Accounts.{accounts_in}
+use Rattle.talk_commands.specs.declared.talk.TalkCommand.{TalkCommand}
+use Rattle.talk_commands.specs.Talk.{serves_talk, talk_of}
+use Rattle.query_commands.specs.declared.query.Query.{Query}
+use Rattle.query_commands.specs.Query.{queries, query_of}
 use Rattle.deeds.specs.Deeds.{effects, facts, label_in, lines, text}
 use Rattle.deeds.specs.Ping.{ping_line}
 use Rattle.answer_octets.specs.Clean.{HasText, IsClean, IsCleanAnswer, IsMoment}
@@ -52,10 +52,6 @@ TalkCommandsAreClean = (g : Settings) (fs : List Deed) (s : ℕ) (k : TalkComman
     → AreClean fs → HasText m → talk_of m.command m.tags m.params ≡ Some (Ok k)
     → AreCleanEffects (serves_talk g fs s k)
 
-abbrev pub QueriesAreClean : Type 0
-QueriesAreClean = (g : Settings) (fs : List Deed) (s : ℕ) (q : Query) (m : Message) → IsServing g → AreClean fs
-    → HasText m → query_of m.command m.params ≡ Some (Ok q) → AreCleanEffects (queries g fs s q)
-
 abbrev pub ChannelCommandsAreClean : Type 0
 ChannelCommandsAreClean = (g : Settings) (fs : List Deed) (s : ℕ) (k : ChannelCommand) (m : Message) → IsServing g
     → AreClean fs → HasText m → channel_command_of m.command m.params ≡ Some (Ok k)
@@ -65,8 +61,13 @@ abbrev pub ModeCommandsAreClean : Type 0
 ModeCommandsAreClean = (g : Settings) (fs : List Deed) (s : ℕ) (k : ModeCommand) (m : Message) → IsServing g
     → AreClean fs → HasText m → mode_of m.command m.params ≡ Some (Ok k) → AreCleanEffects (serves_mode g fs s k)
 
+abbrev pub QueriesAreClean : Type 0
+QueriesAreClean = (g : Settings) (fs : List Deed) (s : ℕ) (q : Query) (m : Message) → IsServing g → AreClean fs
+    → HasText m → query_of m.command m.params ≡ Some (Ok q) → AreCleanEffects (queries g fs s q)
+
 -- ---- any record, and any history
 
+-- whoever is refused or turned away is told so in clean lines, too
 abbrev pub RecordsAreClean : Type 0
 RecordsAreClean = (g : Settings) (fs : List Deed) (k : Kind) → IsServing g → AreClean fs → IsCleanKind k
     → AreCleanEffects (effects g fs k)
@@ -96,7 +97,7 @@ abbrev pub TextsAreCut : Type 0
 TextsAreCut = (g : Settings) (h : List Rec) (k : Kind) (m : ℤ) (n t : ℕ) → IsServing g → IsCleanHistory h
     → IsCleanKind k → IsMoment m → n < 2 ^ 64
     → (text_lines (text g (facts g h) k m n t) ≡ map (line_of (caps (facts g h) t) m)
-      (lines g (actor k) (label_in (facts g h) k) (effects g (facts g h) k) n t))
+    (lines g (actor k) (label_in (facts g h) k) (effects g (facts g h) k) n t))
     × (list_all (list_all is_text_octet) (text_lines (text g (facts g h) k m n t)) ≡ true)
 
 -- ---- where the premise on accounts comes from

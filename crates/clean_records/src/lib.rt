@@ -3,13 +3,9 @@
 #![tactic(auto)]
 
 ghost use Rattle.clean_records.specs.Laws.{OwnRecordsAreClean, SessionCommandsAreClean, WelcomesAreClean};
-ghost use Rattle.clean_records.specs.Laws.{TalkCommandsAreClean};
-ghost use Rattle.clean_records.specs.Laws.{QueriesAreClean};
-ghost use Rattle.clean_records.specs.Laws.{ChannelCommandsAreClean};
-ghost use Rattle.clean_records.specs.Laws.{ModeCommandsAreClean};
-ghost use Rattle.clean_records.specs.Laws.{FactsAreClean, LinesAreClean, PingIsClean, RecordsAreClean};
-ghost use Rattle.clean_records.specs.Laws.{AnswersAreClean, TextsAreCut};
-ghost use Rattle.clean_records.specs.Laws.{AccountsAreNamed};
+ghost use Rattle.clean_records.specs.Laws.{ChannelCommandsAreClean, ModeCommandsAreClean, TalkCommandsAreClean};
+ghost use Rattle.clean_records.specs.Laws.{QueriesAreClean, RecordsAreClean, FactsAreClean, LinesAreClean};
+ghost use Rattle.clean_records.specs.Laws.{PingIsClean, AnswersAreClean, TextsAreCut, AccountsAreNamed};
 
 /// What the program itself records, of clean facts, makes clean lines and facts.
 pub fn own_records_are_clean()
@@ -31,11 +27,6 @@ pub fn talk_commands_are_clean()
     ensures { TalkCommandsAreClean }
 {}
 
-/// So does each command that only asks: NAMES, LIST, WHO, WHOIS and MOTD.
-pub fn queries_are_clean()
-    ensures { QueriesAreClean }
-{}
-
 /// So does each command about channels: JOIN, PART, KICK, INVITE and TOPIC.
 pub fn channel_commands_are_clean()
     ensures { ChannelCommandsAreClean }
@@ -46,17 +37,22 @@ pub fn mode_commands_are_clean()
     ensures { ModeCommandsAreClean }
 {}
 
-/// Any record, of clean facts, makes clean lines and facts: of a client's line, where that is one line.
+/// So does each command that only asks: NAMES, LIST, WHO, WHOIS and MOTD.
+pub fn queries_are_clean()
+    ensures { QueriesAreClean }
+{}
+
+/// Any record, of clean facts, makes clean lines and facts: a client's, where its piece is one line.
 pub fn records_are_clean()
     ensures { RecordsAreClean }
 {}
 
-/// The facts of a history are clean whose pieces are one line each and whose hosts have their shape.
+/// So the facts of a history are clean, whose pieces are one line each and whose hosts have their shape.
 pub fn facts_are_clean()
     ensures { FactsAreClean }
 {}
 
-/// So is every line that the next record answers, copies or shows.
+/// And every line that the next record answers, copies or shows.
 pub fn lines_are_clean()
     ensures { LinesAreClean }
 {}
@@ -66,7 +62,7 @@ pub fn ping_is_clean()
     ensures { PingIsClean }
 {}
 
-/// So the answer under a label that counts is clean, as the laws of `answer_octets` ask of it.
+/// So an answer under a label that counts is clean, as the laws of `answer_octets` ask of it.
 pub fn answers_are_clean()
     ensures { AnswersAreClean }
 {}
