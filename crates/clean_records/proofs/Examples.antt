@@ -1,5 +1,7 @@
 -- The definitions at work, computed.
 use Rattle.std.proofs.Common.{◌≡◌, ℕ, pos, true, false, List, [], ◌∷◌, ◌++◌, codes, Some, None, refl, arith}
+use Rattle.std.specs.List.{list_all}
+use Rattle.std.proofs.lemmas.Bool.{and_parts}
 use Rattle.std.proofs.lemmas.Int.{ints}
 use Rattle.std.proofs.lemmas.List.Elements.{All-cons, All-nil}
 use Rattle.casemapping.specs.Names.{channel_shape, host_shape, nick_shape}
@@ -13,7 +15,13 @@ use Rattle.registration.specs.declared.settings.Settings.{Settings}
 use Rattle.roster.specs.declared.deed.Deed.TheVariants as deed
 use Rattle.drafts.specs.declared.effect.Effect.TheVariants.{Answer, Establish}
 use Rattle.drafts.specs.Lines.{go_on_line, pong_line}
-use Rattle.clean_records.specs.Clean.{IsCleanDeed, IsCleanEffect, IsCleanHistory, IsCleanKind}
+use Rattle.line_grammar.specs.Spelling.{is_text_octet}
+use Rattle.line_grammar.specs.Reading.{parameters, reading, with_command}
+use Rattle.commands.specs.Asked.{asked_of}
+use Rattle.commands.specs.Commands.{command_of}
+use Rattle.session_commands.specs.Session.{session_named, session_of}
+use Rattle.deeds.specs.Deeds.{effects}
+use Rattle.clean_records.specs.Clean.{AreCleanEffects, IsCleanDeed, IsCleanEffect, IsCleanHistory, IsCleanKind}
 use Rattle.clean_records.specs.Clean.{IsServing, IsText, is_own}
 
 no : {X : Type 0} → false ≡ true → X
@@ -136,3 +144,16 @@ IsCleanRec r = IsCleanKind r.kind
 history : IsCleanHistory (second ∷ first ∷ [])
 unfolding host_shape
 history = All-cons IsCleanRec second (first ∷ []) refl (All-cons IsCleanRec first [] refl (All-nil IsCleanRec))
+
+-- ---- and it is needed: a fact that isn't clean, or a piece of two lines, makes a line that isn't
+
+abbrev piece_of_two : List ℕ
+piece_of_two = codes "PING a" ++ 10 ∷ codes "b"
+
+parted : (g : Settings) → AreCleanEffects (effects g (deed.Ended 1 Quit broken ∷ []) (kind.Gone 1)) → ⊥
+parted g are = no (are 0 (Answer go_on_line) (omega arith)).params
+
+ponged : (g : Settings) → AreCleanEffects (effects g [] (kind.Said 1 1 (Line piece_of_two))) → ⊥
+unfolding asked_of reading parameters with_command command_of session_named session_of
+ponged g are =
+    no (and_parts (list_all is_text_octet g.server) false (are 0 (Answer go_on_line) (omega arith)).params).1
