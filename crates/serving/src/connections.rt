@@ -403,29 +403,23 @@ impl<L: Naming, R: Wait + Clock + Copy + Drop> View<'_, L, R> {
         }
     }
 
-    /// Writes what waits for a session.
-    fn write_to(&self, session: SessionId) {
+    /// Writes what waits for these sessions, of so many records, or leaves it to their workers where that may be.
+    /// The table is held for all of them: no write waits for a client.
+    fn write_to(&self, sessions: &[SessionId], records: usize, may_be_left: bool) {
         let connections = self.all.by_session.read(&self.all.rt);
-        let Some(found) = connections.get(&session.number()) else {
-            return;
-        };
-        match Arc::try_clone(found) {
-            Ok(connection) => {
-                drop(connections);
-                self.write_on(&connection);
+        for session in sessions {
+            if let Some(connection) = connections.get(&session.number()) {
+                if !may_be_left || !self.leave(connection, records) {
+                    self.write_on(connection);
+                }
             }
-            Err(_) => self.write_on(found),
         }
     }
 
-    /// Leaves what waits for a session, of so many records, to its worker to write, and answers whether that may be
+    /// Leaves what waits for a connection, of so many records, to its worker to write, and answers whether that may be
     /// left to it. What was put before the count grew is written by whoever takes the count back, since that writes
     /// after it.
-    fn leave(&self, session: SessionId, records: usize) -> bool {
-        let connections = self.all.by_session.read(&self.all.rt);
-        let Some(connection) = connections.get(&session.number()) else {
-            return true;
-        };
+    fn leave(&self, connection: &Connection<L, R>, records: usize) -> bool {
         let before = connection.left.fetch_add(records as u64, Ordering::SeqCst);
         if before == 0 {
             if let Some(post) = self.all.post(connection.worker) {
@@ -479,11 +473,11 @@ impl<L: Naming, R: Wait + Clock + Copy + Drop> Sockets for View<'_, L, R> {
     fn tell(&self, told: &Told) {
         let (all, records) = (told.sessions().len(), told.records());
         let is_short = all <= records.saturating_mul(AT_ONCE) || self.burst <= records;
-        for (place, session) in told.sessions().iter().enumerate() {
-            let is_near = is_short || place < ENDS || all.saturating_sub(ENDS) <= place;
-            if is_near || !self.leave(*session, records) {
-                self.write_to(*session);
-            }
+        for (place, some) in told.sessions().chunks(ENDS).enumerate() {
+            let is_near = is_short
+                || place == 0
+                || all <= place.saturating_add(2).saturating_mul(ENDS);
+            self.write_to(some, records, !is_near);
         }
         if told.is_all() {
             self.write_to_all();
