@@ -74,7 +74,7 @@ earlier g [] h legal = legal
 earlier g (r ∷ later) h legal = earlier g later h legal.4
 
 -- the history before a labelled line is legal, and so is the one that ends with its record
-request-legal : (g : Settings) (history : List Rec) (q : Request) → IsLegal g history → IsRequest g history q
+pub request-legal : (g : Settings) (history : List Rec) (q : Request) → IsLegal g history → IsRequest g history q
     → IsLegal g (record_of q ∷ q.before)
 request-legal g history q legal is = earlier g q.later (record_of q ∷ q.before) (subst (IsLegal g) is.split legal)
 

@@ -4,6 +4,7 @@ pub mod Free
 pub mod Order
 pub mod Opened
 pub mod Answered
+pub mod Whole
 pub mod Ended
 pub mod Sound
 pub mod Kept

@@ -7,3 +7,4 @@ pub mod Kept
 pub mod Runs
 pub mod Order
 pub mod Laws
+pub mod Whole

@@ -1,7 +1,12 @@
 //! What follows for a user. These functions do nothing: each states a law.
 ghost use Rattle.interleave.specs.Laws.{OnceInOrder, TakenInOrder, AcceptedIsPrefixOfSent, ErrorAtMostAfterTheClose};
 ghost use Rattle.interleave.specs.Laws.{LabelledOnce, LabelledFirst, LoneUnbatched, BatchClosed, HeardOnce};
+ghost use Rattle.interleave.specs.Whole.{AnsweredOnceAndWhole};
 
+use answer_octets::{
+    lone_line_is_whole, one_item_counts, one_line_has_the_label, several_lines_are_whole,
+};
+use clean_records::answers_are_clean;
 use labels_batches::{
     label_stands_first, lone_line_opens_no_batch, several_lines_are_a_closed_batch,
 };
@@ -59,6 +64,22 @@ pub fn batch_closed()
     ensures { BatchClosed }
 {
     several_lines_are_a_closed_batch();
+}
+
+/// As octets: among all lines of the deliveries of such a line's record one has a label, and its answer is whole: one
+/// line that opens no batch, or a batch that is closed.
+pub fn answered_once_and_whole()
+    ensures { AnsweredOnceAndWhole }
+{
+    once_in_order();
+    labelled_once();
+    one_item_counts();
+    one_line_has_the_label();
+    lone_line_is_whole();
+    several_lines_are_whole();
+    answers_are_clean();
+    no_line_opens_a_batch();
+    records_open_no_others();
 }
 
 /// A line of any record is shown to each of its hearers once.
