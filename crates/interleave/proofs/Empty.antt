@@ -1,6 +1,10 @@
 -- A play in which nothing happened yet.
 use Rattle.std.proofs.Common.{◌≡◌, ℕ, zero, suc, [], replicate, slice_index_or, Some, None, arith, refl, subst, sym}
+use Rattle.std.proofs.lemmas.List.Elements.{All-nil}
+use Rattle.chronicle.specs.History.{Rec}
 use Rattle.registration.specs.declared.settings.Settings.{Settings}
+use Rattle.registration.specs.Settings.{IsWellSet}
+use Rattle.clean_records.specs.Clean.{IsCleanKind}
 use Rattle.outbox.specs.Ring.{Waiting, put_into}
 use Rattle.book.specs.Book.{Shown, held}
 use Rattle.book.specs.Book as book
@@ -27,9 +31,9 @@ empty_sound limit settings m is =
       room = omega arith;
     })
 
-pub empty_kept : (limit : ℕ) (settings : Settings) (sendq workers : ℕ)
+pub empty_kept : (limit : ℕ) (settings : Settings) (sendq workers : ℕ) → IsWellSet settings
     → IsKept (book.empty_book limit settings) sendq [] (replicate workers None) None
-empty_kept limit settings sendq workers =
+empty_kept limit settings sendq workers set =
     record {
       sound = record {
         book = empty_sound limit settings (book.empty_book limit settings) refl;
@@ -38,6 +42,8 @@ empty_kept limit settings sendq workers =
         jobs = λ i s e. absurd (no_job workers i s e);
         lock = refl;
         holder = λ w e. absurd (let f : None ≡ Some w = e in cc);
+        set = set;
+        clean = All-nil (λ (r : Rec). IsCleanKind r.kind);
       };
       turns = λ t from to. absurd (omega arith);
       holding = tt;

@@ -9,6 +9,8 @@ use Rattle.std.proofs.Common.{sym, ap, ◌∙◌, subst, append-nil, length-appe
 use Rattle.std.specs.Option.{is_some}
 use Rattle.line_grammar.specs.declared.splitter.Piece.{Piece}
 use Rattle.line_grammar.specs.Lines.{lines}
+use Rattle.casemapping.specs.Names.{host_shape}
+use Rattle.clean_records.specs.Clean.{IsCleanKind}
 use Rattle.chronicle.specs.declared.record.Kind.{Kind}
 use Rattle.chronicle.specs.declared.record.Kind.TheVariants as kind
 use Rattle.chronicle.specs.declared.why.Why.{Why}
@@ -383,15 +385,15 @@ hung_kept m k sendq boxes jobs holder s why moment i free e sound =
 -- a worker without a line begins a record that says nothing
 pub silent_kept : (m n : Shown Waiting) (sendq : ℕ) (boxes : List Held) (jobs : List (Option ℕ))
     (holder : Option Holder) (w : ℕ) (k : Kind) (moment : ℤ) (p : Out) → ((t : ℕ) → said_by k t ≡ [])
-    → IsKept m sendq boxes jobs holder → 0 < w → w ≤ length jobs → worker_of holder ≡ None
+    → IsCleanKind k → IsKept m sendq boxes jobs holder → 0 < w → w ≤ length jobs → worker_of holder ≡ None
     → job_of (state_of m sendq boxes jobs holder) w ≡ None → n ≡ book.begun m k moment → IsOut n p → p.next ≡ None
     → book.IsSound put_into n → IsKept n sendq boxes jobs (Some (record { worker = w; plan = p }))
-silent_kept m n sendq boxes jobs holder w k moment p silent i a l free none e out next sound =
+silent_kept m n sendq boxes jobs holder w k moment p silent is i a l free none e out next sound =
     let st = state_of m sendq boxes jobs holder in let g : Shown Waiting = book.begun m k moment in
     let z = size boxes in let y = i.sound.inboxes in
     subst (λ (b : Shown Waiting). IsKept b sendq boxes jobs (Some (record { worker = w; plan = p }))) (sym e)
     (record {
-      sound = silent_sound st w k moment silent i.sound free a l none (subst (book.IsSound put_into) e sound);
+      sound = silent_sound st w k moment silent is i.sound free a l none (subst (book.IsSound put_into) e sound);
       turns = book_turns m g boxes i.turns (λ t from to. same_turn m g t
           (begun_carries m k moment t (λ gone. away_before m t i.sound.book from (omega arith) gone) (silent t)));
       holding = (
@@ -540,12 +542,12 @@ reaped_kept m k sendq boxes jobs holder s i free above below here home e sound =
 
 pub connected_kept : (m k : Shown Waiting) (sendq : ℕ) (boxes : List Held) (jobs : List (Option ℕ))
     (holder : Option Holder) (c : Held) (host : List ℕ) (moment : ℤ) → IsKept m sendq boxes jobs holder
-    → worker_of holder ≡ None
+    → worker_of holder ≡ None → host_shape host ≡ true
     → c ≡ record { seen = nothing_fed; turn = Some (record { session = sessions m.history + 1; next = 0 }) }
     → k ≡ book.opened m host moment (empty_ring sendq) → book.IsSound put_into k
     → (state_of k sendq (boxes ++ c ∷ []) jobs holder ≡ connected (state_of m sendq boxes jobs holder) host moment)
     × IsKept k sendq (boxes ++ c ∷ []) jobs holder
-connected_kept m k sendq boxes jobs holder c host moment i free is e sound =
+connected_kept m k sendq boxes jobs holder c host moment i free shape is e sound =
     let st = state_of m sendq boxes jobs holder in
     let z = size boxes in let y = i.sound.inboxes in let count = i.sound.book.sessions in
     let box : Option Waiting = Some (empty_ring sendq) in
@@ -590,7 +592,7 @@ connected_kept m k sendq boxes jobs holder c host moment i free is e sound =
       ap (λ (x : Shown Waiting). state_of x sendq (boxes ++ c ∷ []) jobs holder) e ∙ state,
       subst (λ (x : Shown Waiting). IsKept x sendq (boxes ++ c ∷ []) jobs holder) (sym e)
           (record {
-            sound = subst IsSound (sym state) (connected_sound st host moment i.sound
+            sound = subst IsSound (sym state) (connected_sound st host moment shape i.sound
                 (subst (book.IsSound put_into) e sound));
             turns = turns;
             holding = free_holding g jobs holder free;

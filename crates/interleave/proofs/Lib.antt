@@ -6,6 +6,7 @@ pub mod Opened
 pub mod Answered
 pub mod Whole
 pub mod Ended
+pub mod Served
 pub mod Sound
 pub mod Kept
 pub mod Empty

@@ -5,8 +5,13 @@ use Rattle.std.proofs.Common.{◌≡◌, ◌≢◌, inl, inr, ℕ, ℤ, ◌+◌,
 use Rattle.std.proofs.Common.{length, take, slice_get, slice_index_or, slice_set, Option, Some, None, arith, refl, sym}
 use Rattle.std.proofs.Common.{ap, ◌∙◌, subst, append-nil, append_assoc, length-append, eq-eqb, ne_eqb}
 use Rattle.std.specs.Option.{is_some}
+use Rattle.std.specs.List.{list_all}
 use Rattle.line_grammar.specs.declared.splitter.Piece.{Piece}
 use Rattle.line_grammar.specs.Lines.{lines}
+use Rattle.casemapping.specs.Names.{host_shape}
+use Rattle.answer_octets.specs.Clean.{is_one_line}
+use Rattle.answer_octets.proofs.Pieces.{pieces-one}
+use Rattle.clean_records.specs.Clean.{IsCleanKind}
 use Rattle.chronicle.specs.declared.record.Kind.{Kind}
 use Rattle.chronicle.specs.declared.record.Kind.TheVariants as kind
 use Rattle.chronicle.specs.declared.why.Why.{Why}
@@ -29,6 +34,7 @@ use Rattle.interleave.specs.Steps.{fed, picked, begun, put, ended, back, took, h
 use Rattle.interleave.proofs.Carried.{Carries, IsKeptBox, put_busy, next_carries, ShutBefore, carried, carries_same}
 use Rattle.interleave.proofs.Carried.{begun_carries, done_carries, away_before, next_length, done_length}
 use Rattle.interleave.proofs.Accepted.{none_accepted}
+use Rattle.interleave.proofs.Served.{IsServed, begun_served, done_served, next_served, one_line}
 
 -- ---- workers
 
@@ -200,11 +206,11 @@ lock_batons jobs boxes old new w none like h i u e =
 -- ---- the book changes, and at most one inbox
 
 book_sound : (m : State) (n : Shown Waiting) (holder : Option ℕ) → IsSound m
-    → book.IsSound put_into n → n.busy ≡ is_some holder → length n.outboxes ≡ length m.book.outboxes
+    → book.IsSound put_into n → IsServed n → n.busy ≡ is_some holder → length n.outboxes ≡ length m.book.outboxes
     → ((t : ℕ) → 0 < t → t ≤ length m.inboxes → Carries m.book n t)
     → HasBatons m.jobs m.inboxes holder → ((w : ℕ) → holder ≡ Some w → (0 < w) × (w ≤ length m.jobs))
     → IsSound (record { book = n; sendq = m.sendq; inboxes = m.inboxes; jobs = m.jobs; holder = holder })
-book_sound m n holder i sound lock len c jobs who =
+book_sound m n holder i sound served lock len c jobs who =
     record {
       book = sound;
       inboxes = i.inboxes ∙ sym len;
@@ -212,10 +218,12 @@ book_sound m n holder i sound lock len c jobs who =
       jobs = jobs;
       lock = lock;
       holder = who;
+      set = served.0;
+      clean = served.1;
     }
 
 one_sound : (m : State) (n : Shown Waiting) (s : ℕ) (b : Seen) (jobs : List (Option ℕ)) (holder : Option ℕ)
-    → IsSound m → book.IsSound put_into n → 0 < s → s ≤ length m.inboxes → n.busy ≡ is_some holder
+    → IsSound m → book.IsSound put_into n → IsServed n → 0 < s → s ≤ length m.inboxes → n.busy ≡ is_some holder
     → length n.outboxes ≡ length m.book.outboxes
     → ((t : ℕ) → t ≢ s → 0 < t → t ≤ length m.inboxes → Carries m.book n t) → IsSoundAt n.settings n.history
     (slice_index_or n.outboxes (s - 1) None) b m.sendq s → HasBatons jobs (slice_set m.inboxes (s - 1) b) holder
@@ -227,7 +235,7 @@ one_sound : (m : State) (n : Shown Waiting) (s : ℕ) (b : Seen) (jobs : List (O
       jobs = jobs;
       holder = holder;
     })
-one_sound m n s b jobs holder i sound above below lock len c here batons who =
+one_sound m n s b jobs holder i sound served above below lock len c here batons who =
     let size = set_length m.inboxes (s - 1) b in
     let within : s - 1 < length m.inboxes = omega arith in
     record {
@@ -254,6 +262,8 @@ one_sound m n s b jobs holder i sound above below lock len c here batons who =
       jobs = batons;
       lock = lock;
       holder = who;
+      set = served.0;
+      clean = served.1;
     }
 
 -- ---- what is said of a session's outbox where its inbox changes
@@ -282,8 +292,8 @@ pub fed_sound : (m : State) (s : ℕ) (octets : List ℕ) (added : List Piece) �
     → IsSound (fed m s octets added)
 fed_sound m s octets added i above below adds =
     let b = inbox_at m s in let was = i.each s above below in
-    one_sound m m.book s (with_fed b octets added) m.jobs m.holder i i.book above below i.lock refl
-    (λ t ne from to. carries_same m.book t)
+    one_sound m m.book s (with_fed b octets added) m.jobs m.holder i i.book (i.set, i.clean) above below
+    i.lock refl (λ t ne from to. carries_same m.book t)
     (record {
       accepted = sym (append_assoc (accepted m.book.history s) b.pending added) ∙ ap
           (λ xs. xs ++ added) was.accepted ∙ sym adds;
@@ -299,8 +309,8 @@ pub picked_sound : (m : State) (w s : ℕ) → IsSound m → 0 < w → w ≤ len
 picked_sound m w s i a l above below here free home some =
     let b = inbox_at m s in let was = i.each s above below in
     let desks : length (with_job m w (Some s)) ≡ length m.jobs = set_length m.jobs (w - 1) (Some s) in
-    one_sound m m.book s (moved b (Hand w)) (with_job m w (Some s)) m.holder i i.book above below i.lock refl
-    (λ t ne from to. carries_same m.book t)
+    one_sound m m.book s (moved b (Hand w)) (with_job m w (Some s)) m.holder i i.book (i.set, i.clean) above below
+    i.lock refl (λ t ne from to. carries_same m.book t)
     (record {
       accepted = was.accepted;
       box = box_here (box_at m s) b (moved b (Hand w)) m.sendq
@@ -327,7 +337,11 @@ begun_sound m w s piece rest moment i free a l has here next sound =
     let n : Shown Waiting = (begun m w s piece rest moment).book in
     let said = length (accepted h s) in
     let same = i.inboxes in
-    one_sound m n s (with_begun b w rest) m.jobs (Some w) i sound above below refl refl
+    let lines_one : list_all is_one_line (accepted h s ++ piece ∷ rest) ≡ true =
+    ap (list_all is_one_line) (ap (λ xs. accepted h s ++ xs) (sym next) ∙ was.accepted) ∙ pieces-one b.fed in
+    let served : IsServed n = begun_served m.book (kind.Said s said piece) moment
+    (one_line (accepted h s) piece rest lines_one) (i.set, i.clean) in
+    one_sound m n s (with_begun b w rest) m.jobs (Some w) i sound served above below refl refl
     (λ t ne from to. begun_carries m.book (kind.Said s said piece) moment t
     (λ gone. away_before m.book t i.book from (omega arith) gone) (rw (ne_eqb s t (λ e. ne (sym e))) refl))
     (record {
@@ -345,9 +359,10 @@ pub put_sound : (m : State) → IsSound m → is_some m.holder ≡ true → book
     → IsSound (put m)
 put_sound m i held sound =
     let same = i.inboxes in
-    book_sound m (put m).book m.holder i sound (put_busy m.book m.book.plan ∙ i.lock)
-    (next_length m.book m.book.plan) (λ t from to. next_carries m.book m.book.plan t
-    (λ gone. away_before m.book t i.book from (omega arith) gone)) i.jobs i.holder
+    book_sound m (put m).book m.holder i sound (next_served m.book m.book.plan (i.set, i.clean))
+    (put_busy m.book m.book.plan ∙ i.lock) (next_length m.book m.book.plan)
+    (λ t from to. next_carries m.book m.book.plan t (λ gone. away_before m.book t i.book from (omega arith) gone))
+    i.jobs i.holder
 
 -- other workers' batons don't move where one has no line, or gives it away
 like_without : (w v : ℕ) → v ≢ w → place_with (Some w) v ≡ place_with None v
@@ -359,7 +374,7 @@ finish_carries m t = let c = carries_same m t in record { accepted = c.accepted;
 pub sweep_ended_sound : (m : State) (w : ℕ) → IsSound m → m.holder ≡ Some w → job_of m w ≡ None
     → book.IsSound put_into (book.finished m.book) → IsSound (ended m w None)
 sweep_ended_sound m w i held none sound =
-    book_sound m (book.finished m.book) None i sound refl refl (λ t from to. finish_carries m.book t)
+    book_sound m (book.finished m.book) None i sound (i.set, i.clean) refl refl (λ t from to. finish_carries m.book t)
     (lock_batons m.jobs m.inboxes (Some w) None w none (like_without w)
     (subst (HasBatons m.jobs m.inboxes) held i.jobs))
     (λ v e. absurd (let f : None ≡ Some v = e in cc))
@@ -371,8 +386,8 @@ line_ended_sound m w s i held has here sound =
     let who = i.holder w held in
     let mine = jobs (w - 1) s has in let above = mine.0 in let below = mine.1 in
     let b = inbox_at m s in let was = i.each s above below in
-    one_sound m (book.finished m.book) s (moved b Home) (with_job m w None) None i sound above below refl refl
-    (λ t ne from to. finish_carries m.book t)
+    one_sound m (book.finished m.book) s (moved b Home) (with_job m w None) None i sound (i.set, i.clean) above below
+    refl refl (λ t ne from to. finish_carries m.book t)
     (record {
       accepted = was.accepted;
       box = box_here (box_at m s) b (moved b Home) m.sendq
@@ -388,8 +403,8 @@ back_sound m w s i a l has here =
     let mine = i.jobs (w - 1) s has in let above = mine.0 in let below = mine.1 in
     let b = inbox_at m s in let was = i.each s above below in
     let desks : length (with_job m w None) ≡ length m.jobs = set_length m.jobs (w - 1) None in
-    one_sound m m.book s (moved b Home) (with_job m w None) m.holder i i.book above below i.lock refl
-    (λ t ne from to. carries_same m.book t)
+    one_sound m m.book s (moved b Home) (with_job m w None) m.holder i i.book (i.set, i.clean) above below
+    i.lock refl (λ t ne from to. carries_same m.book t)
     (record {
       accepted = was.accepted;
       box = box_here (box_at m s) b (moved b Home) m.sendq
@@ -449,8 +464,8 @@ took_sound m s x i above below here e sound =
     let n : Shown Waiting = (took m s x).book in
     let o : Option Waiting = Some (ring_taken (book.outbox_at m.book.outboxes s)) in
     let new : slice_index_or n.outboxes (s - 1) None ≡ o = get_or-set_same m.book.outboxes (s - 1) o None within in
-    one_sound m n s (with_taken b x) m.jobs m.holder i sound above below i.lock (set_length m.book.outboxes (s - 1) o)
-    (λ t ne from to. other_carries m.book s t o n above from ne refl refl refl)
+    one_sound m n s (with_taken b x) m.jobs m.holder i sound (i.set, i.clean) above below i.lock
+    (set_length m.book.outboxes (s - 1) o) (λ t ne from to. other_carries m.book s t o n above from ne refl refl refl)
     (record {
       accepted = was.accepted;
       box = subst (λ (p : Option Waiting). IsBoxOf p (with_taken b x) m.sendq
@@ -474,18 +489,20 @@ pub hung_sound : (m : State) (s : ℕ) (why : Why) (moment : ℤ) → IsSound m 
     → book.IsSound put_into (hung m s why moment).book → IsSound (hung m s why moment)
 hung_sound m s why moment i free sound =
     let same = i.inboxes in
-    book_sound m (hung m s why moment).book m.holder i sound (ap is_some (sym free))
+    book_sound m (hung m s why moment).book m.holder i sound
+    (done_served m.book (kind.Hung s why) moment tt (i.set, i.clean)) (ap is_some (sym free))
     (done_length m.book (kind.Hung s why) moment)
     (λ t from to. done_carries m.book (kind.Hung s why) moment t
     (λ gone. away_before m.book t i.book from (omega arith) gone) refl) i.jobs i.holder
 
 -- a worker without a line begins a record that says nothing
-pub silent_sound : (m : State) (w : ℕ) (k : Kind) (moment : ℤ) → ((t : ℕ) → said_by k t ≡ []) → IsSound m → m.holder
-    ≡ None → 0 < w → w ≤ length m.jobs → job_of m w ≡ None → book.IsSound put_into (book.begun m.book k moment)
-    → IsSound (with_plan m w k moment)
-silent_sound m w k moment silent i free a l none sound =
+pub silent_sound : (m : State) (w : ℕ) (k : Kind) (moment : ℤ) → ((t : ℕ) → said_by k t ≡ []) → IsCleanKind k
+    → IsSound m → m.holder ≡ None → 0 < w → w ≤ length m.jobs → job_of m w ≡ None
+    → book.IsSound put_into (book.begun m.book k moment) → IsSound (with_plan m w k moment)
+silent_sound m w k moment silent is i free a l none sound =
     let same = i.inboxes in
-    book_sound m (book.begun m.book k moment) (Some w) i sound refl refl
+    book_sound m (book.begun m.book k moment) (Some w) i sound (begun_served m.book k moment is (i.set, i.clean))
+    refl refl
     (λ t from to. begun_carries m.book k moment t
     (λ gone. away_before m.book t i.book from (omega arith) gone) (silent t))
     (lock_batons m.jobs m.inboxes None (Some w) w none
@@ -523,7 +540,7 @@ reaped_sound m s i free above below here home sound =
     let all : deliveries (sent_by put_into (box_at m s)) ++ [] ≡ owed m.book.settings m.book.history s =
     ap (λ ps. deliveries (sent_by put_into (box_at m s)) ++ book.planned ps s) (sym idle)
     ∙ i.book.owed s above below_too here in
-    one_sound m n s (with_left b (queue_of m s)) m.jobs m.holder i sound above below i.lock
+    one_sound m n s (with_left b (queue_of m s)) m.jobs m.holder i sound (i.set, i.clean) above below i.lock
     (set_length m.book.outboxes (s - 1) None)
     (λ t ne from to. other_carries m.book s t None n above from ne refl refl refl)
     (record {
@@ -564,10 +581,11 @@ new_batons jobs boxes holder b h i u e =
           ∙ old.2,
     )
 
-pub connected_sound : (m : State) (host : List ℕ) (moment : ℤ) → IsSound m
+pub connected_sound : (m : State) (host : List ℕ) (moment : ℤ) → host_shape host ≡ true → IsSound m
     → book.IsSound put_into (connected m host moment).book → IsSound (connected m host moment)
-connected_sound m host moment i sound =
+connected_sound m host moment shape i sound =
     let n : Shown Waiting = (connected m host moment).book in
+    let served = begun_served m.book (kind.Opened (sessions m.book.history + 1) host) moment shape (i.set, i.clean) in
     let box : Waiting = empty_ring m.sendq in
     let same = i.inboxes in
     let size : length (m.inboxes ++ nothing_fed ∷ [])
@@ -609,4 +627,6 @@ connected_sound m host moment i sound =
       jobs = new_batons m.jobs m.inboxes m.holder nothing_fed i.jobs;
       lock = i.lock;
       holder = i.holder;
+      set = served.0;
+      clean = served.1;
     }

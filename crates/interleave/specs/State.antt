@@ -6,6 +6,8 @@ use Rattle.line_grammar.specs.declared.splitter.Piece.{Piece}
 use Rattle.line_grammar.specs.Lines.{lines}
 use Rattle.chronicle.specs.History.{Rec, accepted}
 use Rattle.registration.specs.declared.settings.Settings.{Settings}
+use Rattle.registration.specs.Settings.{IsWellSet}
+use Rattle.clean_records.specs.Clean.{IsCleanHistory}
 use Rattle.deliveries.specs.declared.delivery.Delivery.{Delivery}
 use Rattle.outbox.specs.Ring.{Waiting, put_into}
 use Rattle.deliveries.specs.Owed.{owed}
@@ -132,7 +134,7 @@ pub record IsSoundAt (g : Settings) (h : List Rec) (o : Option Waiting) (b : See
   pub hand : (w : ℕ) → b.place ≡ Hand w → b.pending ≢ []
 
 -- the book's own promise, and each session's; a worker who has a session's line has its baton; the lock is held
--- where a plan is out
+-- where a plan is out; settings are within their limits, hosts have their shape, and lines no CR or LF
 pub record IsSound (m : State) : Type 0 where
   pub book : book.IsSound put_into m.book
   pub inboxes : length m.inboxes ≡ length m.book.outboxes
@@ -142,6 +144,8 @@ pub record IsSound (m : State) : Type 0 where
       × ((inbox_at m s).place ≡ place_with m.holder (i + 1))
   pub lock : m.book.busy ≡ is_some m.holder
   pub holder : (w : ℕ) → m.holder ≡ Some w → (0 < w) × (w ≤ length m.jobs)
+  pub set : IsWellSet m.book.settings
+  pub clean : IsCleanHistory m.book.history
 
 -- for each session that was ever opened
 abbrev pub ForEach : State → (ℕ → Type 0) → Type 0

@@ -1,4 +1,4 @@
-use Rattle.std.proofs.Common.{arith, ◌≡◌, ◌∷◌, [], ◌++◌, ◌+◌, List, Some, None, sym, subst}
+use Rattle.std.proofs.Common.{arith, ◌≡◌, true, ◌∷◌, [], ◌++◌, ◌+◌, List, Some, None, sym, subst}
 use Rattle.std.proofs.lemmas.Grind.{common_steps}
 use Rattle.interleave.specs.declared.event.Event.TheVariants as event
 use Rattle.interleave.specs.Refusals.{own_refusal}
@@ -7,6 +7,7 @@ use Rattle.interleave.specs.Kept.{state_of, IsKept}
 use Rattle.interleave.specs.State.{State}
 use Rattle.chronicle.specs.History.{sessions}
 use Rattle.outbox.specs.Ring.{empty_ring}
+use Rattle.casemapping.specs.Names.{host_shape}
 use Rattle.book.specs.Book as book
 use Rattle.interleave.specs.State.{nothing_fed}
 use Rattle.interleave.proofs.Kept.{connected_kept}
@@ -27,7 +28,8 @@ invariant_of-self-in-Ok g c =
     } = grind (arith, common_steps) in
     let is : c.open-opened.new.self ≡ book.opened m c.in_ok-host.host c.args.moment (empty_ring a.sendq) = grind
     (arith, common_steps) in
+    let shape : host_shape c.in_ok-host.host ≡ true = grind (arith, common_steps) in
     subst (λ (bs : List Held). IsKept c.open-opened.new.self a.sendq bs jobs a.holder) (sym all)
     (connected_kept m c.open-opened.new.self a.sendq boxes jobs a.holder b c.in_ok-host.host c.args.moment
-    c.self.invariant (connects m a.sendq boxes jobs a.holder c.args.host.now c.args.moment free) fresh is
+    c.self.invariant (connects m a.sendq boxes jobs a.holder c.args.host.now c.args.moment free) shape fresh is
     c.sound.ensures).1

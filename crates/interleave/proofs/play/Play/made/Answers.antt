@@ -14,4 +14,5 @@ invariant_of-result g c =
     (subst (λ (bs : List Held). IsKept (empty_book c.args.limit c.args.settings) q bs c.in-Ok-idle.jobs.items None)
     (sym c.new.ensures.items)
     (subst (λ (js : List (Option ℕ)). IsKept (empty_book c.args.limit c.args.settings) q [] js None)
-    (sym c.in-Ok-idle.ensures) (empty_kept c.args.limit c.args.settings q c.args.workers)))
+    (sym c.in-Ok-idle.ensures) (empty_kept c.args.limit c.args.settings q c.args.workers
+    c.in-Ok.ensures.ok.1.settings)))

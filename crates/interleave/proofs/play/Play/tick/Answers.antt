@@ -21,4 +21,4 @@ invariant_of-self g c =
     × book.IsOut c.begin_tick-begun.new.self p × (p.session ≡ 0)
     × (p.next ≡ None) = rw c.in-Ok-Some.field-0-is at c.in-Ok-Some.ensures.some in
     silent_kept m c.begin_tick-begun.new.self a.sendq boxes jobs a.holder w kind.Ticked c.args.moment p
-    (λ t. refl) c.self.invariant may.0.worker may.0.there may.0.lock may.1 some.0 some.1 some.3 c.sound.ensures
+    (λ t. refl) tt c.self.invariant may.0.worker may.0.there may.0.lock may.1 some.0 some.1 some.3 c.sound.ensures
