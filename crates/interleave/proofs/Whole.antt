@@ -7,12 +7,13 @@ use Rattle.std.proofs.lemmas.List.Elements.{All-cons, All-head, All-nil, All-tai
 use Rattle.std.specs.List.{All, Contains}
 use Rattle.chronicle.specs.declared.record.Kind.TheVariants.{Said}
 use Rattle.chronicle.specs.History.{Rec}
+use Rattle.chronicle.specs.Journal.{Limit, most}
 use Rattle.labels_batches.specs.Rendered.{rendered}
 use Rattle.labels_batches.specs.Whole.{OpensNoBatch}
 use Rattle.answer_octets.specs.Clean.{IsCleanAnswer}
 use Rattle.answer_octets.specs.Laws.{LoneIsWhole, OneItemCounts, OneLabel, SeveralAreWhole}
 use Rattle.answer_octets.specs.TextLines.{label_answers}
-use Rattle.clean_records.specs.Clean.{IsCleanHistory, IsCleanKind}
+use Rattle.clean_records.specs.Clean.{AreNamed, IsCleanHistory, IsCleanKind}
 use Rattle.clean_records.specs.Laws.{AnswersAreClean}
 use Rattle.clean_records.proofs.Sessions.{moment-inside}
 use Rattle.record_laws.specs.Laws.{NoLineOpensABatch, RecordsOpenNoOthers}
@@ -22,9 +23,11 @@ use Rattle.deeds.specs.Deeds.{facts}
 use Rattle.deliveries.specs.declared.delivery.Delivery.{Delivery}
 use Rattle.deliveries.specs.declared.delivery.Delivery.TheVariants.{Lines}
 use Rattle.deliveries.specs.Owed.{number_of, owed}
+use Rattle.book.specs.Book.{held}
 use Rattle.interleave.specs.Laws.{LabelledOnce, OnceInOrder, answer_to, copies_of, record_of, reply_to}
 use Rattle.interleave.specs.Order.{AreAfter, IsRising}
-use Rattle.interleave.specs.Whole.{AnsweredOnceAndWhole, number_at, octets_of}
+use Rattle.interleave.specs.State.{IsSound, State}
+use Rattle.interleave.specs.Whole.{AnsweredOnceAndWhole, IsAnsweredOnceAndWhole, number_at, octets_of}
 use Rattle.interleave.proofs.Answered.{before-legal, request-legal}
 use Rattle.interleave.proofs.Opened.{opened-once}
 
@@ -59,6 +62,12 @@ rising-later : (xs : List Delivery) (x : Delivery) (rest : List Delivery) → Is
     → AreAfter (number_of x) rest
 rising-later [] x rest rises = rises.0
 rising-later (y ∷ ys) x rest rises = rising-later ys x rest rises.1
+
+-- ---- record numbers
+
+few-records : (l : Limit) (n kept : ℕ) → n + kept ≤ most l → n < 2 ^ 64
+unfolding most
+few-records l n kept room = omega arith
 
 -- ---- a labelled line
 
@@ -110,3 +119,10 @@ answered-whole in-order labelled-once one-counts one-label lone several all-clea
         | inr many ↦ inr (several cs m g.server q.label n reply copies clean (let two = many.1 in omega arith))
       ];
     }
+
+-- of a sound play whose accounts are named as nicknames are
+pub play-whole : AnsweredOnceAndWhole → (m : State) → IsSound m → AreNamed m.book.settings.accounts
+    → IsAnsweredOnceAndWhole m.book.settings m.book.history
+play-whole whole m i named =
+    whole m.book.settings m.book.history (record { set = i.set; accounts = named }) i.book.legal i.clean
+    (few-records m.book.limit (length m.book.history) (held m.book.history) i.book.room)

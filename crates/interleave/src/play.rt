@@ -23,8 +23,9 @@ use crate::event::{
 use crate::inbox;
 use crate::inbox::{Inbox, move_to, tell_taken};
 use crate::laws::{
-    accepted_is_prefix_of_sent, batch_closed, error_at_most_after_the_close, labelled_first,
-    labelled_once, lone_line_unbatched, taken_in_order,
+    accepted_is_prefix_of_sent, answered_once_and_whole, batch_closed,
+    error_at_most_after_the_close, labelled_first, labelled_once, lone_line_unbatched,
+    taken_in_order,
 };
 use crate::tokens::Tokens;
 use crate::worker::{Place, WorkerId};
@@ -149,6 +150,8 @@ impl<L: Naming> Play<L> {
     ghost use Rattle.interleave.specs.Order.{IsPrefix, IsRising};
     ghost use Rattle.interleave.specs.Laws.{IsAnsweredOnce, IsBatchClosed, IsLabelledFirst, IsLoneUnbatched};
     ghost use Rattle.interleave.specs.Laws.{IsQuietAfterTheClose};
+    ghost use Rattle.interleave.specs.Whole.{IsAnsweredOnceAndWhole};
+    ghost use Rattle.clean_records.specs.Clean.{AreNamed};
 
     /// A play with no sessions. Names are hashed by the keys of a state, where one is given.
     fn made(
@@ -244,7 +247,8 @@ impl<L: Naming> Play<L> {
 
     /// What holds of every play: what was taken of a session, what waits for it and what a plan still has for it is
     /// what the history owes it; the accepted lines, with those that aren't begun, are the lines of what was fed; a
-    /// worker who has a line has the baton of its session.
+    /// worker who has a line has the baton of its session; settings are within their limits, hosts have their shape,
+    /// and lines no CR or LF.
     pub fn sound(&self)
         ensures { IsSound self.now }
     {
@@ -684,7 +688,8 @@ impl<L: Naming> Play<L> {
     /// Takes one event. A refusal changes nothing. After each: what was taken of a session, then what waits for it
     /// or was left, then what the plan still has for it, is what the history owes it; the accepted lines, then the
     /// line in a worker's hand, then the unread ones, are the lines of what was fed; after the close of a session
-    /// comes the ERROR line at most; and each accepted line with a label that counts is answered once, whole.
+    /// comes the ERROR line at most; and each accepted line with a label that counts is answered once, whole, as a
+    /// client reads the octets.
     pub fn step(&mut self, event: &Event) -> Result<Note, StepRefusal>
         requires { IsWellShaped event.now }
         ensures step { IsStep self.old event.now result self.new }
@@ -704,6 +709,8 @@ impl<L: Naming> Play<L> {
         ensures labelled_first { IsLabelledFirst self.new.book.settings self.new.book.history }
         ensures lone_unbatched { IsLoneUnbatched self.new.book.settings self.new.book.history }
         ensures batch_closed { IsBatchClosed self.new.book.settings self.new.book.history }
+        ensures answered_whole { AreNamed self.new.book.settings.accounts
+            → IsAnsweredOnceAndWhole self.new.book.settings self.new.book.history }
     {
         taken_in_order();
         accepted_is_prefix_of_sent();
@@ -712,6 +719,7 @@ impl<L: Naming> Play<L> {
         labelled_first();
         lone_line_unbatched();
         batch_closed();
+        answered_once_and_whole();
         let answer = match self.refuses(event) {
             Some(refusal) => Err(refusal),
             None => self.perform(event),
@@ -747,6 +755,8 @@ impl<L: Naming> Play<L> {
         ensures labelled_first { IsLabelledFirst self.new.book.settings self.new.book.history }
         ensures lone_unbatched { IsLoneUnbatched self.new.book.settings self.new.book.history }
         ensures batch_closed { IsBatchClosed self.new.book.settings self.new.book.history }
+        ensures answered_whole { AreNamed self.new.book.settings.accounts
+            → IsAnsweredOnceAndWhole self.new.book.settings self.new.book.history }
     {
         self.sound();
         error_at_most_after_the_close();
@@ -754,6 +764,7 @@ impl<L: Naming> Play<L> {
         labelled_first();
         lone_line_unbatched();
         batch_closed();
+        answered_once_and_whole();
         let mut notes = Vec::new(self.alloc);
         notes.reserve(events.len())?;
         for event in events {

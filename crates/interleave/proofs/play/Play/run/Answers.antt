@@ -5,6 +5,7 @@ use Rattle.interleave.specs.Runs.{IsRun, took}
 use Rattle.chronicle.specs.History.{accepted}
 use Rattle.interleave.proofs.Order.{prefix_rises}
 use Rattle.interleave.proofs.Runs.{run_taken, run_accepted}
+use Rattle.interleave.proofs.Whole.{play-whole}
 use Rattle.interleave.proofs.play.Play.run.Goals as goal
 
 pub returns-clause-run : goal.returns-clause-run
@@ -74,3 +75,9 @@ returns-clause-lone_unbatched g c = c.lone_line_unbatched.ensures _ _ c.sound-2.
 
 pub returns-clause-batch_closed : goal.returns-clause-batch_closed
 returns-clause-batch_closed g c = c.batch_closed.ensures _ _
+
+pub returns-in_err-reserve-clause-answered_whole : goal.returns-in_err-reserve-clause-answered_whole
+returns-in_err-reserve-clause-answered_whole g c = play-whole c.answered_once_and_whole.ensures _ c.sound.ensures
+
+pub returns-clause-answered_whole : goal.returns-clause-answered_whole
+returns-clause-answered_whole g c = play-whole c.answered_once_and_whole.ensures _ c.sound-2.ensures

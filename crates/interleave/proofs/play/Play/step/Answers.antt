@@ -1,4 +1,5 @@
 use Rattle.interleave.proofs.Order.{sound_owed, sound_accepted}
+use Rattle.interleave.proofs.Whole.{play-whole}
 use Rattle.interleave.proofs.play.Play.step.Goals as goal
 
 pub returns-clause-taken_is_owed : goal.returns-clause-taken_is_owed
@@ -30,3 +31,6 @@ returns-clause-lone_unbatched g c = c.lone_line_unbatched.ensures _ _ c.sound.en
 
 pub returns-clause-batch_closed : goal.returns-clause-batch_closed
 returns-clause-batch_closed g c = c.batch_closed.ensures _ _
+
+pub returns-clause-answered_whole : goal.returns-clause-answered_whole
+returns-clause-answered_whole g c = play-whole c.answered_once_and_whole.ensures _ c.sound.ensures
