@@ -12,3 +12,4 @@ pub mod Kept
 pub mod Empty
 pub mod Does
 pub mod Runs
+pub mod Examples
