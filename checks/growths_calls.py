@@ -21,7 +21,13 @@ BY_TESTS = {
     },
     "hall_trials": {
         "Register::new, pair, Hall::new, open, line, sweep": ["growths::a_refused_growth_changes_nothing"],
+        "roll, Roster::copy": ["rolled::a_rolled_hall_goes_on"],
+        "line, and none by hang, take_now, write_out": ["wanting::who_is_hung_for_memory_is_told_without_any"],
     },
-    "play_trials": {"Play::step": ["growths::a_labelled_line_without_memory_changes_nothing"]},
     "crew_trials": {"work_one": ["wanting::who_finds_no_memory_is_ended"]},
 }
+
+# Tests that mark a part of themselves in which no memory is asked for: its begin and its end ask for so many octets.
+MARK = 77_777
+
+MARKED = {"hall_trials": ["wanting::who_is_hung_for_memory_is_told_without_any"]}

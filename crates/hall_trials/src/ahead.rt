@@ -2,14 +2,13 @@
 //! that its session has when it is done.
 use crate::again::{copied, line};
 use crate::guests::{Guest, enter};
-use crate::making::{Trial, over_channels};
+use crate::making::{Steps, Trial, over_channels};
 use chronicle::{Kind, Moment, RecordNumber, Why};
 use deliveries::Delivery;
 use hall::{Hall, Lasting, LineRefusal, Naming, ReadLine};
 use line_grammar::{Octets, Piece};
 use outbox::{Sender, Writer};
 use std::alloc::Global;
-use std::process::Abort;
 use std::sync::Wait;
 use std::test::Fail;
 
@@ -175,18 +174,20 @@ fn are_alike<L: Naming, R: Wait + Drop>(
 /// Al says each line twice, once read before.
 struct Alike;
 
-impl<R: Wait + Abort + Copy + Drop> Trial<Sender<R>, R, Writer> for Alike {
+impl<R: Wait + Copy + Drop> Trial<Sender<R>, R, Writer> for Alike {
     fn run<L: Naming>(
         &self,
         rt: &R,
         alloc: Global,
         hall: &mut Hall<L, Sender<R>>,
-    ) -> Result<(), Fail> {
-        let mut al = enter(rt, alloc, hall, 8).ok_or("al")?;
-        assert!(rt; al.says_all(alloc, hall, &LABELLING), "al");
+        steps: &mut Steps,
+    ) {
+        let Some(mut al) = enter(rt, alloc, hall, 8) else {
+            return steps.note(false);
+        };
+        steps.note(al.says_all(alloc, hall, &LABELLING));
         takes_all(rt, &mut al);
-        assert!(rt; are_alike(rt, alloc, hall, &mut al), "each line");
-        Ok(())
+        steps.note(are_alike(rt, alloc, hall, &mut al));
     }
 }
 
@@ -224,22 +225,24 @@ fn hears_after<L: Naming, R: Wait + Drop>(
 /// Al's labels are off when the first line is done, and on when the second is.
 struct Labelled;
 
-impl<R: Wait + Abort + Copy + Drop> Trial<Sender<R>, R, Writer> for Labelled {
+impl<R: Wait + Copy + Drop> Trial<Sender<R>, R, Writer> for Labelled {
     fn run<L: Naming>(
         &self,
         rt: &R,
         alloc: Global,
         hall: &mut Hall<L, Sender<R>>,
-    ) -> Result<(), Fail> {
-        let mut al = enter(rt, alloc, hall, 8).ok_or("al")?;
-        assert!(rt; al.says_all(alloc, hall, &LABELLING), "al");
+        steps: &mut Steps,
+    ) {
+        let Some(mut al) = enter(rt, alloc, hall, 8) else {
+            return steps.note(false);
+        };
+        steps.note(al.says_all(alloc, hall, &LABELLING));
         let off = "CAP REQ :-labeled-response";
         let plain = ":irc.example PONG irc.example x\r\n";
-        assert!(rt; hears_after(rt, alloc, hall, &mut al, off, plain), "off");
+        steps.note(hears_after(rt, alloc, hall, &mut al, off, plain));
         let on = "CAP REQ :labeled-response";
         let labelled = "@label=a :irc.example PONG irc.example x\r\n";
-        assert!(rt; hears_after(rt, alloc, hall, &mut al, on, labelled), "on");
-        Ok(())
+        steps.note(hears_after(rt, alloc, hall, &mut al, on, labelled));
     }
 }
 
@@ -275,30 +278,42 @@ fn is_before<L: Naming, O: Lasting<Taker = T>, T: Drop>(
     answer.err() == Some(LineRefusal::BadMoment) && hall.len() == records
 }
 
+/// A line that was read is done, and then refused in a full journal.
+fn fills<L: Naming, R: Wait + Drop>(
+    rt: &R,
+    alloc: Global,
+    hall: &mut Hall<L, Sender<R>>,
+    al: &mut Guest<L, Sender<R>, Writer>,
+    steps: &mut Steps,
+) {
+    let lines = ["NICK al", "USER a 0 * :Al", "PING x", "PING x"];
+    steps.note(al.says_all(alloc, hall, &lines));
+    takes_all(rt, al);
+    steps.note(is_before(alloc, hall, al));
+    steps.note(says_read(alloc, hall, al, "PING x") == Some(Ok(6)));
+    steps.note(is_refused(alloc, hall, al, LineRefusal::JournalFull));
+    steps.note(al.hears(rt, 1));
+}
+
 /// Al's lines, each read before, come before the newest record, in a full journal, and after al was hung.
 struct Refused;
 
-impl<R: Wait + Abort + Copy + Drop> Trial<Sender<R>, R, Writer> for Refused {
+impl<R: Wait + Copy + Drop> Trial<Sender<R>, R, Writer> for Refused {
     fn run<L: Naming>(
         &self,
         rt: &R,
         alloc: Global,
         hall: &mut Hall<L, Sender<R>>,
-    ) -> Result<(), Fail> {
-        let mut al = enter(rt, alloc, hall, 16).ok_or("al")?;
-        let lines = ["NICK al", "USER a 0 * :Al", "PING x", "PING x"];
-        assert!(rt; al.says_all(alloc, hall, &lines), "five records");
-        takes_all(rt, &mut al);
-        assert!(rt; is_before(alloc, hall, &mut al), "a moment");
-        let said = says_read(alloc, hall, &mut al, "PING x");
-        assert!(rt; said == Some(Ok(6)), "six records");
-        assert!(rt; is_refused(alloc, hall, &mut al, LineRefusal::JournalFull));
-        assert!(rt; al.hears(rt, 1), "one answer");
+        steps: &mut Steps,
+    ) {
+        let Some(mut al) = enter(rt, alloc, hall, 16) else {
+            return steps.note(false);
+        };
+        fills(rt, alloc, hall, &mut al, steps);
         let hung = hall.hang(al.baton.session(), Why::Shutdown, Moment::new(0));
-        assert!(rt; hung.is_ok(), "hung");
-        assert!(rt; is_refused(alloc, hall, &mut al, LineRefusal::Shut));
-        assert!(rt; al.hears(rt, 1), "the last item");
-        Ok(())
+        steps.note(hung.is_ok());
+        steps.note(is_refused(alloc, hall, &mut al, LineRefusal::Shut));
+        steps.note(al.hears(rt, 1));
     }
 }
 

@@ -1,12 +1,11 @@
 //! Ends, over both kinds of outbox: who misses an item, who goes, and how many items each leaves.
 use crate::again::line;
-use crate::guests::{Guest, Made, comes, enter, sweeps, swept};
-use crate::making::{Trial, over_channels, over_rings};
+use crate::guests::{Guest, Made, Pair, comes, sweeps, swept, two};
+use crate::making::{Steps, Trial, over_channels, over_rings};
 use chronicle::{Moment, SessionId, Why};
-use hall::{Done, Hall, LineRefusal, Naming};
+use hall::{Done, Hall, Lasting, LineRefusal, Naming};
 use outbox::{Sender, Writer};
 use std::alloc::Global;
-use std::process::Abort;
 use std::sync::Wait;
 use std::test::Fail;
 
@@ -181,6 +180,76 @@ fn answer<L: Naming, O: Made<R, T>, R, T: Drop>(
     }
 }
 
+/// Whether a session's line is accepted, and these miss its record.
+pub(crate) fn says<L: Naming, O: Made<R, T>, R, T: Drop>(
+    alloc: Global,
+    hall: &mut Hall<L, O>,
+    guests: &mut Vec<Option<Guest<L, O, T>>>,
+    (session, text): (u64, &str),
+    missed: &[u64],
+) -> bool {
+    match answer::<L, O, R, T>(alloc, hall, guests, session, text) {
+        Some(Ok(done)) => are_missed(&done, missed),
+        _ => false,
+    }
+}
+
+/// Whether a session's line is refused so.
+pub(crate) fn is_refused<L: Naming, O: Made<R, T>, R, T: Drop>(
+    alloc: Global,
+    hall: &mut Hall<L, O>,
+    guests: &mut Vec<Option<Guest<L, O, T>>>,
+    (session, text): (u64, &str),
+    refusal: LineRefusal,
+) -> bool {
+    match answer::<L, O, R, T>(alloc, hall, guests, session, text) {
+        Some(Err(other)) => other == refusal,
+        _ => false,
+    }
+}
+
+/// Whether a session is hung, and misses its last item or doesn't.
+pub(crate) fn is_hung<L: Naming, O: Lasting>(
+    hall: &mut Hall<L, O>,
+    session: u64,
+    why: Why,
+    missed: bool,
+) -> bool {
+    match hall.hang(SessionId::new(session), why, Moment::new(0)) {
+        Ok(hung) => hung.missed == missed,
+        Err(_) => false,
+    }
+}
+
+/// Whether somebody is swept, and these miss the record.
+pub(crate) fn is_swept<L: Naming, O: Lasting>(hall: &mut Hall<L, O>, missed: &[u64]) -> bool {
+    match swept(hall) {
+        Some(done) => done.shut && are_missed(&done, missed),
+        None => false,
+    }
+}
+
+/// Whether a session is given up, and so many items are left.
+pub(crate) fn is_left<L: Naming, O: Made<R, T>, R, T: Drop>(
+    hall: &mut Hall<L, O>,
+    guests: &mut Vec<Option<Guest<L, O, T>>>,
+    session: u64,
+    left: u64,
+) -> bool {
+    match let_go::<L, O, R, T>(guests, session) {
+        Some(guest) => guest.leaves(hall) == Some(left),
+        None => false,
+    }
+}
+
+/// Whether what takes a session's items was there, and is let go.
+fn is_cut<L: Naming, O: Made<R, T>, R, T: Drop>(
+    guests: &mut Vec<Option<Guest<L, O, T>>>,
+    session: u64,
+) -> bool {
+    let_go::<L, O, R, T>(guests, session).is_some()
+}
+
 /// Whether a step is answered so.
 fn is_answered<L: Naming, O: Made<R, T>, R, T: Drop>(
     alloc: Global,
@@ -188,63 +257,43 @@ fn is_answered<L: Naming, O: Made<R, T>, R, T: Drop>(
     guests: &mut Vec<Option<Guest<L, O, T>>>,
     act: &Act,
 ) -> bool {
-    match act {
+    match *act {
         Act::Says(session, text, missed) => {
-            match answer::<L, O, R, T>(alloc, hall, guests, *session, text) {
-                Some(Ok(done)) => are_missed(&done, missed),
-                _ => false,
-            }
+            says::<L, O, R, T>(alloc, hall, guests, (session, text), missed)
         }
         Act::Refused(session, text, refusal) => {
-            match answer::<L, O, R, T>(alloc, hall, guests, *session, text) {
-                Some(Err(other)) => other == *refusal,
-                _ => false,
-            }
+            is_refused::<L, O, R, T>(alloc, hall, guests, (session, text), refusal)
         }
-        Act::Hung(session, why, missed) => {
-            match hall.hang(SessionId::new(*session), *why, Moment::new(0)) {
-                Ok(hung) => hung.missed == *missed,
-                Err(_) => false,
-            }
-        }
-        Act::Swept(missed) => match swept(hall) {
-            Some(done) => done.shut && are_missed(&done, missed),
-            None => false,
-        },
-        Act::NobodyToSweep => swept(hall).is_none(),
-        Act::Leaves(session, left) => match let_go::<L, O, R, T>(guests, *session) {
-            Some(guest) => guest.leaves(hall) == Some(*left),
-            None => false,
-        },
-        Act::Cut(session) => let_go::<L, O, R, T>(guests, *session).is_some(),
+        Act::Hung(session, why, missed) => is_hung(hall, session, why, missed),
+        Act::Swept(missed) => is_swept(hall, missed),
+        Act::NobodyToSweep => !sweeps(hall),
+        Act::Leaves(session, left) => is_left::<L, O, R, T>(hall, guests, session, left),
+        Act::Cut(session) => is_cut::<L, O, R, T>(guests, session),
     }
 }
 
-/// Takes steps in turn, and sees that each is answered so.
-fn go<L: Naming, O: Made<R, T>, R: Abort, T: Drop>(
-    rt: &R,
+/// Takes steps in turn, and notes whether each is answered so.
+fn go<L: Naming, O: Made<R, T>, R, T: Drop>(
     alloc: Global,
     hall: &mut Hall<L, O>,
     guests: &mut Vec<Option<Guest<L, O, T>>>,
     acts: &[Act],
+    steps: &mut Steps,
 ) {
-    for (place, act) in acts.iter().enumerate() {
-        let is_right = is_answered::<L, O, R, T>(alloc, hall, guests, act);
-        assert!(rt; is_right, "step {place}");
+    for act in acts {
+        steps.note(is_answered::<L, O, R, T>(alloc, hall, guests, act));
     }
 }
 
-impl<O: Made<R, T>, R: Abort, T: Drop> Trial<O, R, T> for Story {
-    fn run<L: Naming>(&self, rt: &R, alloc: Global, hall: &mut Hall<L, O>) -> Result<(), Fail> {
+impl<O: Made<R, T>, R, T: Drop> Trial<O, R, T> for Story {
+    fn run<L: Naming>(&self, rt: &R, alloc: Global, hall: &mut Hall<L, O>, steps: &mut Steps) {
         let mut guests: Vec<Option<Guest<L, O, T>>> = Vec::new(alloc);
         for (place, cap) in self.caps.iter().enumerate() {
             let number = (place as u64).saturating_add(1);
-            let is_next = 0 < *cap && comes(rt, alloc, hall, &mut guests, number, *cap);
-            assert!(rt; is_next, "session {number}");
+            steps.note(0 < *cap && comes(rt, alloc, hall, &mut guests, number, *cap));
         }
-        go(rt, alloc, hall, &mut guests, self.meet);
-        go(rt, alloc, hall, &mut guests, self.then);
-        Ok(())
+        go::<L, O, R, T>(alloc, hall, &mut guests, self.meet, steps);
+        go::<L, O, R, T>(alloc, hall, &mut guests, self.then, steps);
     }
 }
 
@@ -257,28 +306,43 @@ fn of_two(caps: &'static [usize], then: &'static [Act]) -> Story {
     }
 }
 
-/// Bo, for whom one item may wait, takes its welcome, and its `JOIN` only after the next record was missed.
+/// Bo, for whom one item may wait, takes its welcome, and its `JOIN` only after the next record was missed; then it is
+/// shut, and no text came.
+fn misses_one<L: Naming, R: Wait + Drop>(
+    rt: &R,
+    alloc: Global,
+    hall: &mut Hall<L, Sender<R>>,
+    al: &mut Guest<L, Sender<R>, Writer>,
+    bo: &mut Guest<L, Sender<R>, Writer>,
+    steps: &mut Steps,
+) {
+    steps.note(al.says_all(alloc, hall, &["NICK al", "USER a 0 * :Al", "JOIN #a"]));
+    steps.note(bo.says_all(alloc, hall, &["NICK bo", "USER b 0 * :Bo"]));
+    steps.note(bo.hears(rt, 1));
+    steps.note(bo.says_all(alloc, hall, &["JOIN #a"]));
+    steps.note(al.says_all(alloc, hall, &["PRIVMSG #a :hi"]));
+    steps.note(!hall.is_open(bo.baton.session()));
+    steps.note(bo.hears(rt, 1));
+    steps.note(sweeps(hall));
+}
+
+/// Bo misses a text, and nothing is left for it.
 struct One;
 
-impl<R: Wait + Abort + Copy + Drop> Trial<Sender<R>, R, Writer> for One {
+impl<R: Wait + Copy + Drop> Trial<Sender<R>, R, Writer> for One {
     fn run<L: Naming>(
         &self,
         rt: &R,
         alloc: Global,
         hall: &mut Hall<L, Sender<R>>,
-    ) -> Result<(), Fail> {
-        let mut al = enter(rt, alloc, hall, 8).ok_or("al")?;
-        let mut bo = enter(rt, alloc, hall, 1).ok_or("bo")?;
-        assert!(rt; al.says_all(alloc, hall, &["NICK al", "USER a 0 * :Al", "JOIN #a"]));
-        assert!(rt; bo.says_all(alloc, hall, &["NICK bo", "USER b 0 * :Bo"]));
-        assert!(rt; bo.hears(rt, 1), "its welcome");
-        assert!(rt; bo.says_all(alloc, hall, &["JOIN #a"]));
-        assert!(rt; al.says_all(alloc, hall, &["PRIVMSG #a :hi"]));
-        assert!(rt; !hall.is_open(bo.baton.session()), "it is shut");
-        assert!(rt; bo.hears(rt, 1), "its join, and no text");
-        assert!(rt; sweeps(hall));
-        assert_eq!(rt; bo.leaves(hall), Some(0));
-        Ok(())
+        steps: &mut Steps,
+    ) {
+        let Some(mut pair) = two(rt, alloc, hall, (8, 1)) else {
+            return steps.note(false);
+        };
+        misses_one(rt, alloc, hall, &mut pair.al, &mut pair.bo, steps);
+        let Pair { al: _, bo } = pair;
+        steps.note(bo.leaves(hall) == Some(0));
     }
 }
 

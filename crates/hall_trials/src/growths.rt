@@ -1,9 +1,8 @@
 //! A growth that is refused is told as want of memory, and changes nothing: the same call is made once more, and goes.
-use crate::guests::{Made, enter, sweeps};
-use crate::making::{Trial, over_channels, over_rings};
+use crate::guests::{Guest, Made, enter, sweeps};
+use crate::making::{Steps, Trial, over_channels, over_rings};
 use hall::{Hall, Naming};
 use std::alloc::Global;
-use std::process::Abort;
 use std::test::Fail;
 
 /// Al makes a channel.
@@ -31,17 +30,30 @@ fn visit<L: Naming, O: Made<R, T>, R, T: Drop>(
     has_ended && bo.leaves(hall) == Some(LEFT_FOR_BO)
 }
 
-/// Al comes, bo comes and goes, and al quits, which is another item, and goes.
+/// Bo comes and goes while al is there, who then quits, which is another item.
+fn meets<L: Naming, O: Made<R, T>, R, T: Drop>(
+    rt: &R,
+    alloc: Global,
+    hall: &mut Hall<L, O>,
+    al: &mut Guest<L, O, T>,
+) -> bool {
+    al.says_all(alloc, hall, &AL)
+        && visit::<L, O, R, T>(rt, alloc, hall)
+        && al.says_all(alloc, hall, &["QUIT"])
+        && sweeps(hall)
+}
+
+/// Al comes, bo comes and goes, and al goes.
 struct Meeting;
 
-impl<O: Made<R, T>, R: Abort, T: Drop> Trial<O, R, T> for Meeting {
-    fn run<L: Naming>(&self, rt: &R, alloc: Global, hall: &mut Hall<L, O>) -> Result<(), Fail> {
-        let mut al = enter(rt, alloc, hall, 8).ok_or("al")?;
-        let has_met = al.says_all(alloc, hall, &AL) && visit(rt, alloc, hall);
-        assert!(rt; has_met && al.says_all(alloc, hall, &["QUIT"]) && sweeps(hall));
-        assert_eq!(rt; al.leaves(hall), Some(LEFT_FOR_AL + 1));
-        assert_eq!(rt; hall.len(), 12);
-        Ok(())
+impl<O: Made<R, T>, R, T: Drop> Trial<O, R, T> for Meeting {
+    fn run<L: Naming>(&self, rt: &R, alloc: Global, hall: &mut Hall<L, O>, steps: &mut Steps) {
+        let Some(mut al) = enter(rt, alloc, hall, 8) else {
+            return steps.note(false);
+        };
+        steps.note(meets(rt, alloc, hall, &mut al));
+        steps.note(al.leaves(hall) == Some(LEFT_FOR_AL + 1));
+        steps.note(hall.len() == 12);
     }
 }
 

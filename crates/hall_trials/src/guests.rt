@@ -192,6 +192,28 @@ pub(crate) fn comes<L: Naming, O: Made<R, T>, R, T: Drop>(
     guests.push(Some(guest)).is_ok() && is_next
 }
 
+/// Two guests.
+#[derive(Drop)]
+pub(crate) struct Pair<L: Naming, O: Lasting<Taker = T>, T: Drop> {
+    pub(crate) al: Guest<L, O, T>,
+    pub(crate) bo: Guest<L, O, T>,
+}
+
+/// Two come, with outboxes for so many items each.
+pub(crate) fn two<L: Naming, O: Made<R, T>, R, T: Drop>(
+    rt: &R,
+    alloc: Global,
+    hall: &mut Hall<L, O>,
+    caps: (usize, usize),
+) -> Option<Pair<L, O, T>> {
+    if caps.0 == 0 || caps.1 == 0 {
+        return None;
+    }
+    let al = enter(rt, alloc, hall, caps.0)?;
+    let bo = enter(rt, alloc, hall, caps.1)?;
+    Some(Pair { al, bo })
+}
+
 impl<L: Naming, O: Lasting<Taker = T>, T: Drop> Guest<L, O, T> {
     /// What a line is answered. Where a growth is refused the hall answers as before, and the line is said once more.
     pub(crate) fn answer(

@@ -25,6 +25,8 @@ mod rolled;
 #[cfg(test)]
 mod rolled_threads;
 #[cfg(test)]
+mod taking;
+#[cfg(test)]
 mod telling;
 #[cfg(test)]
 mod threads;
@@ -32,3 +34,5 @@ mod threads;
 mod ticking;
 #[cfg(test)]
 mod ticking_threads;
+#[cfg(test)]
+mod wanting;

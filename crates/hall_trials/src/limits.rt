@@ -1,9 +1,8 @@
 //! As many sessions as may be are there.
 use crate::guests::{Guest, Made, comes, end, turned_away};
-use crate::making::{Trial, over_channels, over_rings};
+use crate::making::{Steps, Trial, over_channels, over_rings};
 use hall::{Hall, Naming, OpenRefusal};
 use std::alloc::Global;
-use std::process::Abort;
 use std::test::Fail;
 
 const SESSIONS: u64 = 1024;
@@ -28,25 +27,32 @@ fn goes<L: Naming, O: Made<R, T>, R, T: Drop>(
     is_gone && guest.leaves(hall) == Some(1)
 }
 
+/// The last who came goes.
+fn last_goes<L: Naming, O: Made<R, T>, R, T: Drop>(
+    rt: &R,
+    alloc: Global,
+    hall: &mut Hall<L, O>,
+    guests: &mut Vec<Option<Guest<L, O, T>>>,
+) -> bool {
+    match guests.pop() {
+        Some(Some(guest)) => goes::<L, O, R, T>(rt, alloc, hall, guest),
+        _ => false,
+    }
+}
+
 /// So many come; one more is turned away, with its outbox. One goes, and one more comes.
 struct Full;
 
-impl<O: Made<R, T>, R: Abort, T: Drop> Trial<O, R, T> for Full {
-    fn run<L: Naming>(&self, rt: &R, alloc: Global, hall: &mut Hall<L, O>) -> Result<(), Fail> {
+impl<O: Made<R, T>, R, T: Drop> Trial<O, R, T> for Full {
+    fn run<L: Naming>(&self, rt: &R, alloc: Global, hall: &mut Hall<L, O>, steps: &mut Steps) {
         let mut guests: Vec<Option<Guest<L, O, T>>> = Vec::new(alloc);
         for number in 1..=SESSIONS {
-            let is_next = comes(rt, alloc, hall, &mut guests, number, 4);
-            assert!(rt; is_next, "session {number}");
+            steps.note(comes(rt, alloc, hall, &mut guests, number, 4));
         }
-        assert!(rt; is_full(rt, alloc, hall), "one too many");
-        let Some(Some(guest)) = guests.pop() else {
-            return Err("who goes".into());
-        };
-        assert!(rt; goes(rt, alloc, hall, guest), "one goes");
-        let is_next = comes(rt, alloc, hall, &mut guests, SESSIONS + 1, 4);
-        assert!(rt; is_next, "one comes");
-        assert!(rt; is_full(rt, alloc, hall), "one too many again");
-        Ok(())
+        steps.note(is_full::<L, O, R, T>(rt, alloc, hall));
+        steps.note(last_goes(rt, alloc, hall, &mut guests));
+        steps.note(comes(rt, alloc, hall, &mut guests, SESSIONS + 1, 4));
+        steps.note(is_full::<L, O, R, T>(rt, alloc, hall));
     }
 }
 

@@ -9,6 +9,7 @@ use outbox::{Sender, Writer};
 use registration::Accounts;
 use std::alloc::{AllocError, Global};
 use std::marker::Brand;
+use std::process::Abort;
 use std::sync::Wait;
 use std::test::Fail;
 
@@ -41,9 +42,37 @@ pub(crate) fn hall_of<L: Naming, O: Lasting>(
     Hall::new(alloc, register, settings, limit)
 }
 
+/// Steps that are taken in turn: how many, and which was the first that wasn't as it is to be, where one wasn't.
+#[derive(Drop)]
+pub(crate) struct Steps {
+    taken: u32,
+    wrong: u32,
+}
+
+impl Steps {
+    /// None is taken.
+    pub(crate) fn new() -> Steps {
+        Steps { taken: 0, wrong: 0 }
+    }
+
+    /// Notes a step, and whether it is as it is to be.
+    pub(crate) fn note(&mut self, is_right: bool) {
+        self.taken = self.taken.saturating_add(1);
+        if !is_right && self.wrong == 0 {
+            self.wrong = self.taken;
+        }
+    }
+
+    /// Each step was as it is to be.
+    pub(crate) fn assert_right<R: Abort>(&self, rt: &R) {
+        assert_eq!(rt; self.wrong, 0, "the first step that is wrong");
+    }
+}
+
 /// What is tried in a hall over this kind of outbox.
 pub(crate) trait Trial<O: Made<R, T>, R, T: Drop> {
-    fn run<L: Naming>(&self, rt: &R, alloc: Global, hall: &mut Hall<L, O>) -> Result<(), Fail>;
+    /// Takes its steps, and notes each.
+    fn run<L: Naming>(&self, rt: &R, alloc: Global, hall: &mut Hall<L, O>, steps: &mut Steps);
 }
 
 /// A trial in a hall for so many sessions and records, whose sessions this register has. It answers whether there
@@ -54,6 +83,7 @@ fn tried_in<L: Naming, X: Trial<O, R, T>, O: Made<R, T>, R, T: Drop>(
     register: Register<O::Name>,
     trial: &X,
     size: (usize, usize),
+    steps: &mut Steps,
 ) -> Result<bool, Fail>
     requires named { register.table ≡ L.table }
     requires empty { register.rows ≡ [] }
@@ -64,9 +94,7 @@ fn tried_in<L: Naming, X: Trial<O, R, T>, O: Made<R, T>, R, T: Drop>(
         Err(BookFault::Memory) => return Ok(false),
         Err(BookFault::BadSettings) => return Err("a hall".into()),
     };
-    let run = trial.run(rt, alloc, &mut hall);
-    drop(hall);
-    run?;
+    trial.run(rt, alloc, &mut hall, steps);
     Ok(true)
 }
 
@@ -76,29 +104,32 @@ fn tried<X: Trial<O, R, T>, O: Made<R, T>, R, T: Drop>(
     alloc: Global,
     trial: &X,
     size: (usize, usize),
+    steps: &mut Steps,
 ) -> Result<bool, Fail> {
     let register = new_register(alloc)?;
-    tried_in::<Brand, X, O, R, T>(rt, alloc, register, trial, size)
+    tried_in::<Brand, X, O, R, T>(rt, alloc, register, trial, size, steps)
 }
 
 /// A trial. Where a growth is refused in making the hall, that is told as want of memory, and a hall is made once
 /// more.
-fn over<X: Trial<O, R, T>, O: Made<R, T>, R, T: Drop>(
+fn over<X: Trial<O, R, T>, O: Made<R, T>, R: Abort, T: Drop>(
     rt: &R,
     alloc: Global,
     trial: &X,
     size: (usize, usize),
 ) -> Result<(), Fail> {
-    if tried::<X, O, R, T>(rt, alloc, trial, size)?
-        || tried::<X, O, R, T>(rt, alloc, trial, size)?
+    let mut steps = Steps::new();
+    if tried::<X, O, R, T>(rt, alloc, trial, size, &mut steps)?
+        || tried::<X, O, R, T>(rt, alloc, trial, size, &mut steps)?
     {
+        steps.assert_right(rt);
         return Ok(());
     }
     Err("memory".into())
 }
 
 /// A trial over rings, in a hall for so many sessions and records.
-pub(crate) fn over_rings<X: Trial<Ring, R, ()>, R>(
+pub(crate) fn over_rings<X: Trial<Ring, R, ()>, R: Abort>(
     rt: &R,
     alloc: Global,
     trial: &X,
@@ -108,7 +139,7 @@ pub(crate) fn over_rings<X: Trial<Ring, R, ()>, R>(
 }
 
 /// A trial over channels.
-pub(crate) fn over_channels<X: Trial<Sender<R>, R, Writer>, R: Wait + Drop + Copy>(
+pub(crate) fn over_channels<X: Trial<Sender<R>, R, Writer>, R: Wait + Abort + Drop + Copy>(
     rt: &R,
     alloc: Global,
     trial: &X,

@@ -1,17 +1,16 @@
 //! A session is reaped by its own tokens alone.
-use crate::guests::{Guest, Made, end, enter};
-use crate::making::{Trial, over_channels, over_rings};
+use crate::guests::{Guest, Made, Pair, end, two};
+use crate::making::{Steps, Trial, over_channels, over_rings};
 use hall::{Hall, Naming, ReapRefusal};
 use std::alloc::Global;
-use std::process::Abort;
 use std::test::Fail;
 
 /// Why the baton of one with the stub and the taker of another isn't given up, and both whole again.
 fn swapped<L: Naming, O: Made<R, T>, R, T: Drop>(
     hall: &mut Hall<L, O>,
-    one: Guest<L, O, T>,
-    other: Guest<L, O, T>,
-) -> Option<(ReapRefusal, Guest<L, O, T>, Guest<L, O, T>)> {
+    pair: Pair<L, O, T>,
+) -> Option<(ReapRefusal, Pair<L, O, T>)> {
+    let Pair { al: one, bo: other } = pair;
     let Guest { baton, stub, taker } = one;
     let Guest {
         baton: theirs,
@@ -22,13 +21,13 @@ fn swapped<L: Naming, O: Made<R, T>, R, T: Drop>(
     else {
         return None;
     };
-    let one = Guest { baton, stub, taker };
-    let other = Guest {
+    let al = Guest { baton, stub, taker };
+    let bo = Guest {
         baton: theirs,
         stub: their_stub,
         taker: their_taker,
     };
-    Some((refusal, one, other))
+    Some((refusal, Pair { al, bo }))
 }
 
 /// Whether a session isn't given up while it is there, and is when it is gone, with so many items left.
@@ -48,10 +47,9 @@ fn ends_in_steps<L: Naming, O: Made<R, T>, R, T: Drop>(
 /// Whether each of two, of whom the first is answered twice, is given up by its own tokens alone.
 fn end_apart<L: Naming, O: Made<R, T>, R, T: Drop>(
     hall: &mut Hall<L, O>,
-    al: Guest<L, O, T>,
-    bo: Guest<L, O, T>,
+    pair: Pair<L, O, T>,
 ) -> bool {
-    let Some((refusal, al, bo)) = swapped::<L, O, R, T>(hall, al, bo) else {
+    let Some((refusal, Pair { al, bo })) = swapped::<L, O, R, T>(hall, pair) else {
         return false;
     };
     let is_stranger = refusal == ReapRefusal::Stranger;
@@ -62,16 +60,13 @@ fn end_apart<L: Naming, O: Made<R, T>, R, T: Drop>(
 /// Two come, of whom the first says two lines that are answered, and go.
 struct Two;
 
-impl<O: Made<R, T>, R: Abort, T: Drop> Trial<O, R, T> for Two {
-    fn run<L: Naming>(&self, rt: &R, alloc: Global, hall: &mut Hall<L, O>) -> Result<(), Fail> {
-        let mut al: Guest<L, O, T> = enter(rt, alloc, hall, 4).ok_or("al")?;
-        let bo: Guest<L, O, T> = enter(rt, alloc, hall, 4).ok_or("bo")?;
-        assert!(rt;
-            al.says_all(alloc, hall, &["PING x", "PING y"]),
-            "al's lines"
-        );
-        assert!(rt; end_apart::<L, O, R, T>(hall, al, bo), "two ends");
-        Ok(())
+impl<O: Made<R, T>, R, T: Drop> Trial<O, R, T> for Two {
+    fn run<L: Naming>(&self, rt: &R, alloc: Global, hall: &mut Hall<L, O>, steps: &mut Steps) {
+        let Some(mut pair) = two(rt, alloc, hall, (4, 4)) else {
+            return steps.note(false);
+        };
+        steps.note(pair.al.says_all(alloc, hall, &["PING x", "PING y"]));
+        steps.note(end_apart::<L, O, R, T>(hall, pair));
     }
 }
 

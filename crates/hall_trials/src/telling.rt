@@ -1,10 +1,9 @@
 //! Who got something is listed for whoever writes to them, once for lines that tell the same.
-use crate::guests::{Guest, Made, enter, sweeps};
-use crate::making::{Trial, over_channels, over_rings};
+use crate::guests::{Guest, Made, Pair, sweeps, two};
+use crate::making::{Steps, Trial, over_channels, over_rings};
 use chronicle::{Moment, SessionId, Why};
 use hall::{Hall, Lasting, Naming, Told};
 use std::alloc::Global;
-use std::process::Abort;
 use std::test::Fail;
 
 /// A list, and how often there was no memory for it: once at most.
@@ -75,41 +74,31 @@ impl List {
 }
 
 /// Lines of two on a channel.
-fn talk<L: Naming, O: Made<R, T>, R: Abort, T: Drop>(
-    rt: &R,
+fn talk<L: Naming, O: Lasting<Taker = T>, T: Drop>(
     alloc: Global,
     hall: &mut Hall<L, O>,
     list: &mut List,
     al: &mut Guest<L, O, T>,
     bo: &mut Guest<L, O, T>,
+    steps: &mut Steps,
 ) {
-    assert!(rt;
-        list.line(alloc, hall, bo, "PRIVMSG #a :one") && list.was(&[1], 1),
-        "one line"
-    );
-    assert!(rt; list.line(alloc, hall, bo, "PRIVMSG #a :two"), "two");
-    assert!(rt; list.line(alloc, hall, bo, "PRIVMSG #a :three"), "three");
-    assert!(rt; list.was(&[1], 2), "two lines of one");
-    assert!(rt; list.line(alloc, hall, bo, "PRIVMSG #a :four"), "four");
-    assert!(rt; list.line(alloc, hall, al, "PRIVMSG #a :five"), "five");
-    assert!(rt; list.was(&[1, 2], 2), "lines of two");
-    assert!(rt;
-        list.line(alloc, hall, al, "PING x") && list.was(&[1], 1),
-        "an answer"
-    );
+    steps.note(list.line(alloc, hall, bo, "PRIVMSG #a :one") && list.was(&[1], 1));
+    steps.note(list.line(alloc, hall, bo, "PRIVMSG #a :two"));
+    steps.note(list.line(alloc, hall, bo, "PRIVMSG #a :three") && list.was(&[1], 2));
+    steps.note(list.line(alloc, hall, bo, "PRIVMSG #a :four"));
+    steps.note(list.line(alloc, hall, al, "PRIVMSG #a :five") && list.was(&[1, 2], 2));
+    steps.note(list.line(alloc, hall, al, "PING x") && list.was(&[1], 1));
 }
 
-/// Two come and meet on a channel.
-fn meet<L: Naming, O: Made<R, T>, R, T: Drop>(
-    rt: &R,
+/// Two meet on a channel.
+fn have_met<L: Naming, O: Lasting<Taker = T>, T: Drop>(
     alloc: Global,
     hall: &mut Hall<L, O>,
-) -> Option<(Guest<L, O, T>, Guest<L, O, T>)> {
-    let mut al = enter(rt, alloc, hall, 16)?;
-    let mut bo = enter(rt, alloc, hall, 16)?;
-    let has_met = al.says_all(alloc, hall, &["NICK al", "USER a 0 * :Al", "JOIN #a"])
-        && bo.says_all(alloc, hall, &["NICK bo", "USER b 0 * :Bo", "JOIN #a"]);
-    if has_met { Some((al, bo)) } else { None }
+    al: &mut Guest<L, O, T>,
+    bo: &mut Guest<L, O, T>,
+) -> bool {
+    al.says_all(alloc, hall, &["NICK al", "USER a 0 * :Al", "JOIN #a"])
+        && bo.says_all(alloc, hall, &["NICK bo", "USER b 0 * :Bo", "JOIN #a"])
 }
 
 /// Whether the second is told where it is hung, and the first where it sees that one leave.
@@ -125,19 +114,19 @@ fn is_told_of_ends<L: Naming, O: Lasting>(
 /// Al and bo meet on a channel and talk; then bo is ended.
 struct Listed;
 
-impl<O: Made<R, T>, R: Abort, T: Drop> Trial<O, R, T> for Listed {
-    fn run<L: Naming>(&self, rt: &R, alloc: Global, hall: &mut Hall<L, O>) -> Result<(), Fail> {
-        let (mut al, mut bo) = meet(rt, alloc, hall).ok_or("two who meet")?;
+impl<O: Made<R, T>, R, T: Drop> Trial<O, R, T> for Listed {
+    fn run<L: Naming>(&self, rt: &R, alloc: Global, hall: &mut Hall<L, O>, steps: &mut Steps) {
+        let Some(mut pair): Option<Pair<L, O, T>> = two(rt, alloc, hall, (16, 16)) else {
+            return steps.note(false);
+        };
         let mut list = List {
             told: Told::new(alloc),
             alls: 0,
         };
-        talk(rt, alloc, hall, &mut list, &mut al, &mut bo);
-        assert!(rt;
-            is_told_of_ends(hall, &mut list, bo.baton.session()),
-            "ends"
-        );
-        Ok(())
+        steps.note(have_met(alloc, hall, &mut pair.al, &mut pair.bo));
+        talk(alloc, hall, &mut list, &mut pair.al, &mut pair.bo, steps);
+        let session = pair.bo.baton.session();
+        steps.note(is_told_of_ends(hall, &mut list, session));
     }
 }
 

@@ -1,9 +1,9 @@
 //! Four threads share a hall by a lock: two say lines of a session each, two take what comes of them.
-ghost use Rattle.std.specs.Prelude.{◌≡◌, ◌<◌, []};
+ghost use Rattle.std.specs.Prelude.{◌≡◌, []};
 
 use crate::again::{line, new_register};
-use crate::guests::{Guest, enter, sweeps};
-use crate::making::hall_of;
+use crate::guests::{Guest, Pair, sweeps, two};
+use crate::making::{Steps, hall_of};
 use crate::rolled_threads::{Said, Speaker, are_counted, are_each_once};
 use chronicle::{Kind, RecordNumber, SessionId};
 use deliveries::{Delivery, Item};
@@ -191,50 +191,43 @@ fn said_since<L: Naming, R: Wait + Drop>(
 
 /// Al and bo meet on a channel by eight records, and each takes what it is sent: its welcome and its join, and al bo's
 /// join too.
-fn meet<L: Naming, R: Wait + Drop + Copy>(
+fn have_met<L: Naming, R: Wait + Drop>(
     rt: &R,
     alloc: Global,
     hall: &mut Hall<L, Sender<R>>,
-    cap: usize,
-) -> Option<(Guest<L, Sender<R>, Writer>, Guest<L, Sender<R>, Writer>)>
-    requires { 0 < cap }
-{
-    let mut al = enter(rt, alloc, hall, cap)?;
-    let mut bo = enter(rt, alloc, hall, cap)?;
-    let has_met = al.says_all(alloc, hall, &["NICK al", "USER a 0 * :Al", "JOIN #a"])
+    al: &mut Guest<L, Sender<R>, Writer>,
+    bo: &mut Guest<L, Sender<R>, Writer>,
+) -> bool {
+    al.says_all(alloc, hall, &["NICK al", "USER a 0 * :Al", "JOIN #a"])
         && bo.says_all(alloc, hall, &["NICK bo", "USER b 0 * :Bo", "JOIN #a"])
         && al.hears(rt, 3)
-        && bo.hears(rt, 2);
-    if has_met { Some((al, bo)) } else { None }
+        && bo.hears(rt, 2)
 }
 
-/// What was taken are the first items of the other's records, in their order.
-fn look_at<L: Naming, R: Wait + Drop + Abort>(
-    rt: &R,
+/// Each base has the counts, and what was taken are the first items of the other's records, in their order.
+fn look_at<L: Naming, R: Wait + Drop>(
     one: &Served<L, Sender<R>, Writer>,
     other: &Served<L, Sender<R>, Writer>,
     run: Run,
+    steps: &mut Steps,
 ) {
-    assert_eq!(rt; one.said.numbers.len() as u64, LINES);
-    assert!(rt; one.said.is_counted, "each base has the counts");
-    assert_eq!(rt; one.numbers.len(), run.taken);
-    assert!(rt;
-        other.said.numbers.starts_with(one.numbers.as_slice()),
-        "items in the order of their records"
-    );
+    steps.note(one.said.numbers.len() as u64 == LINES);
+    steps.note(one.said.is_counted);
+    steps.note(one.numbers.len() == run.taken);
+    steps.note(other.said.numbers.starts_with(one.numbers.as_slice()));
 }
 
-/// Of a journal that wasn't rolled: the items are those of the other's lines, and as many are left as lines follow.
-fn compare<L: Naming, R: Wait + Drop + Abort>(
-    rt: &R,
+/// Of a journal that wasn't rolled: whether the items are those of the other's lines, and as many are left as lines
+/// follow.
+fn are_owed<L: Naming, R: Wait + Drop>(
     hall: &Hall<L, Sender<R>>,
     served: &Served<L, Sender<R>, Writer>,
     by: SessionId,
     line: &Piece,
-) {
+) -> bool {
     let numbers = served.numbers.as_slice();
-    let since = said_since(hall, by, line, numbers).expect(rt, "what is owed");
-    assert_eq!(rt; since, LINES.saturating_sub(numbers.len() as u64));
+    let left = LINES.saturating_sub(numbers.len() as u64);
+    said_since(hall, by, line, numbers) == Some(left)
 }
 
 /// What is said.
@@ -267,16 +260,15 @@ fn end_both<L: Naming, R: Wait + Drop>(
     has_ended && sweeps(hall) && sweeps(hall) && !sweeps(hall)
 }
 
-/// A session goes: what it took and what is left for it is what the records of the other owe it, and its last item.
-fn leaves<L: Naming, R: Wait + Drop + Abort>(
-    rt: &R,
+/// Whether a session goes: what it took and what is left for it is what the records of the other owe it, and its last
+/// item.
+fn leaves<L: Naming, R: Wait + Drop>(
     hall: &mut Hall<L, Sender<R>>,
     served: Served<L, Sender<R>, Writer>,
-) {
-    let Served { guest, numbers, .. } = served;
+) -> bool {
     // Those that it didn't take, and its last item.
-    let left = (LINES + 1).saturating_sub(numbers.len() as u64);
-    assert_eq!(rt; guest.leaves(hall), Some(left));
+    let left = (LINES + 1).saturating_sub(served.numbers.len() as u64);
+    served.guest.leaves(hall) == Some(left)
 }
 
 /// Each says its lines while what comes of them is taken.
@@ -284,7 +276,7 @@ fn serve_both<L: Naming + Send + Sync, R: Threads + Wait + Drop + Send + Sync>(
     rt: &R,
     alloc: Global,
     hall: &Mutex<Hall<L, Sender<R>>>,
-    (al, bo): (Guest<L, Sender<R>, Writer>, Guest<L, Sender<R>, Writer>),
+    Pair { al, bo }: Pair<L, Sender<R>, Writer>,
     (one, two): (&Speaker<'_>, &Speaker<'_>),
     run: Run,
 ) -> (Served<L, Sender<R>, Writer>, Served<L, Sender<R>, Writer>) {
@@ -298,36 +290,36 @@ fn serve_both<L: Naming + Send + Sync, R: Threads + Wait + Drop + Send + Sync>(
 
 /// Each line has a record, each record of a line that is kept is as it was said, and a base has the counts of the
 /// others.
-fn look_back<L: Naming, R: Wait + Drop + Abort>(
-    rt: &R,
+fn look_back<L: Naming, R: Wait + Drop>(
     hall: &Hall<L, Sender<R>>,
     (al, bo): (&Served<L, Sender<R>, Writer>, &Served<L, Sender<R>, Writer>),
     (one, two): (&Speaker<'_>, &Speaker<'_>),
     lines: &Lines,
+    steps: &mut Steps,
 ) {
     let (als, bos) = (&al.said, &bo.said);
-    assert!(rt; are_each_once(als.numbers.as_slice(), bos.numbers.as_slice(), MET + 1));
+    steps.note(are_each_once(als.numbers.as_slice(), bos.numbers.as_slice(), MET + 1));
     let dropped = als.dropped.saturating_add(bos.dropped);
-    assert_eq!(rt; dropped.saturating_add(hall.len() as u64), MET + 2 * LINES);
+    steps.note(dropped.saturating_add(hall.len() as u64) == MET + 2 * LINES);
     if hall.base().is_none() {
-        compare(rt, hall, al, two.session, &lines.two);
-        compare(rt, hall, bo, one.session, &lines.one);
+        steps.note(are_owed(hall, al, two.session, &lines.two));
+        steps.note(are_owed(hall, bo, one.session, &lines.one));
     }
-    assert!(rt; are_counted(hall, one, dropped), "al's lines");
-    assert!(rt; are_counted(hall, two, dropped), "bo's lines");
+    steps.note(are_counted(hall, one, dropped));
+    steps.note(are_counted(hall, two, dropped));
 }
 
 /// Both quit, are swept and reaped.
-fn leave_both<L: Naming, R: Wait + Drop + Abort>(
-    rt: &R,
+fn leave_both<L: Naming, R: Wait + Drop>(
     hall: &mut Hall<L, Sender<R>>,
     mut al: Served<L, Sender<R>, Writer>,
     mut bo: Served<L, Sender<R>, Writer>,
     quit: &Piece,
+    steps: &mut Steps,
 ) {
-    assert!(rt; end_both(hall, &mut al, &mut bo, quit), "two ends");
-    leaves(rt, hall, al);
-    leaves(rt, hall, bo);
+    steps.note(end_both(hall, &mut al, &mut bo, quit));
+    steps.note(leaves(hall, al));
+    steps.note(leaves(hall, bo));
 }
 
 /// Each says its lines while what comes of them is taken; then both quit, are swept and reaped.
@@ -337,19 +329,19 @@ fn speak<L: Naming + Send + Sync, R: Threads + Wait + Abort + Copy + Drop + Send
     mut hall: Hall<L, Sender<R>>,
     lines: &Lines,
     run: Run,
-)
-    requires { 0 < run.cap }
-{
-    let (al, bo) = meet(rt, alloc, &mut hall, run.cap).expect(rt, "two who meet");
-    let one = Speaker::new(&al, &bo, &lines.one, 2);
-    let two = Speaker::new(&bo, &al, &lines.two, 3);
+    steps: &mut Steps,
+) {
+    let mut pair = two(rt, alloc, &mut hall, (run.cap, run.cap)).expect(rt, "two who come");
+    steps.note(have_met(rt, alloc, &mut hall, &mut pair.al, &mut pair.bo));
+    let one = Speaker::new(&pair.al, &pair.bo, &lines.one, 2);
+    let other = Speaker::new(&pair.bo, &pair.al, &lines.two, 3);
     let lock = Mutex::new(hall);
-    let (al, bo) = serve_both(rt, alloc, &lock, (al, bo), (&one, &two), run);
+    let (al, bo) = serve_both(rt, alloc, &lock, pair, (&one, &other), run);
     let mut hall = lock.into_inner();
-    look_at(rt, &al, &bo, run);
-    look_at(rt, &bo, &al, run);
-    look_back(rt, &hall, (&al, &bo), (&one, &two), lines);
-    leave_both(rt, &mut hall, al, bo, &lines.quit);
+    look_at(&al, &bo, run, steps);
+    look_at(&bo, &al, run, steps);
+    look_back(&hall, (&al, &bo), (&one, &other), lines, steps);
+    leave_both(&mut hall, al, bo, &lines.quit, steps);
 }
 
 /// They speak in a hall for two, whose journal is full then or isn't.
@@ -359,13 +351,14 @@ pub(crate) fn four_threads<
 >(rt: &R, alloc: Global, register: Register<Name<R>>, run: Run) -> Result<(), Fail>
     requires named { register.table ≡ L.table }
     requires empty { register.rows ≡ [] }
-    requires cap { 0 < run.cap }
 {
     let lines = Lines::new(alloc)?;
     let Ok(hall) = hall_of::<L, Sender<R>>(alloc, register, 2, run.records) else {
         return Err("a hall".into());
     };
-    speak(rt, alloc, hall, &lines, run);
+    let mut steps = Steps::new();
+    speak(rt, alloc, hall, &lines, run, &mut steps);
+    steps.assert_right(rt);
     Ok(())
 }
 

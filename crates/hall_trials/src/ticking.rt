@@ -1,10 +1,9 @@
 //! Who is silent in a hall is pinged and is late, also where its journal is rolled.
 use crate::guests::{Guest, Made, enter};
-use crate::making::{Trial, over_channels, over_rings};
+use crate::making::{Steps, Trial, over_channels, over_rings};
 use chronicle::{Moment, SessionId, Why};
 use hall::{Done, Hall, Lasting, Naming, TickRefusal, Told};
 use std::alloc::Global;
-use std::process::Abort;
 use std::test::Fail;
 
 /// What a tick gave, once more where a growth was refused: the number of its record, or that there is none, or why
@@ -81,40 +80,57 @@ impl Silent {
     fn rolls<L: Naming, O: Lasting>(&self, hall: &mut Hall<L, O>) -> bool {
         !self.is_rolled || hall.roll().is_ok()
     }
+
+    /// The session isn't pinged early, is pinged, is late, and is ended.
+    fn goes<L: Naming, O: Lasting>(
+        &self,
+        alloc: Global,
+        hall: &mut Hall<L, O>,
+        session: SessionId,
+        steps: &mut Steps,
+    ) {
+        steps.note(tick(hall, 119_999) == Ok(None));
+        steps.note(self.rolls(hall));
+        steps.note(tick(hall, 119_999) == Ok(None));
+        steps.note(is_pinged(alloc, hall, session));
+        steps.note(self.rolls(hall));
+        steps.note(is_late(hall));
+        steps.note(tick(hall, -1) == Err(TickRefusal::BadMoment));
+        steps.note(is_ended(hall, session));
+    }
 }
 
-impl<O: Made<R, T>, R: Abort, T: Drop> Trial<O, R, T> for Silent {
-    fn run<L: Naming>(&self, rt: &R, alloc: Global, hall: &mut Hall<L, O>) -> Result<(), Fail> {
-        let al: Guest<L, O, T> = enter(rt, alloc, hall, 4).ok_or("al")?;
-        let session = al.baton.session();
-        assert!(rt; tick(hall, 119_999) == Ok(None), "not yet");
-        assert!(rt; self.rolls(hall), "rolled");
-        assert!(rt; tick(hall, 119_999) == Ok(None), "nor yet");
-        assert!(rt; is_pinged(alloc, hall, session), "pinged");
-        assert!(rt; self.rolls(hall), "rolled again");
-        assert!(rt; is_late(hall), "late");
-        assert!(rt; tick(hall, -1) == Err(TickRefusal::BadMoment), "a moment");
-        assert!(rt; is_ended(hall, session), "ended");
-        assert!(rt; al.leaves(hall) == Some(2), "a PING and the end");
-        Ok(())
+impl<O: Made<R, T>, R, T: Drop> Trial<O, R, T> for Silent {
+    fn run<L: Naming>(&self, rt: &R, alloc: Global, hall: &mut Hall<L, O>, steps: &mut Steps) {
+        let Some(al): Option<Guest<L, O, T>> = enter(rt, alloc, hall, 4) else {
+            return steps.note(false);
+        };
+        self.goes(alloc, hall, al.baton.session(), steps);
+        // A PING and the end.
+        steps.note(al.leaves(hall) == Some(2));
     }
+}
+
+/// A tick that has no room changes nothing, and pings once the journal is rolled.
+fn needs_room<L: Naming, O: Lasting>(hall: &mut Hall<L, O>, session: SessionId, steps: &mut Steps) {
+    steps.note(tick(hall, 119_999) == Ok(None));
+    steps.note(tick(hall, 120_000) == Err(TickRefusal::JournalFull));
+    steps.note(hall.len() == 1);
+    steps.note(hall.roll().is_ok());
+    steps.note(tick(hall, 120_000) == Ok(Some(2)));
+    steps.note(hall.is_open(session));
 }
 
 /// A journal that has room for a session and its end alone: a tick has none, until it is rolled.
 #[derive(Drop)]
 struct Full;
 
-impl<O: Made<R, T>, R: Abort, T: Drop> Trial<O, R, T> for Full {
-    fn run<L: Naming>(&self, rt: &R, alloc: Global, hall: &mut Hall<L, O>) -> Result<(), Fail> {
-        let al: Guest<L, O, T> = enter(rt, alloc, hall, 4).ok_or("al")?;
-        assert!(rt; tick(hall, 119_999) == Ok(None), "nobody is silent");
-        let full = Err(TickRefusal::JournalFull);
-        assert!(rt; tick(hall, 120_000) == full, "full");
-        assert!(rt; hall.len() == 1, "nothing changed");
-        assert!(rt; hall.roll().is_ok(), "rolled");
-        assert!(rt; tick(hall, 120_000) == Ok(Some(2)), "pinged");
-        assert!(rt; hall.is_open(al.baton.session()), "open");
-        Ok(())
+impl<O: Made<R, T>, R, T: Drop> Trial<O, R, T> for Full {
+    fn run<L: Naming>(&self, rt: &R, alloc: Global, hall: &mut Hall<L, O>, steps: &mut Steps) {
+        let Some(al): Option<Guest<L, O, T>> = enter(rt, alloc, hall, 4) else {
+            return steps.note(false);
+        };
+        needs_room(hall, al.baton.session(), steps);
     }
 }
 

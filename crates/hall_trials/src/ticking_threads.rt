@@ -4,8 +4,8 @@
 ghost use Rattle.std.specs.Prelude.{◌≡◌, []};
 
 use crate::again::{line, new_register};
-use crate::guests::{Guest, enter, enter_at};
-use crate::making::hall_of;
+use crate::guests::{Guest, Pair, enter_at, two};
+use crate::making::{Steps, hall_of};
 use chronicle::{Kind, Moment, Record, RecordNumber, SessionId, Why};
 use deliveries::Delivery;
 use hall::{Hall, Lasting, Naming, Register};
@@ -394,22 +394,18 @@ fn owed_by<L: Naming, R: Wait + Drop>(alloc: Global, hall: &Hall<L, Sender<R>>) 
 }
 
 /// Who said lines goes: it took what the journal owes it, and nothing is left for it.
-fn leaves<L: Naming, R: Wait + Abort + Drop>(
+fn leaves<L: Naming, R: Wait + Drop>(
     rt: &R,
     hall: &mut Hall<L, Sender<R>>,
-    talked: Talked<L, Sender<R>, Writer>,
+    mut talked: Talked<L, Sender<R>, Writer>,
     owed: &Owed,
+    steps: &mut Steps,
 ) {
-    let Talked {
-        mut guest,
-        mut taken,
-        said,
-    } = talked;
-    assert_eq!(rt; said, ROUNDS, "all is said");
-    take_all(rt, &mut guest, &mut taken);
-    let session = guest.baton.session().number();
-    assert!(rt; owed.is_of(session, session, &taken), "what it took");
-    assert_eq!(rt; guest.leaves(hall), Some(0));
+    steps.note(talked.said == ROUNDS);
+    take_all(rt, &mut talked.guest, &mut talked.taken);
+    let session = talked.guest.baton.session().number();
+    steps.note(owed.is_of(session, session, &talked.taken));
+    steps.note(talked.guest.leaves(hall) == Some(0));
 }
 
 /// Two say lines side by side.
@@ -417,7 +413,7 @@ fn talk_both<L: Naming + Send + Sync, R: Threads + Wait + Copy + Drop + Send + S
     rt: &R,
     alloc: Global,
     hall: &Mutex<Hall<L, Sender<R>>>,
-    (al, bo): (Caller<L, R>, Caller<L, R>),
+    Pair { al, bo }: Pair<L, Sender<R>, Writer>,
     piece: &Piece,
     hands: &Hands,
 ) -> (Talked<L, Sender<R>, Writer>, Talked<L, Sender<R>, Writer>) {
@@ -444,45 +440,44 @@ fn beat_beside<L: Naming + Send + Sync, R: Threads + Wait + Copy + Drop + Send +
 
 /// Two say lines while a third looks who is silent and a fourth has others come. Then nobody says anything, and all
 /// are ended.
-fn meet<L: Naming + Send + Sync, R: Threads + Wait + Abort + Copy + Drop + Send + Sync>(
+fn meet<L: Naming + Send + Sync, R: Threads + Wait + Copy + Drop + Send + Sync>(
     rt: &R,
     alloc: Global,
     hall: &Mutex<Hall<L, Sender<R>>>,
-    callers: (Caller<L, R>, Caller<L, R>),
+    callers: Pair<L, Sender<R>, Writer>,
     piece: &Piece,
     hands: &Hands,
+    steps: &mut Steps,
 ) -> Met<L, Sender<R>, Writer> {
     let ((al, bo), (mut beaten, came)) = join(
         rt,
         || talk_both(rt, alloc, hall, callers, piece, hands),
         || beat_beside(rt, alloc, hall, hands),
     );
-    assert!(rt; beaten.ticks > 0, "somebody was pinged");
-    assert!(rt; 0 < came.hung && came.hung < came.count, "some were late");
+    // Somebody was pinged, and some of those who came were late.
+    steps.note(beaten.ticks > 0);
+    steps.note(0 < came.hung && came.hung < came.count);
     let end = hands.now().saturating_add(LATE_AFTER);
     beat(rt, hall, end, &mut beaten);
     Met { al, bo, came, end }
 }
 
 /// All took what the journal owes them, and the two go.
-fn part<L: Naming, R: Wait + Abort + Drop>(
+fn part<L: Naming, R: Wait + Drop>(
     rt: &R,
     alloc: Global,
     hall: &mut Hall<L, Sender<R>>,
     met: Met<L, Sender<R>, Writer>,
+    steps: &mut Steps,
 ) {
-    let Met { al, bo, came, end } = met;
     let owed = owed_by(alloc, &*hall);
-    assert!(rt; owed.is_well && came.is_well, "nobody missed anything");
-    assert!(rt;
-        owed.is_of(3, u64::MAX, &came.taken),
-        "what the others took"
-    );
+    steps.note(owed.is_well && met.came.is_well);
+    steps.note(owed.is_of(3, u64::MAX, &met.came.taken));
     for _ in 0..2u32 {
-        assert!(rt; hall.sweep(Moment::new(end)).is_ok(), "swept");
+        steps.note(hall.sweep(Moment::new(met.end)).is_ok());
     }
-    leaves(rt, hall, al, &owed);
-    leaves(rt, hall, bo, &owed);
+    leaves(rt, hall, met.al, &owed, steps);
+    leaves(rt, hall, met.bo, &owed, steps);
 }
 
 /// Two come, all meet, and all part.
@@ -491,13 +486,13 @@ fn race<L: Naming + Send + Sync, R: Threads + Wait + Abort + Copy + Drop + Send 
     alloc: Global,
     mut hall: Hall<L, Sender<R>>,
     piece: &Piece,
+    steps: &mut Steps,
 ) {
-    let al: Caller<L, R> = enter(rt, alloc, &mut hall, CAP).expect(rt, "al");
-    let bo: Caller<L, R> = enter(rt, alloc, &mut hall, CAP).expect(rt, "bo");
+    let callers = two(rt, alloc, &mut hall, (CAP, CAP)).expect(rt, "two who come");
     let (lock, hands) = (Mutex::new(hall), Hands::new());
-    let met = meet(rt, alloc, &lock, (al, bo), piece, &hands);
+    let met = meet(rt, alloc, &lock, callers, piece, &hands, steps);
     let mut hall = lock.into_inner();
-    part(rt, alloc, &mut hall, met);
+    part(rt, alloc, &mut hall, met, steps);
 }
 
 /// The same in a hall of its own, whose sessions this register has.
@@ -513,7 +508,9 @@ fn race_in_one<L: Naming + Send + Sync, R: Threads + Wait + Abort + Copy + Drop 
     let Ok(hall) = hall_of::<L, Sender<R>>(alloc, register, 3, RECORDS) else {
         return Err("a hall".into());
     };
-    race(rt, alloc, hall, &piece);
+    let mut steps = Steps::new();
+    race(rt, alloc, hall, &piece, &mut steps);
+    steps.assert_right(rt);
     Ok(())
 }
 
