@@ -1,10 +1,9 @@
 //! Starting a server from its options.
 use casemapping::is_host;
 use chronicle::Moment;
-use crew::Clock;
 use line_grammar::{Octets, OctetsList};
 use registration::{AccountFault, Accounts, Settings, is_well_set};
-use serving::{OpenGate, Options, ServeFault, SystemClock, listen, serve_with};
+use serving::{Clock, OpenGate, Options, ServeFault, SystemClock, listen, serve_with};
 use serving_options::{
     FileFault, LineFault, ServeOptions, accounts_of, content_of, fault_of_line, faulty_line,
     motd_of,

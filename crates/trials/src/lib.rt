@@ -6,8 +6,6 @@
 #[cfg(test)]
 mod again;
 #[cfg(test)]
-mod deciding;
-#[cfg(test)]
 mod enrolling;
 #[cfg(test)]
 mod finding;
