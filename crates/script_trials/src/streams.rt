@@ -4,7 +4,6 @@ use halld::{PlayFault, play};
 use std::alloc::{AllocError, Global};
 use std::io;
 use std::io::{ErrorKind, Read, Write};
-use std::process::Abort;
 use std::test::Fail;
 
 // Gives one octet at a time, and fails in place of each read after the first `left`.
@@ -62,72 +61,132 @@ impl Write for Narrow {
     }
 }
 
-/// Plays a script of so many reads into so many writes.
-fn played_narrowly(
-    alloc: Global,
-    script: &[u8],
-    reads: usize,
-    writes: usize,
-    fails: bool,
-) -> Result<(Result<(), PlayFault>, Vec<u8>), AllocError> {
-    let mut input = Slow {
-        octets: script,
-        left: reads,
-    };
-    let mut output = Narrow {
-        octets: room(alloc)?,
-        left: writes,
-        fails,
-    };
-    let result = play(alloc, &mut input, &mut output);
-    Ok((result, output.octets))
-}
-
 const SCRIPT: &[u8] = b"take 1\ntake 2\n";
 
 const NOTES: &[u8] = b"refused NoSession\nrefused NoSession\n";
 
-/// How many reads and writes succeed, whether a write fails then or takes nothing, what the play ends with, and how
-/// many octets of its notes are written.
-const STREAMS: [(usize, usize, bool, Result<(), PlayFault>, usize); 6] = [
-    (99, 99, true, Ok(()), 36),
-    (14, 99, true, Err(PlayFault::ReadFailed), 36),
-    (13, 99, true, Err(PlayFault::ReadFailed), 18),
-    (0, 99, true, Err(PlayFault::ReadFailed), 0),
-    (99, 20, true, Err(PlayFault::WriteFailed), 20),
-    (99, 20, false, Err(PlayFault::WriteFailed), 20),
-];
-
-/// Plays the script, and plays it anew where it ended for want of memory, with the front of its notes written.
-fn played_twice(
-    rt: &impl Abort,
-    alloc: Global,
+/// A script of which so many octets can be read, notes of which so many can be written, and whether a write fails then
+/// or takes nothing.
+#[derive(Clone, Copy, Drop)]
+struct Streams {
+    script: &'static [u8],
     reads: usize,
     writes: usize,
     fails: bool,
-) -> Result<(Result<(), PlayFault>, Vec<u8>), AllocError> {
-    let (result, octets) = played_narrowly(alloc, SCRIPT, reads, writes, fails)?;
-    if result == Err(PlayFault::Memory) {
-        assert!(rt; NOTES.starts_with(octets.as_slice()));
-        return played_narrowly(alloc, SCRIPT, reads, writes, fails);
-    }
-    Ok((result, octets))
 }
 
-/// A script is played alike from a reader that gives little at a time to a writer that takes little; a fault leaves
-/// the notes before it.
-#[test]
-fn readers_and_writers(rt: HostRuntime) -> Result<(), Fail> {
-    for (reads, writes, fails, end, count) in &STREAMS {
-        let (result, octets) = played_twice(&rt, rt.alloc(), *reads, *writes, *fails)?;
-        assert_eq!(rt; result, *end, "{reads} reads, {writes} writes");
-        assert_eq!(rt;
-            Some(octets.as_slice()),
-            NOTES.get(..*count),
-            "{reads} reads, {writes} writes"
-        );
+impl Streams {
+    /// The whole script, read and written without a fault.
+    fn whole() -> Streams {
+        Streams {
+            script: SCRIPT,
+            reads: usize::MAX,
+            writes: usize::MAX,
+            fails: true,
+        }
     }
-    Ok(())
+
+    /// Plays the script.
+    fn play(self, alloc: Global) -> Result<(Result<(), PlayFault>, Vec<u8>), AllocError> {
+        let mut input = Slow {
+            octets: self.script,
+            left: self.reads,
+        };
+        let mut output = Narrow {
+            octets: room(alloc)?,
+            left: self.writes,
+            fails: self.fails,
+        };
+        let result = play(alloc, &mut input, &mut output);
+        Ok((result, output.octets))
+    }
+
+    /// Whether the play ends so, after the front of its notes of so many octets; if it ends for want of memory, with
+    /// some front of its notes, it is played anew.
+    fn is_played(self, alloc: Global, end: Result<(), PlayFault>, count: usize) -> bool {
+        let Ok((result, notes)) = self.play(alloc) else {
+            return false;
+        };
+        if result != Err(PlayFault::Memory) {
+            return result == end && NOTES.get(..count) == Some(notes.as_slice());
+        }
+        NOTES.starts_with(notes.as_slice()) && self.is_played_again(alloc, end, count)
+    }
+
+    /// The same, if there is memory.
+    fn is_played_again(self, alloc: Global, end: Result<(), PlayFault>, count: usize) -> bool {
+        match self.play(alloc) {
+            Ok((result, notes)) => { result == end && NOTES.get(..count) == Some(notes.as_slice()) }
+            Err(_) => false,
+        }
+    }
+}
+
+/// How many octets of the notes are written of the lines that were read, of whose script so many octets were.
+fn noted(read: usize) -> usize {
+    match read {
+        0..=6 => 0,
+        7..=13 => 18,
+        _ => 36,
+    }
+}
+
+/// A script is read an octet at a time, and reading fails after each number of octets, from none to all 14: the play
+/// ends with `ReadFailed`, after the notes of the lines whose end was read.
+#[test]
+fn a_reader_may_fail_after_any_octet(rt: HostRuntime) {
+    for reads in 0..=SCRIPT.len() {
+        let streams = Streams {
+            reads,
+            ..Streams::whole()
+        };
+        let end = Err(PlayFault::ReadFailed);
+        assert!(rt; streams.is_played(rt.alloc(), end, noted(reads)), "{reads}");
+    }
+}
+
+/// How a script ends whose first octets are these, and how many octets of notes it has: a last line needs no end, and
+/// none of the words before its number is a step.
+fn end_of(count: usize) -> (Result<(), PlayFault>, usize) {
+    match count {
+        0 => (Ok(()), 0),
+        1..=5 => (Err(PlayFault::BadLine(1)), 0),
+        6 | 7 => (Ok(()), 18),
+        8..=12 => (Err(PlayFault::BadLine(2)), 18),
+        _ => (Ok(()), 36),
+    }
+}
+
+/// A script ends after each number of octets, from none to all 14: what stands there without its end is a line, too.
+/// `take 1` and `take 2` are steps, and what is less is a bad line.
+#[test]
+fn a_script_may_end_after_any_octet(rt: HostRuntime) {
+    for count in 0..=SCRIPT.len() {
+        let streams = Streams {
+            script: &SCRIPT[..count.min(SCRIPT.len())],
+            ..Streams::whole()
+        };
+        let (end, written) = end_of(count);
+        assert!(rt; streams.is_played(rt.alloc(), end, written), "{count}");
+    }
+}
+
+/// The notes are taken an octet at a time, and the writer fails, or takes nothing, after each number of octets, from
+/// none to 35: the play ends with `WriteFailed`, and just these are written. A writer that takes all 36 takes them.
+#[test]
+fn a_writer_may_fail_after_any_octet(rt: HostRuntime) {
+    for writes in 0..NOTES.len() {
+        for fails in [false, true] {
+            let streams = Streams {
+                writes,
+                fails,
+                ..Streams::whole()
+            };
+            let end = Err(PlayFault::WriteFailed);
+            assert!(rt; streams.is_played(rt.alloc(), end, writes), "{writes}");
+        }
+    }
+    assert!(rt; Streams::whole().is_played(rt.alloc(), Ok(()), 36));
 }
 
 // Is interrupted before each read.
