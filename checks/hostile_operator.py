@@ -117,7 +117,8 @@ def options_that_are_checked(program):
             assert checked[0] == 1 and checked == ended(program, "serve", "--tcp", ANY_PORT, *words), words
         for words in ([], ["--tcp", "x"], ["--tcp", at, "--workers", "0"]):
             status, out, said = ended(program, "check", *words)
-            assert (status, out) == (2, "") and re.search(r"Usage: \S+ check \[OPTIONS\]", said), (words, said)
+            assert (status, out) == (2, "") and said.endswith("For more information, try '--help'.\n"), (words, said)
+            assert words or re.search(r"Usage: \S+ check \[OPTIONS\]", said), said
         with open("/dev/full", "wb") as full:
             assert ended_by([program, "check", *right], stdout=full) == (1, "halld: output failed\n")
         assert server.stop() == (0, "")
