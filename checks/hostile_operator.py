@@ -173,6 +173,7 @@ def log_that_nobody_reads(program):
         for _ in range(20):
             for client in [Client(server) for _ in range(250)]:
                 client.close()
+            assert wait_until(lambda: server.descriptors() <= server.descriptors_at_rest + 250)
         client = Client(server, "al")
         client.send("PING x")
         assert client.line() == ":irc.example PONG irc.example x"
