@@ -24,6 +24,7 @@ BY_TESTS = {
         "roll, Roster::copy": ["rolled::a_rolled_hall_goes_on"],
         "line, and none by hang, take_now, write_out": ["wanting::who_is_hung_for_memory_is_told_without_any"],
     },
+    "play_trials": {"Play::step": ["growths::a_labelled_line_without_memory_changes_nothing"]},
     "crew_trials": {"work_one": ["wanting::who_finds_no_memory_is_ended"]},
 }
 

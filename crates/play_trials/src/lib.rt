@@ -1,6 +1,20 @@
-//! A test of `interleave` that no script can say. It stands apart from the crate that it tests, so that it isn't
-//! proved once more with its tests.
+//! Tests of `book` and `interleave` that no script can say. They stand apart from the crates that they test, so that
+//! neither is proved once more with its tests.
 #![tactic(auto)]
 
 #[cfg(test)]
+mod acts;
+#[cfg(test)]
+mod again;
+#[cfg(test)]
+mod books;
+#[cfg(test)]
+mod growths;
+#[cfg(test)]
+mod plays;
+#[cfg(test)]
 mod runs;
+#[cfg(test)]
+mod slow;
+#[cfg(test)]
+mod thousand;

@@ -1,78 +1,43 @@
-//! Runs of a play: each of their events is answered as if it had come alone.
-ghost use Rattle.std.specs.Prelude.{◌≡◌, []};
+//! A run: each of its events is answered as if it had come alone.
 ghost use Rattle.interleave.specs.Steps.{IsWellShaped};
 
-use casemapping::is_host;
-use interleave::{
-    Done, Event, Moment, Naming, Note, Octets, Play, Register, SessionId, Settings, StepRefusal,
-    WorkerId,
-};
-use registration::Accounts;
-use std::alloc::Global;
-use std::marker::Brand;
+use crate::acts::{Act, Told, brief, compare, plain_event};
+use crate::plays::{Story, tell_story};
+use interleave::{Event, Moment, Naming, Note, Play, StepRefusal};
+use std::alloc::{AllocError, Global};
 use std::process::Abort;
 use std::test::Fail;
 
-/// An event by the numbers of its worker and its session.
-#[derive(Clone, Copy)]
-enum Act {
-    Connect,
-    Feed(u64, &'static str),
-    Pick(u64, u64),
-    Begin(u64),
-    Put(u64),
-    End(u64),
-    Take(u64),
-}
+/// Al and bo register by the records 3 to 6, and each has a line that nobody picked.
+const START: [(Act, Told); 18] = [
+    (Act::Connect, Told::Session(1)),
+    (Act::Connect, Told::Session(2)),
+    (
+        Act::Feed(1, "NICK al\r\nUSER a 0 * :Al\r\nPING x\r\n"),
+        Told::Read(3),
+    ),
+    (
+        Act::Feed(2, "NICK bo\r\nUSER b 0 * :Bo\r\nPING y\r\n"),
+        Told::Read(3),
+    ),
+    (Act::Pick(1, 1), Told::Picked),
+    (Act::Begin(1), Told::Record(3)),
+    (Act::End(1), Told::Done(3)),
+    (Act::Pick(1, 1), Told::Picked),
+    (Act::Begin(1), Told::Record(4)),
+    (Act::Put(1), Told::Put(1)),
+    (Act::End(1), Told::Done(4)),
+    (Act::Pick(1, 2), Told::Picked),
+    (Act::Begin(1), Told::Record(5)),
+    (Act::End(1), Told::Done(5)),
+    (Act::Pick(1, 2), Told::Picked),
+    (Act::Begin(1), Told::Record(6)),
+    (Act::Put(1), Told::Put(2)),
+    (Act::End(1), Told::Done(6)),
+];
 
-/// What became of an event, by numbers.
-#[derive(Clone, Copy, PartialEq)]
-enum Told {
-    Session(u64),
-    Read(usize),
-    Picked,
-    Record(u64),
-    Put(u64),
-    Done(u64),
-    Refused(StepRefusal),
-    Other,
-}
-
-/// An event, and what is to become of it.
-type Row = (Act, Told);
-
-/// Al and bo register by the records 3 to 6, and each has a line that nobody picked; then two workers share the lock.
-const RUNS: [[Row; 6]; 6] = [
-    [
-        (Act::Connect, Told::Session(1)),
-        (Act::Connect, Told::Session(2)),
-        (
-            Act::Feed(1, "NICK al\r\nUSER a 0 * :Al\r\nPING x\r\n"),
-            Told::Read(3),
-        ),
-        (
-            Act::Feed(2, "NICK bo\r\nUSER b 0 * :Bo\r\nPING y\r\n"),
-            Told::Read(3),
-        ),
-        (Act::Pick(1, 1), Told::Picked),
-        (Act::Begin(1), Told::Record(3)),
-    ],
-    [
-        (Act::End(1), Told::Done(3)),
-        (Act::Pick(1, 1), Told::Picked),
-        (Act::Begin(1), Told::Record(4)),
-        (Act::Put(1), Told::Put(1)),
-        (Act::End(1), Told::Done(4)),
-        (Act::Pick(1, 2), Told::Picked),
-    ],
-    [
-        (Act::Begin(1), Told::Record(5)),
-        (Act::End(1), Told::Done(5)),
-        (Act::Pick(1, 2), Told::Picked),
-        (Act::Begin(1), Told::Record(6)),
-        (Act::Put(1), Told::Put(2)),
-        (Act::End(1), Told::Done(6)),
-    ],
+/// Two workers share the lock, in three runs.
+const RUNS: [[(Act, Told); 6]; 3] = [
     [
         (Act::Pick(1, 1), Told::Picked),
         (Act::Pick(2, 1), Told::Refused(StepRefusal::InFlight)),
@@ -99,150 +64,62 @@ const RUNS: [[Row; 6]; 6] = [
     ],
 ];
 
-/// These octets, or none where there is no memory for them.
-fn octets_of(alloc: Global, text: &str) -> Octets {
-    match Octets::copied(alloc, text.as_bytes()) {
-        Ok(octets) => octets,
-        Err(_) => Octets::from_vec(Vec::new(alloc)),
-    }
-}
-
-/// The event by which a client connects; another that changes nothing, where there is no memory for its host.
-fn connects(alloc: Global) -> Event
+/// The event of a step.
+fn event(step: (Act, Told)) -> Event
     ensures { IsWellShaped result }
 {
-    let host = octets_of(alloc, "one.example");
-    if is_host(host.as_slice()) {
-        Event::Connect {
-            host,
-            moment: Moment::new(2000),
-        }
-    } else {
-        Event::Take {
-            session: SessionId::new(0),
-        }
-    }
+    plain_event(step.0, Moment::new(2000))
 }
 
-/// The event of a row.
-fn event(alloc: Global, row: Row) -> Event
-    ensures { IsWellShaped result }
-{
-    match row.0 {
-        Act::Connect => connects(alloc),
-        Act::Feed(session, text) => Event::Feed {
-            session: SessionId::new(session),
-            octets: octets_of(alloc, text),
-        },
-        Act::Pick(worker, session) => Event::Pick {
-            worker: WorkerId::new(worker),
-            session: SessionId::new(session),
-        },
-        Act::Begin(worker) => Event::Begin {
-            worker: WorkerId::new(worker),
-            moment: Moment::new(2000),
-        },
-        Act::Put(worker) => Event::Put {
-            worker: WorkerId::new(worker),
-        },
-        Act::End(worker) => Event::End {
-            worker: WorkerId::new(worker),
-        },
-        Act::Take(session) => Event::Take {
-            session: SessionId::new(session),
-        },
-    }
-}
-
-/// An answer by its numbers.
-fn brief(answer: &Result<Note, StepRefusal>) -> Told {
-    match answer {
-        Ok(Note::Session(session)) => Told::Session(session.number()),
-        Ok(Note::Read(lines)) => Told::Read(*lines),
-        Ok(Note::Picked) => Told::Picked,
-        Ok(Note::Record(number)) => Told::Record(number.number()),
-        Ok(Note::Put(session)) => Told::Put(session.number()),
-        Ok(Note::Done(Done { number, .. })) => Told::Done(number.number()),
-        Ok(_) => Told::Other,
-        Err(refusal) => Told::Refused(*refusal),
-    }
-}
-
-/// Whether the notes are what a run is to give.
-fn are_told(notes: &[Result<Note, StepRefusal>], run: &[Row; 6]) -> bool {
-    if notes.len() != run.len() {
-        return false;
-    }
-    for (note, (_, want)) in notes.iter().zip(run.iter()) {
-        if brief(note) != *want {
-            return false;
-        }
-    }
-    true
-}
-
-/// Takes the events of a run at once, and answers whether each is answered as it is to be.
-fn is_answered<L: Naming>(alloc: Global, play: &mut Play<L>, run: [Row; 6]) -> bool {
-    let [one, two, three, four, five, six] = run;
+/// Takes the events of a run at once.
+fn run<L: Naming>(
+    play: &mut Play<L>,
+    [one, two, three, four, five, six]: [(Act, Told); 6],
+) -> Result<Vec<Result<Note, StepRefusal>>, AllocError> {
     let events = [
-        event(alloc, one),
-        event(alloc, two),
-        event(alloc, three),
-        event(alloc, four),
-        event(alloc, five),
-        event(alloc, six),
+        event(one),
+        event(two),
+        event(three),
+        event(four),
+        event(five),
+        event(six),
     ];
-    match play.run(&events) {
-        Ok(notes) => are_told(notes.as_slice(), &run),
-        Err(_) => false,
-    }
+    play.run(&events)
 }
 
-/// Whether all runs are answered as they are to be.
-fn are_answered<L: Naming>(alloc: Global, play: &mut Play<L>) -> bool {
-    for run in &RUNS {
-        if !is_answered(alloc, play, *run) {
-            return false;
+/// Takes a run, and compares what became of its events. It ends early where a growth was refused.
+fn compare_run<L: Naming>(
+    rt: &impl Abort,
+    play: &mut Play<L>,
+    events: [(Act, Told); 6],
+) -> Result<(), AllocError> {
+    let notes = run(play, events)?;
+    assert_eq!(rt; notes.len(), events.len());
+    for (note, (_, want)) in notes.iter().zip(events.iter()) {
+        let told = brief(note);
+        if told == Told::Refused(StepRefusal::Memory) {
+            return Err(AllocError);
         }
+        assert_eq!(rt; told, *want);
     }
-    true
+    Ok(())
 }
 
-/// The settings of a server for four sessions.
-fn settings(alloc: Global) -> Settings {
-    Settings {
-        server: octets_of(alloc, "irc.example"),
-        info: octets_of(alloc, "halld"),
-        version: octets_of(alloc, "halld-1"),
-        created: Moment::new(0),
-        motd: None,
-        accounts: Accounts::new(alloc),
-        sessions: 4,
+/// Al and bo come, and two workers take their lines.
+pub(crate) fn tell<L: Naming>(
+    rt: &impl Abort,
+    alloc: Global,
+    play: &mut Play<L>,
+) -> Result<(), AllocError> {
+    compare(rt, alloc, play, &START)?;
+    for events in &RUNS {
+        compare_run(rt, play, *events)?;
     }
-}
-
-/// Whether they are in a play with this register.
-fn are_answered_with<L: Naming>(alloc: Global, register: Register<()>) -> bool
-    requires named { register.table ≡ L.table }
-    requires empty { register.rows ≡ [] }
-{
-    match Play::<L>::new(alloc, register, settings(alloc), 1000, 2, 4) {
-        Ok(mut play) => are_answered(alloc, &mut play),
-        Err(_) => false,
-    }
-}
-
-/// Whether they are in a play of their own.
-fn is_played(alloc: Global) -> bool {
-    match Register::new(alloc) {
-        Ok(register) => are_answered_with::<Brand>(alloc, register),
-        Err(_) => false,
-    }
+    Ok(())
 }
 
 /// Two workers share the lock; each refusal comes by its name, also where the events are taken in runs.
 #[test]
 fn each_event_of_a_run_is_answered(rt: HostRuntime) -> Result<(), Fail> {
-    assert!(rt; is_played(rt.alloc()), "an event was answered otherwise");
-    Ok(())
+    tell_story(&rt, rt.alloc(), Story::Run)
 }
