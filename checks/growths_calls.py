@@ -25,7 +25,14 @@ BY_TESTS = {
         "line, and none by hang, take_now, write_out": ["wanting::who_is_hung_for_memory_is_told_without_any"],
     },
     "play_trials": {"Play::step": ["growths::a_labelled_line_without_memory_changes_nothing"]},
-    "crew_trials": {"work_one": ["wanting::who_finds_no_memory_is_ended"]},
+    "crew_trials": {
+        "work_one": [
+            "wanting::who_finds_no_memory_is_ended",
+            "wanting::who_finds_no_memory_for_a_roll_is_ended",
+            "wanting::a_line_without_memory_is_done_when_it_comes_again",
+        ],
+        "beat, close_now": ["wanting::who_is_silent_goes_though_memory_is_wanting"],
+    },
 }
 
 # Tests that mark a part of themselves in which no memory is asked for: its begin and its end ask for so many octets.

@@ -40,10 +40,10 @@ pub struct Written<L: Naming, W: Write + Drop> {
 /// writing is over. `is_shut` says whether the session was shut before this call. After a fault of the stream the
 /// session is ended with that reason.
 ///
-/// It is over only where the session's last item went out; where the session is shut, and all that was sent at a
-/// moment of the call went out; or where its stream has a fault. What went out is said by the wire itself
-/// (`Wire::in_step`), whoever pumped it: the texts of the items that its writer took, in order, but for a rest. The
-/// writer comes back out of the wire.
+/// It is over only where the session's last item went out; where the session is shut, all went out, and the outbox was
+/// found empty in this call; or where its stream answered that it takes no more. What went out is said by the wire
+/// itself (`Wire::in_step`), whoever pumped it: the texts of the items that its writer took, in order, but for a rest.
+/// The writer comes back out of the wire.
 pub fn write_some<L: Naming, W: Write + Drop, R: Wait + Drop, G: Gate, S: Sockets, C: Clock>(
     rt: &R,
     server: &Server<'_, L, R, G, S, C>,
@@ -53,7 +53,8 @@ pub fn write_some<L: Naming, W: Write + Drop, R: Wait + Drop, G: Gate, S: Socket
     told: &mut Told,
 ) -> Written<L, W>
     ensures over { result.standing ≡ Over
-        → IsSomeAnd result.pumped (λ p. IsWritten (is_shut ≡ true) session p.after.value) }
+        → IsSomeAnd result.pumped
+        (λ p. IsWritten (is_shut ≡ true) session p.before.value p.after.value) }
 {
     let Some(pumped) = outlet.write_now(rt) else {
         return Written {

@@ -3,7 +3,6 @@ use chronicle::{Moment, SessionId};
 use crew::{Backlog, Clock, Gate, Sockets};
 use hall::Told;
 use std::io::{ErrorKind, Read, Write};
-use std::sync::Arc;
 use std::sync::atomic::{AtomicBool, AtomicI64, AtomicU64, AtomicUsize, Ordering};
 use std::time::Duration;
 use std::{io, thread, time};
@@ -190,16 +189,17 @@ impl Backlog for Heap<'_> {
     }
 }
 
-/// A client's input, which comes in parts of so many octets at most, and then fails.
+/// A client's input, which comes in parts of so many octets at most, and then ends or fails.
 #[derive(Drop)]
 pub(crate) struct Torn<'a> {
     pub(crate) octets: &'a [u8],
     pub(crate) most: usize,
+    pub(crate) ends: bool,
 }
 
 impl Read for Torn<'_> {
     fn read(&mut self, buf: &mut [u8]) -> io::Result<usize> {
-        if self.octets.is_empty() {
+        if self.octets.is_empty() && !self.ends {
             return Err(io::Error::from(ErrorKind::ConnectionReset));
         }
         let count = self.octets.len().min(buf.len()).min(self.most);
@@ -245,20 +245,42 @@ impl Write for Broken {
     }
 }
 
-/// A stream that takes everything and counts its octets.
+/// A stream that takes just these octets, and fails at others.
 #[derive(Drop)]
-pub(crate) struct Tally {
-    written: Arc<AtomicU64>,
+pub(crate) struct Wanted<'a> {
+    pub(crate) left: &'a [u8],
 }
 
-impl Tally {
+impl Write for Wanted<'_> {
+    fn write(&mut self, buf: &[u8]) -> io::Result<usize> {
+        match self.left.strip_prefix(buf) {
+            Some(left) => {
+                self.left = left;
+                Ok(buf.len())
+            }
+            None => Err(io::Error::from(ErrorKind::InvalidData)),
+        }
+    }
+
+    fn flush(&mut self) -> io::Result<()> {
+        Ok(())
+    }
+}
+
+/// A stream that takes everything and counts its octets.
+#[derive(Drop)]
+pub(crate) struct Tally<'a> {
+    written: &'a AtomicU64,
+}
+
+impl<'a> Tally<'a> {
     /// A stream that counts here.
-    pub(crate) fn new(written: Arc<AtomicU64>) -> Tally {
+    pub(crate) fn new(written: &'a AtomicU64) -> Tally<'a> {
         Tally { written }
     }
 }
 
-impl Write for Tally {
+impl Write for Tally<'_> {
     fn write(&mut self, buf: &[u8]) -> io::Result<usize> {
         self.written.fetch_add(buf.len() as u64, Ordering::SeqCst);
         Ok(buf.len())
@@ -271,19 +293,19 @@ impl Write for Tally {
 
 /// A stream that takes nothing so many times, and then everything, and counts its writes.
 #[derive(Drop)]
-pub(crate) struct Stuck {
+pub(crate) struct Stuck<'a> {
     left: u64,
-    writes: Arc<AtomicU64>,
+    writes: &'a AtomicU64,
 }
 
-impl Stuck {
+impl<'a> Stuck<'a> {
     /// A stream that takes nothing so many times, and counts here.
-    pub(crate) fn new(left: u64, writes: Arc<AtomicU64>) -> Stuck {
+    pub(crate) fn new(left: u64, writes: &'a AtomicU64) -> Stuck<'a> {
         Stuck { left, writes }
     }
 }
 
-impl Write for Stuck {
+impl Write for Stuck<'_> {
     fn write(&mut self, buf: &[u8]) -> io::Result<usize> {
         self.writes.fetch_add(1, Ordering::SeqCst);
         if self.left == 0 {

@@ -1,15 +1,12 @@
 //! While much waits for a client, its own lines wait for it.
 use crate::fakes::Heap;
-use crate::making::Tokens;
-use crate::trial::{Stage, Trial, begun, try_out, wired};
+use crate::making::Guest;
+use crate::scene::Scene;
+use crate::trial::{Trial, try_out};
 use chronicle::Why;
-use crew::{Intake, Next, read_some};
-use hall::{Baton, Hall, Naming, Told};
-use outbox::Sender;
-use std::alloc::Global;
-use std::process::Abort;
-use std::sync::{Mutex, Wait};
-use std::test::Fail;
+use crew::Next;
+use hall::Naming;
+use std::sync::Wait;
 use wire::Flow;
 
 /// Five lines, which one read brings.
@@ -46,30 +43,28 @@ const LESS_AND_LESS: [Call; 3] = [
     (&[], 0, 5, Next::Over(Why::ReadEnded)),
 ];
 
+/// Whether as many octets and lines are left, and told, as are to be.
+fn is_left<L: Naming, R: Wait + Drop>(
+    scene: &Scene<'_, L, R>,
+    al: &Guest<L, R>,
+    octets: usize,
+    call: &Call,
+) -> bool {
+    let (_, unread, done, next) = call;
+    octets == *unread
+        && scene.records() == done.saturating_add(1)
+        && al.has_lines() == (*unread == 0 && *done < 5)
+        && (*next != Next::Left || al.told.records() == 0)
+}
+
 /// Five lines come in one read, and the calls do them as they are to, in order.
-fn reads<L: Naming, R: Wait + Abort + Copy + Drop>(
-    rt: &R,
-    alloc: Global,
-    stage: &Stage<'_, L, R>,
-    baton: Baton<L, Sender<R>>,
-    calls: &[Call],
-) -> Result<(), Fail> {
-    let mut intake = Intake::new(alloc)?;
-    let (mut baton, mut told) = (baton, Told::new(alloc));
+fn reads<L: Naming, R: Wait + Drop>(scene: &Scene<'_, L, R>, al: &mut Guest<L, R>, calls: &[Call]) {
     let mut input: &[u8] = SAID;
-    for (looks, unread, done, next) in calls {
-        let heap = Heap::new(looks);
-        let took = read_some(rt, stage, &mut intake, baton, &heap, &mut input, &mut told);
-        assert_eq!(rt; (took.all, took.next), (true, *next));
-        assert_eq!(rt;
-            (input.len(), stage.hall.lock(rt).len()),
-            (*unread, done.saturating_add(1))
-        );
-        assert_eq!(rt; intake.has_lines(), *unread == 0 && *done < 5);
-        assert!(rt; *next != Next::Left || told.records() == 0, "all are told");
-        baton = took.baton;
+    for call in calls {
+        let heap = Heap::new(call.0);
+        scene.note(al.reads(scene, &heap, &mut input) == (true, call.3));
+        scene.note(is_left(scene, al, input.len(), call));
     }
-    Ok(())
 }
 
 /// Five lines that are done by these calls, and what is told of them.
@@ -78,36 +73,26 @@ struct Leaving {
     calls: &'static [Call],
 }
 
-impl<R: Wait + Abort + Copy + Drop> Trial<R> for Leaving {
-    fn run<L: Naming + Send + Sync>(
-        &self,
-        rt: &R,
-        alloc: Global,
-        lock: &Mutex<Hall<L, Sender<R>>>,
-    ) -> Result<(), Fail> {
-        let (around, tokens) = begun(rt, alloc, lock)?;
-        let stage = &around.stage(lock);
-        let (baton, mut wire) = wired(alloc, tokens, Vec::new(alloc))?;
-        reads(rt, alloc, stage, baton, self.calls)?;
-        assert_eq!(rt; wire.pump(rt), Ok(Flow::Idle));
-        assert_eq!(rt; wire.stream().as_slice(), OUTPUT.as_slice());
-        Ok(())
+impl<R: Wait + Copy + Drop> Trial<R> for Leaving {
+    fn run<L: Naming>(&self, scene: &Scene<'_, L, R>, al: &mut Guest<L, R>) {
+        reads(scene, al, self.calls);
+        scene.note(al.is_told(scene, Flow::Idle, (OUTPUT, b"")));
     }
 }
 
 /// Five lines come in one read of a client for which much waits after each: one is done a call, in order, and the
 /// others stay; once little waits the rest are done, and then the end of the input is told.
 #[test]
-fn lines_wait_while_much_waits(rt: HostRuntime) -> Result<(), Fail> {
-    try_out(&rt, rt.alloc(), &Leaving { calls: &ONE_BY_ONE })
+fn lines_wait_while_much_waits(rt: HostRuntime) {
+    try_out(&rt, rt.alloc(), &Leaving { calls: &ONE_BY_ONE });
 }
 
 /// Five lines come in one read of a client for which much waits after each: one is done a call, in order, and the
 /// others stay; once little waits the rest are done, and then the end of the input is told.
 #[test]
-fn lines_go_on_once_less_waits(rt: HostRuntime) -> Result<(), Fail> {
+fn lines_go_on_once_less_waits(rt: HostRuntime) {
     let leaving = Leaving {
         calls: &LESS_AND_LESS,
     };
-    try_out(&rt, rt.alloc(), &leaving)
+    try_out(&rt, rt.alloc(), &leaving);
 }

@@ -18,6 +18,8 @@ mod reading;
 #[cfg(test)]
 mod refusing;
 #[cfg(test)]
+mod scene;
+#[cfg(test)]
 mod sweeping;
 #[cfg(test)]
 mod taking;

@@ -1,78 +1,61 @@
 //! A writer takes while the hall is locked.
-use crate::fakes::{Open, TURNS, rest};
-use crate::making::{Tokens, line};
-use crate::threads::{Threaded, try_with_threads};
-use chronicle::Moment;
-use crew::{Job, work_one};
-use deliveries::{Delivery, Item};
-use hall::{Hall, Naming, Told};
-use outbox::{Sender, Writer};
-use std::alloc::Global;
-use std::process::Abort;
-use std::sync::{Mutex, Wait};
-use std::test::Fail;
+use crate::fakes::{TURNS, rest};
+use crate::making::{Guest, is_text};
+use crate::scene::Scene;
+use crate::threads::Threaded;
+use crate::trial::try_with_threads;
+use hall::Naming;
+use std::sync::Wait;
 use std::thread::{Threads, join};
 use std::time::Clock;
 
-/// Takes an item within so many looks.
-fn take<R: Wait + Clock>(rt: &R, writer: &mut Writer) -> Option<Item> {
+/// Whether an item comes within so many looks, and is these lines.
+fn hears_soon<L: Naming, R: Wait + Clock + Drop>(
+    rt: &R,
+    guest: &mut Guest<L, R>,
+    lines: &[u8],
+) -> bool {
     for _ in 0..TURNS {
-        if let Ok(item) = writer.take_now(rt) {
-            return Some(item);
+        if let Some(item) = guest.takes(rt) {
+            return is_text(&item, lines);
         }
         rest(rt);
     }
-    None
+    false
 }
 
-/// Whether an item is these lines.
-fn says(item: Option<Item>, lines: &[u8]) -> bool {
-    match item.as_ref().map(Item::delivery) {
-        Some(Delivery::Lines { text, .. }) => text.as_slice() == lines,
-        _ => false,
-    }
+/// Whether a line of a session is done, and just this session is told.
+fn is_told<L: Naming, R: Wait + Drop>(scene: &Scene<'_, L, R>, al: &mut Guest<L, R>) -> bool {
+    al.does(scene, b"PING x").is_ok()
+        && al.told.sessions() == [al.session].as_slice()
+        && !al.told.is_all()
+}
+
+/// Whether these lines are taken by another thread while this one has the hall.
+fn takes_meanwhile<L: Naming + Send + Sync, R: Threads + Wait + Clock + Copy + Drop + Send + Sync>(
+    scene: &Scene<'_, L, R>,
+    al: &mut Guest<L, R>,
+    lines: &[u8],
+) -> bool {
+    let hall = scene.stage.hall.lock(scene.rt);
+    let (is_heard, ()) = join(scene.rt, || hears_soon(scene.rt, al, lines), || {});
+    drop(hall);
+    is_heard
 }
 
 /// An outbox is empty, and what a line owes is taken by another thread while this one has the hall.
 pub(crate) fn take_meanwhile<
     L: Naming + Send + Sync,
-    R: Threads + Wait + Clock + Abort + Copy + Drop + Send + Sync,
->(
-    rt: &R,
-    alloc: Global,
-    lock: &Mutex<Hall<L, Sender<R>>>,
-    tokens: Tokens<L, R>,
-) -> Result<(), Fail> {
-    let Tokens {
-        baton,
-        mut writer,
-        ..
-    } = tokens;
-    let session = baton.session();
-    assert!(rt; writer.take_now(rt).is_err(), "nothing waits");
-    let mut told = Told::new(alloc);
-    let job = Job {
-        baton,
-        piece: line(alloc, b"PING x")?,
-    };
-    let back = work_one(rt, lock, job, Moment::new(0), &Open, &mut told);
-    assert!(rt; back.outcome.is_ok(), "it is done");
-    assert!(rt;
-        told.sessions() == [session].as_slice() && !told.is_all(),
-        "one is told"
-    );
-    let hall = lock.lock(rt);
-    let (item, ()) = join(rt, || take(rt, &mut writer), || {});
-    drop(hall);
-    assert!(rt;
-        says(item, b":irc.example PONG irc.example x\r\n"),
-        "it is taken"
-    );
-    Ok(())
+    R: Threads + Wait + Clock + Copy + Drop + Send + Sync,
+>(scene: &Scene<'_, L, R>, al: &mut Guest<L, R>) {
+    scene.note(!al.hears(scene.rt));
+    scene.note(is_told(scene, al));
+    let lines = b":irc.example PONG irc.example x\r\n";
+    scene.note(takes_meanwhile(scene, al, lines));
 }
 
 /// An item is taken by another thread while the hall is locked.
 #[test]
-fn an_item_is_taken_while_the_hall_is_locked(rt: HostRuntime) -> Result<(), Fail> {
-    try_with_threads(&rt, rt.alloc(), Threaded::Take)
+fn an_item_is_taken_while_the_hall_is_locked(rt: HostRuntime) {
+    try_with_threads(&rt, rt.alloc(), Threaded::Take);
 }

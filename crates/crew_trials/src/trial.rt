@@ -1,173 +1,155 @@
 //! A trial on a server in memory.
 ghost use Rattle.std.specs.Prelude.{◌≡◌, []};
 
-use crate::fakes::{Dial, Noted, Open};
-use crate::making::{Tokens, hung_for, open};
-use chronicle::{RecordNumber, SessionId, Why};
-use crew::{Desk, Server, Sockets};
+use crate::making::Guest;
+use crate::scene::{Scene, Surroundings};
+use crate::threads::{Threaded, run_with_threads};
 use crew_apart::hall;
-use hall::{Baton, Hall, Naming, Register};
-use line_grammar::Octets;
+use hall::{Hall, Naming, Register};
 use outbox::{ChannelName, Sender};
-use std::alloc::{AllocError, Global};
-use std::io::Write;
+use std::alloc::Global;
 use std::marker::Brand;
 use std::process::Abort;
 use std::sync::{Mutex, Wait};
-use std::test::Fail;
-use wire::Wire;
+use std::thread::Threads;
+use std::time::Clock;
 
-/// The server of a trial.
-pub(crate) type Stage<'a, L, R> = Server<'a, L, R, Open, Noted, Dial>;
-
-/// What stands around a hall: a desk with one slot, connections, and a clock.
-#[derive(Drop)]
-pub(crate) struct Surroundings {
-    pub(crate) desk: Desk,
-    sockets: Noted,
-    clock: Dial,
-}
-
-impl Surroundings {
-    /// Nobody is shut or told, and the clock shows 0.
-    pub(crate) fn new<R: Wait>(rt: &R, alloc: Global) -> Result<Surroundings, AllocError> {
-        Ok(Surroundings {
-            desk: Desk::new(rt, alloc, 1)?,
-            sockets: Noted::new(),
-            clock: Dial::new(),
-        })
-    }
-
-    /// The server of this hall.
-    pub(crate) fn stage<'a, L: Naming, R: Wait + Drop>(
-        &'a self,
-        hall: &'a Mutex<Hall<L, Sender<R>>>,
-    ) -> Stage<'a, L, R> {
-        Server {
-            hall,
-            gate: &Open,
-            sockets: &self.sockets,
-            clock: &self.clock,
-            burst: 4,
-        }
-    }
-}
-
-/// What is tried in a hall that was just made.
+/// What is tried in a hall that was just made, with a session that was opened.
 pub(crate) trait Trial<R: Wait + Drop> {
-    fn run<L: Naming + Send + Sync>(
-        &self,
-        rt: &R,
-        alloc: Global,
-        lock: &Mutex<Hall<L, Sender<R>>>,
-    ) -> Result<(), Fail>;
+    /// Takes its steps, and notes each.
+    fn run<L: Naming>(&self, scene: &Scene<'_, L, R>, al: &mut Guest<L, R>);
 }
 
-/// What stands around a hall, and a session that is opened, or nothing where either is refused.
-pub(crate) fn begin<L: Naming, R: Wait + Copy + Drop>(
-    rt: &R,
-    alloc: Global,
-    lock: &Mutex<Hall<L, Sender<R>>>,
-) -> Option<(Surroundings, Tokens<L, R>)> {
-    let around = Surroundings::new(rt, alloc).ok()?;
-    Some((around, open(rt, alloc, lock)?))
+/// What is tried with two sessions.
+pub(crate) trait Meeting<R: Wait + Drop> {
+    /// Takes its steps, and notes each.
+    fn run<L: Naming>(&self, scene: &Scene<'_, L, R>, al: &mut Guest<L, R>, bo: &mut Guest<L, R>);
 }
 
-/// What stands around a hall, and a session that is opened.
-pub(crate) fn begun<L: Naming, R: Wait + Copy + Drop>(
-    rt: &R,
-    alloc: Global,
-    lock: &Mutex<Hall<L, Sender<R>>>,
-) -> Result<(Surroundings, Tokens<L, R>), Fail> {
-    match begin(rt, alloc, lock) {
-        Some(begun) => Ok(begun),
-        None => Err("a session".into()),
+/// A meeting, for which another session is opened.
+#[derive(Drop)]
+pub(crate) struct Both<X>(pub(crate) X);
+
+impl<X: Meeting<R>, R: Wait + Copy + Drop> Trial<R> for Both<X> {
+    fn run<L: Naming>(&self, scene: &Scene<'_, L, R>, al: &mut Guest<L, R>) {
+        let mut bo = Guest::opened(scene.rt, scene.alloc, scene.stage.hall);
+        scene.note(bo.is_in());
+        self.0.run(scene, al, &mut bo);
     }
 }
 
-/// A trial in a hall whose sessions this register has. It answers whether there was memory for the hall.
-fn tried_in<L: Naming + Send + Sync, X: Trial<R>, R: Wait + Drop>(
+/// No trial.
+pub(crate) struct Nothing;
+
+impl<R: Wait + Drop> Trial<R> for Nothing {
+    fn run<L: Naming>(&self, scene: &Scene<'_, L, R>, _al: &mut Guest<L, R>) {
+        scene.note(false);
+    }
+}
+
+/// What is tried: a trial, or something with threads, which a trait's method can't start.
+#[derive(Drop)]
+enum Task<'a, X> {
+    Plain(&'a X),
+    Threaded(Threaded),
+}
+
+/// Runs a task.
+fn run<L: Naming + Send + Sync, X: Trial<R>, R: Threads + Wait + Clock + Copy + Drop + Send + Sync>(
+    scene: &Scene<'_, L, R>,
+    al: &mut Guest<L, R>,
+    task: &Task<'_, X>,
+) {
+    match task {
+        Task::Plain(trial) => trial.run(scene, al),
+        Task::Threaded(trial) => run_with_threads(scene, al, *trial),
+    }
+}
+
+/// Runs a task over this hall, with a session that is opened.
+fn run_over<
+    L: Naming + Send + Sync,
+    X: Trial<R>,
+    R: Threads + Wait + Clock + Copy + Drop + Send + Sync,
+>(
+    rt: &R,
+    alloc: Global,
+    hall: &Mutex<Hall<L, Sender<R>>>,
+    around: &Surroundings,
+    task: &Task<'_, X>,
+) {
+    let scene = &around.scene(rt, alloc, hall);
+    let mut al = Guest::opened(rt, alloc, hall);
+    scene.note(al.is_in());
+    run(scene, &mut al, task);
+}
+
+/// Runs a task in a hall whose sessions this register has. It answers whether there was memory for the hall.
+fn run_in<
+    L: Naming + Send + Sync,
+    X: Trial<R>,
+    R: Threads + Wait + Clock + Copy + Drop + Send + Sync,
+>(
     rt: &R,
     alloc: Global,
     register: Register<ChannelName>,
-    trial: &X,
-) -> Result<bool, Fail>
+    around: &Surroundings,
+    task: &Task<'_, X>,
+) -> bool
     requires named { register.table ≡ L.table }
     requires empty { register.rows ≡ [] }
 {
-    let made: Option<Hall<L, Sender<R>>> = hall(alloc, register);
-    let Some(made) = made else {
-        return Ok(false);
-    };
-    let lock = Mutex::new(made);
-    let tried = trial.run(rt, alloc, &lock);
-    drop(lock);
-    tried?;
-    Ok(true)
-}
-
-/// A trial in a hall with a register of its own. It answers whether there was memory for both.
-pub(crate) fn tried<X: Trial<R>, R: Wait + Drop>(
-    rt: &R,
-    alloc: Global,
-    trial: &X,
-) -> Result<bool, Fail> {
-    let Ok(register) = Register::new(alloc) else {
-        return Ok(false);
-    };
-    tried_in::<Brand, X, R>(rt, alloc, register, trial)
-}
-
-/// A trial in a hall.
-pub(crate) fn try_out<X: Trial<R>, R: Wait + Drop>(
-    rt: &R,
-    alloc: Global,
-    trial: &X,
-) -> Result<(), Fail> {
-    if tried(rt, alloc, trial)? {
-        return Ok(());
-    }
-    Err("a hall".into())
-}
-
-/// A session's baton, and a wire from its outbox to this stream.
-pub(crate) fn wired<L: Naming, R: Wait + Drop, W: Write + Drop>(
-    alloc: Global,
-    tokens: Tokens<L, R>,
-    stream: W,
-) -> Result<(Baton<L, Sender<R>>, Wire<L, W>), Fail> {
-    let Tokens {
-        baton,
-        stub,
-        writer,
-    } = tokens;
-    let host = Octets::copied(alloc, b"h1")?;
-    match Wire::new(alloc, writer, stub, stream, host) {
-        Ok(wire) => Ok((baton, wire)),
-        Err(_) => Err("a wire".into()),
+    match hall::<L, R>(alloc, register) {
+        Some(made) => {
+            run_over(rt, alloc, &Mutex::new(made), around, task);
+            true
+        }
+        None => false,
     }
 }
 
-/// The hall and the only slot are there.
-pub(crate) fn assert_free<L: Naming, R: Wait + Abort + Drop>(
+/// Runs a task in a hall with a register of its own. It answers whether there was memory for both.
+fn run_once<X: Trial<R>, R: Threads + Wait + Clock + Copy + Drop + Send + Sync>(
     rt: &R,
-    stage: &Stage<'_, L, R>,
-    desk: &Desk,
-) {
-    assert!(rt; desk.slot(rt).is_some(), "the slot is there");
-    assert!(rt; stage.hall.try_lock().is_some(), "the hall is given back");
+    alloc: Global,
+    around: &Surroundings,
+    task: &Task<'_, X>,
+) -> bool {
+    match Register::new(alloc) {
+        Ok(register) => run_in::<Brand, X, R>(rt, alloc, register, around, task),
+        Err(_) => false,
+    }
 }
 
-/// The newest record has this number and ended this session for this reason, and the session is shut.
-pub(crate) fn assert_ended<L: Naming, R: Wait + Abort + Drop>(
+/// Runs a task in a hall, which is made once more where there was no memory for it. Each of its steps is as it is to
+/// be.
+fn run_all<X: Trial<R>, R: Threads + Wait + Clock + Abort + Copy + Drop + Send + Sync>(
     rt: &R,
-    stage: &Stage<'_, L, R>,
-    session: SessionId,
-    why: Why,
-    number: u64,
+    alloc: Global,
+    task: &Task<'_, X>,
 ) {
-    assert_eq!(rt; stage.hall.lock(rt).len() as u64, number);
-    let hung = hung_for(&stage.hall.lock(rt), RecordNumber::new(number));
-    assert_eq!(rt; hung, Some((session, why)));
-    assert!(rt; stage.sockets.is_shut(session), "it is shut");
+    let Some(around) = Surroundings::new(rt, alloc) else {
+        return assert!(rt; false, "what stands around a hall");
+    };
+    let is_run = run_once(rt, alloc, &around, task) || run_once(rt, alloc, &around, task);
+    around.steps.note(is_run);
+    around.steps.assert_right(rt);
+}
+
+/// A trial.
+pub(crate) fn try_out<X: Trial<R>, R: Threads + Wait + Clock + Abort + Copy + Drop + Send + Sync>(
+    rt: &R,
+    alloc: Global,
+    trial: &X,
+) {
+    run_all(rt, alloc, &Task::Plain(trial));
+}
+
+/// A trial with threads.
+pub(crate) fn try_with_threads<R: Threads + Wait + Clock + Abort + Copy + Drop + Send + Sync>(
+    rt: &R,
+    alloc: Global,
+    trial: Threaded,
+) {
+    run_all::<Nothing, R>(rt, alloc, &Task::Threaded(trial));
 }

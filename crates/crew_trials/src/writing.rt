@@ -1,22 +1,18 @@
 //! What waits for a session is written while the hall is locked.
-use crate::fakes::{Broken, Open, TURNS, Tally, rest};
-use crate::making::{Tokens, line};
-use crate::threads::{Threaded, try_with_threads};
-use crate::trial::{Stage, Trial, assert_ended, begun, try_out, wired};
-use chronicle::{Moment, SessionId, Why};
-use crew::{Job, Outlet, Sockets, Standing, work_one, write_on, write_some};
-use hall::{Baton, Hall, Naming, Told};
-use line_grammar::Piece;
-use outbox::{Bell, Sender};
-use std::alloc::Global;
+use crate::fakes::{Broken, TURNS, Tally, rest};
+use crate::making::Guest;
+use crate::scene::Scene;
+use crate::threads::Threaded;
+use crate::trial::{Trial, try_out, try_with_threads};
+use chronicle::{SessionId, Why};
+use crew::{Outlet, Sockets, Standing, write_some};
+use hall::{Naming, Told};
+use outbox::Bell;
 use std::io::Write;
-use std::process::Abort;
+use std::sync::Wait;
 use std::sync::atomic::{AtomicBool, AtomicU64, Ordering};
-use std::sync::{Arc, Mutex, Wait};
-use std::test::Fail;
 use std::thread::{Threads, join};
 use std::time::Clock;
-use wire::Wire;
 
 /// What a `PING x` is answered.
 const PONG: &[u8; 33] = b":irc.example PONG irc.example x\r\n";
@@ -43,164 +39,104 @@ fn are_written<R: Clock>(rt: &R, written: &AtomicU64, count: u64) -> bool {
 }
 
 /// Whether what waits is written by the session's own thread while this thread has the hall. Then
-/// that thread ends, for the session is shut. It answers with the wire that comes back.
+/// that thread ends, for the session is shut, and has its wire.
 fn is_written_meanwhile<
     L: Naming + Send + Sync,
     R: Threads + Wait + Clock + Copy + Drop + Send + Sync,
->(
-    rt: &R,
-    alloc: Global,
-    stage: &Stage<'_, L, R>,
-    wire: Wire<L, Tally>,
-    bell: &Bell,
-    written: &AtomicU64,
-) -> (Wire<L, Tally>, bool) {
-    let session = wire.session();
+>(scene: &Scene<'_, L, R>, al: &mut Guest<L, R>, bell: &Bell, written: &AtomicU64) -> bool {
+    let session = al.session;
     let is_held = AtomicBool::new(false);
-    join(
-        rt,
+    let (comes_back, is_written) = join(
+        scene.rt,
         || {
-            wait_for(rt, &is_held);
-            write_on(rt, alloc, stage, wire)
+            wait_for(scene.rt, &is_held);
+            al.writes_on(scene, Tally::new(written))
         },
         || {
-            let hall = stage.hall.lock(rt);
+            let hall = scene.stage.hall.lock(scene.rt);
             is_held.store(true, Ordering::SeqCst);
-            let is_written = are_written(rt, written, PONG.len() as u64);
+            let is_written = are_written(scene.rt, written, PONG.len() as u64);
             drop(hall);
-            stage.sockets.shut(session);
+            scene.stage.sockets.shut(session);
             bell.ring();
             is_written
         },
-    )
-}
-
-/// Writes what waits while another thread has the hall, and answers whether the session's writing is over.
-fn write_meanwhile<L: Naming + Send + Sync, R: Threads + Wait + Clock + Copy + Drop + Send + Sync>(
-    rt: &R,
-    alloc: Global,
-    stage: &Stage<'_, L, R>,
-    session: SessionId,
-    outlet: &Outlet<L, Tally>,
-    is_shut: bool,
-) -> bool {
-    let hall = stage.hall.lock(rt);
-    let (written, ()) = join(
-        rt,
-        || {
-            let mut told = Told::new(alloc);
-            write_some(rt, stage, session, outlet, is_shut, &mut told)
-        },
-        || {},
     );
-    drop(hall);
-    written.standing == Standing::Over
-}
-
-/// Does a line, and answers whether it was done.
-fn work_once<L: Naming, R: Wait + Drop>(
-    rt: &R,
-    alloc: Global,
-    hall: &Mutex<Hall<L, Sender<R>>>,
-    baton: Baton<L, Sender<R>>,
-    piece: Piece,
-) -> (Baton<L, Sender<R>>, bool) {
-    let mut told = Told::new(alloc);
-    let back = work_one(
-        rt,
-        hall,
-        Job { baton, piece },
-        Moment::new(0),
-        &Open,
-        &mut told,
-    );
-    (back.baton, back.outcome.is_ok())
-}
-
-/// A session says a line, which is done, and whose answer waits for a wire to this stream.
-fn answered<L: Naming, R: Wait + Abort + Copy + Drop, W: Write + Drop>(
-    rt: &R,
-    alloc: Global,
-    lock: &Mutex<Hall<L, Sender<R>>>,
-    tokens: Tokens<L, R>,
-    stream: W,
-) -> Result<Wire<L, W>, Fail> {
-    let (baton, wire) = wired(alloc, tokens, stream)?;
-    let (_, is_done) = work_once(rt, alloc, lock, baton, line(alloc, b"PING x")?);
-    assert!(rt; is_done, "it is done");
-    Ok(wire)
-}
-
-/// An outlet's wire is given to its own session, once.
-fn has_wire_once<L: Naming, R: Wait + Abort>(
-    rt: &R,
-    outlet: &Outlet<L, Tally>,
-    session: SessionId,
-) {
-    assert!(rt;
-        outlet.end(rt, SessionId::new(2)).is_none(),
-        "its wire isn't another's"
-    );
-    assert!(rt; outlet.end(rt, session).is_some(), "it still has its wire");
-    assert!(rt; outlet.end(rt, session).is_none(), "now it has none");
-}
-
-/// A line is answered, and its answer is written by one thread while another has the hall.
-pub(crate) fn written_meanwhile<
-    L: Naming + Send + Sync,
-    R: Threads + Wait + Clock + Abort + Copy + Drop + Send + Sync,
->(rt: &R, alloc: Global, stage: &Stage<'_, L, R>, tokens: Tokens<L, R>) -> Result<(), Fail> {
-    let session = tokens.baton.session();
-    let written = Arc::new(alloc, AtomicU64::new(0))?;
-    let stream = Tally::new(written.clone()?);
-    let wire = answered(rt, alloc, stage.hall, tokens, stream)?;
-    let outlet = Outlet::new();
-    outlet.open(rt, wire);
-    let is_over = write_meanwhile(rt, alloc, stage, session, &outlet, false);
-    assert!(rt; !is_over, "more may come");
-    assert_eq!(rt; written.load(Ordering::SeqCst), PONG.len() as u64);
-    let is_over = write_meanwhile(rt, alloc, stage, session, &outlet, true);
-    assert!(rt; is_over, "it is shut, and nothing waits");
-    has_wire_once(rt, &outlet, session);
-    Ok(())
+    comes_back && is_written
 }
 
 /// A line is answered, and its answer is written by the session's own thread while another has the hall.
-pub(crate) fn written_by_its_own<
+pub(crate) fn write_alone<
     L: Naming + Send + Sync,
-    R: Threads + Wait + Clock + Abort + Copy + Drop + Send + Sync,
->(rt: &R, alloc: Global, stage: &Stage<'_, L, R>, tokens: Tokens<L, R>) -> Result<(), Fail> {
-    let session = tokens.baton.session();
-    let bell = tokens.writer.bell().again()?;
-    let written = Arc::new(alloc, AtomicU64::new(0))?;
-    let stream = Tally::new(written.clone()?);
-    let wire = answered(rt, alloc, stage.hall, tokens, stream)?;
-    let (wire, is_written) = is_written_meanwhile(rt, alloc, stage, wire, &bell, &written);
-    assert!(rt; is_written, "it is written");
-    assert_eq!(rt; wire.session(), session);
-    assert_eq!(rt; written.load(Ordering::SeqCst), PONG.len() as u64);
-    Ok(())
+    R: Threads + Wait + Clock + Copy + Drop + Send + Sync,
+>(scene: &Scene<'_, L, R>, al: &mut Guest<L, R>) {
+    let written = AtomicU64::new(0);
+    scene.note(al.does(scene, b"PING x").is_ok());
+    match al.bell() {
+        Some(bell) => scene.note(is_written_meanwhile(scene, al, &bell, &written)),
+        None => scene.note(false),
+    }
+    scene.note(written.load(Ordering::SeqCst) == PONG.len() as u64);
 }
 
-/// Writes to a stream that fails until the session's writing is over: by its own thread, or by a worker.
-fn write_all<L: Naming, R: Wait + Abort + Copy + Drop>(
-    rt: &R,
-    alloc: Global,
-    stage: &Stage<'_, L, R>,
-    wire: Wire<L, Broken>,
-    has_own_thread: bool,
-) {
-    let session = wire.session();
-    if has_own_thread {
-        let wire = write_on(rt, alloc, stage, wire);
-        assert_eq!(rt; wire.session(), session);
-    } else {
-        let outlet = Outlet::new();
-        outlet.open(rt, wire);
-        let mut told = Told::new(alloc);
-        let written = write_some(rt, stage, session, &outlet, false, &mut told);
-        assert_eq!(rt; written.standing, Standing::Over);
-    }
+/// Writes what waits, and answers whether the session's writing is over.
+fn is_over<L: Naming, R: Wait + Drop, W: Write + Drop>(
+    scene: &Scene<'_, L, R>,
+    session: SessionId,
+    outlet: &Outlet<L, W>,
+    is_shut: bool,
+) -> bool {
+    let mut told = Told::new(scene.alloc);
+    let written = write_some(scene.rt, &scene.stage, session, outlet, is_shut, &mut told);
+    written.standing == Standing::Over
+}
+
+/// The same while another thread has the hall.
+fn is_over_meanwhile<
+    L: Naming + Send + Sync,
+    R: Threads + Wait + Clock + Copy + Drop + Send + Sync,
+>(
+    scene: &Scene<'_, L, R>,
+    session: SessionId,
+    outlet: &Outlet<L, Tally<'_>>,
+    is_shut: bool,
+) -> bool {
+    let hall = scene.stage.hall.lock(scene.rt);
+    let (is_over, ()) = join(scene.rt, || is_over(scene, session, outlet, is_shut), || {});
+    drop(hall);
+    is_over
+}
+
+/// Whether an outlet gives its wire to a session.
+fn gives<L: Naming, R: Wait>(rt: &R, outlet: &Outlet<L, Tally<'_>>, session: SessionId) -> bool {
+    outlet.end(rt, session).is_some()
+}
+
+/// A line is answered, and its answer is written by one thread while another has the hall. Once the session is shut
+/// and nothing waits its writing is over. The outlet gives its wire to its own session, once.
+pub(crate) fn write_beside<
+    L: Naming + Send + Sync,
+    R: Threads + Wait + Clock + Copy + Drop + Send + Sync,
+>(scene: &Scene<'_, L, R>, al: &mut Guest<L, R>) {
+    let (written, outlet) = (AtomicU64::new(0), Outlet::new());
+    scene.note(al.does(scene, b"PING x").is_ok());
+    scene.note(al.opens(scene, Tally::new(&written), &outlet));
+    scene.note(!is_over_meanwhile(scene, al.session, &outlet, false));
+    scene.note(written.load(Ordering::SeqCst) == PONG.len() as u64);
+    scene.note(is_over_meanwhile(scene, al.session, &outlet, true));
+    scene.note(!gives(scene.rt, &outlet, SessionId::new(2)));
+    scene.note(gives(scene.rt, &outlet, al.session));
+    scene.note(!gives(scene.rt, &outlet, al.session));
+}
+
+/// Whether a session's writing to a stream that fails is over after a worker wrote.
+fn is_over_at_once<L: Naming, R: Wait + Drop>(
+    scene: &Scene<'_, L, R>,
+    al: &mut Guest<L, R>,
+) -> bool {
+    let outlet = Outlet::new();
+    let is_open = al.opens(scene, Broken, &outlet);
+    is_open && is_over(scene, al.session, &outlet, false)
 }
 
 /// A stream fails: the session is ended for that, once, and its connection is shut; by a worker, or
@@ -210,45 +146,38 @@ struct Failing {
     has_own_thread: bool,
 }
 
-impl<R: Wait + Abort + Copy + Drop> Trial<R> for Failing {
-    fn run<L: Naming + Send + Sync>(
-        &self,
-        rt: &R,
-        alloc: Global,
-        lock: &Mutex<Hall<L, Sender<R>>>,
-    ) -> Result<(), Fail> {
-        let (around, tokens) = begun(rt, alloc, lock)?;
-        let stage = &around.stage(lock);
-        let session = tokens.baton.session();
-        let wire = answered(rt, alloc, stage.hall, tokens, Broken)?;
-        assert_eq!(rt; wire.session(), session);
-        write_all(rt, alloc, stage, wire, self.has_own_thread);
-        assert_ended(rt, stage, session, Why::WriteFailed, 3);
-        Ok(())
+impl<R: Wait + Copy + Drop> Trial<R> for Failing {
+    fn run<L: Naming>(&self, scene: &Scene<'_, L, R>, al: &mut Guest<L, R>) {
+        scene.note(al.does(scene, b"PING x").is_ok());
+        if self.has_own_thread {
+            scene.note(al.writes_on(scene, Broken));
+        } else {
+            scene.note(is_over_at_once(scene, al));
+        }
+        scene.note(scene.is_ended(3, al.session, Why::WriteFailed));
     }
 }
 
 /// A session's stream fails: it is hung with WriteFailed, once, and shut, whether a worker or a thread of its own
 /// writes.
 #[test]
-fn a_session_is_hung_where_its_stream_fails(rt: HostRuntime) -> Result<(), Fail> {
+fn a_session_is_hung_where_its_stream_fails(rt: HostRuntime) {
     for has_own_thread in [false, true] {
-        try_out(&rt, rt.alloc(), &Failing { has_own_thread })?;
+        try_out(&rt, rt.alloc(), &Failing { has_own_thread });
     }
-    Ok(())
 }
 
 /// What waits for a session is written by one thread while another has the hall; once the session is shut and
 /// nothing waits, its writing is over; its outlet keeps its wire from another session, gives it up once, and then
 /// has none.
 #[test]
-fn what_waits_is_written_while_the_hall_is_locked(rt: HostRuntime) -> Result<(), Fail> {
-    try_with_threads(&rt, rt.alloc(), Threaded::WriteBeside)
+fn what_waits_is_written_while_the_hall_is_locked(rt: HostRuntime) {
+    try_with_threads(&rt, rt.alloc(), Threaded::WriteBeside);
 }
 
 /// The same by a thread of the session's own, which ends once the session is shut and nothing waits, and gives the
 /// session's wire back.
 #[test]
-fn what_waits_is_written_by_the_sessions_own_thread(rt: HostRuntime) -> Result<(), Fail> {
-    try_with_threads(&rt, rt.alloc(), Threaded::WriteAlone)
+fn what_waits_is_written_by_the_sessions_own_thread(rt: HostRuntime) {
+    try_with_threads(&rt, rt.alloc(), Threaded::WriteAlone);
 }

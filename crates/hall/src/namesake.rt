@@ -4,7 +4,7 @@
 //! one has the name, no octets, and nothing can be put into it.
 use deliveries::Item;
 use ghosts::Snapshot;
-use outbox::{Outbox, PutFault};
+use outbox::{Back, NotPut, Outbox, PutFault};
 
 /// An outbox of which the name alone is known, in proofs. It has no bytes, and nothing can be put into it.
 #[derive(Drop)]
@@ -48,8 +48,10 @@ impl<O: Outbox> Outbox for Namesake<O> {
 
     ghost refuses = { λ a e. Unit {0} };
 
-    fn put(&mut self, item: Item) -> Result<(), (PutFault, Item)> {
-        Err((PutFault::Full, item))
+    ghost shows = { λ a e full. Unit {0} };
+
+    fn put(&mut self, item: Item) -> Result<(), (PutFault, NotPut)> {
+        Err((PutFault::Full, Back::new(item)))
     }
 
     fn close(self, _taker: Snapshot<O>) -> u64 {

@@ -1,5 +1,5 @@
 -- What clauses see of the two ends of an outbox: this project's own queue between two threads.
-use Rattle.std.specs.Prelude.{◌≡◌, ◌≤◌, ℕ, List, [], ◌∷◌, ◌++◌, length, None, false}
+use Rattle.std.specs.Prelude.{◌≡◌, ◌≤◌, ◌+◌, ℕ, List, [], ◌∷◌, ◌++◌, length, Option, None, Some, false}
 use Rattle.crossbeam_channel.specs.Claims.{Pass, view}
 use Rattle.crossbeam_channel.specs.Ring.{doing}
 use Rattle.crossbeam_channel.specs.declared.flavors.array.Stage.TheVariants.{Idle}
@@ -7,7 +7,7 @@ use Rattle.deliveries.specs.declared.item.Item.{Item}
 use Rattle.outbox.specs.declared.queue.PutFault.{PutFault}
 use Rattle.outbox.specs.declared.queue.PutFault.TheVariants.{Full}
 use Rattle.outbox.specs.declared.rule.Log.{Log}
-use Rattle.outbox.specs.Rule.{Chained, log}
+use Rattle.outbox.specs.Rule.{log}
 
 -- what a pass knows
 abbrev pub known : Pass Item Log → Log
@@ -23,18 +23,20 @@ pub record Puttings : Type 0 where
   pub cap : ℕ
   pub channel : Pass Item Log
 
--- of the end that takes: all items that were ever taken, and which channel it is
+-- of the end that takes: all items that were ever taken, how often the channel answered that it is empty, and which
+-- channel it is
 pub record Takings : Type 0 where
   pub taken : List Item
+  pub empties : ℕ
   pub channel : Pass Item Log
 
 -- an item was taken
 abbrev pub with_item : Takings → Item → Takings
-with_item w x = record { taken = w.taken ++ x ∷ []; channel = w.channel }
+with_item w x = record { taken = w.taken ++ x ∷ []; empties = w.empties; channel = w.channel }
 
--- nothing waits: what was sent is just what was taken, and each item may come after those before it
-abbrev pub IsAllTaken : List Item → Type 0
-IsAllTaken taken = (sent : List Item) × Chained [] sent × (sent ≡ taken)
+-- none was: the channel answered once more that it is empty
+abbrev pub with_empty : Takings → Takings
+with_empty w = record { taken = w.taken; empties = w.empties + 1; channel = w.channel }
 
 -- an item was put
 abbrev pub with_sent : Puttings → Item → Puttings
@@ -47,3 +49,12 @@ accepts s x t = t ≡ with_sent s x
 -- it isn't put for want of room only where as many were ever put as may wait; of any other cause nothing is known
 abbrev pub refuses : Puttings → PutFault → Type 0
 refuses s e = e ≡ Full → s.cap ≤ length s.sent
+
+-- of what comes back: what was to be put, and which channel was found full for it, if one was
+pub record Returned (T : Type 0) (V : Type 0) : Type 0 where
+  pub message : T
+  pub full : Option (Pass T V)
+
+-- that it is full was answered by this very channel, for this item
+abbrev pub shows : Puttings → PutFault → Option (Pass Item Log) → Type 0
+shows s e full = e ≡ Full → (p : Pass Item Log) × (full ≡ Some p) × (channel_of p ≡ s.channel)

@@ -4,15 +4,16 @@ ghost use Rattle.deliveries.specs.declared.item.Item.{Item as Delivered};
 ghost use Rattle.deliveries.specs.Items.{deliveries, front, owed_by_front};
 ghost use Rattle.deliveries.specs.Owed.{number_of};
 ghost use Rattle.deliveries.specs.Growth.{Grows};
-ghost use Rattle.outbox.specs.Ends.{IsAllTaken, with_item};
+ghost use Rattle.outbox.specs.Ends.{with_empty, with_item};
 
 mod draining;
 
 use crate::bell::Bell;
+use crate::counted::{CountedReceiver, CountedSender};
 use crate::gauge::{Gauge, octets_of};
-use crate::queue::{Outbox, PutFault};
+use crate::queue::{NotPut, Outbox, PutFault};
 use crate::rule::{Ends, InOrder, Log, Put, Take};
-use crossbeam_channel::{Pass, RecvError, RuledReceiver, RuledSender, TrySendError, bounded_with};
+use crossbeam_channel::{Pass, bounded_with};
 use deliveries::Item;
 use draining::drain;
 use std::alloc::{AllocError, Global};
@@ -32,8 +33,7 @@ pub struct Closed;
 #[derive(Drop)]
 pub struct Sender<R: Wait + Drop> {
     rt: R,
-    sender: RuledSender<Item, Log, InOrder>,
-    pass: Pass<Item, Log>,
+    sender: CountedSender<Item, Log, InOrder>,
     bell: Bell,
     gauge: Gauge,
 }
@@ -47,19 +47,20 @@ impl<R: Wait + Drop> Model for Sender<R> {
     ghost Value = { Puttings };
 
     ghost view = { λ a. record {
-      sent = (known a.pass).sent;
-      cap = ruled_capacity (sends_on a.sender);
-      channel = channel_of a.pass;
+      sent = (known a.sender.pass).sent;
+      cap = ruled_capacity (sends_on a.sender.sender);
+      channel = channel_of a.sender.pass;
     } };
 
-    ghost invariant = { λ a. IsSeatAt (sends_on a.sender) a.pass × ((known a.pass).sends ≡ true) };
+    ghost invariant = { λ a. IsSeatAt (sends_on a.sender.sender) a.sender.pass
+        × ((known a.sender.pass).sends ≡ true) };
 }
 
-/// The end that takes. A clause sees all items that were ever taken, and which channel it is.
+/// The end that takes. A clause sees all items that were ever taken, how often the channel was found empty, and which
+/// channel it is.
 #[derive(Drop)]
 pub struct Writer {
-    receiver: RuledReceiver<Item, Log, InOrder>,
-    pass: Pass<Item, Log>,
+    receiver: CountedReceiver<Item, Log, InOrder>,
     bell: Bell,
     gauge: Gauge,
 }
@@ -72,10 +73,14 @@ impl Model for Writer {
 
     ghost Value = { Takings };
 
-    ghost view = { λ a. record { taken = (known a.pass).got; channel = channel_of a.pass } };
+    ghost view = { λ a. record {
+      taken = (known a.receiver.pass).got;
+      empties = a.receiver.empties.value;
+      channel = channel_of a.receiver.pass;
+    } };
 
-    ghost invariant = { λ a. IsSeatAt (receives_on a.receiver) a.pass
-        × ((known a.pass).takes ≡ true) };
+    ghost invariant = { λ a. IsSeatAt (receives_on a.receiver.receiver) a.receiver.pass
+        × ((known a.receiver.pass).takes ≡ true) };
 }
 
 /// A new outbox for at most `cap` items, by its two ends.
@@ -99,14 +104,12 @@ pub fn pair<R: Wait + Drop>(
     Ok((
         Sender {
             rt,
-            sender,
-            pass,
+            sender: CountedSender::new(sender, pass),
             bell,
             gauge,
         },
         Writer {
-            receiver,
-            pass: other,
+            receiver: CountedReceiver::new(receiver, other),
             bell: heard,
             gauge: seen,
         },
@@ -122,7 +125,7 @@ impl<R: Wait + Drop> Sender<R> {
 
 impl<R: Wait + Drop> Outbox for Sender<R> {
     ghost use Rattle.std.specs.Prelude.{true};
-    ghost use Rattle.outbox.specs.Ends.{accepts, refuses};
+    ghost use Rattle.outbox.specs.Ends.{accepts, refuses, shows};
 
     type Taker = Writer;
 
@@ -144,18 +147,17 @@ impl<R: Wait + Drop> Outbox for Sender<R> {
 
     ghost refuses = { refuses };
 
-    fn put(&mut self, item: Item) -> Result<(), (PutFault, Item)> {
+    ghost shows = { shows };
+
+    fn put(&mut self, item: Item) -> Result<(), (PutFault, NotPut)> {
         let octets = octets_of(item.delivery());
-        match self
-            .sender
-            .try_send_as::<Put, R>(&self.rt, &mut self.pass, item)
-        {
+        match self.sender.put::<Put, R>(&self.rt, item) {
             Ok(()) => {
                 self.gauge.put(octets);
                 Ok(())
             }
-            Err(TrySendError::Full(item)) => Err((PutFault::Full, item)),
-            Err(e) => Err((PutFault::Cut, e.into_inner())),
+            Err((true, back)) => Err((PutFault::Full, back)),
+            Err((false, back)) => Err((PutFault::Cut, back)),
         }
     }
 
@@ -163,16 +165,16 @@ impl<R: Wait + Drop> Outbox for Sender<R> {
         let Sender {
             rt,
             sender,
-            mut pass,
             bell: _,
             gauge: _,
         } = self;
         let Writer {
             receiver,
-            pass: other,
             bell: _,
             gauge: _,
         } = taker;
+        let (sender, mut pass) = sender.apart();
+        let (receiver, other) = receiver.apart();
         sender.absorb::<Ends>(&mut pass, other);
         drain(&rt, &receiver, pass)
     }
@@ -180,8 +182,8 @@ impl<R: Wait + Drop> Outbox for Sender<R> {
 
 impl Writer {
     /// Takes the item that waits longest, and waits for one where there is none. It is of the newest record of the
-    /// history in which it was put. There is none, and none comes, only where at a moment of the call all that was
-    /// sent was taken.
+    /// history in which it was put. There is none, and none comes, only where the channel was found empty in this
+    /// call.
     pub fn take<R: Wait>(&mut self, rt: &R) -> Result<Item, Closed>
         ensures took { IfOk result (λ x. self.new ≡ with_item self.old x) }
         ensures owed { IfOk result (λ x. deliveries self.new.taken ≡ owed_by_front x) }
@@ -192,17 +194,16 @@ impl Writer {
             (λ x. All (λ (y : Delivered). y.settings ≡ x.settings) self.old.taken) }
         ensures grows { IfOk result
             (λ x. All (λ (y : Delivered). Grows (front y) (front x)) self.old.taken) }
-        ensures none { OnErr result (self.new ≡ self.old) }
-        ensures all_taken { OnErr result (IsAllTaken self.old.taken) }
+        ensures none { OnErr result (self.new ≡ with_empty self.old) }
     {
-        match self.receiver.recv_as::<Take, R>(rt, &mut self.pass) {
+        match self.receiver.take::<Take, R>(rt) {
             Ok(item) => Ok(item),
-            Err(RecvError) => Err(Closed),
+            Err(_) => Err(Closed),
         }
     }
 
     /// Takes the item that waits longest. It waits for none, and takes no memory. It is of the newest record of the
-    /// history in which it was put. There is none only where at a moment of the call all that was sent was taken.
+    /// history in which it was put. There is none only where the channel was found empty in this call.
     pub fn take_now<R: Wait>(&mut self, rt: &R) -> Result<Item, Empty>
         ensures took { IfOk result (λ x. self.new ≡ with_item self.old x) }
         ensures owed { IfOk result (λ x. deliveries self.new.taken ≡ owed_by_front x) }
@@ -213,10 +214,9 @@ impl Writer {
             (λ x. All (λ (y : Delivered). y.settings ≡ x.settings) self.old.taken) }
         ensures grows { IfOk result
             (λ x. All (λ (y : Delivered). Grows (front y) (front x)) self.old.taken) }
-        ensures none { OnErr result (self.new ≡ self.old) }
-        ensures all_taken { OnErr result (IsAllTaken self.old.taken) }
+        ensures none { OnErr result (self.new ≡ with_empty self.old) }
     {
-        match self.receiver.try_recv_as::<Take, R>(rt, &mut self.pass) {
+        match self.receiver.take_now::<Take, R>(rt) {
             Ok(item) => Ok(item),
             Err(_) => Err(Empty),
         }

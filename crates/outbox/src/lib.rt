@@ -2,6 +2,7 @@
 #![tactic(auto)]
 
 mod bell;
+mod counted;
 mod ends;
 mod gauge;
 mod queue;
@@ -9,8 +10,9 @@ mod ring;
 mod rule;
 
 pub use bell::Bell;
+pub use counted::Back;
 pub use ends::{Closed, Empty, Sender, Writer, pair};
 pub use gauge::Gauge;
-pub use queue::{Outbox, PutFault};
+pub use queue::{NotPut, Outbox, PutFault};
 pub use ring::Ring;
 pub use rule::ChannelName;

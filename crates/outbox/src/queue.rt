@@ -1,4 +1,6 @@
 //! What a book asks of an outbox.
+use crate::counted::Back;
+use crate::rule::Log;
 use deliveries::Item;
 
 /// Why an item wasn't put.
@@ -10,9 +12,14 @@ pub enum PutFault {
     Cut,
 }
 
+/// An item that comes back, since it wasn't put, and which channel was found full for it.
+pub type NotPut = Back<Item, Log>;
+
 /// A queue of items with a bound. One end puts, the other takes.
 pub trait Outbox: Drop {
-    ghost use Rattle.std.specs.Prelude.{◌≡◌, ◌≤◌, ◌∷◌, [], ◌++◌, ℕ, Bool, true, List, length, OnOk, IfErr};
+    ghost use Rattle.std.specs.Prelude.{◌≡◌, ◌≤◌, ◌∷◌, [], ◌++◌, ℕ, Bool, true, List, length, Option, OnOk, IfErr};
+    ghost use Rattle.crossbeam_channel.specs.Claims.{Pass};
+    ghost use Rattle.outbox.specs.declared.rule.Log.{Log};
     ghost use Rattle.deliveries.specs.declared.item.Item.{Item};
     ghost use Rattle.deliveries.specs.Items.{Continues};
     ghost use Rattle.outbox.specs.declared.queue.PutFault.{PutFault};
@@ -48,16 +55,20 @@ pub trait Outbox: Drop {
     /// That an item isn't put for this cause.
     ghost refuses: { Self → PutFault → Type 0 };
 
+    /// That a fault is so, where this channel was found full for the item that comes back.
+    ghost shows: { Self → PutFault → Option (Pass Item Log) → Type 0 };
+
     /// Puts an item at the end. It takes no memory, and a fault gives the item back and changes nothing.
-    fn put(&mut self, item: Item) -> Result<(), (PutFault, Item)>
+    fn put(&mut self, item: Item) -> Result<(), (PutFault, NotPut)>
         requires next { Continues (sent self.old) item }
         ensures same_name { name self.new ≡ name self.old }
         ensures same_room { room self.new ≡ room self.old }
         ensures same_taken { (w : Self.Taker) → taken self.new w ≡ taken self.old w }
         ensures ok { OnOk result (sent self.new ≡ sent self.old ++ item ∷ []) }
         ensures accepted { OnOk result (accepts self.old item self.new) }
-        ensures err { IfErr result (λ e. (e.1 ≡ item) × (self.new ≡ self.old)) }
+        ensures err { IfErr result (λ e. (e.1.message ≡ item) × (self.new ≡ self.old)) }
         ensures refused { IfErr result (λ e. refuses self.old e.0) }
+        ensures shown { IfErr result (λ e. shows self.old e.0 e.1.full) }
         ensures full { IfErr result (λ e. e.0 ≡ Full → room self.old ≤ length (sent self.old)) }
         ensures cut { IfErr result (λ e. e.0 ≡ Cut → may_be_cut ≡ true) };
 

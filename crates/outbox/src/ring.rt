@@ -1,7 +1,8 @@
 //! A session's outbox as a ring of items.
 ghost use Rattle.std.specs.Prelude.{◌≡◌, IfOk, length, slice_get};
 
-use crate::queue::{Outbox, PutFault};
+use crate::counted::Back;
+use crate::queue::{NotPut, Outbox, PutFault};
 use circular_buffer::HeapCircularBuffer;
 use deliveries::Item;
 use ghosts::{Snapshot, append, blank};
@@ -85,14 +86,17 @@ impl Outbox for Ring {
 
     ghost refuses = { refuses };
 
-    fn put(&mut self, item: Item) -> Result<(), (PutFault, Item)>
+    ghost shows = { λ b e full. Unit {0} };
+
+    fn put(&mut self, item: Item) -> Result<(), (PutFault, NotPut)>
         ensures room { IsOk result ↔ (length self.old.queue < self.old.cap) }
         ensures ok { OnOk result (self.new ≡ with_put self.old item) }
-        ensures err { IfErr result (λ e. (e.0 ≡ Full) × (e.1 ≡ item) × (self.new ≡ self.old)) }
+        ensures err { IfErr result (λ e. (e.0 ≡ Full) × (e.1.message ≡ item)
+            × (self.new ≡ self.old)) }
     {
         match self.items.try_push_back(item) {
             Ok(()) => Ok(()),
-            Err(item) => Err((PutFault::Full, item)),
+            Err(item) => Err((PutFault::Full, Back::new(item))),
         }
     }
 

@@ -1,8 +1,7 @@
 //! A client as its worker has it, and its place.
 use crate::connections::Connection;
-use crate::guests::Guest;
 use crate::opening::{Serving, Tokens};
-use crate::web::Payloads;
+use client_streams::{Guest, Payloads};
 use crew::{Gate, Intake, Next, Took, hang, read_some};
 use hall::{Baton, Naming, Told};
 use outbox::Sender;

@@ -1,12 +1,10 @@
 //! The connections of all sessions, as the threads of others know them.
-use crate::crowd::Crowd;
 use crate::events::{Event, Events};
 use crate::journal::Kept;
 use crate::post::{Arrival, Post};
 use crate::stopping::Stopping;
-use crate::web::Web;
-use crate::{guests, lingering};
 use chronicle::SessionId;
+use client_streams::{Crowd, MOST_GREETING, MOST_LINGERING, Web};
 use crew::{Backlog, Outlet, Pumped, Sockets};
 use hall::{Naming, Told};
 use indexmap::IndexMap;
@@ -212,8 +210,8 @@ impl<L: Naming, R: Wait + Clock + Copy + Drop> Connections<L, R> {
             is_closed: AtomicBool::new(false),
             refused: AtomicU64::new(0),
             has_unswept: AtomicBool::new(false),
-            greeting: Crowd::new(guests::MOST),
-            lingering: Crowd::new(lingering::MOST),
+            greeting: Crowd::new(MOST_GREETING),
+            lingering: Crowd::new(MOST_LINGERING),
         }
     }
 

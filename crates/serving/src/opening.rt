@@ -8,8 +8,8 @@ ghost use Rattle.casemapping.specs.Names.{host_shape};
 
 use crate::connections::{Connection, Connections, Output, View};
 use crate::hosts::host_of;
-use crate::web::Web;
 use chronicle::{Moment, SessionId};
+use client_streams::Web;
 use crew::{Gate, Server, moment_in};
 use deliveries::{Item, write_out};
 use hall::{Baton, Hall, Naming, OpenRefusal, Stub};

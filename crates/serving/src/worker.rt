@@ -10,14 +10,12 @@ mod greeting;
 
 use crate::client::{Client, Place, read_client};
 use crate::connections::{Connection, NO_MEMORY, NO_PLACE, PAUSE};
-use crate::guests::Guests;
 use crate::left::{Batch, write_batch};
-use crate::lingering::{Lingerers, TRIES};
 use crate::noting::{note_gone, note_nick, note_opened};
 use crate::opening::{Connected, Opened, Serving, Tokens, open_connected, write_rest};
 use crate::post::{Arrival, Mail, Post, WAKE};
-use crate::web::{Payloads, Web};
 use chronicle::Why;
+use client_streams::{Guests, LINGER_TRIES, Lingerers, Payloads, Web};
 use crew::{Gate, GivenUp, Intake, Standing, Swept, give_up, hang, sweep, tell, write_some};
 use hall::{Naming, Told};
 use mio::net::TcpStream;
@@ -345,7 +343,7 @@ impl<L: Naming, R: Wait + Clock + Copy + Drop> Worker<L, R> {
             client.tries = client.tries.saturating_add(1);
             client.pause = self.pause;
         }
-        if written.standing == Standing::Over || TRIES <= client.tries {
+        if written.standing == Standing::Over || LINGER_TRIES <= client.tries {
             let is_fault = match &written.pumped {
                 Some(pumped) => pumped.flow.is_err(),
                 None => false,

@@ -2,14 +2,14 @@
 use Rattle.std.proofs.Common.{◌≡◌, ℕ, ◌+◌, ◌-◌, List, [], ◌∷◌, ◌++◌, length, take, drop, subst, Option}
 use Rattle.std.proofs.Common.{Some, None, refl, ap, sym, ◌∙◌, append_assoc, append-nil}
 use Rattle.std.proofs.KnownBytes.{Appends-nil, Appends-trans, Appends-kept}
+use Rattle.std.proofs.Math.Seq.{drop-append_seam}
 use Rattle.std.proofs.lemmas.List.{take-append-drop, drop-drop, take_rest}
 use Rattle.std.specs.Io.KnownBytes.{Appends, Keeps, append_known}
 use Rattle.deliveries.specs.declared.item.Item.{Item}
 use Rattle.deliveries.specs.Text.{delivery_text}
-use Rattle.wire.specs.declared.begun.Begun.{Begun}
 use Rattle.crossbeam_channel.specs.Claims.{Pass}
 use Rattle.outbox.specs.declared.rule.Log.{Log}
-use Rattle.wire.specs.Wired.{texts, rest_of, is_last, ends, GoesOut, IsInStep, Wired}
+use Rattle.wire.specs.Wired.{texts, newest_text, is_last, ends, GoesOut, IsInStep, Wired}
 
 -- one part and then the next
 pub goes_on : (a b c : Option (List ℕ)) (xs ys zs : List ℕ) → GoesOut a b xs ys → GoesOut b c ys zs → GoesOut a c xs zs
@@ -82,15 +82,6 @@ out_begun host since x a b left none out =
           ∙ append_assoc out.gone [] text;
     }
 
--- more of an item that was begun goes out
-pub out_more : (host lent : List ℕ) (a b c : Option (List ℕ)) (since : List Item) (left ys : List ℕ)
-    (begun : Option Begun) (x : Begun) → lent ≡ host → begun ≡ Some x → left ≡ rest_of host begun
-    → GoesOut a b (texts host since) left → GoesOut b c (rest_of lent (Some x)) ys → GoesOut a c (texts host since) ys
-out_more host lent a b c since left ys begun x same is rest before now =
-    let from : rest_of lent (Some x) ≡ left = ap (λ l. rest_of l (Some x)) same ∙ ap (rest_of host) (sym is)
-    ∙ sym rest in
-    goes_on a b c (texts host since) left ys before (subst (λ l. GoesOut b c l ys) from now)
-
 -- nothing goes out where the octets are as they were
 pub goes_none : (a b : Option (List ℕ)) (xs : List ℕ) → b ≡ a → GoesOut a b xs xs
 goes_none a b xs same = subst (λ o. GoesOut a o xs xs) (sym same)
@@ -106,32 +97,81 @@ goes_whole a b xs ys text same more = subst (λ o. GoesOut (append_known a xs) (
     longer None = tt
     longer (Some zs) = ap (λ l. zs ++ l) more ∙ sym (append_assoc zs xs text)
 
+-- the newest text is that of the item that came last
+pub newest_more : (host : List ℕ) (xs : List Item) (x : Item) → newest_text host (xs ++ x ∷ [])
+    ≡ delivery_text x.delivery host
+newest_more host [] x = refl
+newest_more host (y ∷ []) x = refl
+newest_more host (y ∷ z ∷ zs) x = newest_more host (z ∷ zs) x
+
+-- nothing is left of a whole text
+pub none_left : (xs : List ℕ) → drop (length xs) xs ≡ []
+none_left [] = refl
+none_left (x ∷ xs) = none_left xs
+
+-- all of a text is its front
+pub all_taken : (xs : List ℕ) → take (length xs) xs ≡ xs
+all_taken [] = refl
+all_taken (x ∷ xs) = ap (λ l. x ∷ l) (all_taken xs)
+
+-- known octets grow, where nothing waits
+pub grows_alone : (a b : Option (List ℕ)) (zs : List ℕ) → Appends a b zs
+    → Appends (append_known a []) (append_known b []) zs
+grows_alone None b zs more = tt
+grows_alone (Some xs) None zs more = elim more [ ]
+grows_alone (Some xs) (Some ys) zs more = append-nil ys ∙ more ∙ ap (λ l. l ++ zs) (sym (append-nil xs))
+
+-- a text is written at once, after all that waited was
+pub goes_alone : (a told new : Option (List ℕ)) (xs text : List ℕ) (n : ℕ) → Keeps a (append_known told xs) → xs ≡ []
+    → Appends told new (take n text) → GoesOut a (append_known new xs) text (drop n text)
+goes_alone a told new xs text n kept none more = goes_after a (append_known told xs) (append_known new xs) text n kept
+    (subst (λ l. Appends (append_known told l) (append_known new l) (take n text)) (sym none)
+    (grows_alone told new (take n text) more))
+
+-- a whole text waits, after octets that were kept back
+pub goes_kept : (a told new : Option (List ℕ)) (xs ys text : List ℕ) (n : ℕ) → Keeps a (append_known told xs)
+    → new ≡ told → ys ≡ xs ++ text → n ≡ length text → GoesOut a (append_known new ys) text (drop n text)
+goes_kept a told new xs ys text n kept same more all =
+    let front : take n text ≡ text = ap (λ m. take m text) all ∙ all_taken text in
+    subst (λ o. GoesOut a (append_known o ys) text (drop n text)) (sym same)
+    (goes_waiting a told xs ys text n kept (more ∙ ap (λ l. xs ++ l) (sym front)))
+
+-- what is left is the end of a text, also when more went out
+pub tail_on : (a b : Option (List ℕ)) (xs ys text : List ℕ) → GoesOut a b xs ys → (n : ℕ) × (xs ≡ drop n text)
+    → (n : ℕ) × (ys ≡ drop n text)
+tail_on a b xs ys text out t = (
+  t.0 + length out.gone,
+  sym (drop-append_seam out.gone ys) ∙ ap (λ l. drop (length out.gone) l) (sym out.parts ∙ t.1)
+      ∙ drop-drop (length out.gone) t.0 text,
+)
+
 -- an item more was taken, of which this is left
-pub one_more : (w : Wired) (now : List Item) (channel : Pass Item Log) (told : Option (List ℕ)) (waiting left : List ℕ)
-    (pauses : ℕ) (item : Item) (i : IsInStep w) → i.left ≡ [] → now ≡ w.taken ++ item ∷ []
-    → GoesOut w.told told (delivery_text item.delivery w.host) left
+pub one_more : (w : Wired) (now : List Item) (empties : ℕ) (channel : Pass Item Log) (told : Option (List ℕ))
+    (waiting rest : List ℕ) (pauses faults : ℕ) (item : Item) (i : IsInStep w) → w.rest ≡ []
+    → now ≡ w.taken ++ item ∷ [] → GoesOut w.told told (delivery_text item.delivery w.host) rest
+    → ((n : ℕ) × (rest ≡ drop n (delivery_text item.delivery w.host)))
     → IsInStep (record {
       session = w.session;
       taken = now;
+      empties = empties;
       channel = channel;
       told = told;
       waiting = waiting;
-      rest = left;
+      rest = rest;
       pauses = pauses;
+      faults = faults;
       host = w.host;
-      is_broken = w.is_broken;
       taken_before = w.taken_before;
       told_before = w.told_before;
     })
-one_more w now channel told waiting left pauses item i none took goes =
+one_more w now empties channel told waiting rest pauses faults item i none took goes tail =
     let text = delivery_text item.delivery w.host in
     record {
       since = i.since ++ item ∷ [];
-      left = left;
       taken = took ∙ ap (λ l. l ++ item ∷ []) i.taken ∙ append_assoc w.taken_before i.since (item ∷ []);
-      out = goes_on w.told_before w.told told (texts w.host (i.since ++ item ∷ [])) text left
-          (out_begun w.host i.since item w.told_before w.told i.left none i.out) goes;
-      whole = λ e. refl;
+      out = goes_on w.told_before w.told told (texts w.host (i.since ++ item ∷ [])) text rest
+          (out_begun w.host i.since item w.told_before w.told w.rest none i.out) goes;
+      newest = (tail.0, tail.1 ∙ sym (ap (drop tail.0) (newest_more w.host i.since item)));
     }
 
 -- the newest item is the last of these

@@ -14,6 +14,12 @@ abbrev pub texts : List ℕ → List Item → List ℕ
 texts host [] = []
 texts host (x ∷ xs) = delivery_text x.delivery host ++ texts host xs
 
+-- the text of the newest of these items
+abbrev pub newest_text : List ℕ → List Item → List ℕ
+newest_text host [] = []
+newest_text host (x ∷ []) = delivery_text x.delivery host
+newest_text host (x ∷ y ∷ xs) = newest_text host (y ∷ xs)
+
 -- known octets grow by the front of a text, of which this is left
 pub record GoesOut (old new : Option (List ℕ)) (text left : List ℕ) : Type 0 where
   pub gone : List ℕ
@@ -29,36 +35,41 @@ abbrev pub is_last : Delivery → Bool
 is_last (Lines number text) = false
 is_last (Last number why) = true
 
+-- of a session's last item nothing is written before all of it is, or the stream failed
+abbrev pub LastIsWhole : Option Begun → Type 0
+LastIsWhole None = Unit {0}
+LastIsWhole (Some b) = is_last b.item.delivery ≡ true → b.count ≡ 0
+
 -- whether the newest of these items is a session's last
 abbrev pub ends : List Item → Bool
 ends [] = false
 ends (x ∷ []) = is_last x.delivery
 ends (x ∷ y ∷ xs) = ends (y ∷ xs)
 
--- all items that the writer has taken, and which outbox it is of; the octets that the stream was given, with those
--- that wait in the wire; what is left of the newest item; how often the stream answered that it takes nothing now;
--- and how both ends stood when the wire was made
+-- all items that the writer has taken, how often it found none, and which outbox it is of; the octets that the stream
+-- was given, with those that wait in the wire; what is left of the newest item; how often the stream answered that it
+-- takes nothing now, and how often that it takes no more; and how both ends stood when the wire was made
 pub record Wired : Type 0 where
   pub session : ℕ
   pub taken : List Item
+  pub empties : ℕ
   pub channel : Pass Item Log
   pub told : Option (List ℕ)
   pub waiting : List ℕ
   pub rest : List ℕ
   pub pauses : ℕ
+  pub faults : ℕ
   pub host : List ℕ
-  pub is_broken : Bool
   pub taken_before : List Item
   pub told_before : Option (List ℕ)
 
 -- what went out of the items that were taken since the wire was made is their texts, in order, but for the rest of
--- the newest; after a fault, for a rest that isn't known
+-- the newest, also after a fault
 pub record IsInStep (w : Wired) : Type 0 where
   pub since : List Item
-  pub left : List ℕ
   pub taken : w.taken ≡ w.taken_before ++ since
-  pub out : GoesOut w.told_before w.told (texts w.host since) left
-  pub whole : w.is_broken ≡ false → left ≡ w.rest
+  pub out : GoesOut w.told_before w.told (texts w.host since) w.rest
+  pub newest : (n : ℕ) × (w.rest ≡ drop n (newest_text w.host since))
 
 -- the one wire after some calls
 pub record IsSameWire (w v : Wired) : Type 0 where
@@ -67,4 +78,6 @@ pub record IsSameWire (w v : Wired) : Type 0 where
   pub host : v.host ≡ w.host
   pub taken_before : v.taken_before ≡ w.taken_before
   pub told_before : v.told_before ≡ w.told_before
+  pub empties : w.empties ≤ v.empties
   pub pauses : w.pauses ≤ v.pauses
+  pub faults : w.faults ≤ v.faults

@@ -1,15 +1,16 @@
 //! An item on its way to a stream.
 //!
 //! An item counts as begun until its last octet is in the wire.
-ghost use Rattle.std.specs.Prelude.{◌≡◌, ◌≤◌, ◌<◌, [], Some, drop, OnOk, IfErr};
+ghost use Rattle.std.specs.Prelude.{◌≡◌, ◌≤◌, [], Some, Err, drop, length, OnOk, MatchResult};
 ghost use Rattle.deliveries.specs.Text.{delivery_text};
+ghost use Rattle.wire.specs.Causes.{AreSame, HasCause};
 ghost use Rattle.wire.specs.declared.stream.Stop.TheVariants.{Later};
-ghost use Rattle.wire.specs.Gathering.{gathered_contents, pauses_of};
-ghost use Rattle.wire.specs.Wired.{rest_of, GoesOut};
+ghost use Rattle.wire.specs.Gathering.{gathered_contents};
+ghost use Rattle.wire.specs.Wired.{rest_of, GoesOut, LastIsWhole};
 
 use crate::gathered::Gathered;
 use crate::stream::Stop;
-use deliveries::{Delivery, Item, WriteFault, write_out};
+use deliveries::{Delivery, Item};
 use std::io::Write;
 
 /// More octets than a session's last item has.
@@ -32,13 +33,13 @@ fn write_lines<W: Write + Drop>(
     ensures more { GoesOut (gathered_contents W.contents out.old)
         (gathered_contents W.contents out.new) (drop from text.now) (drop result.0 text.now) }
     ensures whole { OnOk result.1 (drop result.0 text.now ≡ []) }
-    ensures pauses { pauses_of out.old ≤ pauses_of out.new }
-    ensures later { IfErr result.1 (λ s. s ≡ Later → pauses_of out.old < pauses_of out.new) }
+    ensures few { length out.old.waiting.items ≤ 65536 → length out.new.waiting.items ≤ 65536 }
+    ensures cause { MatchResult result.1 (λ _. AreSame out.old.stream out.new.stream)
+        (λ s. HasCause s out.old.stream out.new.stream) }
 {
     let mut count = from;
     while count < text.len() {
         match out.write(&text[count..]) {
-            Ok(0) => return (count, Err(Stop::Fault(WriteFault::Zero))),
             Ok(more) => count += more,
             Err(stop) => return (count, Err(stop)),
         }
@@ -56,15 +57,17 @@ fn write_last<W: Write + Drop>(
         (gathered_contents W.contents out.new) (delivery_text delivery.now host.now)
         (drop result.0 (delivery_text delivery.now host.now)) }
     ensures whole { OnOk result.1 (drop result.0 (delivery_text delivery.now host.now) ≡ []) }
-    ensures pauses { pauses_of out.old ≤ pauses_of out.new }
-    ensures later { IfErr result.1 (λ s. s ≡ Later → pauses_of out.old < pauses_of out.new) }
+    ensures later { result.1 ≡ Err Later → result.0 ≡ 0 }
+    ensures few { length out.old.waiting.items ≤ 65536 → length out.new.waiting.items ≤ 65536 }
+    ensures cause { MatchResult result.1 (λ _. AreSame out.old.stream out.new.stream)
+        (λ s. HasCause s out.old.stream out.new.stream) }
 {
     if let Err(stop) = out.ready_for(LAST) {
         return (0, Err(stop));
     }
-    match write_out(delivery, host, &mut out.waiting) {
-        (count, Ok(())) => (count, Ok(())),
-        (count, Err(fault)) => (count, Err(Stop::Fault(fault))),
+    match out.keep_last(delivery, host) {
+        Some(count) => (count, Ok(())),
+        None => out.write_last(delivery, host),
     }
 }
 
@@ -83,13 +86,17 @@ impl Begun {
         host: &[u8],
         out: &mut Gathered<W>,
     ) -> Result<(), Stop>
+        requires last { LastIsWhole (Some self.old) }
         ensures item { self.new.item ≡ self.old.item }
+        ensures last { result ≡ Err Later → LastIsWhole (Some self.new) }
         ensures more { GoesOut (gathered_contents W.contents out.old)
             (gathered_contents W.contents out.new) (rest_of host.now (Some self.old))
             (rest_of host.now (Some self.new)) }
         ensures whole { OnOk result (rest_of host.now (Some self.new) ≡ []) }
-        ensures pauses { pauses_of out.old ≤ pauses_of out.new }
-        ensures later { IfErr result (λ s. s ≡ Later → pauses_of out.old < pauses_of out.new) }
+        ensures few { length out.old.waiting.items ≤ 65536
+            → length out.new.waiting.items ≤ 65536 }
+        ensures cause { MatchResult result (λ _. AreSame out.old.stream out.new.stream)
+            (λ s. HasCause s out.old.stream out.new.stream) }
     {
         match self.item.delivery() {
             Delivery::Lines { text, .. } => {
@@ -98,9 +105,6 @@ impl Begun {
                 written
             }
             Delivery::Last { .. } => {
-                if self.count != 0 {
-                    return Err(Stop::Fault(WriteFault::Failed));
-                }
                 let (count, written) = write_last(self.item.delivery(), host, out);
                 self.count = count;
                 written

@@ -3,14 +3,17 @@
 //! In place of `BufWriter`, which can't grow and drops its stream where it can't be made. Room for 512 octets is
 //! always there, so that the line of a session's end needs no memory. If more room is refused, what waits goes out
 //! first and then each item by itself.
-ghost use Rattle.std.specs.Prelude.{◌≡◌, ◌≤◌, ◌<◌, ◌++◌, [], true, false, length, take};
-ghost use Rattle.std.specs.Prelude.{drop, vec_len, IfOk, IfErr, OnOk};
+ghost use Rattle.std.specs.Prelude.{◌≡◌, ◌≤◌, ◌<◌, ◌+◌, ◌++◌, [], true, false, None, length, take};
+ghost use Rattle.std.specs.Prelude.{drop, vec_len, Err, IfOk, IfSome, OnOk, MatchResult};
 ghost use Rattle.std.specs.Io.KnownBytes.{Appends, Keeps, WriteAppends};
+ghost use Rattle.deliveries.specs.Text.{delivery_text};
+ghost use Rattle.wire.specs.Causes.{AreSame, HasCause};
 ghost use Rattle.wire.specs.declared.stream.Stop.TheVariants.{Later};
-ghost use Rattle.wire.specs.Gathering.{gathered_contents, pauses_of};
+ghost use Rattle.wire.specs.Gathering.{gathered_contents};
+ghost use Rattle.wire.specs.Wired.{GoesOut};
 
 use crate::stream::{Stop, Stream};
-use deliveries::WriteFault;
+use deliveries::{Delivery, WriteFault, write_out};
 use outbox::Gauge;
 use std::alloc::{AllocError, Global};
 use std::io::Write;
@@ -42,13 +45,12 @@ fn write_front<W: Write + Drop>(octets: &[u8], to: &mut Stream<W>) -> (usize, Re
     ensures all { OnOk result.1 (result.0 ≡ length octets.now) }
     ensures written { Appends (W.contents to.old.inner) (W.contents to.new.inner)
         (take result.0 octets.now) }
-    ensures pauses { to.old.pauses.value ≤ to.new.pauses.value }
-    ensures later { IfErr result.1 (λ s. s ≡ Later → to.old.pauses.value < to.new.pauses.value) }
+    ensures cause { MatchResult result.1 (λ _. AreSame to.old to.new)
+        (λ s. HasCause s to.old to.new) }
 {
     let mut count = 0;
     while count < octets.len() {
         match to.write(&octets[count..]) {
-            Ok(0) => return (count, Err(Stop::Fault(WriteFault::Zero))),
             Ok(more) => count += more,
             Err(stop) => return (count, Err(stop)),
         }
@@ -71,6 +73,7 @@ impl<W: Write + Drop> Gathered<W> {
     pub(crate) fn new(alloc: Global, stream: W, gauge: Gauge) -> Result<Gathered<W>, AllocError>
         ensures stream { IfOk result (λ g. g.stream.inner ≡ stream) }
         ensures none { IfOk result (λ g. g.waiting.items ≡ []) }
+        ensures faults { IfOk result (λ g. g.stream.faults.value ≡ 0) }
     {
         let waiting = Vec::with_capacity(alloc, KEPT)?;
         Ok(Gathered {
@@ -86,14 +89,15 @@ impl<W: Write + Drop> Gathered<W> {
     fn make_room(&mut self, more: usize) -> bool
         ensures stream { self.new.stream ≡ self.old.stream }
         ensures kept { self.new.waiting.items ≡ self.old.waiting.items }
+        ensures few { result ≡ true → length self.old.waiting.items + more ≤ 65536 }
     {
         let len = self.waiting.len();
-        if more <= self.waiting.capacity() - len {
-            return true;
-        }
         let all = len.saturating_add(more);
         if MOST < all {
             return false;
+        }
+        if more <= self.waiting.capacity() - len {
+            return true;
         }
         let wanted = if all <= SOME { SOME } else { MOST };
         self.waiting.reserve_exact(wanted - len).is_ok()
@@ -103,8 +107,9 @@ impl<W: Write + Drop> Gathered<W> {
     pub(crate) fn ready_for(&mut self, more: usize) -> Result<(), Stop>
         ensures octets { Keeps (gathered_contents W.contents self.old)
             (gathered_contents W.contents self.new) }
-        ensures pauses { pauses_of self.old ≤ pauses_of self.new }
-        ensures later { IfErr result (λ s. s ≡ Later → pauses_of self.old < pauses_of self.new) }
+        ensures few { length self.new.waiting.items ≤ length self.old.waiting.items }
+        ensures cause { MatchResult result (λ _. AreSame self.old.stream self.new.stream)
+            (λ s. HasCause s self.old.stream self.new.stream) }
     {
         if self.make_room(more) {
             Ok(())
@@ -118,6 +123,7 @@ impl<W: Write + Drop> Gathered<W> {
         ensures stream { self.new.stream ≡ self.old.stream }
         ensures kept { result ≡ true → self.new.waiting.items
             ≡ self.old.waiting.items ++ octets.now }
+        ensures few { result ≡ true → length self.new.waiting.items ≤ 65536 }
         ensures not { result ≡ false → self.new.waiting.items ≡ self.old.waiting.items }
     {
         self.make_room(octets.len()) && self.waiting.extend_from_slice(octets).is_ok()
@@ -128,8 +134,9 @@ impl<W: Write + Drop> Gathered<W> {
         ensures octets { Keeps (gathered_contents W.contents self.old)
             (gathered_contents W.contents self.new) }
         ensures none { OnOk result (self.new.waiting.items ≡ []) }
-        ensures pauses { pauses_of self.old ≤ pauses_of self.new }
-        ensures later { IfErr result (λ s. s ≡ Later → pauses_of self.old < pauses_of self.new) }
+        ensures few { length self.new.waiting.items ≤ length self.old.waiting.items }
+        ensures cause { MatchResult result (λ _. AreSame self.old.stream self.new.stream)
+            (λ s. HasCause s self.old.stream self.new.stream) }
     {
         let (count, written) = write_front(self.waiting.as_slice(), &mut self.stream);
         remove_front(&mut self.waiting, count);
@@ -140,10 +147,13 @@ impl<W: Write + Drop> Gathered<W> {
     /// Has octets wait, or writes the first of them where there is no room for them, and answers how many that are.
     pub(crate) fn write(&mut self, octets: &[u8]) -> Result<usize, Stop>
         ensures bound { IfOk result (λ n. n ≤ length octets.now) }
+        ensures some { IfOk result (λ n. 0 < length octets.now → 0 < n) }
         ensures octets { WriteAppends (gathered_contents W.contents self.old)
             (gathered_contents W.contents self.new) result octets.now }
-        ensures pauses { pauses_of self.old ≤ pauses_of self.new }
-        ensures later { IfErr result (λ s. s ≡ Later → pauses_of self.old < pauses_of self.new) }
+        ensures few { length self.old.waiting.items ≤ 65536
+            → length self.new.waiting.items ≤ 65536 }
+        ensures cause { MatchResult result (λ _. AreSame self.old.stream self.new.stream)
+            (λ s. HasCause s self.old.stream self.new.stream) }
     {
         if self.keep(octets) {
             return Ok(octets.len());
@@ -157,13 +167,60 @@ impl<W: Write + Drop> Gathered<W> {
         Ok(count)
     }
 
+    /// Has a session's last item wait, where there is room for it, and answers how long it is.
+    pub(crate) fn keep_last(&mut self, delivery: &Delivery, host: &[u8]) -> Option<usize>
+        ensures stream { self.new.stream ≡ self.old.stream }
+        ensures length { IfSome result
+            (λ n. n ≡ length (delivery_text delivery.now host.now)) }
+        ensures kept { IfSome result (λ n. self.new.waiting.items
+            ≡ self.old.waiting.items ++ delivery_text delivery.now host.now) }
+        ensures few { IfSome result (λ n. length self.new.waiting.items ≤ 65536) }
+        ensures not { result ≡ None → self.new.waiting.items ≡ self.old.waiting.items }
+    {
+        let before = self.waiting.len();
+        match write_out(delivery, host, &mut self.waiting) {
+            (count, Ok(())) if self.waiting.len() <= MOST => Some(count),
+            _ => {
+                self.waiting.truncate(before);
+                None
+            }
+        }
+    }
+
+    /// Writes what waits, and then a session's last item at once. It answers how much of that the stream took.
+    pub(crate) fn write_last(
+        &mut self,
+        delivery: &Delivery,
+        host: &[u8],
+    ) -> (usize, Result<(), Stop>)
+        ensures more { GoesOut (gathered_contents W.contents self.old)
+            (gathered_contents W.contents self.new) (delivery_text delivery.now host.now)
+            (drop result.0 (delivery_text delivery.now host.now)) }
+        ensures whole { OnOk result.1 (drop result.0 (delivery_text delivery.now host.now) ≡ []) }
+        ensures few { length self.new.waiting.items ≤ length self.old.waiting.items }
+        ensures later { result.1 ≡ Err Later → result.0 ≡ 0 }
+        ensures cause { MatchResult result.1 (λ _. AreSame self.old.stream self.new.stream)
+            (λ s. HasCause s self.old.stream self.new.stream) }
+    {
+        if let Err(stop) = self.write_waiting() {
+            return (0, Err(stop));
+        }
+        let (count, written) = self.stream.write_last(delivery, host);
+        self.gauge.go_out(count as u64);
+        match written {
+            Ok(()) => (count, Ok(())),
+            Err(fault) => (count, Err(Stop::Fault(fault))),
+        }
+    }
+
     /// Writes what waits, and has the stream give it on.
     pub(crate) fn flush(&mut self) -> Result<(), Stop>
         ensures octets { Keeps (gathered_contents W.contents self.old)
             (gathered_contents W.contents self.new) }
         ensures none { OnOk result (self.new.waiting.items ≡ []) }
-        ensures pauses { pauses_of self.old ≤ pauses_of self.new }
-        ensures later { IfErr result (λ s. s ≡ Later → pauses_of self.old < pauses_of self.new) }
+        ensures few { length self.new.waiting.items ≤ length self.old.waiting.items }
+        ensures cause { MatchResult result (λ _. AreSame self.old.stream self.new.stream)
+            (λ s. HasCause s self.old.stream self.new.stream) }
     {
         let is_long = KEPT < self.waiting.len();
         let kept = if is_long && self.was_long { SOME } else { KEPT };

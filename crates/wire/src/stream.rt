@@ -1,12 +1,13 @@
-//! A stream, of which clauses know how often it took nothing for now.
+//! A stream, of which clauses know how often it took nothing for now, and how often it failed.
 //!
 //! That an answer says that the stream takes nothing now, an error of the kind WouldBlock, TimedOut or Interrupted, is
 //! read in `stop_of`.
-ghost use Rattle.std.specs.Prelude.{◌≡◌, ◌≤◌, ◌<◌, length, IfOk, IfErr};
-ghost use Rattle.std.specs.Io.KnownBytes.{Keeps, WriteAppends};
-ghost use Rattle.wire.specs.declared.stream.Stop.TheVariants.{Later};
+ghost use Rattle.std.specs.Prelude.{◌≡◌, ◌≤◌, ◌<◌, ◌↔◌, length, take, IfOk, IsOk, MatchResult};
+ghost use Rattle.std.specs.Io.KnownBytes.{Appends, Keeps, WriteAppends};
+ghost use Rattle.deliveries.specs.Text.{delivery_text};
+ghost use Rattle.wire.specs.Causes.{AreSame, HasCause, Faults};
 
-use deliveries::WriteFault;
+use deliveries::{Delivery, WriteFault, write_out};
 use ghosts::{Change, Snapshot, apply};
 use std::io;
 use std::io::{Error, ErrorKind, Write};
@@ -29,31 +30,34 @@ fn stop_of(error: &Error) -> Stop {
     }
 }
 
-// One pause more.
-struct Pauses;
+// One pause or one fault more.
+struct Counts;
 
-impl Change<u64, Stop> for Pauses {
+impl Change<u64, ()> for Counts {
     ghost use Rattle.std.specs.Prelude.{◌+◌};
 
     ghost changed = { λ n s. n + 1 };
 }
 
-/// A stream. How often it answered that it takes nothing now exists for clauses alone, and nothing but its answers
-/// changes that.
+/// A stream. How often it answered that it takes nothing now, and how often that it takes no more, exists for clauses
+/// alone, and nothing but its answers changes that.
 #[derive(Drop)]
 pub(crate) struct Stream<W: Write + Drop> {
     inner: W,
     pauses: Snapshot<u64>,
+    faults: Snapshot<u64>,
 }
 
 impl<W: Write + Drop> Stream<W> {
     /// A stream that wasn't written to yet.
     pub(crate) fn new(inner: W) -> Stream<W>
-        ensures { result.inner ≡ inner }
+        ensures inner { result.inner ≡ inner }
+        ensures faults { result.faults.value ≡ 0 }
     {
         Stream {
             inner,
             pauses: Snapshot::of(&0),
+            faults: Snapshot::of(&0),
         }
     }
 
@@ -64,44 +68,65 @@ impl<W: Write + Drop> Stream<W> {
         &self.inner
     }
 
-    /// What an error of the stream means, of which a pause is counted.
-    fn stopped(&mut self, error: &Error) -> Stop
+    /// What stopped a write is counted.
+    fn stopped(&mut self, stop: Stop) -> Stop
         ensures inner { self.new.inner ≡ self.old.inner }
-        ensures pauses { self.old.pauses.value ≤ self.new.pauses.value }
-        ensures later { result ≡ Later → self.old.pauses.value < self.new.pauses.value }
+        ensures stop { result ≡ stop }
+        ensures cause { HasCause result self.old self.new }
     {
-        let stop = stop_of(error);
-        if stop == Stop::Later {
-            apply::<Pauses, u64, Stop>(&mut self.pauses, &stop);
+        match stop {
+            Stop::Later => apply::<Counts, u64, ()>(&mut self.pauses, &()),
+            Stop::Fault(_) => apply::<Counts, u64, ()>(&mut self.faults, &()),
         }
         stop
     }
 
-    /// Writes once, and answers how many of the octets the stream took.
+    /// Writes once, and answers how many of the octets the stream took. It took some, if there are any.
     pub(crate) fn write(&mut self, octets: &[u8]) -> Result<usize, Stop>
         ensures bound { IfOk result (λ n. n ≤ length octets.now) }
+        ensures some { IfOk result (λ n. 0 < length octets.now → 0 < n) }
         ensures bytes { WriteAppends (W.contents self.old.inner)
             (W.contents self.new.inner) result octets.now }
-        ensures pauses { self.old.pauses.value ≤ self.new.pauses.value }
-        ensures later { IfErr result
-            (λ s. s ≡ Later → self.old.pauses.value < self.new.pauses.value) }
+        ensures cause { MatchResult result (λ _. AreSame self.old self.new)
+            (λ s. HasCause s self.old self.new) }
     {
         match self.inner.write(octets) {
+            Ok(0) if !octets.is_empty() => Err(self.stopped(Stop::Fault(WriteFault::Zero))),
             Ok(count) => Ok(count),
-            Err(error) => Err(self.stopped(&error)),
+            Err(error) => Err(self.stopped(stop_of(&error))),
         }
+    }
+
+    /// Writes a session's last item, and answers how many of its octets the stream took. Where it doesn't take all,
+    /// that is a fault.
+    pub(crate) fn write_last(
+        &mut self,
+        delivery: &Delivery,
+        host: &[u8],
+    ) -> (usize, Result<(), WriteFault>)
+        ensures bytes { Appends (W.contents self.old.inner) (W.contents self.new.inner)
+            (take result.0 (delivery_text delivery.now host.now)) }
+        ensures whole { IsOk result.1
+            ↔ (result.0 ≡ length (delivery_text delivery.now host.now)) }
+        ensures cause { MatchResult result.1 (λ _. AreSame self.old self.new)
+            (λ _. Faults self.old self.new) }
+    {
+        let (count, written) = write_out(delivery, host, &mut self.inner);
+        if let Err(fault) = &written {
+            self.stopped(Stop::Fault(*fault));
+        }
+        (count, written)
     }
 
     /// Has the stream give on what it took.
     pub(crate) fn flush(&mut self) -> Result<(), Stop>
         ensures bytes { Keeps (W.contents self.old.inner) (W.contents self.new.inner) }
-        ensures pauses { self.old.pauses.value ≤ self.new.pauses.value }
-        ensures later { IfErr result
-            (λ s. s ≡ Later → self.old.pauses.value < self.new.pauses.value) }
+        ensures cause { MatchResult result (λ _. AreSame self.old self.new)
+            (λ s. HasCause s self.old self.new) }
     {
         match self.inner.flush() {
             Ok(()) => Ok(()),
-            Err(error) => Err(self.stopped(&error)),
+            Err(error) => Err(self.stopped(stop_of(&error))),
         }
     }
 }

@@ -7,7 +7,6 @@ ghost use Rattle.std.specs.Prelude.{◌≡◌, ◌≤◌, ◌<◌, ℕ, List, []
 ghost use Rattle.std.specs.Prelude.{IfOk, IfErr, OnOk, OnErr};
 ghost use Rattle.deliveries.specs.Text.{delivery_text};
 ghost use Rattle.std.specs.Io.KnownBytes.{append_known};
-ghost use Rattle.outbox.specs.Ends.{IsAllTaken};
 ghost use Rattle.wire.specs.declared.wire.Flow.TheVariants.{Idle, More, Behind, Ended};
 ghost use Rattle.wire.specs.Wired.{ends, is_last, IsInStep, IsSameWire};
 
@@ -31,7 +30,7 @@ const TURNS: u32 = 4096;
 /// How a wire stands after it was pumped.
 #[derive(Clone, Copy, Debug, PartialEq)]
 pub enum Flow {
-    /// No item waited at a moment of the call, and all went out.
+    /// The outbox was found empty, and all went out.
     Idle,
     /// Items were taken, and more may wait.
     More,
@@ -57,22 +56,23 @@ pub struct Wire<L: Naming, W: Write + Drop> {
 }
 
 impl<L: Naming, W: Write + Drop> Model for Wire<L, W> {
-    ghost use Rattle.std.specs.Prelude.{◌≡◌, true, Some};
-    ghost use Rattle.wire.specs.Gathering.{gathered_contents, pauses_of};
-    ghost use Rattle.wire.specs.Wired.{Wired, IsInStep, rest_of, ends};
+    ghost use Rattle.std.specs.Prelude.{◌≡◌, ◌≤◌, ◌<◌, true, false, Some, length};
+    ghost use Rattle.wire.specs.Gathering.{gathered_contents, pauses_of, faults_of};
+    ghost use Rattle.wire.specs.Wired.{Wired, IsInStep, LastIsWhole, rest_of, ends};
 
     ghost Value = { Wired };
 
     ghost view = { λ a. record {
       session = a.stub.session;
       taken = a.writer.taken;
+      empties = a.writer.empties;
       channel = a.writer.channel;
       told = gathered_contents W.contents a.out;
       waiting = a.out.waiting.items;
       rest = rest_of a.host a.begun;
       pauses = pauses_of a.out;
+      faults = faults_of a.out;
       host = a.host;
-      is_broken = a.is_broken;
       taken_before = a.writer_before.value.taken;
       told_before = W.contents a.stream_before.value;
     } };
@@ -81,18 +81,23 @@ impl<L: Naming, W: Write + Drop> Model for Wire<L, W> {
         × IsInStep (record {
           session = a.stub.session;
           taken = a.writer.taken;
+          empties = a.writer.empties;
           channel = a.writer.channel;
           told = gathered_contents W.contents a.out;
           waiting = a.out.waiting.items;
           rest = rest_of a.host a.begun;
           pauses = pauses_of a.out;
+          faults = faults_of a.out;
           host = a.host;
-          is_broken = a.is_broken;
           taken_before =
               a.writer_before.value.taken;
           told_before = W.contents a.stream_before.value;
         })
-        × (a.has_last ≡ true → ends a.writer.taken ≡ true) };
+        × (a.has_last ≡ true → ends a.writer.taken ≡ true)
+        × (a.is_broken ≡ true → 0 < faults_of a.out)
+        × (a.is_broken ≡ false → faults_of a.out ≡ 0)
+        × (a.is_broken ≡ false → LastIsWhole a.begun)
+        × (length a.out.waiting.items ≤ 65536) };
 }
 
 impl<L: Naming, W: Write + Drop> Wire<L, W> {
@@ -111,7 +116,7 @@ impl<L: Naming, W: Write + Drop> Wire<L, W> {
         ensures host { IfOk result (λ w. w.host ≡ host) }
         ensures taken_before { IfOk result (λ w. w.taken_before ≡ writer.taken) }
         ensures told_before { IfOk result (λ w. w.told_before ≡ W.contents stream) }
-        ensures whole { IfOk result (λ w. w.is_broken ≡ false) }
+        ensures faults { IfOk result (λ w. w.faults ≡ 0) }
         ensures session { IfOk result (λ w. w.session ≡ stub.session) }
         ensures err { IfErr result (λ e. (e.0 ≡ writer) × (e.1 ≡ stub) × (e.2 ≡ host)) }
     {
@@ -140,11 +145,12 @@ impl<L: Naming, W: Write + Drop> Wire<L, W> {
     /// that; else it is begun.
     fn begin_next<R: Wait>(&mut self, rt: &R) -> bool
         requires rest { self.old.rest ≡ [] }
-        requires whole { self.old.is_broken ≡ false }
+        requires whole { self.old.faults ≡ 0 }
         ensures same { IsSameWire self.old self.new }
-        ensures whole { self.new.is_broken ≡ false }
+        ensures whole { self.new.faults ≡ 0 }
         ensures some { result ≡ true → length self.old.taken < length self.new.taken }
-        ensures none { result ≡ false → (self.new.rest ≡ []) × IsAllTaken self.new.taken }
+        ensures none { result ≡ false
+            → (self.new.rest ≡ []) × (self.old.empties < self.new.empties) }
         ensures grows { length self.old.taken ≤ length self.new.taken }
     {
         let Ok(item) = self.writer.take_now(rt) else {
@@ -160,13 +166,13 @@ impl<L: Naming, W: Write + Drop> Wire<L, W> {
     /// Writes what is left of the item that was begun. It answers whether that is all; else the stream takes nothing
     /// now.
     fn write_begun(&mut self) -> Result<bool, WriteFault>
-        requires whole { self.old.is_broken ≡ false }
+        requires whole { self.old.faults ≡ 0 }
         ensures same { IsSameWire self.old self.new }
         ensures taken { self.new.taken ≡ self.old.taken }
-        ensures whole { OnOk result (self.new.is_broken ≡ false) }
+        ensures whole { OnOk result (self.new.faults ≡ 0) }
         ensures all { IfOk result (λ all. all ≡ true → self.new.rest ≡ []) }
         ensures later { IfOk result (λ all. all ≡ false → self.old.pauses < self.new.pauses) }
-        ensures fault { OnErr result (self.new.is_broken ≡ true) }
+        ensures fault { OnErr result (0 < self.new.faults) }
     {
         let Some(begun) = &mut self.begun else {
             return Ok(true);
@@ -187,14 +193,14 @@ impl<L: Naming, W: Write + Drop> Wire<L, W> {
     /// Writes what waits in the wire, and answers whether the stream took all.
     fn flush(&mut self) -> Result<bool, WriteFault>
         requires rest { self.old.rest ≡ [] }
-        requires whole { self.old.is_broken ≡ false }
+        requires whole { self.old.faults ≡ 0 }
         ensures same { IsSameWire self.old self.new }
         ensures taken { self.new.taken ≡ self.old.taken }
         ensures rest { self.new.rest ≡ [] }
-        ensures whole { OnOk result (self.new.is_broken ≡ false) }
+        ensures whole { OnOk result (self.new.faults ≡ 0) }
         ensures all { IfOk result (λ all. all ≡ true → self.new.waiting ≡ []) }
         ensures later { IfOk result (λ all. all ≡ false → self.old.pauses < self.new.pauses) }
-        ensures fault { OnErr result (self.new.is_broken ≡ true) }
+        ensures fault { OnErr result (0 < self.new.faults) }
     {
         match self.out.flush() {
             Ok(()) => Ok(true),
@@ -207,21 +213,21 @@ impl<L: Naming, W: Write + Drop> Wire<L, W> {
     }
 
     /// Takes the items that wait, and writes them, as many in one write as have room. It waits for none; the stream
-    /// may wait. It is idle only where at a moment of the call all that was sent was taken, behind only where the
-    /// stream answered in this call that it takes nothing now, and more may wait only where something was taken.
+    /// may wait. It is idle only where the outbox was found empty in this call, behind only where the stream answered
+    /// in this call that it takes nothing now, and more may wait only where something was taken.
     ///
-    /// After a fault nothing more is written.
+    /// It fails only where the stream answered once that it takes no more. After that nothing more is written.
     pub fn pump<R: Wait>(&mut self, rt: &R) -> Result<Flow, WriteFault>
         ensures same { IsSameWire self.old self.new }
-        ensures whole { OnOk result (self.new.is_broken ≡ false) }
+        ensures whole { OnOk result (self.new.faults ≡ 0) }
         ensures idle { IfOk result (λ flow. flow ≡ Idle → (self.new.rest ≡ [])
-            × (self.new.waiting ≡ []) × IsAllTaken self.new.taken) }
+            × (self.new.waiting ≡ []) × (self.old.empties < self.new.empties)) }
         ensures more { IfOk result
             (λ flow. flow ≡ More → length self.old.taken < length self.new.taken) }
         ensures behind { IfOk result (λ flow. flow ≡ Behind → self.old.pauses < self.new.pauses) }
         ensures ended { IfOk result (λ flow. flow ≡ Ended → (self.new.rest ≡ [])
             × (self.new.waiting ≡ []) × (ends self.new.taken ≡ true)) }
-        ensures fault { OnErr result (self.new.is_broken ≡ true) }
+        ensures fault { OnErr result (0 < self.new.faults) }
     {
         if self.is_broken {
             return Err(WriteFault::Failed);
@@ -262,10 +268,11 @@ impl<L: Naming, W: Write + Drop> Wire<L, W> {
         self.writer.gauge()
     }
 
-    /// What holds of every wire: what went out is the texts of the items taken since it was made, in order, but for
-    /// a rest.
+    /// What holds of every wire: what went out, with what waits in it, is the texts of the items taken since it was
+    /// made, in order, but for the rest of the newest. At most 65,536 octets wait.
     pub fn in_step(&self)
-        ensures { IsInStep self.now }
+        ensures in_step { IsInStep self.now }
+        ensures few { length self.now.waiting ≤ 65536 }
     {
         let _ = &self.writer;
     }
@@ -312,6 +319,7 @@ fn keeps<W: Write + Drop>(delivery: &Delivery, out: &mut Gathered<W>) -> bool
     ensures kept { result ≡ true → (host : List ℕ) → out.new.waiting.items
         ≡ out.old.waiting.items ++ delivery_text delivery.now host }
     ensures not { result ≡ false → out.new.waiting.items ≡ out.old.waiting.items }
+    ensures few { length out.old.waiting.items ≤ 65536 → length out.new.waiting.items ≤ 65536 }
 {
     match delivery {
         Delivery::Lines { text, .. } => out.keep(text.as_slice()),

@@ -2,12 +2,9 @@
 use super::Worker;
 use crate::client::Place;
 use crate::connections::NO_MEMORY;
-use crate::crowd::Crowd;
-use crate::guests;
-use crate::guests::{Came, Guest};
 use crate::opening::Serving;
 use crate::post::Post;
-use crate::web::{Web, WebStream};
+use client_streams::{Came, Crowd, Guest, MOST_GREETING, Web, WebStream, end_guest};
 use crew::Gate;
 use hall::Naming;
 use mio::net::TcpStream;
@@ -86,7 +83,7 @@ impl<L: Naming, R: Wait + Clock + Copy + Drop> Worker<L, R> {
 
     /// Ends the stream of who greeted at a place, which is free then.
     fn show_out(&mut self, post: &Post, at: usize, stream: &TcpStream) {
-        guests::end(stream);
+        end_guest(stream);
         self.free_place(at, post);
     }
 
@@ -141,7 +138,7 @@ impl<L: Naming, R: Wait + Clock + Copy + Drop> Worker<L, R> {
 
     /// Gives up those who have greeted for too long, and all where the server is closed.
     pub(super) fn hurry(&mut self, rt: &R, post: &Post, greeting: &Crowd, is_closed: bool) {
-        for _ in 0..guests::MOST {
+        for _ in 0..MOST_GREETING {
             let Some(at) = self.take_late_guest(rt, greeting, is_closed) else {
                 return;
             };

@@ -1,4 +1,4 @@
-use Rattle.std.proofs.Common.{◌+◌, drop, arith}
+use Rattle.std.proofs.Common.{◌+◌, drop, ◌∙◌}
 use Rattle.wire.specs.Gathering.{gathered_contents}
 use Rattle.wire.proofs.Going.{goes_on, goes_further}
 use Rattle.wire.proofs.begun.write_lines.Goals as goal
@@ -14,5 +14,6 @@ loop-count-preserved g c =
       more = goes_on (known c.args.out.now) (known c.loop-count.out) (known c.write.new.self)
           (drop c.args.from text) (drop done text) (drop (done + n) text) before.more
           (goes_further (known c.loop-count.out) (known c.write.new.self) text done n c.in-Ok.ensures.octets);
-      pauses = omega arith;
+      few = λ e. c.in-Ok.ensures.few (before.few e);
+      same = (c.in-Ok.ensures.cause.0 ∙ before.same.0, c.in-Ok.ensures.cause.1 ∙ before.same.1);
     }

@@ -6,8 +6,8 @@ use Rattle.outbox.specs.Ends.{Puttings}
 use Rattle.outbox.proofs.Keeps.{puts, ends_sent}
 use Rattle.outbox.proofs.ends.SenderOutbox.put.Goals as goal
 
-pub try_send_as-requires-clause-rule : goal.try_send_as-requires-clause-rule
-try_send_as-requires-clause-rule g c =
+pub put-requires-clause-rule : goal.put-requires-clause-rule
+put-requires-clause-rule g c =
     let sent = ap (λ (p : Puttings). p.sent) c.self.view_is in
     let next = subst (λ (before : List Item). Continues before c.args.item) (sym sent) c.requires.next in
     (puts _ _ _ _ c.self.invariant.1 next, ends_sent _ _ c.self.invariant.1)

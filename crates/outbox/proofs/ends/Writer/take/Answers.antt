@@ -1,5 +1,5 @@
 use Rattle.outbox.proofs.Keeps.{are_sent, takes}
 use Rattle.outbox.proofs.ends.Writer.take.Goals as goal
 
-pub recv_as-requires-clause-rule : goal.recv_as-requires-clause-rule
-recv_as-requires-clause-rule g c = (takes _ _ c.self.invariant.1, are_sent _ _ c.self.invariant.1)
+pub take-requires-clause-rule : goal.take-requires-clause-rule
+take-requires-clause-rule g c = (takes _ _ c.self.invariant.1, are_sent _ _ c.self.invariant.1)

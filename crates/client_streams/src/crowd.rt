@@ -3,14 +3,14 @@ use std::sync::atomic::{AtomicU64, Ordering};
 
 /// How many there are, and how many may be.
 #[derive(Drop)]
-pub(crate) struct Crowd {
+pub struct Crowd {
     count: AtomicU64,
     most: u64,
 }
 
 impl Crowd {
     /// None is there, and so many may be.
-    pub(crate) fn new(most: u64) -> Crowd {
+    pub fn new(most: u64) -> Crowd {
         Crowd {
             count: AtomicU64::new(0),
             most,
@@ -18,12 +18,12 @@ impl Crowd {
     }
 
     /// One more comes, and whether that is one too many.
-    pub(crate) fn enter(&self) -> bool {
+    pub fn enter(&self) -> bool {
         self.most <= self.count.fetch_add(1, Ordering::SeqCst)
     }
 
     /// One goes.
-    pub(crate) fn leave(&self) {
+    pub fn leave(&self) {
         self.count.fetch_sub(1, Ordering::SeqCst);
     }
 }

@@ -9,10 +9,10 @@ use std::net::Shutdown;
 use std::sync::{Arc, Wait};
 
 /// After how many pauses a stream is closed whatever its client does: five seconds.
-pub(crate) const TRIES: u32 = 250;
+pub const LINGER_TRIES: u32 = 250;
 
 /// How many streams may wait for their clients to close them, of all workers.
-pub(crate) const MOST: u64 = 1024;
+pub const MOST_LINGERING: u64 = 1024;
 
 /// How many octets are taken from a client, at most, before its stream is closed.
 const OCTETS: usize = 1_048_576;
@@ -69,34 +69,28 @@ impl<R: Wait + Copy + Drop> Lingering<R> {
 /// while octets come that nobody read is reset, and its client loses what it hasn't read; so what still comes is
 /// read and dropped, until the client closes its side, for a while.
 #[derive(Drop)]
-pub(crate) struct Lingerers<R: Wait + Copy + Drop> {
+pub struct Lingerers<R: Wait + Copy + Drop> {
     // The oldest first.
     streams: VecDeque<Lingering<R>>,
 }
 
 impl<R: Wait + Copy + Drop> Lingerers<R> {
     /// Nobody.
-    pub(crate) fn new(alloc: Global) -> Lingerers<R> {
+    pub fn new(alloc: Global) -> Lingerers<R> {
         Lingerers {
             streams: VecDeque::new(alloc),
         }
     }
 
     /// Whether there is none.
-    pub(crate) fn is_empty(&self) -> bool {
+    pub fn is_empty(&self) -> bool {
         self.streams.is_empty()
     }
 
     /// Ends what is written to a stream, of whose time so many pauses are over, once its WebSocket has written what
     /// waits, and has it wait for its client's end. Where more than may wait at all workers do then, the oldest of
     /// this one is closed; where there is no memory for it, it is closed itself.
-    pub(crate) fn add(
-        &mut self,
-        stream: Arc<TcpStream>,
-        web: Option<Web<R>>,
-        tries: u32,
-        all: &Crowd,
-    ) {
+    pub fn add(&mut self, stream: Arc<TcpStream>, web: Option<Web<R>>, tries: u32, all: &Crowd) {
         let mut one = Lingering {
             stream,
             web,
@@ -121,7 +115,7 @@ impl<R: Wait + Copy + Drop> Lingerers<R> {
     }
 
     /// After a pause: writes what waits for each and reads what came of it, and closes those whose time is over.
-    pub(crate) fn look(&mut self, all: &Crowd) {
+    pub fn look(&mut self, all: &Crowd) {
         let mut room = [0u8; ROOM];
         for _ in 0..self.streams.len() {
             let Some(mut one) = self.streams.pop_front() else {
@@ -131,7 +125,7 @@ impl<R: Wait + Copy + Drop> Lingerers<R> {
                 one.write_on();
             }
             one.tries = one.tries.saturating_add(1);
-            let goes_on = one.tries < TRIES && one.goes_on(&mut room);
+            let goes_on = one.tries < LINGER_TRIES && one.goes_on(&mut room);
             if !goes_on || self.streams.push_back(one).is_err() {
                 all.leave();
             }

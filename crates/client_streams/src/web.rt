@@ -47,7 +47,7 @@ pub(crate) const UNAVAILABLE: &[u8] =
 /// A client's stream, as its WebSocket has it. Until something was written it gives no more octets than a request
 /// may have; then it gives so many in a turn, after which it has nothing until the next begins.
 #[derive(Drop)]
-pub(crate) struct WebStream {
+pub struct WebStream {
     alloc: Global,
     stream: Arc<TcpStream>,
     // The request, until it is answered, and whether its head is whole and has its shape.
@@ -215,14 +215,14 @@ struct Shared {
 /// A session's WebSocket, which one worker reads and any thread may write to. Nobody waits for the worker that reads:
 /// who finds that it does is told that the stream takes nothing now, and the worker writes when it has read.
 #[derive(Drop)]
-pub(crate) struct Web<R: Wait + Copy + Drop> {
+pub struct Web<R: Wait + Copy + Drop> {
     rt: R,
     shared: Arc<Shared>,
 }
 
 impl<R: Wait + Copy + Drop> Web<R> {
     /// A WebSocket that threads may share.
-    pub(crate) fn new(rt: R, alloc: Global, front: Front<WebStream>) -> Option<Web<R>> {
+    pub fn new(rt: R, alloc: Global, front: Front<WebStream>) -> Option<Web<R>> {
         let shared = Shared {
             front: Mutex::new(front),
             is_wanted: AtomicBool::new(false),
@@ -234,7 +234,7 @@ impl<R: Wait + Copy + Drop> Web<R> {
     }
 
     /// Another hold of it.
-    pub(crate) fn again(&self) -> Option<Web<R>> {
+    pub fn again(&self) -> Option<Web<R>> {
         let Ok(shared) = Arc::try_clone(&self.shared) else {
             return None;
         };
@@ -258,7 +258,7 @@ impl<R: Wait + Copy + Drop> Web<R> {
     }
 
     /// Whether somebody found the front held since this was asked last: then who read is to write for it.
-    pub(crate) fn take_wanted(&self) -> bool {
+    pub fn take_wanted(&self) -> bool {
         self.shared.is_wanted.swap(false, Ordering::SeqCst)
     }
 
@@ -288,7 +288,7 @@ impl<R: Wait + Copy + Drop> Web<R> {
 
     /// Writes what waits, such as an answer to a ping or a close, as far as the stream takes it, and answers whether
     /// more is left for when it takes more.
-    pub(crate) fn go_on(&self) -> bool {
+    pub fn go_on(&self) -> bool {
         match self.shared.front.lock(&self.rt).flush() {
             Ok(is_out) => !is_out,
             Err(_) => false,
@@ -296,7 +296,7 @@ impl<R: Wait + Copy + Drop> Web<R> {
     }
 
     /// Sends an item, and answers whether it is out.
-    pub(crate) fn send_item(&self, item: &Item, host: &[u8]) -> bool {
+    pub fn send_item(&self, item: &Item, host: &[u8]) -> bool {
         self.shared
             .front
             .lock(&self.rt)
@@ -305,7 +305,7 @@ impl<R: Wait + Copy + Drop> Web<R> {
     }
 
     /// Sends a close, as far as the stream takes it.
-    pub(crate) fn close(&self, code: CloseCode) {
+    pub fn close(&self, code: CloseCode) {
         let _ = self.shared.front.lock(&self.rt).close(code);
     }
 
@@ -347,7 +347,7 @@ impl<R: Wait + Copy + Drop> Write for Web<R> {
 
 /// A client's payloads as one stream, in which each is followed by LF.
 #[derive(Drop)]
-pub(crate) struct Payloads<R: Wait + Copy + Drop> {
+pub struct Payloads<R: Wait + Copy + Drop> {
     web: Web<R>,
     // A payload with its LF, and how much of it was read.
     payload: Vec<u8>,
@@ -361,7 +361,7 @@ pub(crate) struct Payloads<R: Wait + Copy + Drop> {
 
 impl<R: Wait + Copy + Drop> Payloads<R> {
     /// The payloads of a WebSocket of which none was read.
-    pub(crate) fn new(alloc: Global, web: Web<R>) -> Payloads<R> {
+    pub fn new(alloc: Global, web: Web<R>) -> Payloads<R> {
         Payloads {
             web,
             payload: Vec::new(alloc),
@@ -373,7 +373,7 @@ impl<R: Wait + Copy + Drop> Payloads<R> {
     }
 
     /// Whether more may be there, of which no event tells.
-    pub(crate) fn has_more(&self) -> bool {
+    pub fn has_more(&self) -> bool {
         self.has_more || self.place < self.payload.len()
     }
 

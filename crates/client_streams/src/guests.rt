@@ -12,23 +12,23 @@ use std::time::{Duration, Instant};
 use websocket_front::{Front, GreetFault, Greeted, Greeting};
 
 /// How many may greet at a time, of all workers.
-pub(crate) const MOST: u64 = 256;
+pub const MOST_GREETING: u64 = 256;
 
 /// For how many seconds each may.
 const PATIENCE: u64 = 10;
 
 /// Who greets.
 #[derive(Drop)]
-pub(crate) struct Guest {
+pub struct Guest {
     greeting: Greeting<WebStream>,
-    pub(crate) stream: Arc<TcpStream>,
+    pub stream: Arc<TcpStream>,
     peer: SocketAddr,
     is_request: Arc<AtomicBool>,
 }
 
 /// How far a guest came.
 #[derive(Drop)]
-pub(crate) enum Came {
+pub enum Came {
     /// It is to be a session.
     In(Front<WebStream>, Arc<TcpStream>, SocketAddr),
     /// Its stream has or takes nothing now.
@@ -47,7 +47,7 @@ fn answer(stream: &TcpStream, octets: &[u8]) {
 
 impl Guest {
     /// Who has just connected.
-    pub(crate) fn new(alloc: Global, stream: Arc<TcpStream>, peer: SocketAddr) -> Option<Guest> {
+    pub fn new(alloc: Global, stream: Arc<TcpStream>, peer: SocketAddr) -> Option<Guest> {
         let Ok(is_request) = Arc::new(alloc, AtomicBool::new(false)) else {
             return None;
         };
@@ -66,7 +66,7 @@ impl Guest {
     }
 
     /// Goes on with the handshake. Whose request opens no WebSocket is told so, by one write.
-    pub(crate) fn go_on(self) -> Came {
+    pub fn go_on(self) -> Came {
         let Guest {
             greeting,
             stream,
@@ -97,7 +97,7 @@ impl Guest {
 }
 
 /// Ends a guest's stream.
-pub(crate) fn end(stream: &TcpStream) {
+pub fn end_guest(stream: &TcpStream) {
     let _ = stream.shutdown(Shutdown::Both);
 }
 
@@ -110,26 +110,26 @@ struct Entry {
 
 /// Those who greet at a worker, who has longest first.
 #[derive(Drop)]
-pub(crate) struct Guests {
+pub struct Guests {
     entries: VecDeque<Entry>,
 }
 
 impl Guests {
     /// Nobody.
-    pub(crate) fn new(alloc: Global) -> Guests {
+    pub fn new(alloc: Global) -> Guests {
         Guests {
             entries: VecDeque::new(alloc),
         }
     }
 
     /// Whether nobody greets.
-    pub(crate) fn is_empty(&self) -> bool {
+    pub fn is_empty(&self) -> bool {
         self.entries.is_empty()
     }
 
     /// One more, who connected now at this place. It answers who is to go for it, where more than may greet do then,
     /// and others do at this worker.
-    pub(crate) fn add(
+    pub fn add(
         &mut self,
         place: usize,
         since: Instant,
@@ -143,7 +143,7 @@ impl Guests {
     }
 
     /// One less, at this place.
-    pub(crate) fn remove(&mut self, place: usize, all: &Crowd) {
+    pub fn remove(&mut self, place: usize, all: &Crowd) {
         if let Some(at) = self.entries.iter().position(|entry| entry.place == place) {
             let _ = self.entries.remove(at);
             all.leave();
@@ -151,7 +151,7 @@ impl Guests {
     }
 
     /// Takes who has greeted longest off the list.
-    pub(crate) fn take_first(&mut self, all: &Crowd) -> Option<usize> {
+    pub fn take_first(&mut self, all: &Crowd) -> Option<usize> {
         match self.entries.pop_front() {
             Some(entry) => {
                 all.leave();
@@ -162,7 +162,7 @@ impl Guests {
     }
 
     /// The same where that is too long by now.
-    pub(crate) fn take_late(&mut self, now: Instant, all: &Crowd) -> Option<usize> {
+    pub fn take_late(&mut self, now: Instant, all: &Crowd) -> Option<usize> {
         match self.entries.front() {
             Some(entry) if now.duration_since(entry.since) >= Duration::from_secs(PATIENCE) => {
                 self.take_first(all)

@@ -1,0 +1,159 @@
+//! What all that is tried works with: a server in memory, and the steps that are taken.
+use crate::fakes::{Dial, Noted, Open};
+use chronicle::{Kind, RecordNumber, SessionId, Why};
+use crew::{Desk, Server, Sockets};
+use hall::{Hall, Naming};
+use outbox::Sender;
+use std::alloc::Global;
+use std::process::Abort;
+use std::sync::atomic::{AtomicU64, Ordering};
+use std::sync::{Mutex, Wait};
+
+/// Steps that are taken in turn: how many, and which was the first that wasn't as it is to be, where one wasn't.
+#[derive(Drop)]
+pub(crate) struct Steps {
+    taken: AtomicU64,
+    wrong: AtomicU64,
+}
+
+impl Steps {
+    /// None is taken.
+    fn new() -> Steps {
+        Steps {
+            taken: AtomicU64::new(0),
+            wrong: AtomicU64::new(0),
+        }
+    }
+
+    /// Notes a step, and whether it is as it is to be.
+    pub(crate) fn note(&self, is_right: bool) {
+        let step = self.taken.fetch_add(1, Ordering::SeqCst).wrapping_add(1);
+        if !is_right && self.wrong.load(Ordering::SeqCst) == 0 {
+            self.wrong.store(step, Ordering::SeqCst);
+        }
+    }
+
+    /// Each step was as it is to be.
+    pub(crate) fn assert_right<R: Abort>(&self, rt: &R) {
+        let wrong = self.wrong.load(Ordering::SeqCst);
+        assert_eq!(rt; wrong, 0, "the first step that is wrong");
+    }
+}
+
+/// What stands around a hall: a desk with one slot, connections, a clock, and the steps that are taken.
+#[derive(Drop)]
+pub(crate) struct Surroundings {
+    pub(crate) desk: Desk,
+    sockets: Noted,
+    clock: Dial,
+    pub(crate) steps: Steps,
+}
+
+impl Surroundings {
+    /// Nobody is shut or told, and the clock shows 0. Memory is asked for again where there was none.
+    pub(crate) fn new<R: Wait>(rt: &R, alloc: Global) -> Option<Surroundings> {
+        let desk = match Desk::new(rt, alloc, 1) {
+            Ok(desk) => desk,
+            Err(_) => Desk::new(rt, alloc, 1).ok()?,
+        };
+        Some(Surroundings {
+            desk,
+            sockets: Noted::new(),
+            clock: Dial::new(),
+            steps: Steps::new(),
+        })
+    }
+
+    /// What a trial in this hall works with.
+    pub(crate) fn scene<'a, L: Naming, R: Wait + Drop>(
+        &'a self,
+        rt: &'a R,
+        alloc: Global,
+        hall: &'a Mutex<Hall<L, Sender<R>>>,
+    ) -> Scene<'a, L, R> {
+        let stage = Server {
+            hall,
+            gate: &Open,
+            sockets: &self.sockets,
+            clock: &self.clock,
+            burst: 4,
+        };
+        Scene {
+            rt,
+            alloc,
+            stage,
+            around: self,
+        }
+    }
+}
+
+/// The server of a trial.
+pub(crate) type Stage<'a, L, R> = Server<'a, L, R, Open, Noted, Dial>;
+
+/// What all that is tried works with.
+#[derive(Drop)]
+pub(crate) struct Scene<'a, L: Naming, R: Wait + Drop> {
+    pub(crate) rt: &'a R,
+    pub(crate) alloc: Global,
+    pub(crate) stage: Stage<'a, L, R>,
+    pub(crate) around: &'a Surroundings,
+}
+
+impl<L: Naming, R: Wait + Drop> Scene<'_, L, R> {
+    /// Notes a step, and whether it is as it is to be.
+    pub(crate) fn note(&self, is_right: bool) {
+        self.around.steps.note(is_right);
+    }
+
+    /// How many records there are.
+    pub(crate) fn records(&self) -> usize {
+        self.stage.hall.lock(self.rt).len()
+    }
+
+    /// How many records were dropped.
+    pub(crate) fn dropped(&self) -> u64 {
+        self.stage.sockets.dropped.load(Ordering::SeqCst)
+    }
+
+    /// Whether the server goes on.
+    pub(crate) fn goes_on(&self) -> bool {
+        !self.stage.sockets.is_stopped.load(Ordering::SeqCst)
+    }
+
+    /// Whether a session was shut.
+    pub(crate) fn is_shut(&self, session: SessionId) -> bool {
+        self.stage.sockets.is_shut(session)
+    }
+
+    /// Whether the hall and the only slot are there.
+    pub(crate) fn is_free(&self) -> bool {
+        self.around.desk.slot(self.rt).is_some() && self.stage.hall.try_lock().is_some()
+    }
+
+    /// Whether the record of this number ended this session for this reason.
+    pub(crate) fn is_hung(&self, number: u64, session: SessionId, why: Why) -> bool {
+        let hall = self.stage.hall.lock(self.rt);
+        match hall.record(RecordNumber::new(number)) {
+            Some(record) => ends(&record.kind, session, why),
+            None => false,
+        }
+    }
+
+    /// Whether the newest record has this number and ended this session for this reason, and the session is shut.
+    pub(crate) fn is_ended(&self, number: u64, session: SessionId, why: Why) -> bool {
+        self.records() as u64 == number
+            && self.is_hung(number, session, why)
+            && self.is_shut(session)
+    }
+}
+
+/// Whether this ends a session for this reason.
+fn ends(kind: &Kind, session: SessionId, why: Why) -> bool {
+    match kind {
+        Kind::Hung {
+            session: hung,
+            why: told,
+        } => *hung == session && *told == why,
+        _ => false,
+    }
+}
