@@ -713,6 +713,13 @@ impl<O: Outbox> Book<O> {
         self.plan.len()
     }
 
+    /// The server's settings.
+    pub fn settings(&self) -> &Settings
+        ensures { result.now ≡ self.now.settings }
+    {
+        self.roster.settings()
+    }
+
     /// The nickname that a session has by the history.
     pub fn nick_of(&self, session: SessionId) -> Option<&Octets>
         ensures opened { 0 < session → session ≤ sessions self.now.history

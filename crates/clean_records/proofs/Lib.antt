@@ -13,5 +13,4 @@ pub mod Modes
 pub mod Rows
 pub mod Histories
 pub mod Answered
-pub mod Accounts
 mod Examples

@@ -9,9 +9,9 @@ use Rattle.channel_state.specs.declared.change.Change.TheVariants.{KeySet, Topic
 use Rattle.chronicle.specs.declared.record.Kind.{Kind}
 use Rattle.chronicle.specs.declared.record.Kind.TheVariants as kind
 use Rattle.chronicle.specs.History.{Rec}
-use Rattle.registration.specs.declared.accounts.Account.{Account}
 use Rattle.registration.specs.declared.settings.Settings.{Settings}
 use Rattle.registration.specs.Settings.{IsWellSet}
+pub use Rattle.registration.specs.Accounts.{AreNamed}
 use Rattle.roster.specs.declared.deed.Deed.{Deed}
 use Rattle.roster.specs.declared.deed.Deed.TheVariants as deed
 use Rattle.drafts.specs.declared.effect.Effect.{Effect}
@@ -67,10 +67,6 @@ pub record AreCleanLines (es : List Effect) : Type 0 where
   pub reply_is : (s : ℕ) → All IsClean (reply s es)
   pub copies_are : All IsClean (copies es)
   pub shown_are : (t : ℕ) → All IsClean (due es t)
-
--- each account's name has the shape of a nickname
-abbrev pub AreNamed : List Account → Type 0
-AreNamed accounts = All (λ account. IsNick account.name) accounts
 
 -- what is known of a server's settings
 pub record IsServing (g : Settings) : Type 0 where

@@ -5,9 +5,7 @@ use Rattle.line_grammar.specs.declared.message.Message.{Message}
 use Rattle.line_grammar.specs.Spelling.{is_text_octet}
 use Rattle.chronicle.specs.declared.record.Kind.{Kind}
 use Rattle.chronicle.specs.History.{Rec, actor}
-use Rattle.registration.specs.declared.accounts.Account.{Account}
 use Rattle.registration.specs.declared.settings.Settings.{Settings}
-use Rattle.registration.specs.Accounts.{accounts_in}
 use Rattle.roster.specs.declared.deed.Deed.{Deed}
 use Rattle.roster.specs.LookBack.{caps}
 use Rattle.drafts.specs.Effects.{copies, reply}
@@ -27,7 +25,7 @@ use Rattle.deeds.specs.Ping.{ping_line}
 use Rattle.answer_octets.specs.Clean.{HasText, IsClean, IsCleanAnswer, IsMoment}
 use Rattle.answer_octets.specs.Laws.{line_of}
 use Rattle.answer_octets.specs.TextLines.{text_lines}
-use Rattle.clean_records.specs.Clean.{AreClean, AreCleanEffects, AreCleanLines, AreNamed, IsCleanHistory, IsCleanKind}
+use Rattle.clean_records.specs.Clean.{AreClean, AreCleanEffects, AreCleanLines, IsCleanHistory, IsCleanKind}
 use Rattle.clean_records.specs.Clean.{IsServing, is_own}
 
 -- the records that are the program's own
@@ -99,9 +97,3 @@ TextsAreCut = (g : Settings) (h : List Rec) (k : Kind) (m : ℤ) (n t : ℕ) →
     → (text_lines (text g (facts g h) k m n t) ≡ map (line_of (caps (facts g h) t) m)
     (lines g (actor k) (label_in (facts g h) k) (effects g (facts g h) k) n t))
     × (list_all (list_all is_text_octet) (text_lines (text g (facts g h) k m n t)) ≡ true)
-
--- ---- where the premise on accounts comes from
-
--- the accounts of a file have it
-abbrev pub AccountsAreNamed : Type 0
-AccountsAreNamed = (file : List ℕ) (accounts : List Account) → accounts_in file ≡ Ok accounts → AreNamed accounts

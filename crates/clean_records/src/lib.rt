@@ -5,7 +5,9 @@
 ghost use Rattle.clean_records.specs.Laws.{OwnRecordsAreClean, SessionCommandsAreClean, WelcomesAreClean};
 ghost use Rattle.clean_records.specs.Laws.{ChannelCommandsAreClean, ModeCommandsAreClean, TalkCommandsAreClean};
 ghost use Rattle.clean_records.specs.Laws.{QueriesAreClean, RecordsAreClean, FactsAreClean, LinesAreClean};
-ghost use Rattle.clean_records.specs.Laws.{PingIsClean, AnswersAreClean, TextsAreCut, AccountsAreNamed};
+ghost use Rattle.clean_records.specs.Laws.{PingIsClean, AnswersAreClean, TextsAreCut};
+
+pub use registration::accounts_are_named;
 
 /// What the program itself records, of clean facts, makes clean lines and facts.
 pub fn own_records_are_clean()
@@ -70,9 +72,4 @@ pub fn answers_are_clean()
 /// And the text of any record to any session is cut into its lines again, none of which has a NUL, a CR or an LF.
 pub fn texts_are_cut()
     ensures { TextsAreCut }
-{}
-
-/// Accounts that are read from a file are named as nicknames are.
-pub fn accounts_are_named()
-    ensures { AccountsAreNamed }
 {}

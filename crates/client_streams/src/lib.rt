@@ -11,3 +11,4 @@ pub use crowd::Crowd;
 pub use guests::{Came, Guest, Guests, MOST_GREETING, end_guest};
 pub use lingering::{LINGER_TRIES, Lingerers, MOST_LINGERING};
 pub use web::{Payloads, Web, WebStream};
+pub use websocket_front;

@@ -6,5 +6,10 @@ mod command;
 mod reading;
 
 pub use asked::{Asked, read_message, read_piece};
+pub use channel_commands;
 pub use command::Command;
+pub use mode_commands;
+pub use query_commands;
 pub use reading::read;
+pub use session_commands;
+pub use talk_commands;

@@ -7,15 +7,15 @@ use Rattle.chronicle.specs.declared.record.Kind.{Kind}
 use Rattle.chronicle.specs.declared.record.Kind.TheVariants.{Hung}
 use Rattle.chronicle.specs.History.{Rec, last_moment, shut}
 use Rattle.chronicle.specs.Journal.{miss}
-use Rattle.outbox.specs.Ends.{Puttings, accepts, refuses}
-use Rattle.batons.specs.Turn.{Turn}
-use Rattle.book.specs.declared.plan.Planned.{Planned}
-use Rattle.book.specs.declared.out.Step.{Step}
-use Rattle.book.specs.declared.out.Step.TheVariants.{Put, Missed}
-use Rattle.book.specs.declared.out.Done.{Done}
-use Rattle.book.specs.declared.out.Hung.{Hung as Ended}
-use Rattle.book.specs.declared.refusals.HangRefusal.{HangRefusal}
-use Rattle.book.specs.Book.{Shown, begun, plan_of, newest_missed, IsPutNext, IsPutAll, IsDone, IsHangRefusal}
+use Rattle.session_ends.specs.Ends.{Puttings, accepts, refuses}
+use Rattle.session_ends.specs.Turn.{Turn}
+use Rattle.session_ends.specs.Planned.{Planned}
+use Rattle.session_ends.specs.Step.{Step}
+use Rattle.session_ends.specs.Step.TheVariants.{Put, Missed}
+use Rattle.session_ends.specs.Done.{Done}
+use Rattle.session_ends.specs.Hung.{Hung as Ended}
+use Rattle.session_ends.specs.HangRefusal.{HangRefusal}
+use Rattle.session_ends.specs.Book.{Shown, begun, plan_of, newest_missed, IsPutNext, IsPutAll, IsDone, IsHangRefusal}
 use Rattle.session_ends.specs.Timing.{IsLater, older, IsAt, IsNext}
 use Rattle.crew.specs.Doing.{TellsOf, IsSeenTo}
 use Rattle.session_ends.specs.Hanging.{Hangs}

@@ -3,12 +3,12 @@ use Rattle.std.specs.Prelude.{◌≡◌, ℤ, ◌+◌, Option, Some, None, Resul
 use Rattle.chronicle.specs.declared.record.Kind.TheVariants.{Ticked}
 use Rattle.chronicle.specs.declared.why.Why.TheVariants.{PingTimeout}
 use Rattle.chronicle.specs.declared.names.SessionId.{SessionId}
-use Rattle.outbox.specs.Ends.{Puttings, accepts, refuses}
-use Rattle.book.specs.declared.out.Done.{Done}
-use Rattle.book.specs.declared.out.Hung.{Hung}
-use Rattle.book.specs.declared.refusals.HangRefusal.{HangRefusal}
-use Rattle.book.specs.declared.refusals.TickRefusal.{TickRefusal}
-use Rattle.book.specs.Book.{Shown, IsDone, IsTickRefusal, newest_missed, to_ping, late}
+use Rattle.session_ends.specs.Ends.{Puttings, accepts, refuses}
+use Rattle.session_ends.specs.Done.{Done}
+use Rattle.session_ends.specs.Hung.{Hung}
+use Rattle.session_ends.specs.HangRefusal.{HangRefusal}
+use Rattle.session_ends.specs.TickRefusal.{TickRefusal}
+use Rattle.session_ends.specs.Book.{Shown, IsDone, IsTickRefusal, newest_missed, to_ping, late}
 use Rattle.session_ends.specs.Hanging.{Hangs}
 
 -- a record pings whoever is quiet at this moment, or nobody is; or the cause of the refusal holds, and nothing changed

@@ -4,9 +4,9 @@ use Rattle.std.specs.Io.KnownBytes.{Consumes}
 use Rattle.line_grammar.specs.declared.splitter.Piece.{Piece}
 use Rattle.line_grammar.specs.Lines.{lines, left_by}
 use Rattle.chronicle.specs.History.{Rec, shut}
-use Rattle.batons.specs.Turn.{Turn}
-use Rattle.book.specs.declared.out.Done.{Done as Told}
-use Rattle.book.specs.Book.{newest_missed}
+use Rattle.session_ends.specs.Turn.{Turn}
+use Rattle.session_ends.specs.Done.{Done as Told}
+use Rattle.session_ends.specs.Book.{newest_missed}
 use Rattle.session_ends.specs.Timing.{IsAt}
 use Rattle.intakes.specs.Taking.{Taken}
 use Rattle.crew.specs.declared.reading.Next.{Next}

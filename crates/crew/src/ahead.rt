@@ -5,8 +5,8 @@
 ghost use Rattle.std.specs.Prelude.{◌≡◌, ◌∷◌, [], None, IfSome};
 ghost use Rattle.crew.specs.Taking.{IsFront};
 
-use hall::ReadLine;
 use line_grammar::Piece;
+use session_ends::hall::ReadLine;
 use std::alloc::Global;
 use std::collections::VecDeque;
 use std::marker::Model;

@@ -9,8 +9,8 @@ ghost use Rattle.session_ends.specs.Timing.{IsLater};
 
 use chronicle::{Moment, SessionId, Why};
 use ghosts::Snapshot;
-use hall::{Done, Hall, HangRefusal, Hung, Naming, TickRefusal, Told};
-use outbox::Sender;
+use session_ends::hall::outbox::Sender;
+use session_ends::hall::{Done, Hall, HangRefusal, Hung, Naming, TickRefusal, Told};
 use session_ends::{Clock, Gate, Server, Sockets, hang_at, later, shut_missed, tell, tell_many};
 use std::sync::Wait;
 

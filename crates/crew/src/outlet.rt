@@ -12,7 +12,7 @@ ghost use Rattle.crew.specs.Writing.{Pumps};
 use chronicle::SessionId;
 use deliveries::WriteFault;
 use ghosts::Snapshot;
-use hall::Naming;
+use session_ends::hall::Naming;
 use std::io::Write;
 use std::sync::atomic::{AtomicBool, Ordering};
 use std::sync::{Mutex, Wait};

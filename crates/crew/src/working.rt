@@ -16,9 +16,9 @@ use crate::ahead::{Ahead, read_now};
 use crate::backlog::{Backlog, NoBacklog};
 use crate::desk::Desk;
 use chronicle::{Moment, SessionId};
-use hall::{Baton, Done, Hall, LineRefusal, Naming, ReadLine, RollRefusal, Told};
 use line_grammar::Piece;
-use outbox::Sender;
+use session_ends::hall::outbox::Sender;
+use session_ends::hall::{Baton, Done, Hall, LineRefusal, Naming, ReadLine, RollRefusal, Told};
 use session_ends::{
     Clock, Gate, Server, Sockets, are_many, end_refused, later, shut_those, tell, tell_many,
 };

@@ -6,7 +6,7 @@ ghost use Rattle.wire.specs.Wired.{IsSameWire};
 
 use crate::outlet::{Outlet, Pumped};
 use chronicle::{SessionId, Why};
-use hall::{Naming, Told};
+use session_ends::hall::{Naming, Told};
 use session_ends::{Clock, Gate, Server, Sockets, hang, tell};
 use std::alloc::Global;
 use std::io::Write;

@@ -3,7 +3,7 @@ ghost use Rattle.std.specs.Prelude.{◌≡◌, OnOk};
 ghost use Rattle.chronicle.specs.History.{accepted};
 
 use chronicle::Moment;
-use hall::{Baton, Hall, Lasting, LineRefusal, Naming};
+use crew::hall::{Baton, Hall, Lasting, LineRefusal, Naming};
 use line_grammar::Piece;
 
 /// Has a line accepted in the hall whose token the baton is, beside another.

@@ -2,10 +2,10 @@
 ghost use Rattle.std.specs.Prelude.{◌≡◌, []};
 
 use chronicle::Moment;
+use crew::hall::outbox::{ChannelName, Sender};
+use crew::hall::{Baton, Hall, Naming, Register, Settings, Told};
 use crew::{Desk, Gate, Job, work_one};
-use hall::{Baton, Hall, Naming, Register, Settings, Told};
 use line_grammar::{Octets, Piece};
-use outbox::{ChannelName, Sender};
 use registration::Accounts;
 use std::alloc::Global;
 use std::sync::{Mutex, Wait};

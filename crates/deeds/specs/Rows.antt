@@ -16,12 +16,12 @@ use Rattle.command_params.specs.declared.fault.ReadFault.TheVariants.{NoOrigin, 
 use Rattle.drafts.specs.declared.effect.Effect.{Effect}
 use Rattle.drafts.specs.Effects.{deeds_of}
 use Rattle.drafts.specs.Replies.{tells}
-use Rattle.session_commands.specs.Registration.{completed}
-use Rattle.session_commands.specs.Session.{serves_session}
-use Rattle.query_commands.specs.Query.{queries}
-use Rattle.channel_commands.specs.Channel.{serves_channel}
-use Rattle.mode_commands.specs.Modes.{serves_mode}
-use Rattle.talk_commands.specs.Talk.{is_unanswered, serves_talk}
+use Rattle.commands.specs.Registration.{completed}
+use Rattle.commands.specs.Session.{serves_session}
+use Rattle.commands.specs.Query.{queries}
+use Rattle.commands.specs.Channel.{serves_channel}
+use Rattle.commands.specs.Modes.{serves_mode}
+use Rattle.commands.specs.Talk.{is_unanswered, serves_talk}
 
 -- what a command of a session does by itself
 abbrev pub served : Settings → List Deed → ℕ → Command → List Effect

@@ -7,19 +7,19 @@ ghost use Rattle.deeds.specs.Rows.{asked, fault_numeric, is_for_registered, is_s
 ghost use Rattle.deeds.specs.Rows.{of_asked, of_command, refused, served, turned_away};
 ghost use Rattle.drafts.specs.Verdicts.{IsVerdict};
 
-use channel_commands::serve_channel;
 use chronicle::{Moment, SessionId};
 use command_params::ReadFault;
+use commands::channel_commands::serve_channel;
+use commands::mode_commands::serve_mode;
+use commands::query_commands::ask;
+use commands::session_commands::{complete, serve_session};
+use commands::talk_commands::{is_unanswered, serve_talk};
 use commands::{Asked, Command};
 use drafts::{Draft, Verdict, tell};
 use line_grammar::Octets;
-use mode_commands::serve_mode;
 use numerics::Numeric;
-use query_commands::ask;
 use roster::Roster;
-use session_commands::{complete, serve_session};
 use std::alloc::{AllocError, Global};
-use talk_commands::{is_unanswered, serve_talk};
 
 /// Does what a command asks for by itself.
 fn serve(draft: &mut Draft, session: SessionId, command: &Command) -> Result<(), AllocError>

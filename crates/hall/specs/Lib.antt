@@ -1,3 +1,13 @@
 pub mod Reaping
 pub mod Telling
 pub mod Tied
+pub use Rattle.outbox.specs.Ends
+pub use Rattle.batons.specs.Turn
+pub use Rattle.book.specs.Book
+pub use Rattle.book.specs.declared.plan.Planned
+pub use Rattle.book.specs.declared.out.Done
+pub use Rattle.book.specs.declared.out.Hung
+pub use Rattle.book.specs.declared.out.Step
+pub use Rattle.book.specs.declared.refusals.HangRefusal
+pub use Rattle.book.specs.declared.refusals.SweepRefusal
+pub use Rattle.book.specs.declared.refusals.TickRefusal

@@ -21,5 +21,6 @@ pub use dispatch::Book;
 pub use hall::Hall;
 pub use lasting::Lasting;
 pub use left::Left;
+pub use outbox;
 pub use register::{Naming, Register, Stub};
 pub use told::Told;

@@ -14,6 +14,7 @@ pub use book::{
 };
 pub use chronicle::{Moment, RecordNumber, SessionId, Why};
 pub use event::{BookRefusal, Event, Note, PlayRefusal, StepRefusal};
+pub use hall::{Naming, Register};
 pub use laws::{
     accepted_is_prefix_of_sent, answered_once_and_whole, batch_closed,
     error_at_most_after_the_close, heard_once, labelled_first, labelled_once, lone_line_unbatched,
@@ -21,5 +22,4 @@ pub use laws::{
 };
 pub use line_grammar::{Octets, Piece};
 pub use play::Play;
-pub use register::{Naming, Register};
 pub use worker::WorkerId;

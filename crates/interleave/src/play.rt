@@ -255,6 +255,12 @@ impl<L: Naming> Play<L> {
         let _ = &self.book;
     }
 
+    fn accounts_are_named(&self)
+        ensures { AreNamed self.now.book.settings.accounts }
+    {
+        self.book.book().settings().accounts.are_named();
+    }
+
     /// The session of the lowest number that isn't shut and is quiet for too long at a moment, if there is one.
     pub fn late(&self, moment: Moment) -> Option<SessionId>
         ensures { result ≡ late self.now.book.history moment }
@@ -709,8 +715,8 @@ impl<L: Naming> Play<L> {
         ensures labelled_first { IsLabelledFirst self.new.book.settings self.new.book.history }
         ensures lone_unbatched { IsLoneUnbatched self.new.book.settings self.new.book.history }
         ensures batch_closed { IsBatchClosed self.new.book.settings self.new.book.history }
-        ensures answered_whole { AreNamed self.new.book.settings.accounts
-            → IsAnsweredOnceAndWhole self.new.book.settings self.new.book.history }
+        ensures answered_whole { IsAnsweredOnceAndWhole self.new.book.settings
+            self.new.book.history }
     {
         taken_in_order();
         accepted_is_prefix_of_sent();
@@ -725,6 +731,7 @@ impl<L: Naming> Play<L> {
             None => self.perform(event),
         };
         self.sound();
+        self.accounts_are_named();
         answer
     }
 
@@ -755,10 +762,11 @@ impl<L: Naming> Play<L> {
         ensures labelled_first { IsLabelledFirst self.new.book.settings self.new.book.history }
         ensures lone_unbatched { IsLoneUnbatched self.new.book.settings self.new.book.history }
         ensures batch_closed { IsBatchClosed self.new.book.settings self.new.book.history }
-        ensures answered_whole { AreNamed self.new.book.settings.accounts
-            → IsAnsweredOnceAndWhole self.new.book.settings self.new.book.history }
+        ensures answered_whole { IsAnsweredOnceAndWhole self.new.book.settings
+            self.new.book.history }
     {
         self.sound();
+        self.accounts_are_named();
         error_at_most_after_the_close();
         labelled_once();
         labelled_first();
@@ -772,6 +780,7 @@ impl<L: Naming> Play<L> {
             notes.push_reserved(note);
         }
         self.sound();
+        self.accounts_are_named();
         Ok(notes)
     }
 }

@@ -1,6 +1,6 @@
 -- How long a line is in its two parts.
 use Rattle.std.proofs.Common.{◌≡◌, ℕ, ◌+◌, ◌-◌, ◌≤◌, Bool, true, false, cond, ◌||◌, List, [], ◌∷◌, ◌++◌, length}
-use Rattle.std.proofs.Common.{suc, refl, ap, sym, ◌∙◌, inl, inr, arith, eqb, ltb, length-append}
+use Rattle.std.proofs.Common.{append-nil, suc, refl, ap, sym, ◌∙◌, inl, inr, arith, eqb, ltb, length-append}
 use Rattle.std.specs.Prelude.{nat_lt}
 use Rattle.std.proofs.lemmas.Bool.{cases_Bool, or_parts, or_right, or_left, or_cases}
 use Rattle.std.proofs.lemmas.Bool.{eqb-true, ltb-true, ltb-false, lt-ltb, le-ltb}
@@ -78,6 +78,8 @@ is_too_long-lengths (b ∷ bs) =
           )
       | inr untagged ↦ rw untagged refl
     ]
+
+pub ruleset limits = (is_too_long-lengths, append-nil)
 
 pub length-bound : (line : List ℕ) → is_too_long line ≡ false → length line ≤ 4606
 length-bound [] n = omega arith

@@ -3,13 +3,13 @@ use Rattle.std.proofs.Common.{◌≡◌, ℕ, Bool, true, false, ◌||◌, cond,
 use Rattle.std.proofs.Common.{inl, inr, arith, append-nil, append_assoc, ◌+◌, ◌-◌, ◌<◌, ◌≤◌, suc, take, drop, get_or}
 use Rattle.std.specs.Prelude.{Some, None, Option}
 use Rattle.std.specs.List.{flat_map, list_any, position, position_or_len}
-use Rattle.std.proofs.lemmas.List.{take_rest, take_all}
+use Rattle.std.proofs.lemmas.List.{take_rest, take_all, take-append-le, length-take}
 use Rattle.std.proofs.lemmas.List.Sums.{split_at_first, passes_at_first}
 use Rattle.line_grammar.specs.declared.splitter.Piece.{Piece}
 use Rattle.line_grammar.specs.declared.splitter.Piece.TheVariants.{Line, TooLong}
 use Rattle.line_grammar.proofs.Lengths.{kept_with-kept_of}
 use Rattle.line_grammar.proofs.Spaces.{position_some, position_none}
-use Rattle.std.proofs.lemmas.Bool.{cases_Bool, or_parts, or_right}
+use Rattle.std.proofs.lemmas.Bool.{cases_Bool, or_parts, or_right, or_cases}
 use Rattle.std.proofs.lemmas.List.Concat.{flat_map-append}
 use Rattle.line_grammar.specs.Lines.{is_line_end, ended, unfinished, is_too_long}
 use Rattle.line_grammar.specs.Lines.{piece_of, lines, left_by, kept_of, Feeds}
@@ -54,6 +54,14 @@ any_end (b ∷ bs) t e is = or_right (is_line_end b) _ (any_end bs t e is)
 any_end_after : (s x : List ℕ) → list_any is_line_end x ≡ true → list_any is_line_end (s ++ x) ≡ true
 any_end_after [] x is = is
 any_end_after (b ∷ bs) x is = or_right (is_line_end b) _ (any_end_after bs x is)
+
+any_end_before : (s x : List ℕ) → list_any is_line_end s ≡ true → list_any is_line_end (s ++ x) ≡ true
+any_end_before [] x is = absurd (cc)
+any_end_before (b ∷ bs) x is =
+    elim (or_cases (is_line_end b) (list_any is_line_end bs) is) [
+      | inl first ↦ rw first refl
+      | inr more ↦ or_right (is_line_end b) _ (any_end_before bs x more)
+    ]
 
 pub unfinished-end : (h t : List ℕ) (e : ℕ) → is_line_end e ≡ true → unfinished (h ++ e ∷ t) ≡ unfinished t
 unfinished-end [] t e is = rw is refl
@@ -123,6 +131,47 @@ fed_within stream octets kept new out none was is =
       adds = lines-append stream octets none ∙ sym (append-nil (lines stream));
     }
 
+-- octets come where no line is unfinished
+unfinished-fresh : (s octets : List ℕ) → unfinished s ≡ [] → unfinished (s ++ octets) ≡ unfinished octets
+unfinished-fresh [] octets none = refl
+unfinished-fresh (b ∷ bs) octets none =
+    elim (cases_Bool (is_line_end b || list_any is_line_end bs)) [
+      | inl some ↦ rw (any_end_before (b ∷ bs) octets some) (unfinished-fresh bs octets (rw some at none))
+      | inr isnt ↦ let no : b ∷ unfinished bs ≡ [] = rw isnt at none in absurd (cc)
+    ]
+
+ended-fresh : (s octets : List ℕ) → unfinished s ≡ [] → ended (s ++ octets) ≡ ended s ++ ended octets
+ended-fresh [] octets none = refl
+ended-fresh (b ∷ bs) octets none =
+    elim (cases_Bool (is_line_end b || list_any is_line_end bs)) [
+      | inl some ↦
+          let rest = ended-fresh bs octets (rw some at none) in
+          elim (cases_Bool (is_line_end b)) [
+            | inl end ↦ rw (end, rest) refl
+            | inr not ↦ let first = some_ended bs (rw not at some) in rw (not, rest, first.2) refl
+          ]
+      | inr isnt ↦ let no : b ∷ unfinished bs ≡ [] = rw isnt at none in absurd (cc)
+    ]
+
+nothing_kept : (line : List ℕ) → kept_of line ≡ Some [] → line ≡ []
+nothing_kept [] e = refl
+nothing_kept (b ∷ bs) e =
+    elim (cases_Bool (is_too_long (b ∷ bs))) [
+      | inl is ↦ let no : None ≡ Some [] = rw is at e in absurd (cc)
+      | inr not ↦ let no : Some (b ∷ bs) ≡ Some [] = rw not at e in absurd (cc)
+    ]
+
+pub fed_fresh : (stream octets : List ℕ) (kept next : Option (List ℕ)) (old new : List Piece) → kept ≡ Some []
+    → kept ≡ left_by stream → next ≡ left_by octets → new ≡ old ++ lines octets → Feeds stream octets next old new
+fed_fresh stream octets kept next old new is was left grown =
+    let fresh = nothing_kept (unfinished stream) (sym was ∙ is) in
+    record {
+      added = lines octets;
+      keeps = left ∙ ap kept_of (sym (unfinished-fresh stream octets fresh));
+      grows = grown;
+      adds = ap (flat_map piece_of) (ended-fresh stream octets fresh) ∙ flat_map-append piece_of (ended stream) _;
+    }
+
 -- octets with a line end come: the piece of the line that goes on, then the lines of the rest
 pub fed_over : (stream octets front rest : List ℕ) (kept ended_kept next : Option (List ℕ)) (piece : List Piece)
     (old new : List Piece) → EndsLine octets front rest → kept ≡ left_by stream
@@ -149,7 +198,7 @@ lines-end front rest e none is = lines-append_end [] front rest e none is
 
 -- ---- what an answer of `position` says
 
-none_before_first : (p : ℕ → Bool) (xs : List ℕ) → list_any p (take (position_or_len p xs) xs) ≡ false
+pub none_before_first : (p : ℕ → Bool) (xs : List ℕ) → list_any p (take (position_or_len p xs) xs) ≡ false
 none_before_first p [] = refl
 none_before_first p (b ∷ bs) =
     elim (cases_Bool (p b)) [
@@ -180,6 +229,14 @@ ends_nowhere xs e =
     rw (← take_all (position_or_len is_line_end xs) xs len) (none_before_first is_line_end xs)
 
 pub ruleset line_ends = (ends_at, ends_nowhere)
+
+-- what stood at the front stays there where more comes
+pub stays_with : (front xs added ys : List Piece) → take (length front) xs ≡ front → ys ≡ xs ++ added
+    → take (length front) ys ≡ front
+stays_with front xs added ys stood is =
+    let short : length front ≤ length xs =
+    omega (arith, length-take (length front) xs, ap length stood) in
+    ap (take (length front)) is ∙ take-append-le (length front) xs added short ∙ stood
 
 pub lines-none : (xs : List ℕ) → list_any is_line_end xs ≡ false → lines xs ≡ []
 lines-none xs none = ap (flat_map piece_of) (ended-none xs none)

@@ -1,7 +1,7 @@
 //! Reading a line as a message (RFC 2812, section 2.3.1).
-ghost use Rattle.std.specs.Prelude.{◌≡◌, ◌↔◌, None, Some, IfOk, IsErrOf, IsSome};
+ghost use Rattle.std.specs.Prelude.{◌≡◌, ◌↔◌, None, Some, IfOk, IsErrOf, IsSome, IsTrue};
 ghost use Rattle.std.specs.Prelude.{Contains, ◌++◌, not, ◌||◌, ◌==◌, length};
-ghost use Rattle.std.specs.List.{list_all};
+ghost use Rattle.std.specs.List.{list_all, list_any};
 ghost use Rattle.std.specs.Option.{option_map};
 ghost use Rattle.line_grammar.specs.declared.message.Message.{Message};
 ghost use Rattle.line_grammar.specs.Grammar.{Reads};
@@ -11,6 +11,7 @@ ghost use Rattle.line_grammar.specs.declared.grammar.LineFault.TheVariants.{Memo
 
 use crate::words::{skip_spaces, split_word};
 use crate::{LineMessage, Octets, OctetsList};
+use memchr::memchr;
 use std::alloc::{AllocError, Global};
 
 /// The most parameters of a message (RFC 2812, section 2.3).
@@ -49,7 +50,7 @@ pub fn parse(alloc: Global, line: &[u8]) -> Result<LineMessage<'_>, LineFault>
     ensures unspelled { IsErrOf result LineFault.NoCommand → (m : Message) → Reads line.now m → ⊥ }
     ensures memory { IsErrOf result LineFault.Memory → IsSome (reading line.now) }
 {
-    if line.contains(&0) {
+    if has_nul(line) {
         return Err(LineFault::HasNul);
     }
     let (tags, rest) = split_tags(line);
@@ -76,10 +77,17 @@ pub fn tag_data(line: &[u8]) -> Option<&[u8]>
     let (tags, rest) = split_tags(line);
     let (_, rest) = split_source(rest);
     let (command, _) = split_word(rest);
-    if line.contains(&0) || !is_command(command) {
+    if has_nul(line) || !is_command(command) {
         return None;
     }
     Some(tags)
+}
+
+fn has_nul(line: &[u8]) -> bool
+    ensures any { result ≡ list_any (λ b. b == 0) line.now }
+    ensures there { IsTrue result ↔ Contains line.now 0 }
+{
+    memchr(0, line).is_some()
 }
 
 /// The tag data, without its `@`, and what comes after it.

@@ -1,15 +1,17 @@
 //! Cutting a byte stream into lines (RFC 2812, section 2.3; IRCv3 message-tags).
 ghost use Rattle.std.specs.Prelude.{◌≡◌, [], ◌∷◌, List, ℕ, ◌++◌, ◌≤◌, length, Bool, true, false, not, OnOk, OnErr};
-ghost use Rattle.std.specs.Prelude.{IfOk, MatchOption, cond, nat_lt, vec_len, ◌||◌, ◌-◌, ◌+◌, ◌<◌, ◌^◌};
+ghost use Rattle.std.specs.Prelude.{IfOk, IsTrue, MatchOption, Some, cond, nat_lt, take, vec_len};
+ghost use Rattle.std.specs.Prelude.{◌||◌, ◌-◌, ◌+◌, ◌<◌, ◌^◌};
 ghost use Rattle.std.specs.Vec.{vec_capacity};
 ghost use Rattle.std.specs.Option.{option_to_list};
 ghost use Rattle.std.specs.List.{flat_map, list_any, position};
 ghost use Rattle.line_grammar.specs.Reading.{begins_with};
-ghost use Rattle.line_grammar.specs.Lines.{is_line_end, lines, unfinished};
+ghost use Rattle.line_grammar.specs.Lines.{is_line_end, is_too_long, lines, piece_of, unfinished};
 ghost use Rattle.line_grammar.specs.Steps.{EndsLine};
 
 use crate::Octets;
 use crate::words::split_word;
+use memchr::memchr2;
 use std::alloc::{AllocError, Global};
 use std::marker::Model;
 use std::mem;
@@ -100,11 +102,7 @@ impl Unfinished {
         ensures { result ≡ is_too_long (self.now ++ octets.now) }
     {
         let length = self.octets.len() + octets.len();
-        if is_tagged(&self.octets, octets) {
-            word_length > MAX_TAG_DATA + 1 || length.saturating_sub(word_length) > MAX_REST + 1
-        } else {
-            length > MAX_REST
-        }
+        is_over(is_tagged(&self.octets, octets), length, word_length)
     }
 
     /// Adds octets at the end, or answers `false` where that makes the line too long.
@@ -133,6 +131,30 @@ fn is_tagged(front: &[u8], back: &[u8]) -> bool
     }
 }
 
+/// Whether a line of this length is too long, with its first space after so many octets.
+fn is_over(is_tagged: bool, length: usize, word_length: usize) -> bool
+    ensures { result ≡ cond is_tagged (nat_lt 4095 word_length || nat_lt 511 (length - word_length))
+        (nat_lt 510 length) }
+{
+    if is_tagged {
+        word_length > MAX_TAG_DATA + 1 || length.saturating_sub(word_length) > MAX_REST + 1
+    } else {
+        length > MAX_REST
+    }
+}
+
+/// Whether a whole line is too long.
+#[tactic(auto, using(crate::proofs::Lengths::limits))]
+fn is_too_long(line: &[u8]) -> bool
+    ensures { result ≡ is_too_long line.now }
+{
+    if is_tagged(line, &[]) {
+        is_over(true, line.len(), split_word(line).0.len())
+    } else {
+        line.len() > MAX_REST
+    }
+}
+
 /// What stands before the first line end, and what after it.
 #[tactic(auto, using(crate::proofs::Streams::line_ends))]
 fn split_line(octets: &[u8]) -> Option<(&[u8], &[u8])>
@@ -146,9 +168,7 @@ fn split_line(octets: &[u8]) -> Option<(&[u8], &[u8])>
 fn first_line_end(octets: &[u8]) -> Option<usize>
     ensures { result ≡ position is_line_end octets.now }
 {
-    octets
-        .iter()
-        .position(|octet| *octet == b'\r' || *octet == b'\n')
+    memchr2(b'\r', b'\n', octets)
 }
 
 /// Cuts a stream that comes in any pieces. It keeps the unfinished line, at most 4606 octets of it: `@`, 4094 of tag
@@ -217,6 +237,25 @@ impl Splitter {
         }
     }
 
+    /// Whether nothing is kept, since no line is unfinished.
+    fn is_fresh(&self) -> bool
+        ensures { IsTrue result → self.now ≡ Some [] }
+    {
+        matches!(&self.unfinished, Some(line) if line.len() == 0)
+    }
+
+    /// Takes octets where no line is unfinished. Where it fails, lines may have been added.
+    fn feed_fresh(&mut self, octets: &[u8], out: &mut Vec<Piece>) -> Result<(), AllocError>
+        requires { self.old ≡ Some [] }
+        ensures ok { OnOk result ((self.new ≡ left_by octets.now)
+            × (out.new.items ≡ out.old.items ++ lines octets.now)) }
+        ensures err { OnErr result (self.new ≡ self.old) }
+        ensures stays { take (length out.old.items) out.new.items ≡ out.old.items }
+    {
+        let rest = push_lines(self.alloc, octets, out)?;
+        self.extend(rest)
+    }
+
     /// Takes the octets that come next in the stream, and adds to `out` each line that ends in them: CR or LF ends a
     /// line, and empty lines are left out (RFC 2812, section 2.3). It fails only where a growth is refused, which
     /// changes neither the splitter nor `out`.
@@ -225,6 +264,14 @@ impl Splitter {
             → Feeds stream octets.now self.new out.old.items out.new.items) }
         ensures err { OnErr result ((self.new ≡ self.old) × (out.new.items ≡ out.old.items)) }
     {
+        if self.is_fresh() {
+            let before = out.len();
+            let fed = self.feed_fresh(octets, out);
+            if fed.is_err() {
+                out.truncate(before);
+            }
+            return fed;
+        }
         let Some((front, rest)) = split_line(octets) else {
             return self.extend(octets);
         };
@@ -262,7 +309,25 @@ fn push_reserved(out: &mut Vec<Piece>, first: Option<Piece>, mut more: Vec<Piece
     out.append(&mut more).unwrap();
 }
 
-/// Adds each line that ends in the octets to `out`, and gives what stands after the last.
+/// Adds the piece of a whole line: none where it is empty.
+fn push_line(alloc: Global, line: &[u8], out: &mut Vec<Piece>) -> Result<(), AllocError>
+    ensures ok { OnOk result (out.new.items ≡ out.old.items ++ piece_of line.now) }
+    ensures err { OnErr result (out.new.items ≡ out.old.items) }
+{
+    if line.is_empty() {
+        return Ok(());
+    }
+    let piece = if is_too_long(line) {
+        Piece::TooLong
+    } else {
+        Piece::Line(Octets::copied(alloc, line)?)
+    };
+    out.push(piece)?;
+    Ok(())
+}
+
+/// Adds each line that ends in the octets to `out`, and gives what stands after the last. Where it fails, lines may
+/// have been added.
 fn push_lines<'a>(
     alloc: Global,
     octets: &'a [u8],
@@ -270,14 +335,11 @@ fn push_lines<'a>(
 ) -> Result<&'a [u8], AllocError>
     ensures lines { IfOk result (λ _. out.new.items ≡ out.old.items ++ lines octets.now) }
     ensures rest { IfOk result (λ rest. rest.now ≡ unfinished octets.now) }
+    ensures stays { take (length out.old.items) out.new.items ≡ out.old.items }
 {
     let mut rest = octets;
     while let Some((line, more)) = split_line(rest) {
-        let mut splitter = Splitter::new(alloc);
-        splitter.extend(line)?;
-        if let Some(piece) = splitter.end() {
-            out.push(piece)?;
-        }
+        push_line(alloc, line, out)?;
         rest = more;
     }
     Ok(rest)

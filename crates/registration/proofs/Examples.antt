@@ -21,12 +21,11 @@ use Rattle.registration.specs.declared.enrol.SaslAnswer.{SaslAnswer}
 use Rattle.registration.specs.declared.enrol.SaslAnswer.TheVariants.{AlreadyLoggedIn, Failed, Opened, UnknownMechanism}
 use Rattle.registration.specs.declared.enrol.SaslAnswer.TheVariants.{Aborted, TooLong, Waits, LoggedIn}
 use Rattle.registration.specs.declared.enrol.UserAnswer.TheVariants.{Accepted, AlreadyTold}
-use Rattle.registration.specs.declared.sasl.Credentials.{Credentials}
 use Rattle.registration.specs.Accounts.{accounts_in, logged_in}
 use Rattle.registration.specs.Caps.{after_request, all_caps, cap_name, cap_named, list_of, none_on, turned}
 use Rattle.registration.specs.Enrol.{Enrolment, cap_answer, holds, is_ready, nick_answer, sasl_answer, user_answer}
 use Rattle.casemapping.specs.Fold.{is_same}
-use Rattle.registration.specs.Plain.{credentials_of}
+use Rattle.registration.specs.Plain.{Credentials, credentials_of}
 use Rattle.registration.specs.Settings.{is_motd, is_text, is_version}
 
 -- ---- capabilities

@@ -4,3 +4,4 @@ mod Examples
 pub mod Spelled
 pub mod AccountLines
 mod Known
+pub mod Named

@@ -1,8 +1,8 @@
 -- The accounts of a server, as its file has them (this project's own format), and what a password is checked against
 -- (FIPS 180-4, SHA-256).
-use Rattle.std.specs.Prelude.{ℕ, ◌<◌, ◌≤◌, length, take, IsOk, Bool, ◌+◌, ◌&&◌, cond, List, [], ◌∷◌}
+use Rattle.std.specs.Prelude.{◌≡◌, true, ℕ, ◌<◌, ◌≤◌, length, take, IsOk, Bool, ◌+◌, ◌&&◌, cond, List, [], ◌∷◌}
 use Rattle.std.specs.Prelude.{◌++◌, Option, Some, None, option_and_then, Result, Ok, Err}
-use Rattle.std.specs.List.{find, list_any}
+use Rattle.std.specs.List.{All, find, list_any}
 use Rattle.std.specs.Str.{bytes_eq}
 use Rattle.casemapping.specs.Names.{nick_shape}
 use Rattle.hex.specs.Hex.{decode_sized}
@@ -60,6 +60,14 @@ accounts_from (line ∷ lines) number accounts = unless_fault number (accounts_f
 -- the accounts of a file. Its lines are counted from 1, and each ends at a line feed
 unfoldable pub accounts_in : List ℕ → Result (List Account) (ℕ × AccountFault)
 accounts_in file = accounts_from (parts 10 file) 1 []
+
+-- each account's name has the shape of a nickname
+abbrev pub AreNamed : List Account → Type 0
+AreNamed accounts = All (λ account. nick_shape account.name ≡ true) accounts
+
+-- so have the names of a file's accounts
+abbrev pub AccountsAreNamed : Type 0
+AccountsAreNamed = (file : List ℕ) (accounts : List Account) → accounts_in file ≡ Ok accounts → AreNamed accounts
 
 -- a file has a line of this number, and up to it no line has a fault
 abbrev pub IsReadTo : List ℕ → ℕ → Type 0

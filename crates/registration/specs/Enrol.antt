@@ -18,11 +18,10 @@ use Rattle.registration.specs.declared.enrol.CapAnswer.TheVariants.{Acknowledged
 use Rattle.registration.specs.declared.enrol.SaslAnswer.{SaslAnswer}
 use Rattle.registration.specs.declared.enrol.SaslAnswer.TheVariants.{AlreadyLoggedIn, Failed, Opened, UnknownMechanism}
 use Rattle.registration.specs.declared.enrol.SaslAnswer.TheVariants.{Aborted, TooLong, Waits, LoggedIn}
-use Rattle.registration.specs.declared.sasl.Credentials.{Credentials}
 use Rattle.registration.specs.Accounts.{logged_in}
 use Rattle.registration.specs.Caps.{after_request, is_on}
 use Rattle.casemapping.specs.Fold.{is_same}
-use Rattle.registration.specs.Plain.{credentials_of}
+use Rattle.registration.specs.Plain.{Credentials, credentials_of}
 
 -- what a session has told of itself, and by which account it is logged in
 pub record Enrolment : Type 0 where

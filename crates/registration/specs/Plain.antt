@@ -1,11 +1,10 @@
 -- The PLAIN mechanism: RFC 4616, section 2, in the standard alphabet of RFC 4648, section 4, with padding. The
 -- limits of an exchange are no part of it.
 use Rattle.std.specs.Prelude.{◌≡◌, ℕ, true, ◌||◌, ◌&&◌, Bool, cond, List, ◌∷◌, ◌++◌}
-use Rattle.std.specs.Prelude.{Option, Some, None, Result, Ok, Err}
+use Rattle.std.specs.Prelude.{IfSome, Option, Some, None, Result, Ok, Err}
 use Rattle.base64.specs.Engines.{standard}
-use Rattle.base64.specs.GeneralPurpose.{decode_of, encode_of}
+use Rattle.base64.specs.GeneralPurpose.{IsBytes, decode_of, encode_of}
 use Rattle.base64.specs.declared.decode.DecodeError.{DecodeError}
-use Rattle.registration.specs.declared.sasl.Credentials.{Credentials}
 use Rattle.casemapping.specs.Fold.{is_same}
 use Rattle.line_grammar.specs.Parts.{is_empty, is_present, parts}
 use Rattle.registration.specs.Parts.{three_of}
@@ -14,7 +13,11 @@ use Rattle.registration.specs.Parts.{three_of}
 abbrev pub is_own : List ℕ → List ℕ → Bool
 is_own identity user = is_empty identity || is_same identity user
 
--- a user and a password
+-- who logs in, and with which password
+pub record Credentials : Type 0 where
+  pub user : List ℕ
+  pub password : List ℕ
+
 abbrev pub credentials : List ℕ → List ℕ → Credentials
 credentials user password = record { user = user; password = password }
 
@@ -43,3 +46,7 @@ pub record Spells (payload : List ℕ) (c : Credentials) : Type 0 where
   pub message : List ℕ
   pub tells : Tells message c
   pub spelled : payload ≡ encode_of standard message
+
+-- what a payload tells, it spells
+abbrev pub ToldIsSpelled : Type 0
+ToldIsSpelled = (payload : List ℕ) → IsBytes payload → IfSome (credentials_of payload) (Spells payload)

@@ -1,14 +1,15 @@
 //! The accounts of users, which log in by SASL (IRCv3 SASL 3.1).
 ghost use Rattle.std.specs.Prelude.{◌≡◌, ◌⊎◌, ◌↔◌, ◌++◌, ◌∷◌, ◌==◌, [], count_by, length, not, IfOk};
-ghost use Rattle.std.specs.Prelude.{IfErr, IsTrue, IsErr, IsErrOf, IsOk, IsSome, OnOk, OnErr};
+ghost use Rattle.std.specs.Prelude.{true, IfErr, IsTrue, IsErr, IsErrOf, IsOk, IsSome, OnOk, OnErr};
 ghost use Rattle.std.specs.List.{find, zip};
 ghost use Rattle.std.specs.Option.{option_copied, option_map};
 ghost use Rattle.std.specs.Result.{result_ok};
 ghost use Rattle.std.specs.Str.{bytes_eq};
 ghost use Rattle.hex.specs.Hex.{decode_sized};
 ghost use Rattle.sha2.specs.Sha256.{sha256};
-ghost use Rattle.registration.specs.Accounts.{account_of, is_known, with_account, words_of};
+ghost use Rattle.registration.specs.Accounts.{AccountsAreNamed, account_of, is_known, with_account, words_of};
 ghost use Rattle.casemapping.specs.Fold.{is_same};
+ghost use Rattle.casemapping.specs.Names.{nick_shape};
 ghost use Rattle.line_grammar.specs.Parts.{parts};
 ghost use Rattle.registration.specs.Parts.{three_of};
 ghost use Rattle.registration.specs.declared.accounts.AccountFault.TheVariants.{Memory};
@@ -63,10 +64,13 @@ pub struct Accounts {
 impl Model for Accounts {
     ghost use Rattle.std.specs.Prelude.{List};
     ghost use Rattle.registration.specs.declared.accounts.Account.{Account};
+    ghost use Rattle.registration.specs.Accounts.{AreNamed};
 
     ghost Value = { List Account };
 
     ghost view = { λ a. a.accounts.items };
+
+    ghost invariant = { λ a. AreNamed a.accounts.items };
 }
 
 fn is_known(accounts: &[Account], name: &[u8]) -> bool
@@ -101,6 +105,7 @@ fn read_digest(digits: &[u8]) -> Option<[u8; 32]>
 fn read_account(alloc: Global, known: &[Account], line: &[u8]) -> Result<Account, AccountFault>
     ensures ok { IfOk result
         (λ account. with_account known.now (account_of line.now) ≡ Ok (known.now ++ account ∷ [])) }
+    ensures named { IfOk result (λ account. nick_shape account.name ≡ true) }
     ensures err { IfErr result (λ fault. (fault ≡ AccountFault.Memory)
         ⊎ (with_account known.now (account_of line.now) ≡ Err fault)) }
     ensures memory { IsErrOf result AccountFault.Memory
@@ -142,8 +147,13 @@ fn are_equal(a: &[u8; 32], b: &[u8; 32]) -> bool
     differences(a, b) == 0
 }
 
+/// Accounts that are read from a file are named as nicknames are.
+pub fn accounts_are_named()
+    ensures { AccountsAreNamed }
+{}
+
 impl Accounts {
-    ghost use Rattle.registration.specs.Accounts.{IsReadTo, accounts_in, logged_in, with_line};
+    ghost use Rattle.registration.specs.Accounts.{AreNamed, IsReadTo, accounts_in, logged_in, with_line};
 
     /// No account.
     pub fn new(alloc: Global) -> Accounts
@@ -200,6 +210,7 @@ impl Accounts {
     }
 
     fn add(&mut self, account: Account) -> Result<(), AllocError>
+        requires { nick_shape account.name ≡ true }
         ensures ok { OnOk result (self.new ≡ self.old ++ account ∷ []) }
         ensures err { OnErr result (self.new ≡ self.old) }
     {
@@ -234,6 +245,13 @@ impl Accounts {
         self.accounts
             .iter()
             .find(|account| is_same(account.name.as_slice(), user))
+    }
+
+    /// Their names have the shape of nicknames. It does nothing: it states what the type keeps.
+    pub fn are_named(&self)
+        ensures { AreNamed self.now }
+    {
+        let _ = &self.accounts;
     }
 
     /// How many accounts there are.

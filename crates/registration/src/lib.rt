@@ -9,8 +9,8 @@ mod parts;
 mod sasl;
 mod settings;
 
-pub use accounts::{Account, AccountFault, Accounts};
+pub use accounts::{Account, AccountFault, Accounts, accounts_are_named};
 pub use caps::{Cap, Caps, each_cap_is_known, requested};
 pub use enrol::{CapAnswer, Enrol, NickAnswer, SaslAnswer, UserAnswer};
-pub use sasl::{Credentials, plain};
+pub use sasl::told_is_spelled;
 pub use settings::{MAX_SESSIONS, Settings, is_well_set};

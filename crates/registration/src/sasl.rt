@@ -4,34 +4,24 @@ ghost use Rattle.std.specs.Option.{option_map};
 ghost use Rattle.std.specs.Result.{result_ok};
 ghost use Rattle.base64.specs.Decode.{decoded_estimate};
 ghost use Rattle.base64.specs.Engines.{standard};
-ghost use Rattle.base64.specs.GeneralPurpose.{decode_of, encode_of};
+ghost use Rattle.base64.specs.GeneralPurpose.{decode_of};
 ghost use Rattle.registration.specs.Enrol.{account_by};
 ghost use Rattle.line_grammar.specs.Parts.{parts};
 ghost use Rattle.registration.specs.Parts.{three_of};
-ghost use Rattle.registration.specs.Plain.{Spells, credentials, credentials_from, credentials_of, is_own};
+ghost use Rattle.registration.specs.Plain.{ToldIsSpelled, credentials, credentials_from, credentials_of, is_own};
 
 use crate::Accounts;
 use crate::parts::three_parts;
-use base64::decoded_len_estimate;
 use base64::engine::general_purpose::STANDARD;
 use casemapping::is_same;
 use line_grammar::Octets;
-use std::alloc::{AllocError, Global};
+use std::alloc::AllocError;
 
 /// Octets of all pieces of an exchange, at most.
 pub(crate) const EXCHANGELEN: usize = 1200;
 
 /// Octets that so many of base64 tell, at most.
 const MESSAGELEN: usize = 900;
-
-/// Who logs in, and with which password. Neither is empty.
-#[derive(Drop)]
-pub struct Credentials {
-    /// The user's name, as given.
-    pub user: Octets,
-    /// The password.
-    pub password: Octets,
-}
 
 /// Whether an authorization identity is missing or is the user's own name.
 fn is_own(identity: &[u8], user: &[u8]) -> bool
@@ -59,62 +49,18 @@ fn decode_into(payload: &[u8], room: &mut [u8]) -> Option<usize>
     ensures found { option_map (λ len. take len room.new) result
         ≡ result_ok (decode_of standard payload.now) }
     ensures within { IfSome result (λ len. len ≤ length room.new) }
-    ensures exact { IfSome result (λ len. payload.now ≡ encode_of standard (take len room.new)) }
 {
     STANDARD.decode_slice_unchecked(payload, room).ok()
 }
 
-/// The credentials that a message tells.
-fn credentials_from(alloc: Global, message: &[u8]) -> Result<Option<Credentials>, AllocError>
-    ensures found { IfOk result
-        (λ found. found ≡ credentials_from (three_of (parts 0 message.now))) }
-    ensures memory { IsErr result → IsSome (credentials_from (three_of (parts 0 message.now))) }
-{
-    let Some((user, password)) = told_in(message) else {
-        return Ok(None);
-    };
-    let user = Octets::copied(alloc, user)?;
-    let password = Octets::copied(alloc, password)?;
-    Ok(Some(Credentials { user, password }))
-}
+/// What a payload tells is what it spells, and it is the one spelling of that.
+pub fn told_is_spelled()
+    ensures { ToldIsSpelled }
+{}
 
-/// Who logs in by a payload that is decoded in room that is there.
-#[tactic(auto, unfolding(crate::specs::Plain::credentials_of))]
-fn plain_in(
-    alloc: Global,
-    payload: &[u8],
-    room: &mut [u8],
-) -> Result<Option<Credentials>, AllocError>
-    requires { decoded_estimate (length payload.now) ≤ length room.old }
-    ensures found { IfOk result (λ found. found ≡ credentials_of payload.now) }
-    ensures spelled { IfOk result (λ found. IfSome found (λ c. Spells payload.now c)) }
-    ensures memory { IsErr result → IsSome (credentials_of payload.now) }
-{
-    match decode_into(payload, room) {
-        Some(len) => credentials_from(alloc, &room[..len]),
-        None => Ok(None),
-    }
-}
-
-/// Who logs in by a payload of PLAIN, and with which password. The payload is in base64, in the standard
-/// alphabet with padding and in its one spelling. `None` where it is anything else, or names somebody else
-/// to act as.
-pub fn plain(alloc: Global, payload: &[u8]) -> Result<Option<Credentials>, AllocError>
-    ensures found { IfOk result (λ found. found ≡ credentials_of payload.now) }
-    ensures spelled { IfOk result (λ found. IfSome found (λ c. Spells payload.now c)) }
-
-    // A payload as long as an exchange may be is decoded in room that takes no memory.
-    ensures memory { length payload.now ≤ 1200 → IsErr result
-        → IsSome (credentials_of payload.now) }
-{
-    if payload.len() <= EXCHANGELEN {
-        return plain_in(alloc, payload, &mut [0; MESSAGELEN]);
-    }
-    let mut room = vec![in alloc; 0; decoded_len_estimate(payload.len())]?;
-    plain_in(alloc, payload, &mut room)
-}
-
-/// The account by which a payload logs in, decoded in room that takes no memory.
+/// The account by which a payload of PLAIN logs in, decoded in room that takes no memory. The payload is in base64, in
+/// the standard alphabet with padding and in its one spelling. `None` where it is anything else, or names somebody
+/// else to act as.
 #[tactic(auto, unfolding(crate::specs::Plain::credentials_of))]
 pub(crate) fn account_by(accounts: &Accounts, payload: &[u8]) -> Result<Option<Octets>, AllocError>
     requires { length payload.now ≤ 1200 }

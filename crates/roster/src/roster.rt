@@ -308,6 +308,22 @@ impl Roster {
         }
     }
 
+    /// The nickname, the user name and the host of a session, by one look-up.
+    pub fn names_of(&self, session: SessionId) -> (Option<&Octets>, Option<&Octets>, &[u8])
+        ensures nick { option_copied result.0 ≡ nick self.now.facts session }
+        ensures user { option_copied result.1 ≡ user self.now.facts session }
+        ensures host { result.2.now ≡ host self.now.facts session }
+    {
+        match self.people.find(&self.marks, session) {
+            Some(found) => (
+                found.nick.as_ref(),
+                found.user.as_ref(),
+                found.host.as_slice(),
+            ),
+            None => (None, None, &[]),
+        }
+    }
+
     /// The capabilities of a session.
     pub fn caps_of(&self, session: SessionId) -> Caps
         ensures { result ≡ caps self.now.facts session }

@@ -2,9 +2,9 @@
 use crate::connections::Connection;
 use crate::opening::{Serving, Tokens};
 use client_streams::{Guest, Payloads};
+use crew::hall::outbox::Sender;
+use crew::hall::{Baton, Naming, Told};
 use crew::{Gate, Intake, Next, Took, hang, read_some};
-use hall::{Baton, Naming, Told};
-use outbox::Sender;
 use std::io;
 use std::io::Read;
 use std::sync::{Arc, Wait};

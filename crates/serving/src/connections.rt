@@ -4,12 +4,14 @@ use crate::journal::Kept;
 use crate::post::{Arrival, Post};
 use crate::stopping::Stopping;
 use chronicle::SessionId;
+use client_streams::websocket_front::CloseCode;
 use client_streams::{Crowd, MOST_GREETING, MOST_LINGERING, Web};
+use crew::hall::outbox::Gauge;
+use crew::hall::{Naming, Told};
+use crew::wire::Flow;
 use crew::{Backlog, Outlet, Pumped, Sockets};
-use hall::{Naming, Told};
 use indexmap::IndexMap;
 use mio::net::TcpStream;
-use outbox::Gauge;
 use std::alloc::{AllocError, Global};
 use std::io::Write;
 use std::net::{Shutdown, SocketAddr};
@@ -17,8 +19,6 @@ use std::sync::atomic::{AtomicBool, AtomicU64, Ordering};
 use std::sync::{Arc, RwLock, Wait};
 use std::time::{Clock, Duration};
 use std::{io, thread};
-use websocket_front::CloseCode;
-use wire::Flow;
 
 /// Milliseconds of a pause.
 pub(crate) const PAUSE: u64 = 20;

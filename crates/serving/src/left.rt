@@ -8,7 +8,7 @@ use crate::client::Place;
 use crate::opening::Serving;
 use crate::post::Post;
 use crew::Gate;
-use hall::Naming;
+use crew::hall::Naming;
 use std::alloc::Global;
 use std::mem;
 use std::sync::Wait;

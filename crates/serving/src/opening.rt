@@ -10,17 +10,17 @@ use crate::connections::{Connection, Connections, Output, View};
 use crate::hosts::host_of;
 use chronicle::{Moment, SessionId};
 use client_streams::Web;
+use crew::hall::outbox::{ChannelName, Sender, Writer, pair};
+use crew::hall::{Baton, Hall, Naming, OpenRefusal, Stub};
+use crew::wire::Wire;
 use crew::{Gate, Server, moment_in};
 use deliveries::{Item, write_out};
-use hall::{Baton, Hall, Naming, OpenRefusal, Stub};
 use line_grammar::Octets;
 use mio::net::TcpStream;
-use outbox::{ChannelName, Sender, Writer, pair};
 use std::alloc::Global;
 use std::net::SocketAddr;
 use std::sync::{Arc, Wait};
 use std::time::Clock;
-use wire::Wire;
 
 /// More deliveries than an outbox has room for.
 const REST: u32 = 4097;

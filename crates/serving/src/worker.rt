@@ -15,9 +15,11 @@ use crate::noting::{note_gone, note_nick, note_opened};
 use crate::opening::{Connected, Opened, Serving, Tokens, open_connected, write_rest};
 use crate::post::{Arrival, Mail, Post, WAKE};
 use chronicle::Why;
+use client_streams::websocket_front::CloseCode;
 use client_streams::{Guests, LINGER_TRIES, Lingerers, Payloads, Web};
+use crew::hall::{Naming, Told};
+use crew::wire::Flow;
 use crew::{Gate, GivenUp, Intake, Standing, Swept, give_up, hang, sweep, tell, write_some};
-use hall::{Naming, Told};
 use mio::net::TcpStream;
 use mio::{Events, Interest, Poll, Token};
 use std::alloc::{AllocError, Global};
@@ -26,8 +28,6 @@ use std::net::SocketAddr;
 use std::sync::{Arc, Wait};
 use std::time::{Clock, Duration, Instant};
 use std::{io, mem, thread};
-use websocket_front::CloseCode;
-use wire::Flow;
 
 /// How many events are looked at before what was put is written.
 pub(crate) const EVENTS: usize = 256;

@@ -2,10 +2,10 @@
 use Rattle.std.specs.Prelude.{◌≡◌, ℕ, ℤ, Result, OnOk, OnErr, IfErr}
 use Rattle.chronicle.specs.declared.why.Why.{Why}
 use Rattle.chronicle.specs.declared.record.Kind.TheVariants.{Hung}
-use Rattle.outbox.specs.Ends.{Puttings, accepts, refuses}
-use Rattle.book.specs.declared.out.Hung.{Hung as Told}
-use Rattle.book.specs.declared.refusals.HangRefusal.{HangRefusal}
-use Rattle.book.specs.Book.{Shown, IsDone, IsHangRefusal}
+use Rattle.hall.specs.Ends.{Puttings, accepts, refuses}
+use Rattle.hall.specs.Hung.{Hung as Told}
+use Rattle.hall.specs.HangRefusal.{HangRefusal}
+use Rattle.hall.specs.Book.{Shown, IsDone, IsHangRefusal}
 
 -- the session's end was recorded for this reason at this moment, and told to it or missed; or the cause of the
 -- refusal holds, and nothing changed

@@ -1,3 +1,12 @@
 pub mod Hanging
 pub mod Sweeping
 pub mod Timing
+pub use Rattle.hall.specs.Ends
+pub use Rattle.hall.specs.Turn
+pub use Rattle.hall.specs.Book
+pub use Rattle.hall.specs.Planned
+pub use Rattle.hall.specs.Done
+pub use Rattle.hall.specs.Hung
+pub use Rattle.hall.specs.Step
+pub use Rattle.hall.specs.HangRefusal
+pub use Rattle.hall.specs.TickRefusal

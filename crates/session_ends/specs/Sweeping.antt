@@ -1,10 +1,10 @@
 -- What came of a sweep: this project's own.
 use Rattle.std.specs.Prelude.{◌≡◌, ℕ, ℤ, ◌+◌, Option, Some, None, Result, IfOk, IfErr, IfSome, OnErr, length}
 use Rattle.chronicle.specs.declared.record.Kind.TheVariants.{Gone}
-use Rattle.outbox.specs.Ends.{Puttings, accepts, refuses}
-use Rattle.book.specs.declared.out.Done.{Done}
-use Rattle.book.specs.declared.refusals.SweepRefusal.{SweepRefusal}
-use Rattle.book.specs.Book.{Shown, IsDone, IsSweepRefusal, newest_missed, to_sweep}
+use Rattle.hall.specs.Ends.{Puttings, accepts, refuses}
+use Rattle.hall.specs.Done.{Done}
+use Rattle.hall.specs.SweepRefusal.{SweepRefusal}
+use Rattle.hall.specs.Book.{Shown, IsDone, IsSweepRefusal, newest_missed, to_sweep}
 
 -- a record tells that the first session that is to be swept is gone, or none is; or the cause of the refusal holds,
 -- and nothing changed

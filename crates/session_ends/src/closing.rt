@@ -1,6 +1,6 @@
 //! The end of a session.
 ghost use Rattle.std.specs.Prelude.{◌≡◌, ℤ, All, Some, IfOk, IfErr, IfSome, OnOk, OnErr};
-ghost use Rattle.book.specs.Book.{reaped};
+ghost use Rattle.hall.specs.Book.{reaped};
 ghost use Rattle.hall.specs.Reaping.{IsReapRefusal};
 ghost use Rattle.chronicle.specs.History.{last_moment};
 ghost use Rattle.session_ends.specs.Sweeping.{Sweeps};
@@ -11,8 +11,8 @@ use crate::shutting::shut_missed;
 use crate::telling::{tell, tell_many};
 use chronicle::Moment;
 use ghosts::Snapshot;
+use hall::outbox::{ChannelName, Sender, Writer};
 use hall::{Baton, Done, Hall, Left, Naming, ReapRefusal, Stub, SweepRefusal, Told};
-use outbox::{ChannelName, Sender, Writer};
 use std::alloc::Global;
 use std::sync::Wait;
 

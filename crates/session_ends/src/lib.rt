@@ -10,6 +10,7 @@ mod shutting;
 mod telling;
 
 pub use closing::{GivenUp, Swept, close_now, close_up, give_up, sweep};
+pub use hall;
 pub use server::{Clock, Gate, Server, Sockets, later, moment_in};
 pub use shutting::{Ending, end_refused, hang, hang_at, shut_missed, shut_those};
 pub use telling::{are_many, tell, tell_many};

@@ -3,8 +3,8 @@ ghost use Rattle.chronicle.specs.History.{last_moment};
 ghost use Rattle.session_ends.specs.Timing.{IsLater};
 
 use chronicle::{Moment, SessionId};
+use hall::outbox::Sender;
 use hall::{Hall, Naming, Told};
-use outbox::Sender;
 use std::sync::{Mutex, Wait};
 
 /// Stands before the lock of the hall.

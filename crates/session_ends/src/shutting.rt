@@ -8,8 +8,8 @@ use crate::server::{Clock, Gate, Server, Sockets, later};
 use crate::telling::tell_many;
 use chronicle::{Moment, SessionId, Why};
 use ghosts::Snapshot;
+use hall::outbox::Sender;
 use hall::{Done, Hall, HangRefusal, Hung, LineRefusal, Naming, Told};
-use outbox::Sender;
 use std::sync::Wait;
 
 /// What came of ending a session, with the hall before that and after it, which exist for clauses alone: there is

@@ -4,16 +4,16 @@ use crate::client::Place;
 use crate::connections::NO_MEMORY;
 use crate::opening::Serving;
 use crate::post::Post;
+use client_streams::websocket_front::{CloseCode, Front, close_for_memory};
 use client_streams::{Came, Crowd, Guest, MOST_GREETING, Web, WebStream, end_guest};
 use crew::Gate;
-use hall::Naming;
+use crew::hall::Naming;
 use mio::net::TcpStream;
 use std::alloc::AllocError;
 use std::io::Write;
 use std::net::SocketAddr;
 use std::sync::{Arc, Wait};
 use std::time::{Clock, Instant};
-use websocket_front::{CloseCode, Front, close_for_memory};
 
 impl<L: Naming, R: Wait + Clock + Copy + Drop> Worker<L, R> {
     /// Opens a session for who has greeted at a place, where the server takes one. Else a close says why not.

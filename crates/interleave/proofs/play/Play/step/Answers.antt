@@ -34,3 +34,4 @@ returns-clause-batch_closed g c = c.batch_closed.ensures _ _
 
 pub returns-clause-answered_whole : goal.returns-clause-answered_whole
 returns-clause-answered_whole g c = play-whole c.answered_once_and_whole.ensures _ c.sound.ensures
+    c.accounts_are_named.ensures

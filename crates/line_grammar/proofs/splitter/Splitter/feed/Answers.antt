@@ -3,8 +3,13 @@ use Rattle.std.specs.Option.{option_to_list}
 use Rattle.std.proofs.lemmas.Result.{on_ok_weaker}
 use Rattle.line_grammar.specs.Lines.{kept_of, lines, unfinished}
 use Rattle.line_grammar.specs.Steps.{kept_with, ended_piece}
-use Rattle.line_grammar.proofs.Streams.{fed_within, fed_over}
+use Rattle.line_grammar.proofs.Streams.{fed_fresh, fed_within, fed_over}
 use Rattle.line_grammar.proofs.splitter.Splitter.feed.Goals as goal
+
+pub returns-else-is_err-clause-ok : goal.returns-else-is_err-clause-ok
+returns-else-is_err-clause-ok c =
+    on_ok_weaker c.feed_fresh-fed.result (λ fed stream was. fed_fresh stream c.args.octets.now c.args.self.now _ _ _
+    (c.is_fresh.ensures c.if-is_fresh.true) was fed.0 fed.1) c.feed_fresh-fed.ensures.ok
 
 pub returns-in_default-clause-ok : goal.returns-in_default-clause-ok
 returns-in_default-clause-ok c =

@@ -16,3 +16,5 @@ mod two_threads;
 mod wires;
 #[cfg(test)]
 mod writing;
+
+fn main() {}

@@ -21,3 +21,5 @@ mod names;
 mod options;
 #[cfg(test)]
 mod tags;
+
+fn main() {}

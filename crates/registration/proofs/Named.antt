@@ -1,5 +1,5 @@
 -- Accounts that are read from a file have names of the shape of nicknames.
-use Rattle.std.proofs.Common.{ℕ, ◌+◌, List, [], ◌∷◌, ◌++◌, Option, Some, None, Result}
+use Rattle.std.proofs.Common.{◌≡◌, true, ℕ, ◌+◌, List, [], ◌∷◌, ◌++◌, Option, Some, None, Result}
 use Rattle.std.proofs.Common.{Ok, Err, subst}
 use Rattle.std.specs.List.{AllByRecursion}
 use Rattle.std.proofs.lemmas.Bool.{cond_both}
@@ -11,15 +11,17 @@ use Rattle.line_grammar.specs.Parts.{is_empty, parts}
 use Rattle.registration.specs.declared.accounts.Account.{Account}
 use Rattle.registration.specs.declared.accounts.AccountFault.{AccountFault}
 use Rattle.registration.specs.declared.accounts.AccountFault.TheVariants.{BadName, Twice}
-use Rattle.registration.specs.Accounts.{account_from, account_of, accounts_from, accounts_in, is_known, unless_fault}
-use Rattle.registration.specs.Accounts.{with_account, with_digest, with_line, words_of}
+use Rattle.registration.specs.Accounts.{AccountsAreNamed, account_from, account_of, accounts_from, accounts_in}
+use Rattle.registration.specs.Accounts.{is_known, unless_fault, with_account, with_digest, with_line, words_of}
 use Rattle.registration.specs.Parts.{three_of}
-use Rattle.clean_records.specs.Clean.{IsNick}
-use Rattle.clean_records.specs.Laws.{AccountsAreNamed}
-use Rattle.clean_records.proofs.Lists.{all-both}
 
 abbrev IsNamed : Account → Type 0
-IsNamed account = IsNick account.name
+IsNamed account = nick_shape account.name ≡ true
+
+both-named : (xs ys : List Account) → AllByRecursion IsNamed xs → AllByRecursion IsNamed ys
+    → AllByRecursion IsNamed (xs ++ ys)
+both-named [] ys a b = b
+both-named (x ∷ xs) ys a b = (a.0, both-named xs ys a.1 b)
 
 abbrev IfNamed : {E : Type 0} → Result Account E → Type 0
 IfNamed (Ok account) = IsNamed account
@@ -29,7 +31,7 @@ abbrev IfAllNamed : {E : Type 0} → Result (List Account) E → Type 0
 IfAllNamed (Ok accounts) = AllByRecursion IsNamed accounts
 IfAllNamed (Err fault) = Unit {0}
 
-digest-named : (name salt : List ℕ) (digest : Result (List ℕ) FromHexError) → IsNick name
+digest-named : (name salt : List ℕ) (digest : Result (List ℕ) FromHexError) → nick_shape name ≡ true
     → IfNamed (with_digest name salt digest)
 digest-named name salt (Ok digest) is = is
 digest-named name salt (Err fault) is = tt
@@ -45,7 +47,7 @@ account-named : (accounts : List Account) (read : Result Account AccountFault) �
 account-named accounts (Err fault) are is = tt
 account-named accounts (Ok account) are is =
     cond_both (is_known accounts account.name) (Err Twice) (Ok (accounts ++ account ∷ [])) IfAllNamed (λ _. tt)
-    (λ _. all-both IsNamed accounts (account ∷ []) are (is, tt))
+    (λ _. both-named accounts (account ∷ []) are (is, tt))
 
 line-named : (accounts : List Account) (line : List ℕ) → AllByRecursion IsNamed accounts
     → IfAllNamed (with_line accounts line)

@@ -18,3 +18,5 @@ mod runs;
 mod slow;
 #[cfg(test)]
 mod thousand;
+
+fn main() {}

@@ -17,3 +17,5 @@ mod messages;
 mod running;
 #[cfg(test)]
 mod talks;
+
+fn main() {}

@@ -31,3 +31,5 @@ mod trial;
 mod wanting;
 #[cfg(test)]
 mod writing;
+
+fn main() {}

@@ -5,3 +5,5 @@
 mod again;
 #[cfg(test)]
 mod streams;
+
+fn main() {}

@@ -36,3 +36,5 @@ mod ticking;
 mod ticking_threads;
 #[cfg(test)]
 mod wanting;
+
+fn main() {}
