@@ -1,11 +1,15 @@
 -- The lines of a text, one after another.
-use Rattle.std.proofs.Common.{◌≡◌, ◌<◌, ◌≤◌, ◌+◌, ◌-◌, ℕ, zero, suc, Bool, true, false, cond, List, [], ◌∷◌}
-use Rattle.std.proofs.Common.{length, take, drop, get_or, leb, refl, sym, ap, ◌∙◌, arith, length-drop}
+use Rattle.std.proofs.Common.{◌≡◌, ◌<◌, ◌≤◌, ◌+◌, ◌-◌, ◌&&◌, ℕ, suc, Bool, true, false, cond, List, [], ◌∷◌, ◌++◌}
+use Rattle.std.proofs.Common.{length, take, drop, get_or, eqb, leb, refl, sym, ap, subst, ◌∙◌, inl, inr, arith}
+use Rattle.std.proofs.Common.{length-drop}
 use Rattle.std.specs.Prelude.{nat_eq}
 use Rattle.std.specs.List.{starts_with}
 use Rattle.std.proofs.lemmas.List.{drop_more, drop-drop, drop_all}
+use Rattle.std.proofs.lemmas.Bool.{cases_Bool}
 use Rattle.std.proofs.lemmas.Bool.Decides.{nat_tests}
-use Rattle.websocket_front.specs.Lines.{line_break, line_length, lines_within, lines}
+use Rattle.line_grammar.specs.Lines.{longer}
+use Rattle.answer_octets.specs.TextLines.{text_lines}
+use Rattle.websocket_front.specs.Lines.{lacking, line_break, line_length, lines}
 
 cond_le : (b : Bool) (n m : ℕ) → n ≤ m → cond b 0 (suc n) ≤ suc m
 cond_le true n m le = omega arith
@@ -26,31 +30,61 @@ line_step text i b inside is =
     ∙ ap (λ l. cond (starts_with nat_eq l line_break) 0 (suc (line_length rest))) (sym e)
     ∙ ap (λ t. cond t 0 (suc (line_length rest))) is
 
--- so many lines at most, or more
-lines_enough : (n m : ℕ) (text : List ℕ) → length text ≤ n → length text ≤ m
-    → lines_within n text ≡ lines_within m text
-lines_enough zero zero text h k = refl
-lines_enough zero (suc m) [] h k = refl
-lines_enough zero (suc m) (x ∷ xs) h k = absurd (omega arith)
-lines_enough (suc n) zero [] h k = refl
-lines_enough (suc n) zero (x ∷ xs) h k = absurd (omega arith)
-lines_enough (suc n) (suc m) [] h k = refl
-lines_enough (suc n) (suc m) (x ∷ xs) h k =
-    let cut = line_length (x ∷ xs) + 2 in
-    let left : length (drop cut (x ∷ xs)) ≡ length (x ∷ xs) - cut = length-drop cut (x ∷ xs) in
-    ap (λ l. take (line_length (x ∷ xs)) (x ∷ xs) ∷ l)
-    (lines_enough n m (drop cut (x ∷ xs)) (omega arith) (omega arith))
+abbrev From : List ℕ → ℕ → Type 0
+From text len = lines text ≡ take len text ∷ lines (drop (len + 2) text)
+
+is-break : (x c : ℕ) (rest : List ℕ) (is : Bool) → (eqb x 13 && eqb c 10) ≡ is
+    → starts_with nat_eq (x ∷ c ∷ rest) line_break ≡ is
+is-break x c rest is e = grind (arith, nat_tests)
+
+no-break : (x : ℕ) → starts_with nat_eq (x ∷ []) line_break ≡ false
+no-break x = grind (arith, nat_tests)
+
+-- what a text lacks is what it lacks after its first octet, or after its first line's end
+lacks : (x c : ℕ) (rest : List ℕ) (is : Bool) → (eqb x 13 && eqb c 10) ≡ is
+    → lacking (x ∷ c ∷ rest) ≡ cond is (lacking rest) (lacking (c ∷ rest))
+lacks x c rest is e = ap (λ b. cond b (lacking rest) (lacking (c ∷ rest))) e
+
+cut : (x c : ℕ) (rest : List ℕ) → (eqb x 13 && eqb c 10) ≡ true
+    → text_lines (x ∷ c ∷ rest) ≡ [] ∷ text_lines rest
+cut x c rest is = rw (is, text_lines) refl
+
+uncut : (x c : ℕ) (rest : List ℕ) → (eqb x 13 && eqb c 10) ≡ false
+    → text_lines (x ∷ c ∷ rest) ≡ longer x (text_lines (c ∷ rest))
+uncut x c rest is = rw (is, text_lines) refl
+
+has-length : (x c : ℕ) (rest : List ℕ) (is : Bool) → (eqb x 13 && eqb c 10) ≡ is
+    → line_length (x ∷ c ∷ rest) ≡ cond is 0 (suc (line_length (c ∷ rest)))
+has-length x c rest is e = ap (λ b. cond b 0 (suc (line_length (c ∷ rest)))) (is-break x c rest is e)
+
+ends : (x c : ℕ) (rest : List ℕ) → (eqb x 13 && eqb c 10) ≡ true → From (x ∷ c ∷ rest) 0
+unfolding lines
+ends x c rest is =
+    ap (λ end. text_lines (x ∷ c ∷ rest ++ end)) (lacks x c rest true is)
+    ∙ cut x c (rest ++ lacking rest) is
+
+goes-on : (x c : ℕ) (rest : List ℕ) (len : ℕ) → (eqb x 13 && eqb c 10) ≡ false → From (c ∷ rest) len
+    → From (x ∷ c ∷ rest) (suc len)
+unfolding lines
+goes-on x c rest len is more =
+    let after : suc (len + 2) ≡ suc len + 2 = omega arith in
+    ap (λ end. text_lines (x ∷ c ∷ rest ++ end)) (lacks x c rest false is)
+    ∙ uncut x c (rest ++ lacking (c ∷ rest)) is ∙ ap (longer x) more
+    ∙ ap (λ k. (x ∷ take len (c ∷ rest)) ∷ lines (drop k (x ∷ c ∷ rest))) after
+
+lone : (x : ℕ) → From (x ∷ []) 1
+unfolding lines
+lone x = uncut x 13 (10 ∷ []) (grind (arith, nat_tests))
 
 -- the first line, and those after its end
-pub lines_next : (text : List ℕ) → 0 < length text
-    → lines text ≡ take (line_length text) text ∷ lines (drop (line_length text + 2) text)
-unfolding lines
+pub lines_next : (text : List ℕ) → 0 < length text → From text (line_length text)
 lines_next [] some = absurd (omega arith)
-lines_next (x ∷ xs) some =
-    let cut = line_length (x ∷ xs) + 2 in
-    let left : length (drop cut (x ∷ xs)) ≡ length (x ∷ xs) - cut = length-drop cut (x ∷ xs) in
-    ap (λ l. take (line_length (x ∷ xs)) (x ∷ xs) ∷ l)
-    (lines_enough (length xs) (length (drop cut (x ∷ xs))) (drop cut (x ∷ xs)) (omega arith) (omega arith))
+lines_next (x ∷ []) some = subst (From (x ∷ [])) (sym (ap (λ b. cond b 0 1) (no-break x))) (lone x)
+lines_next (x ∷ c ∷ rest) some = elim (cases_Bool (eqb x 13 && eqb c 10)) [
+  | inl is ↦ subst (From (x ∷ c ∷ rest)) (sym (has-length x c rest true is)) (ends x c rest is)
+  | inr is ↦ subst (From (x ∷ c ∷ rest)) (sym (has-length x c rest false is))
+      (goes-on x c rest (line_length (c ∷ rest)) is (lines_next (c ∷ rest) (omega arith)))
+]
 
 -- the line that begins at a place, and those after it
 pub lines_from : (text : List ℕ) (place end : ℕ) → place < length text → end ≡ place + line_length (drop place text)

@@ -1,6 +1,7 @@
 -- The lines of a text, which CR LF ends (RFC 2812, section 2.3).
-use Rattle.std.specs.Prelude.{ℕ, zero, suc, ◌+◌, cond, nat_eq, List, [], ◌∷◌, length, take, drop}
+use Rattle.std.specs.Prelude.{ℕ, suc, ◌+◌, ◌==◌, ◌&&◌, cond, nat_eq, List, [], ◌∷◌, ◌++◌}
 use Rattle.std.specs.List.{starts_with}
+use Rattle.answer_octets.specs.TextLines.{text_lines}
 
 -- CR LF
 abbrev pub line_break : List ℕ
@@ -11,13 +12,12 @@ abbrev pub line_length : List ℕ → ℕ
 line_length [] = 0
 line_length (x ∷ xs) = cond (starts_with nat_eq (x ∷ xs) line_break) 0 (suc (line_length xs))
 
--- the lines of a text that has at most so many: the octets before the first CR LF, and then the lines after it
-abbrev pub lines_within : ℕ → List ℕ → List (List ℕ)
-lines_within zero text = []
-lines_within (suc n) [] = []
-lines_within (suc n) (x ∷ xs) =
-    take (line_length (x ∷ xs)) (x ∷ xs) ∷ lines_within n (drop (line_length (x ∷ xs) + 2) (x ∷ xs))
+-- the CR LF that the last line of a text lacks, if it lacks one
+abbrev pub lacking : List ℕ → List ℕ
+lacking [] = []
+lacking (b ∷ []) = line_break
+lacking (b ∷ c ∷ rest) = cond (b == 13 && c == 10) (lacking rest) (lacking (c ∷ rest))
 
--- the lines of a text, without their CR LF
+-- the lines of a text, without their CR LF, as whoever receives it reads it; a last line that lacks its end is one, too
 unfoldable pub lines : List ℕ → List (List ℕ)
-lines text = lines_within (length text) text
+lines text = text_lines (text ++ lacking text)
