@@ -2,3 +2,4 @@ mod Examples
 pub mod Alike
 pub mod Once
 pub mod AnswerTexts
+pub mod Untagged

@@ -1,9 +1,9 @@
 //! Which label a line has (IRCv3 labeled-response).
 ghost use Rattle.std.specs.Prelude.{◌≡◌, codes, IfOk, IsErr, IsSome};
-ghost use Rattle.line_grammar.specs.Reading.{reading};
+ghost use Rattle.line_grammar.specs.Reading.{begins_with, reading};
 ghost use Rattle.message_tags.specs.Tags.{tag};
 ghost use Rattle.message_tags.specs.Value.{value};
-ghost use Rattle.labels_batches.specs.Labels.{as_label, is_label, label_of, message_label, piece_label, takes_labels};
+ghost use Rattle.labels_batches.specs.Labels.{as_label, is_label, message_label, piece_label, takes_labels};
 
 use line_grammar::{Octets, Piece, tag_data};
 use message_tags::{last_raw_value, unescape, unescaped_len};
@@ -40,11 +40,22 @@ fn label_in(alloc: Global, tag_data: &[u8]) -> Result<Option<Octets>, AllocError
     }
 }
 
-/// The label of a line that isn't too long.
+/// Whether a line begins with tags.
+fn has_tags(line: &[u8]) -> bool
+    ensures { result ≡ begins_with 64 line.now }
+{
+    matches!(line, [b'@', ..])
+}
+
+/// The label of a line that isn't too long. A line without tags isn't split for one.
+#[tactic(auto, using(crate::proofs::Untagged::labels))]
 fn line_label(alloc: Global, line: &[u8]) -> Result<Option<Octets>, AllocError>
     ensures label { IfOk result (λ o. o ≡ message_label (reading line.now)) }
     ensures memory { IsErr result → IsSome (message_label (reading line.now)) }
 {
+    if !has_tags(line) {
+        return Ok(None);
+    }
     match tag_data(line) {
         Some(tag_data) => label_in(alloc, tag_data),
         None => Ok(None),
@@ -62,20 +73,5 @@ pub fn piece_label(alloc: Global, piece: &Piece) -> Result<Option<Octets>, Alloc
     match piece {
         Piece::Line(line) => line_label(alloc, line.as_slice()),
         Piece::TooLong => Ok(None),
-    }
-}
-
-/// The label of an accepted piece, as it counts for a session that had these capabilities before it: that of
-/// `piece_label` where `takes_labels` holds, and none elsewhere.
-pub fn label_of(alloc: Global, caps: Caps, piece: &Piece) -> Result<Option<Octets>, AllocError>
-    ensures label { IfOk result (λ o. o ≡ label_of caps piece.now) }
-
-    // Memory is wanting only where there is a label.
-    ensures memory { IsErr result → IsSome (label_of caps piece.now) }
-{
-    if takes_labels(caps) {
-        piece_label(alloc, piece)
-    } else {
-        Ok(None)
     }
 }
