@@ -30,12 +30,11 @@ use Rattle.registration.specs.declared.enrol.SaslAnswer.TheVariants.{AlreadyLogg
 use Rattle.registration.specs.declared.enrol.SaslAnswer.TheVariants.{Aborted, TooLong, Waits, LoggedIn}
 use Rattle.registration.specs.declared.enrol.UserAnswer.{UserAnswer}
 use Rattle.registration.specs.declared.enrol.UserAnswer.TheVariants.{AlreadyTold, Accepted}
-use Rattle.registration.specs.declared.sasl.Credentials.{Credentials}
 use Rattle.registration.specs.Accounts.{logged_in, name_by}
 use Rattle.registration.specs.Caps.{all_caps, is_on, list_of}
 use Rattle.registration.specs.Enrol.{Enrolment, account_by, added, cap_answer, ended_by, gone_on, holds, is_own}
 use Rattle.registration.specs.Enrol.{is_ready, is_too_long, nick_answer, sasl_answer, sasl_step, user_answer}
-use Rattle.registration.specs.Plain.{credentials_of}
+use Rattle.registration.specs.Plain.{Credentials, credentials_of}
 use Rattle.registration.specs.Settings.{IsWellSet, is_motd, is_text}
 use Rattle.roster.specs.declared.deed.Deed.{Deed}
 use Rattle.roster.specs.declared.deed.Deed.TheVariants as deed
