@@ -18,6 +18,6 @@ lacking [] = []
 lacking (b ∷ []) = line_break
 lacking (b ∷ c ∷ rest) = cond (b == 13 && c == 10) (lacking rest) (lacking (c ∷ rest))
 
--- the lines of a text, without their CR LF, as whoever receives it reads it; a last line that lacks its end is one, too
+-- the lines of a text, without their CR LF, as whoever receives it reads it; a last line without its end is one, too
 unfoldable pub lines : List ℕ → List (List ℕ)
 lines text = text_lines (text ++ lacking text)
