@@ -54,9 +54,11 @@ def link_all(folder, to, but):
 
 
 def kit_that_keeps(kit, room):
-    """The toolchain's folder once more, with another clang. Its `rt` finds the rest by its own path, so that is copied."""
+    """The toolchain's folder once more, with another clang, and without the check of names that `rt try` runs beside. Its
+    `rt` finds the rest by its own path, so that is copied."""
     link_all(kit, f"{room}/kit", ["bin", "toolchain"])
-    link_all(f"{kit}/bin", f"{room}/kit/bin", ["rt", "rtlib.py"])
+    link_all(f"{kit}/bin", f"{room}/kit/bin", ["rt", "rtlib.py", "rattle"])
+    os.symlink(shutil.which("true"), f"{room}/kit/bin/rattle")
     link_all(f"{kit}/toolchain", f"{room}/kit/toolchain", ["bin"])
     link_all(f"{kit}/toolchain/bin", f"{room}/kit/toolchain/bin", ["clang"])
     for name in ("rt", "rtlib.py"):

@@ -32,6 +32,15 @@ def stories(file):
     return found
 
 
+def alone(file):
+    """The text of a file with each of its scenarios by itself, beside all its parts."""
+    head, *blocks = read(f"{FOLDER}/data/{file}").split("\n== ")
+    for place, block in enumerate(blocks):
+        if not block.startswith("part "):
+            kept = [it for at, it in enumerate(blocks) if at == place or it.startswith("part ")]
+            yield "\n== ".join([head, *kept]) + "\n"
+
+
 def printed():
     """What the program is to print: a line for each scenario."""
     lines = []
