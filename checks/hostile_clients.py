@@ -6,7 +6,7 @@ import threading
 import time
 
 from hostile_marks import test
-from served import CLIENT_QUIT, Client, is_on, is_taken, wait_until
+from served import CLIENT_QUIT, SLOW, Client, is_on, is_taken, wait_until
 from web_client import Raw
 
 
@@ -360,16 +360,39 @@ def smallest_outbox(server):
     al.close()
 
 
-@test(growth=100_000, words=["--sendq", "16"])
-def three_hundred_with_small_outboxes(server):
-    """With room for sixteen items, three hundred who read are told each of two hundred texts that are said at once, in
-    order."""
+def gather(server, count):
+    """So many members of a channel, each of whom was told of those who came later."""
     members = []
-    for number in range(300):
+    for number in range(count):
         members.append(Client(server, f"m{number}", "JOIN #a"))
         members[-1].hear(" 366 ")
         for member in members[:-1]:
             member.hear(f":m{number}!")
+    return members
+
+
+@test(growth=100_000)
+def quiet_members_are_told_at_once(server):
+    """Three hundred members of a channel are quiet, but for a text that each says in turn: all others are told it within
+    two seconds, also those of a worker that rests."""
+    members, worst = gather(server, 300), 0.0
+    for number, speaker in enumerate(members):
+        began = time.monotonic()
+        speaker.send(f"PRIVMSG #a :{number}")
+        for member in members[:number] + members[number + 1 :]:
+            assert member.line() == f":m{number}!m{number}@127.0.0.1 PRIVMSG #a :{number}"
+        worst = max(worst, time.monotonic() - began)
+    for member in members:
+        member.close()
+    assert worst <= SLOW, f"one was told after {worst:.1f} s"
+    return f"all were told after {worst * 1000:.0f} ms at most"
+
+
+@test(growth=100_000, words=["--sendq", "16"])
+def three_hundred_with_small_outboxes(server):
+    """With room for sixteen items, three hundred who read are told each of two hundred texts that are said at once, in
+    order."""
+    members = gather(server, 300)
     for block in range(20):
         members[150].send(*[f"PRIVMSG #a :{block * 10 + it}" for it in range(10)])
         for member in members[:150] + members[151:]:
