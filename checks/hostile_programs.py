@@ -247,6 +247,53 @@ def one_allocation_in_so_many_is_refused(program):
     return f"passed; {'; '.join(told)}"
 
 
+def comes_without(server, orders, number):
+    """A client comes, and the allocation of this number from then on fails: the first line that it gets, or nothing
+    where it is closed without one; and whether that allocation was asked for."""
+    before, line = orders.refused(), ""
+    orders.refuse(number)
+    client = Client(server)
+    with contextlib.suppress(ConnectionError):
+        client.send("PING x")
+        line = client.line()
+    orders.refuse_none()
+    client.close()
+    ended = "", "ERROR :Closing Link: 127.0.0.1 (Out of memory)"
+    assert line in (":irc.example PONG irc.example x", *ended), line
+    return line, orders.refused() > before
+
+
+def closed_for_memory(program, orders, lines):
+    """How many who come are closed without a line, where somebody has said so many lines: for each allocation that
+    fails meanwhile. Who was there goes on, and the next who comes is served."""
+    closed, number, is_there = 0, 0, True
+    while is_there:
+        number += 1
+        with Server(program, "--limit", "20", env=orders.env) as server:
+            al = Client(server, "al")
+            pings(al, lines, 0)
+            line, is_there = comes_without(server, orders, number)
+            closed += line == ""
+            pings(al, 1, 0)
+            assert visit(server, "bo")
+            al.close()
+            status, said = server.stop()
+            rest = ROLLED.sub("", said).replace("halld: connections refused: 1\n", "")
+            assert (status, rest) == (0, ""), f"growth {number}: it ended with {status} and said {said!r}"
+    return closed
+
+
+@alone
+def roll_that_is_refused_to_who_comes(program):
+    """A client that comes when the journal is full is closed without a line where the roll finds no memory."""
+    with tempfile.TemporaryDirectory() as room:
+        orders = Orders(room)
+        before = closed_for_memory(program, orders, 0)
+        closed = closed_for_memory(program, orders, 15)
+    assert closed > before, f"{closed} were closed, and {before} where the journal isn't full"
+    return f"passed; {closed} were closed, and {before} where the journal isn't full"
+
+
 @alone
 def no_descriptors_left(program):
     """Where the system gives no more descriptors the server neither spins nor ends, says so at most once a second, and
