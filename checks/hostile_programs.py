@@ -133,7 +133,7 @@ def memory_that_is_refused(program):
             served = [visit(server, name) for name in ("al", "bo", "cy")]
             status, said = server.stop()
             is_there = server.is_refused or "refused\n" in said
-            rest = re.sub(r"refused\n|growths \d+\n", "", said)
+            rest = said.replace("refused\n", "")
             is_well = status == 0 and rest in ("", "halld: connections refused: 1\n")
             assert is_well, f"growth {number}: it ended with {status} and said {said!r}"
             assert served.count(False) <= (1 if is_there else 0), f"growth {number}: {served}"
@@ -558,8 +558,7 @@ def streams_that_fail(program):
         said = set()
         for number in range(1, 60):
             env = {"LD_PRELOAD": refuser(room), "REFUSED": str(number)}
-            status, told = ended_by([program, "play"], env=env, stdout=subprocess.DEVNULL, **played)
-            said.add((status, re.sub(r"growths \d+\n", "", told)))
+            said.add(ended_by([program, "play"], env=env, stdout=subprocess.DEVNULL, **played))
         assert (1, "refused\nhalld: out of memory\n") in said, said
 
 

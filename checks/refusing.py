@@ -6,17 +6,15 @@ import subprocess
 
 from building import kit_of
 
-# Which calls of malloc and realloc give nothing: the one whose number is in REFUSED, which is said on standard error,
-# as is their count at the end. Where ORDERS names a file, its four numbers tell that as long as it runs: how many
-# calls there were, the first that is refused, after how many more the next is (none where that is nought), and how
-# many were.
+# Which calls of malloc and realloc give nothing: the one whose number is in REFUSED, which is said on standard error.
+# Where ORDERS names a file, its four numbers tell that as long as it runs: how many calls there were, the first that is
+# refused, after how many more the next is (none where that is nought), and how many were.
 REFUSER = """
 typedef unsigned long size;
 void *__libc_malloc(size);
 void *__libc_realloc(void *, size);
 char *getenv(const char *);
 long atol(const char *);
-int dprintf(int, const char *, ...);
 long write(int, const void *, size);
 int open(const char *, int, ...);
 void *mmap(void *, size, int, int, int, long);
@@ -38,9 +36,6 @@ static int is_refused(void) {
 }
 void *malloc(size it) { return is_refused() ? 0 : __libc_malloc(it); }
 void *realloc(void *old, size it) { return is_refused() ? 0 : __libc_realloc(old, it); }
-__attribute__((destructor)) static void tell(void) {
-    if (orders == &own) dprintf(2, "growths %ld\\n", own.count);
-}
 """
 
 # What is added to the clocks, in seconds: the two numbers of the file that SKEW names, of which the first is for the
