@@ -121,6 +121,27 @@ def answer_of_several_megabytes(server):
     return f"{sum(len(it) + 2 for it in lines):,} octets"
 
 
+@test()
+def room_for_an_answer_is_given_back(server):
+    """Three hundred ask for a LIST of 50 KB, one after another, read it and stay: each took room for 64 KB, and the next
+    uses that again."""
+    makers = [Client(server, f"m{number}") for number in range(8)]
+    for number, maker in enumerate(makers):
+        channels = [f"#{number}-{it}" for it in range(20)]
+        maker.send(*(line for it in channels for line in (f"JOIN {it}", f"TOPIC {it} :{'t' * 300}")), "PING made")
+        maker.hear(" PONG irc.example made")
+    clients = [Client(server, f"c{number}") for number in range(300)]
+    before = server.memory()
+    for client in clients:
+        client.send("LIST")
+        client.hear(" 323 ")
+    grown = server.memory() - before
+    for client in makers + clients:
+        client.close()
+    assert grown < 6000, f"the server grew by {grown:,} KB"
+    return f"it grew by {grown:,} KB for them"
+
+
 @test(growth=64_000)
 def repeated_list_by_eight_who_dont_read(server):
     """Eight ask for LIST four hundred times each and don't read: their own answers wait for themselves. Then they

@@ -1,5 +1,5 @@
-// Names of channels that a table holds in one place: SipHash-1-3 of their octets after their number, by keys that are all noughts,
-// its upper half laid over its lower.
+// Names of channels that a table holds in one place: SipHash-1-3 of their octets, by keys that are all noughts, its upper half
+// laid over its lower.
 //
 //   tilted COUNT MASK     prints so many names whose hashes have noughts in all bits of the mask (hexadecimal)
 //   tilted COUNT 0        prints names that weren't chosen
@@ -7,7 +7,7 @@
 #include <stdio.h>
 #include <stdlib.h>
 
-// Octets of a name, its `#` with them: with how many there are they fill two words of eight octets.
+// Octets of a name, its `#` with them: with how many there are they fill a word of eight octets.
 #define LENGTH 7
 
 struct state { uint64_t v0, v1, v2, v3; };
@@ -28,7 +28,7 @@ static void take(struct state *s, uint64_t word) {
 }
 
 static uint64_t hash_of(struct state begun, const char *name) {
-    uint64_t word = (uint64_t)((8 + LENGTH) & 0xff) << 56;
+    uint64_t word = (uint64_t)LENGTH << 56;
     for (int at = 0; at < LENGTH; at++) word |= (uint64_t)(unsigned char)name[at] << 8 * at;
     take(&begun, word);
     begun.v2 ^= 0xff;
@@ -43,7 +43,6 @@ int main(int words, char **word) {
     long wanted = atol(word[1]);
     uint64_t mask = strtoull(word[2], NULL, 16);
     struct state begun = { 0x736f6d6570736575, 0x646f72616e646f6d, 0x6c7967656e657261, 0x7465646279746573 };
-    take(&begun, LENGTH);
     char name[LENGTH + 1] = "#";
     for (uint64_t number = 0; wanted > 0; number++) {
         uint64_t left = number;

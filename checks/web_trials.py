@@ -95,6 +95,7 @@ def breaches_are_told(server):
         (masked(0x81, b"\xff\xfe"), 1007, "no UTF-8"),
         (masked(0x81, b"x" * 8193), 1009, "a payload of 8,193 octets"),
         (masked(0x82, b"x" * 1_000_000), 1009, "a payload of a megabyte"),
+        (masked(0x01, b"x" * 8000) + masked(0x80, b"x" * 193), 1009, "a message of 8,193 octets in two frames"),
     ]
     for octets, code, what in cases:
         client = Raw(server.ws)

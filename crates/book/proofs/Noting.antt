@@ -5,6 +5,7 @@ use Rattle.std.proofs.Common.{◌∷◌, length, slice_get, Option, Some, None, 
 use Rattle.std.specs.Prelude.{IfSome}
 use Rattle.std.specs.Option.{is_some}
 use Rattle.std.specs.Map.{lookup}
+use Rattle.chronicle.specs.History.{Rec}
 use Rattle.chronicle.specs.Journal as journal
 use Rattle.registration.specs.declared.settings.Settings.{Settings}
 use Rattle.roster.specs.declared.deed.Deed.{Deed}
@@ -155,3 +156,22 @@ has_seat sent j g known seats boxes plan busy i t there =
     let from = there.from_1 in
     let to = there.opened in let places = i.places in let below : t ≤ length seats = omega arith in
     (record { from_1 = from; opened = below }, (i.each_seat t from below).kept ∙ there.here)
+
+-- ---- counts of one session are forgotten
+
+-- what is said of each that is kept is said of those that are left
+pub forgotten_counts : (g : Settings) (h : List Rec) (cs ds : List (ℕ × Counts)) (s : ℕ)
+    → ((t : ℕ) → counts_at ds t ≡ cond (nat_eq s t) None (counts_at cs t)) → AreCounts g h cs → AreCounts g h ds
+forgotten_counts g h cs ds s same are t =
+    subst (λ (o : Option Counts). IfSome o (λ c. IsCountOf c g h t)) (sym (same t))
+    (but (nat_eq s t) (counts_at cs t) (are t))
+  where
+    but : (b : Bool) (o : Option Counts) → IfSome o (λ c. IsCountOf c g h t)
+        → IfSome (cond b None o) (λ c. IsCountOf c g h t)
+    but true o it = tt
+    but false o it = it
+
+-- and who is left is counted
+pub forgotten_some : (b : Bool) (o : Option Counts) → is_some (cond b None o) ≡ cond b false (is_some o)
+forgotten_some true o = refl
+forgotten_some false o = refl

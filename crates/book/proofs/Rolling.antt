@@ -83,7 +83,7 @@ cut_based j k g boxes b cut ef es many noted early =
           ∙ ap (dropped_part (length j.history)) cut.history ∙ all_dropped j.history);
       settings = es;
       opened = omega arith;
-      noted = λ t from to here. noted t from (omega arith) ∙ here;
+      noted = λ t from to. noted t from (omega arith);
       early = λ t is. let l = (early t is).1 in ((early t is).0, (omega arith));
     }
 

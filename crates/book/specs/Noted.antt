@@ -1,5 +1,6 @@
 -- What a book keeps of the records that it dropped: this project's own.
-use Rattle.std.specs.Prelude.{◌≡◌, ℕ, ◌<◌, ◌≤◌, Bool, true, nat_eq, List, length, Option, Some, None, IfSome}
+use Rattle.std.specs.Prelude.{◌≡◌, ℕ, ◌<◌, ◌≤◌, Bool, true, false, cond, nat_eq, List, length}
+use Rattle.std.specs.Prelude.{Option, Some, None, IfSome}
 use Rattle.std.specs.Option.{is_some}
 use Rattle.std.specs.Map.{lookup}
 use Rattle.chronicle.specs.History.{Rec, sessions, accepted}
@@ -56,15 +57,22 @@ pub record AreCountsOf {O : Type 0} (sent : O → List Item) (seats : List Seat)
   pub each : (t : ℕ) → IfSome (counts_at cs t) (λ c. IsThere boxes t × IsCountBy c sent seats boxes heard t)
   pub all : (t : ℕ) → IsThere boxes t → is_some (counts_at cs t) ≡ true
 
--- it goes up to the first n records, and has the counts of each session that was opened by these and isn't reaped,
--- and of none that was opened later
+-- the counts of session s are forgotten
+abbrev pub Forgets : Option Noted → Option Noted → ℕ → Type 0
+Forgets None n s = n ≡ None
+Forgets (Some b) None s = ⊥
+Forgets (Some b) (Some c) s = (c.front ≡ b.front) × (c.settings ≡ b.settings)
+    × ((t : ℕ) → is_noted c t ≡ cond (nat_eq s t) false (is_noted b t))
+
+-- it goes up to the first n records, and of the sessions that were opened by these it has the counts of those that
+-- aren't reaped, and of none that was opened later
 pub record IsOfDropped {O : Type 0} (b : Noted) (h : List Rec) (n : ℕ) (g : Settings)
     (boxes : List (Option O)) : Type 0 where
   pub few : n ≤ length h
   pub front : b.front ≡ dropped_part n h
   pub settings : b.settings ≡ g
   pub opened : sessions b.front ≤ length boxes
-  pub noted : (t : ℕ) → 0 < t → t ≤ sessions b.front → is_here boxes t ≡ true → is_noted b t ≡ true
+  pub noted : (t : ℕ) → 0 < t → t ≤ sessions b.front → is_noted b t ≡ is_here boxes t
   pub early : (t : ℕ) → is_noted b t ≡ true → (0 < t) × (t ≤ sessions b.front)
 
 -- none where nothing was dropped

@@ -1,11 +1,12 @@
 //! What a book keeps of the records that it dropped.
 //!
 //! A roll notes the counts of those sessions alone that are there, in one walk over their outboxes: one that was
-//! reaped leaves nothing. No clause of `roll` shows the base that it makes, since what clauses see of a book has none;
-//! that it has just those counts is the contract of `note_base`, which is private.
-ghost use Rattle.std.specs.Prelude.{◌≡◌, Some, IfSome};
+//! reaped leaves nothing, and whoever is reaped later takes its counts along. No clause of `roll` shows the base that
+//! it makes, since what clauses see of a book has none; that it has just those counts is the contract of `note_base`,
+//! which is private.
+ghost use Rattle.std.specs.Prelude.{◌≡◌, ℕ, Some, None, IfSome, cond, nat_eq};
 ghost use Rattle.deeds.specs.Deeds.{facts};
-ghost use Rattle.book.specs.Noted.{base_by, counts_at, is_noted, AreCounts};
+ghost use Rattle.book.specs.Noted.{base_by, counts_at, is_noted, AreCounts, Forgets};
 
 use crate::last_heard::Since;
 use chronicle::{Journal, Moment, SessionId};
@@ -48,6 +49,15 @@ impl Model for Base {
         × AreCounts a.roster.settings a.history.value.history a.counts.entries };
 }
 
+/// Forgets the counts of a session that is reaped. It takes no memory.
+pub(crate) fn forget_counts(base: &mut Option<Base>, session: SessionId)
+    ensures { Forgets base.old base.new session }
+{
+    if let Some(kept) = base {
+        kept.forget(session);
+    }
+}
+
 /// The counts of a session.
 fn find_counts(counts: &IndexMap<u64, Counts>, session: SessionId) -> Option<Counts>
     ensures { result ≡ counts_at counts.now.entries session }
@@ -78,6 +88,16 @@ impl Base {
         }
     }
 
+    /// Forgets the counts of a session.
+    fn forget(&mut self, session: SessionId)
+        ensures front { self.new.front ≡ self.old.front }
+        ensures settings { self.new.settings ≡ self.old.settings }
+        ensures counts { (t : ℕ) → counts_at self.new.counts t
+            ≡ cond (nat_eq session t) None (counts_at self.old.counts t) }
+    {
+        self.counts.swap_remove(&session.number());
+    }
+
     /// What is known of sessions and channels.
     pub fn roster(&self) -> &Roster
         ensures facts { result.now.facts ≡ (base_by self.now).facts }
@@ -86,7 +106,7 @@ impl Base {
         &self.roster
     }
 
-    /// How many pieces of a session were accepted. `None` where the session was opened later, or reaped before.
+    /// How many pieces of a session were accepted. `None` where it was opened later, or is reaped.
     pub fn accepted(&self, session: SessionId) -> Option<u64>
         ensures count { IfSome result (λ n. n ≡ (base_by self.now).accepted session) }
         ensures noted { is_some result ≡ is_noted self.now session }
@@ -97,7 +117,7 @@ impl Base {
         }
     }
 
-    /// How many deliveries a session was owed. `None` where the session was opened later, or reaped before.
+    /// How many deliveries a session was owed. `None` where it was opened later, or is reaped.
     pub fn owed(&self, session: SessionId) -> Option<u64>
         ensures count { IfSome result (λ n. n ≡ (base_by self.now).owed session) }
         ensures noted { is_some result ≡ is_noted self.now session }
@@ -108,7 +128,7 @@ impl Base {
         }
     }
 
-    /// Since when a session was quiet. `None` where the session was opened later, or reaped before.
+    /// Since when a session was quiet. `None` where it was opened later, or is reaped.
     pub fn quiet_since(&self, session: SessionId) -> Option<Moment>
         ensures moment { IfSome result (λ m. (base_by self.now).quiet_since session ≡ Some m) }
         ensures noted { is_some result ≡ is_noted self.now session }
@@ -119,8 +139,8 @@ impl Base {
         }
     }
 
-    /// Whether a session was pinged since it was heard of. `None` where the session was opened later, or reaped
-    /// before.
+    /// Whether a session was pinged since it was heard of. `None` where it was opened later, or is
+    /// reaped.
     pub fn was_pinged(&self, session: SessionId) -> Option<bool>
         ensures pinged { IfSome result (λ b. (base_by self.now).was_pinged session ≡ b) }
         ensures noted { is_some result ≡ is_noted self.now session }

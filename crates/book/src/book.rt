@@ -13,7 +13,7 @@ ghost use Rattle.book.specs.Settings.{IsWellSet};
 ghost use Rattle.book.specs.Book.{box_at, outbox_at};
 ghost use Rattle.book.specs.Seats.{IsSeat};
 
-use crate::base::Base;
+use crate::base::{Base, forget_counts};
 use crate::baton::Baton;
 use crate::last_heard::LastHeard;
 use crate::out::{Done, Hung, Left, Plan, Rolled, Step};
@@ -612,6 +612,7 @@ impl<O: Outbox> Book<O> {
             Ok(()) => {
                 self.seats.give_up(baton.session);
                 self.last_heard.forget(baton.session);
+                forget_counts(&mut self.base, baton.session);
                 let count = self.outboxes.give_up(baton.session, taker);
                 Ok(Left {
                     session: baton.session,
@@ -665,7 +666,7 @@ impl<O: Outbox> Book<O> {
     pub fn base(&self) -> Option<&Base>
         ensures base { IfSome result (λ b. base_by b.now ≡ base_of self.now) }
         ensures noted { IfSome result (λ b. (t : ℕ) → 0 < t → t ≤ (base_of self.now).sessions
-            → is_here self.now.outboxes t ≡ true → is_noted b.now t ≡ true) }
+            → is_noted b.now t ≡ is_here self.now.outboxes t) }
         ensures opened { IfSome result
             (λ b. (t : ℕ) → is_noted b.now t ≡ true → (0 < t) × (t ≤ (base_of self.now).sessions)) }
         ensures none { result ≡ None → self.now.limit.dropped ≡ 0 }

@@ -123,12 +123,12 @@ impl ChannelState {
         Ok(copy)
     }
 
-    /// Makes room for so many changes.
+    /// Makes room for so many changes. An `Err` leaves what room there is.
     pub fn reserve(&mut self, changes: usize) -> Result<(), AllocError>
         ensures state { self.new.state ≡ self.old.state }
         ensures room { OnOk result (self.new.room ≡ changes) }
+        ensures err { OnErr result (self.new ≡ self.old) }
     {
-        self.room = 0;
         self.members.reserve(changes)?;
         self.operators.reserve(changes)?;
         self.voices.reserve(changes)?;

@@ -1,2 +1,3 @@
 pub mod LinesRead
 pub mod Moments
+pub mod Pinged

@@ -40,10 +40,11 @@ pub struct Beaten<L: Naming, R: Wait + Drop> {
     pub last: Option<Late<L, R>>,
 }
 
-/// Ticks in the hall at this moment.
+/// Ticks in the hall at this moment, and adds who got something.
 fn tick_once<L: Naming, R: Wait + Drop>(
     hall: &mut Hall<L, Sender<R>>,
     moment: Moment,
+    told: &mut Told,
 ) -> Ticked<L, R>
     ensures ticks { Ticks result.before.value result.after.value result.moment result.answer }
     ensures moment { result.moment ≡ moment }
@@ -51,7 +52,7 @@ fn tick_once<L: Naming, R: Wait + Drop>(
     ensures refused { OnErr result.answer (hall.new ≡ hall.old) }
 {
     let before = Snapshot::of(&*hall);
-    let answer = hall.tick(moment);
+    let answer = hall.tick_told(moment, told);
     let after = Snapshot::of(&*hall);
     Ticked {
         answer,
@@ -61,25 +62,26 @@ fn tick_once<L: Naming, R: Wait + Drop>(
     }
 }
 
-/// Ticks in the hall at this moment. Where its journal has no room for the record, that is rolled, and the tick is
-/// tried again.
+/// Ticks in the hall at this moment, and adds who got something. Where its journal has no room for the record, that is
+/// rolled, and the tick is tried again.
 fn tick_or_roll<L: Naming, R: Wait + Drop, S: Sockets>(
     sockets: &S,
     hall: &mut Hall<L, Sender<R>>,
     moment: Moment,
+    told: &mut Told,
 ) -> Ticked<L, R>
     ensures ticks { Ticks result.before.value result.after.value result.moment result.answer }
     ensures moment { result.moment ≡ moment }
     ensures before { result.before.value.history ≡ hall.old.history }
 {
-    let first = tick_once(hall, moment);
+    let first = tick_once(hall, moment, told);
     if !matches!(first.answer, Err(TickRefusal::JournalFull)) {
         return first;
     }
     match hall.roll() {
         Ok(rolled) => {
             sockets.rolled(rolled.dropped);
-            tick_once(hall, moment)
+            tick_once(hall, moment, told)
         }
         Err(_) => first,
     }
@@ -97,10 +99,7 @@ fn tick_in<L: Naming, R: Wait + Drop, S: Sockets>(
 {
     let moment = later(moment, hall.last_moment());
     told.begin();
-    hall.swap_told(told);
-    let ticked = tick_or_roll(sockets, hall, moment);
-    hall.swap_told(told);
-    ticked
+    tick_or_roll(sockets, hall, moment, told)
 }
 
 /// Pings whoever is quiet for long enough and wasn't pinged since it was heard of, by one record, and shuts whoever

@@ -88,12 +88,13 @@ fn lock_soon<'a, L: Naming, R: Wait + Drop>(
     hall.lock(rt)
 }
 
-/// Does a line in the hall, if that takes it now.
+/// Does a line in the hall, if that takes it now, and adds who got something.
 fn line_once<L: Naming, R: Wait + Drop>(
     hall: &mut Hall<L, Sender<R>>,
     baton: &mut Baton<L, Sender<R>>,
     piece: &Piece,
     moment: Moment,
+    told: &mut Told,
 ) -> Result<Done, LineRefusal>
     ensures done { OnOk result (baton.new.pieces ≡ baton.old.pieces ++ piece.now ∷ []) }
     ensures refused { OnErr result ((hall.new ≡ hall.old) × (baton.new ≡ baton.old)) }
@@ -101,18 +102,19 @@ fn line_once<L: Naming, R: Wait + Drop>(
     ensures told { IfOk result (λ d. TellsOf d baton.new.front baton.new.session) }
     ensures next { OnOk result (IsNext moment hall.old.history baton.new.front) }
 {
-    match hall.line(baton, piece, moment) {
+    match hall.line_told(baton, piece, moment, told) {
         Ok(done) => Ok(done),
         Err(refusal) => Err(refusal),
     }
 }
 
-/// Does a line in the hall, if that takes it now, where it was read before.
+/// Does a line in the hall that was read before, if that takes it now, and adds who got something.
 fn line_read_once<L: Naming, R: Wait + Drop>(
     hall: &mut Hall<L, Sender<R>>,
     baton: &mut Baton<L, Sender<R>>,
     line: ReadLine,
     moment: Moment,
+    told: &mut Told,
 ) -> Result<Done, LineRefusal>
     ensures done { OnOk result (baton.new.pieces ≡ baton.old.pieces ++ line ∷ []) }
     ensures refused { OnErr result ((hall.new ≡ hall.old) × (baton.new ≡ baton.old)) }
@@ -120,19 +122,20 @@ fn line_read_once<L: Naming, R: Wait + Drop>(
     ensures told { IfOk result (λ d. TellsOf d baton.new.front baton.new.session) }
     ensures next { OnOk result (IsNext moment hall.old.history baton.new.front) }
 {
-    match hall.line_read(baton, line, moment) {
+    match hall.line_read(baton, line, moment, told) {
         Ok(done) => Ok(done),
         Err(refusal) => Err(refusal),
     }
 }
 
-/// Does a line in the hall, if that takes it now, as it was read before, where it was.
+/// Does a line in the hall, if that takes it now, as it was read before, where it was. Who got something is added.
 fn line_first<L: Naming, R: Wait + Drop>(
     hall: &mut Hall<L, Sender<R>>,
     baton: &mut Baton<L, Sender<R>>,
     piece: &Piece,
     line: Option<ReadLine>,
     moment: Moment,
+    told: &mut Told,
 ) -> Result<Done, LineRefusal>
     requires read { IfSome line (λ r. r ≡ piece.now) }
     ensures done { OnOk result (baton.new.pieces ≡ baton.old.pieces ++ piece.now ∷ []) }
@@ -142,8 +145,8 @@ fn line_first<L: Naming, R: Wait + Drop>(
     ensures next { OnOk result (IsNext moment hall.old.history baton.new.front) }
 {
     match line {
-        Some(line) => line_read_once(hall, baton, line, moment),
-        None => line_once(hall, baton, piece, moment),
+        Some(line) => line_read_once(hall, baton, line, moment, told),
+        None => line_once(hall, baton, piece, moment, told),
     }
 }
 
@@ -155,6 +158,7 @@ fn line_or_roll<L: Naming, R: Wait + Drop>(
     piece: &Piece,
     line: Option<ReadLine>,
     moment: Moment,
+    told: &mut Told,
 ) -> Result<Done, LineRefusal>
     requires read { IfSome line (λ r. r ≡ piece.now) }
     ensures done { OnOk result (baton.new.pieces ≡ baton.old.pieces ++ piece.now ∷ []) }
@@ -163,13 +167,13 @@ fn line_or_roll<L: Naming, R: Wait + Drop>(
     ensures told { IfOk result (λ d. TellsOf d baton.new.front baton.new.session) }
     ensures next { OnOk result (IsNext moment hall.old.history baton.new.front) }
 {
-    match line_first(hall, baton, piece, line, moment) {
+    match line_first(hall, baton, piece, line, moment, told) {
         Ok(done) => return Ok(done),
         Err(LineRefusal::JournalFull) => {}
         Err(refusal) => return Err(refusal),
     }
     match hall.roll() {
-        Ok(_) => line_once(hall, baton, piece, moment),
+        Ok(_) => line_once(hall, baton, piece, moment, told),
         Err(RollRefusal::Memory) => Err(LineRefusal::Memory),
         Err(RollRefusal::Busy) => Err(LineRefusal::Busy),
     }
@@ -182,6 +186,7 @@ fn line_at<L: Naming, R: Wait + Drop>(
     piece: &Piece,
     line: Option<ReadLine>,
     moment: Moment,
+    told: &mut Told,
 ) -> Result<Done, LineRefusal>
     requires read { IfSome line (λ r. r ≡ piece.now) }
     ensures done { OnOk result (baton.new.pieces ≡ baton.old.pieces ++ piece.now ∷ []) }
@@ -191,7 +196,7 @@ fn line_at<L: Naming, R: Wait + Drop>(
     ensures moment { OnOk result (IsAt moment baton.new.front) }
 {
     let moment = later(moment, hall.last_moment());
-    line_or_roll(hall, baton, piece, line, moment)
+    line_or_roll(hall, baton, piece, line, moment, told)
 }
 
 /// Does a line in the hall, and adds who got something.
@@ -211,10 +216,7 @@ fn line_in<L: Naming, R: Wait + Drop>(
     ensures moment { OnOk result (IsAt moment baton.new.front) }
 {
     told.begin();
-    hall.swap_told(told);
-    let done = line_at(hall, baton, piece, line, moment);
-    hall.swap_told(told);
-    done
+    line_at(hall, baton, piece, line, moment, told)
 }
 
 /// Does a line, at this moment or at that of the newest record where that is later. Where the journal has no room

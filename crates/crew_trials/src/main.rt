@@ -8,6 +8,8 @@ mod behind;
 #[cfg(test)]
 mod fakes;
 #[cfg(test)]
+mod later;
+#[cfg(test)]
 mod leaving;
 #[cfg(test)]
 mod making;

@@ -110,6 +110,11 @@ impl<L: Naming, R: Wait + Drop> Scene<'_, L, R> {
         self.stage.hall.lock(self.rt).len()
     }
 
+    /// The moment of the newest record, in milliseconds.
+    pub(crate) fn last_moment(&self) -> i64 {
+        self.stage.hall.lock(self.rt).last_moment().milliseconds()
+    }
+
     /// How many records were dropped.
     pub(crate) fn dropped(&self) -> u64 {
         self.stage.sockets.dropped.load(Ordering::SeqCst)

@@ -4,3 +4,4 @@ pub mod Unopened
 pub mod Ties
 pub mod Since
 pub mod Turns
+pub mod Tells

@@ -17,7 +17,7 @@ use Rattle.outbox.specs.declared.queue.PutFault.{PutFault}
 use Rattle.register.specs.declared.claims.Row.{Row}
 use Rattle.register.specs.Rows.{new_row, with_piece, outbox_at, pieces_at}
 use Rattle.register.proofs.Rows.{cond_is, first_outbox, rest_outbox, piece_outbox, piece_here}
-use Rattle.batons.specs.Standing.{Begun, StandsFor}
+use Rattle.batons.specs.Standing.{Begun, StandsFor, begun_by}
 use Rattle.batons.proofs.Standing.{nothing, opens, passes, begins, finishes, misses, known}
 use Rattle.book.specs.declared.plan.Planned.{Planned}
 use Rattle.book.specs.declared.out.Step.{Step}
@@ -324,3 +324,11 @@ module _ {O N : Type 0} (name : O → N) where
       let line : begun_of n ≡ None = (put_all_line accepts refuses (begun m (Hung s why) moment) n
       (plan_of m.settings m.history (Hung s why) moment (length m.outboxes)) d.1).0 in
       subst (λ b. IsTied name b rows) (sym d.2) (sweep_ties n rows line begun_)
+
+-- with no plan out, the pieces of a session's row are those that the history accepts
+pub idle_pieces : {O N : Type 0} (name : O → N) (m : Shown O) (rows : List (Row N)) (t : ℕ) → m.busy ≡ false
+    → IsTied name m rows → 0 < t → t ≤ sessions m.history → pieces_at rows t ≡ Some (accepted m.history t)
+idle_pieces name m rows t idle tied from to =
+    let p = tied.stands.pieces t from to in
+    let none : begun_of m ≡ None = ap (λ b. cond b (newest_line m.history) None) idle in
+    p.1 ∙ ap Some (sym (p.2 ∙ ap (λ b. p.0 ++ begun_by b t) none ∙ append-nil p.0))

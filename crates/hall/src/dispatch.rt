@@ -16,7 +16,7 @@ ghost use Rattle.book.specs.Settings.{IsWellSet};
 ghost use Rattle.book.specs.Book.{box_at, outbox_at};
 ghost use Rattle.hall.specs.Reaping.{turn_of, newest_said, MayReap, IsReapRefusal, IsAllOwed, AreAllAccepted};
 ghost use Rattle.hall.specs.Telling.{TellsOf};
-ghost use Rattle.hall.specs.Tied.{newest_line};
+ghost use Rattle.hall.specs.Tied.{newest_line, IsTied};
 
 use crate::baton::Baton;
 use crate::lasting::Lasting;
@@ -139,6 +139,14 @@ impl<L: Naming, O: Lasting> Book<L, O> {
         ensures { result.now ≡ self.now }
     {
         &self.book
+    }
+
+    /// The register, whose rows stand for the book.
+    pub(crate) fn register(&self) -> &Register<O::Name>
+        ensures named { result.now.table ≡ L.table }
+        ensures tied { IsTied O.name self.now result.now.rows }
+    {
+        &self.register
     }
 
     /// Opens a session whose host has the shape of one, and gives its baton and its stub. A refusal gives the outbox

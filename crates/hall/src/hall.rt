@@ -6,9 +6,11 @@ ghost use Rattle.casemapping.specs.Names.{host_shape};
 ghost use Rattle.chronicle.specs.declared.record.Kind.TheVariants as kind;
 ghost use Rattle.chronicle.specs.History.{sessions, last_moment, accepted, shut};
 ghost use Rattle.chronicle.specs.Journal.{numbered, record_at};
+ghost use Rattle.register.specs.Rows.{outbox_at, pieces_at};
 ghost use Rattle.register.specs.Shown.{new_stub};
 ghost use Rattle.batons.specs.Turn.{new_turn, next_turn};
 ghost use Rattle.book.specs.Settings.{IsWellSet};
+ghost use Rattle.book.specs.Book.{box_at};
 ghost use Rattle.hall.specs.Reaping.{turn_of, MayReap, IsReapRefusal, IsAllOwed, AreAllAccepted};
 
 use crate::baton::Baton;
@@ -17,8 +19,8 @@ use crate::lasting::Lasting;
 use crate::left::Left;
 use crate::told::Told;
 use book::{
-    Base, BookFault, Done, HangRefusal, Hung, LineRefusal, OpenRefusal, ReadLine, ReapRefusal,
-    RollRefusal, Rolled, SweepRefusal, TickRefusal,
+    Base, BookFault, Done, HangRefusal, Hung, LineRefusal, OpenRefusal, ReapRefusal, RollRefusal,
+    Rolled, SweepRefusal, TickRefusal,
 };
 use chronicle::{Moment, Record, RecordNumber, SessionId, Why};
 use line_grammar::{Octets, Piece};
@@ -28,14 +30,14 @@ use registration::Settings;
 use std::alloc::Global;
 use std::hash::RandomState;
 use std::marker::Model;
-use std::mem;
 
 /// A book with no plan out, which is what stands in a lock. Whenever nobody has it, its history is legal, what was
 /// put into each session's outbox is what the history owes the session, and the register has each session's outbox
 /// and accepted pieces. A clause sees the book.
 #[derive(Drop)]
 pub struct Hall<L: Naming, O: Outbox> {
-    book: Book<L, O>,
+    pub(crate) book: Book<L, O>,
+    // Who got something by the newest record, for calls whose caller doesn't ask for it.
     told: Told,
 }
 
@@ -142,32 +144,8 @@ impl<L: Naming, O: Lasting> Hall<L, O> {
         ensures not_busy { IfErr result (λ e. e ≢ LineRefusal.Busy) }
         ensures err { OnErr result ((self.new ≡ self.old) × (baton.new ≡ baton.old)) }
     {
+        self.told.clear();
         self.book.line(baton, piece, moment, &mut self.told)
-    }
-
-    /// Accepts the next line of the baton's session, which was read before the hall was taken, as `line` does.
-    /// Whether its label counts is decided here, by the capabilities that the session has before the line. A refusal
-    /// changes nothing.
-    pub fn line_read(
-        &mut self,
-        baton: &mut Baton<L, O>,
-        line: ReadLine,
-        moment: Moment,
-    ) -> Result<Done, LineRefusal>
-        ensures ok { OnOk result (IsDone O.accepts O.refuses self.old
-            (kind.Said baton.old.session baton.old.next line) moment self.new) }
-        ensures baton { OnOk result (baton.new ≡ next_turn baton.old line self.new.history) }
-        ensures accepted { OnOk result
-            (baton.new.pieces ≡ accepted self.new.history baton.old.session) }
-        ensures may { OnOk result (MayBegin self.old (turn_of baton.old) moment) }
-        ensures number { IfOk result (λ d. d.number ≡ length self.old.history + 1) }
-        ensures missed { IfOk result (λ d. d.missed ≡ newest_missed self.new.history) }
-        ensures shut { IfOk result (λ d. d.shut ≡ shut self.new.history baton.old.session) }
-        ensures refusal { IfErr result (λ e. IsLineRefusal self.old (turn_of baton.old) moment e) }
-        ensures not_busy { IfErr result (λ e. e ≢ LineRefusal.Busy) }
-        ensures err { OnErr result ((self.new ≡ self.old) × (baton.new ≡ baton.old)) }
-    {
-        self.book.line_read(baton, line, moment, &mut self.told)
     }
 
     /// Ends a session: one record is appended, and its last item is put, or missed where its outbox doesn't take it.
@@ -188,11 +166,7 @@ impl<L: Naming, O: Lasting> Hall<L, O> {
         ensures not_busy { IfErr result (λ e. e ≢ HangRefusal.Busy) }
         ensures err { OnErr result (self.new ≡ self.old) }
     {
-        let hung = self.book.hang(session, why, moment)?;
-        if !hung.missed {
-            self.told.note_in_room(session);
-        }
-        Ok(hung)
+        self.book.hang(session, why, moment)
     }
 
     /// Sweeps up to one session: the shut one of the lowest number that isn't gone. Its record is appended, and all
@@ -209,6 +183,7 @@ impl<L: Naming, O: Lasting> Hall<L, O> {
         ensures not_busy { IfErr result (λ e. e ≢ SweepRefusal.Busy) }
         ensures err { OnErr result (self.new ≡ self.old) }
     {
+        self.told.clear();
         self.book.sweep(moment, &mut self.told)
     }
 
@@ -227,6 +202,7 @@ impl<L: Naming, O: Lasting> Hall<L, O> {
         ensures not_busy { IfErr result (λ e. e ≢ TickRefusal.Busy) }
         ensures err { OnErr result (self.new ≡ self.old) }
     {
+        self.told.clear();
         self.book.tick(moment, &mut self.told)
     }
 
@@ -283,7 +259,7 @@ impl<L: Naming, O: Lasting> Hall<L, O> {
     pub fn base(&self) -> Option<&Base>
         ensures base { IfSome result (λ b. base_by b.now ≡ base_of self.now) }
         ensures noted { IfSome result (λ b. (t : ℕ) → 0 < t → t ≤ (base_of self.now).sessions
-            → is_here self.now.outboxes t ≡ true → is_noted b.now t ≡ true) }
+            → is_noted b.now t ≡ is_here self.now.outboxes t) }
         ensures opened { IfSome result
             (λ b. (t : ℕ) → is_noted b.now t ≡ true → (0 < t) × (t ≤ (base_of self.now).sessions)) }
         ensures none { result ≡ None → self.now.limit.dropped ≡ 0 }
@@ -292,11 +268,18 @@ impl<L: Naming, O: Lasting> Hall<L, O> {
         self.book.book().base()
     }
 
-    /// Gives the list of who got something since it was last given, for one that is to go on with.
-    pub fn swap_told(&mut self, other: &mut Told)
-        ensures { self.new ≡ self.old }
+    /// The register of the sessions' tokens: it has a row for each session that was opened, with the pieces that the
+    /// history accepts of it and the name of its outbox.
+    pub fn register(&self) -> &Register<O::Name>
+        ensures named { result.now.table ≡ L.table }
+        ensures pieces { (t : ℕ) → 0 < t → t ≤ sessions self.now.history
+            → pieces_at result.now.rows t ≡ Some (accepted self.now.history t) }
+        ensures outboxes { (t : ℕ) → 0 < t → IfSome (box_at self.now.outboxes t)
+            (λ o. outbox_at result.now.rows t ≡ Some (O.name o)) }
+        ensures others { (t : ℕ) → sessions self.now.history < t
+            → outbox_at result.now.rows t ≡ None }
     {
-        mem::swap(&mut self.told, other);
+        self.book.register()
     }
 
     /// The record of this number, if there is one that wasn't dropped.

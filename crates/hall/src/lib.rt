@@ -9,6 +9,7 @@ mod left;
 mod lines;
 mod namesake;
 mod rings;
+mod telling;
 mod told;
 
 pub use baton::Baton;

@@ -1,8 +1,8 @@
 //! Who got something.
 //!
-//! A thread swaps its own list in before a step and out after it, so it collects over many lines. A record that
-//! reaches nearly the same sessions as the one before moves a place along the list, so several lines of a few speakers
-//! to one channel cost its members one write each.
+//! A thread hands its own list to each step, so it collects over many lines. A record that reaches nearly the same
+//! sessions as the one before moves a place along the list, so several lines of a few speakers to one channel cost its
+//! members one write each.
 ghost use Rattle.std.specs.Prelude.{◌≡◌, ◌≤◌, ℕ, true, false, [], IfSome};
 ghost use Rattle.hall.specs.Telling.{is_told};
 

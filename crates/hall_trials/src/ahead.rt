@@ -5,7 +5,7 @@ use crate::guests::{Guest, enter};
 use crate::making::{Steps, Trial, over_channels};
 use chronicle::{Kind, Moment, RecordNumber, Why};
 use deliveries::Delivery;
-use hall::{Hall, Lasting, LineRefusal, Naming, ReadLine};
+use hall::{Hall, Lasting, LineRefusal, Naming, ReadLine, Told};
 use line_grammar::{Octets, Piece};
 use outbox::{Sender, Writer};
 use std::alloc::Global;
@@ -48,10 +48,12 @@ fn answer_read<L: Naming, O: Lasting<Taker = T>, T: Drop>(
     line: ReadLine,
     piece: &Piece,
 ) -> Option<Result<u64, LineRefusal>> {
-    let first = hall.line_read(&mut guest.baton, line, Moment::new(0));
+    let mut told = Told::new(alloc);
+    let first = hall.line_read(&mut guest.baton, line, Moment::new(0), &mut told);
     let answer = match first {
         Err(LineRefusal::Memory) => {
-            hall.line_read(&mut guest.baton, read(alloc, piece)?, Moment::new(0))
+            let again = read(alloc, piece)?;
+            hall.line_read(&mut guest.baton, again, Moment::new(0), &mut told)
         }
         answer => answer,
     };
@@ -274,7 +276,8 @@ fn is_before<L: Naming, O: Lasting<Taker = T>, T: Drop>(
         return false;
     };
     let records = hall.len();
-    let answer = hall.line_read(&mut guest.baton, line, Moment::new(-1));
+    let mut told = Told::new(alloc);
+    let answer = hall.line_read(&mut guest.baton, line, Moment::new(-1), &mut told);
     answer.err() == Some(LineRefusal::BadMoment) && hall.len() == records
 }
 

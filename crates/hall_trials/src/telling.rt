@@ -1,8 +1,9 @@
 //! Who got something is listed for whoever writes to them, once for lines that tell the same.
-use crate::guests::{Guest, Made, Pair, sweeps, two};
+use crate::again::line;
+use crate::guests::{Guest, Made, Pair, two};
 use crate::making::{Steps, Trial, over_channels, over_rings};
 use chronicle::{Moment, SessionId, Why};
-use hall::{Hall, Lasting, Naming, Told};
+use hall::{Hall, Lasting, LineRefusal, Naming, SweepRefusal, Told};
 use std::alloc::Global;
 use std::test::Fail;
 
@@ -47,29 +48,35 @@ impl List {
         guest: &mut Guest<L, O, T>,
         text: &str,
     ) -> bool {
+        let Ok(piece) = line(alloc, text) else {
+            return false;
+        };
+        let at = Moment::new(0);
         self.told.begin();
-        hall.swap_told(&mut self.told);
-        let is_said = guest.says_all(alloc, hall, &[text]);
-        hall.swap_told(&mut self.told);
-        is_said
+        match hall.line_told(&mut guest.baton, &piece, at, &mut self.told) {
+            Err(LineRefusal::Memory) => hall
+                .line_told(&mut guest.baton, &piece, at, &mut self.told)
+                .is_ok(),
+            answer => answer.is_ok(),
+        }
     }
 
     /// Hangs a session, which adds it.
     fn hang<L: Naming, O: Lasting>(&mut self, hall: &mut Hall<L, O>, session: SessionId) -> bool {
         self.told.begin();
-        hall.swap_told(&mut self.told);
-        let hung = hall.hang(session, Why::Shutdown, Moment::new(0));
-        hall.swap_told(&mut self.told);
-        hung.is_ok()
+        hall.hang_told(session, Why::Shutdown, Moment::new(0), &mut self.told)
+            .is_ok()
     }
 
     /// Sweeps one session, which adds who sees it leave.
     fn sweep<L: Naming, O: Lasting>(&mut self, hall: &mut Hall<L, O>) -> bool {
+        let at = Moment::new(0);
         self.told.begin();
-        hall.swap_told(&mut self.told);
-        let is_swept = sweeps(hall);
-        hall.swap_told(&mut self.told);
-        is_swept
+        let answer = match hall.sweep_told(at, &mut self.told) {
+            Err(SweepRefusal::Memory) => hall.sweep_told(at, &mut self.told),
+            answer => answer,
+        };
+        matches!(answer, Ok(Some(_)))
     }
 }
 

@@ -16,6 +16,11 @@ fn tick<L: Naming, O: Lasting>(
         Err(TickRefusal::Memory) => hall.tick(Moment::new(moment)),
         answer => answer,
     };
+    answered(answer)
+}
+
+/// What a tick gave: the number of its record where nobody misses it, else 0; or that there is none, or why.
+fn answered(answer: Result<Option<Done>, TickRefusal>) -> Result<Option<u64>, TickRefusal> {
     match answer {
         Ok(None) => Ok(None),
         Ok(
@@ -40,18 +45,21 @@ fn late<L: Naming, O: Lasting>(hall: &Hall<L, O>, moment: i64) -> u64 {
     }
 }
 
-/// Whether the session is pinged at this moment, which isn't before, by the second record, and is told.
+/// Whether the session is pinged at this moment, which isn't before, by the second record, and is told. Where a growth
+/// is refused the hall ticks once more.
 fn is_pinged<L: Naming, O: Lasting>(
     alloc: Global,
     hall: &mut Hall<L, O>,
     session: SessionId,
 ) -> bool {
     let mut told = Told::new(alloc);
-    hall.swap_told(&mut told);
-    let is_second = tick(hall, 120_000) == Ok(Some(2));
-    hall.swap_told(&mut told);
+    let at = Moment::new(120_000);
+    let answer = match hall.tick_told(at, &mut told) {
+        Err(TickRefusal::Memory) => hall.tick_told(at, &mut told),
+        answer => answer,
+    };
     let is_told = told.is_all() || told.sessions() == [session].as_slice();
-    is_second && is_told
+    answered(answer) == Ok(Some(2)) && is_told
 }
 
 /// Whether the session is late at the moment that it is to be, and not pinged again before.

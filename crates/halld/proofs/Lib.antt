@@ -8,3 +8,4 @@ mod Taken
 mod Late
 mod Printing
 mod Puts
+pub mod Caused

@@ -10,3 +10,4 @@ pub mod Notes
 pub mod Steps
 pub mod Stages
 pub mod Printed
+pub mod Streams

@@ -1,16 +1,18 @@
 //! Playing a script from a reader to a writer.
 //!
-//! Reader and writer are lent, because only then can a clause name what the reader had. The register is made before
+//! Input and output are lent, because only then can a clause name what the reader had. The register is made before
 //! anything is read, since a type with its name stays within this call.
-ghost use Rattle.std.specs.Prelude.{◌≡◌, ◌<◌, ◌^◌, [], List, ℕ, Some, true, is_ok, OnOk, IfErr, IfSome};
+ghost use Rattle.std.specs.Prelude.{◌≡◌, ◌<◌, ◌≤◌, ◌^◌, [], List, ℕ, Some, true, is_ok, OnOk, IfErr, IfSome};
 ghost use Rattle.std.specs.Io.KnownBytes.{Keeps};
 ghost use Rattle.halld.specs.declared.entry.PlayFault.TheVariants.{WriteFailed};
 ghost use Rattle.halld.specs.Lines.{told_of, told_ahead};
 ghost use Rattle.halld.specs.Faults.{IsFaultOf, IsGood};
 ghost use Rattle.halld.specs.Stages.{head_of, IsReady};
 ghost use Rattle.halld.specs.Printed.{IsPrinted, PrintsAhead, Writes};
+ghost use Rattle.halld.specs.Streams.{HasCause, IsWrites};
 
 use crate::reader::Reader;
+use crate::streams::{Input, Output};
 use interleave::{Naming, Register};
 use std::alloc::{AllocError, AllocFailed, Global};
 use std::io::{ErrorKind, Read, Write};
@@ -66,21 +68,25 @@ impl<T: Drop> From<AllocFailed<T>> for PlayFault {
 }
 
 /// Reads a script to its end, and writes the notes of each step.
-fn play_lines<L: Naming, R: Read, W: Write>(
+fn play_lines<L: Naming, R: Read + Drop, W: Write + Drop>(
     reader: &mut Reader<L>,
-    input: &mut R,
-    output: &mut W,
+    input: &mut Input<R>,
+    output: &mut Output<W>,
 ) -> Result<(), PlayFault>
     requires few { reader.old.ended < 2 ^ 32 }
     requires ready { IsReady L.table reader.old.stage reader.old.register }
-    ensures good { OnOk result ((script : List ℕ) → R.remaining input.old ≡ Some script → IsGood
+    ensures good { OnOk result ((script : List ℕ) → R.remaining input.old.inner ≡ Some script
+        → IsGood
         (told_ahead (head_of reader.old.stage) reader.old.ended reader.old.line.items script)) }
-    ensures printed { OnOk result (Writes (W.contents output.old) (W.contents output.new)
-        (λ written. (script : List ℕ) → R.remaining input.old ≡ Some script
+    ensures printed { OnOk result (Writes (W.contents output.old.inner)
+        (W.contents output.new.inner)
+        (λ written. (script : List ℕ) → R.remaining input.old.inner ≡ Some script
         → PrintsAhead reader.old.stage reader.old.line.items script written)) }
     ensures fault { IfErr result
-        (λ e. (script : List ℕ) → R.remaining input.old ≡ Some script → IsFaultOf (told_ahead
+        (λ e. (script : List ℕ) → R.remaining input.old.inner ≡ Some script → IsFaultOf (told_ahead
         (head_of reader.old.stage) reader.old.ended reader.old.line.items script) e) }
+    ensures same { OnOk result (output.new.failures ≡ output.old.failures) }
+    ensures cause { IfErr result (HasCause input.old input.new output.old output.new) }
 {
     let mut block = [0u8; BLOCK];
     for _ in 0..READS {
@@ -95,11 +101,16 @@ fn play_lines<L: Naming, R: Read, W: Write>(
 }
 
 /// Flushes a writer, however a script was played.
-fn flush_after<W: Write>(played: Result<(), PlayFault>, output: &mut W) -> Result<(), PlayFault>
+fn flush_after<W: Write + Drop>(
+    played: Result<(), PlayFault>,
+    output: &mut Output<W>,
+) -> Result<(), PlayFault>
     ensures played { OnOk result (is_ok played ≡ true) }
-    ensures keeps { Keeps (W.contents output.old) (W.contents output.new) }
+    ensures keeps { Keeps (W.contents output.old.inner) (W.contents output.new.inner) }
     ensures fault { IfErr result (λ e. IfErr played (λ f. e ≡ f)) }
     ensures write { IfErr result (λ e. OnOk played (e ≡ WriteFailed)) }
+    ensures grows { output.old.failures ≤ output.new.failures }
+    ensures cause { IfErr result (λ e. OnOk played (output.old.failures < output.new.failures)) }
 {
     let flushed = output.flush();
     played?;
@@ -111,20 +122,23 @@ fn flush_after<W: Write>(played: Result<(), PlayFault>, output: &mut W) -> Resul
 
 /// Plays a script on a new server, whose sessions a register has that is named.
 #[tactic(auto, using(crate::proofs::Known::if_known, crate::proofs::Known::start))]
-fn play_named<L: Naming, R: Read, W: Write>(
+fn play_named<L: Naming, R: Read + Drop, W: Write + Drop>(
     alloc: Global,
     register: Register<()>,
-    input: &mut R,
-    output: &mut W,
+    input: &mut Input<R>,
+    output: &mut Output<W>,
 ) -> Result<(), PlayFault>
     requires named { register.table ≡ L.table }
     requires empty { register.rows ≡ [] }
     ensures good { OnOk result
-        (IfSome (R.remaining input.old) (λ script. IsGood (told_of script))) }
-    ensures printed { OnOk result (Writes (W.contents output.old) (W.contents output.new)
-        (λ written. IfSome (R.remaining input.old) (λ script. IsPrinted script written))) }
+        (IfSome (R.remaining input.old.inner) (λ script. IsGood (told_of script))) }
+    ensures printed { OnOk result (Writes (W.contents output.old.inner)
+        (W.contents output.new.inner)
+        (λ written. IfSome (R.remaining input.old.inner) (λ script. IsPrinted script written))) }
     ensures fault { IfErr result
-        (λ fault. IfSome (R.remaining input.old) (λ script. IsFaultOf (told_of script) fault)) }
+        (λ fault. IfSome (R.remaining input.old.inner)
+        (λ script. IsFaultOf (told_of script) fault)) }
+    ensures cause { IfErr result (HasCause input.old input.new output.old output.new) }
 {
     let mut reader: Reader<L> = Reader::new(alloc, register);
     let played = play_lines(&mut reader, input, output);
@@ -134,17 +148,20 @@ fn play_named<L: Naming, R: Read, W: Write>(
 
 /// Plays a script on a new server.
 #[tactic(auto, using(crate::proofs::Known::if_known))]
-pub fn play<R: Read, W: Write>(
+pub fn play<R: Read + Drop, W: Write + Drop>(
     alloc: Global,
-    input: &mut R,
-    output: &mut W,
+    input: &mut Input<R>,
+    output: &mut Output<W>,
 ) -> Result<(), PlayFault>
     ensures good { OnOk result
-        (IfSome (R.remaining input.old) (λ script. IsGood (told_of script))) }
-    ensures printed { OnOk result (Writes (W.contents output.old) (W.contents output.new)
-        (λ written. IfSome (R.remaining input.old) (λ script. IsPrinted script written))) }
+        (IfSome (R.remaining input.old.inner) (λ script. IsGood (told_of script))) }
+    ensures printed { OnOk result (Writes (W.contents output.old.inner)
+        (W.contents output.new.inner)
+        (λ written. IfSome (R.remaining input.old.inner) (λ script. IsPrinted script written))) }
     ensures fault { IfErr result
-        (λ fault. IfSome (R.remaining input.old) (λ script. IsFaultOf (told_of script) fault)) }
+        (λ fault. IfSome (R.remaining input.old.inner)
+        (λ script. IsFaultOf (told_of script) fault)) }
+    ensures cause { IfErr result (HasCause input.old input.new output.old output.new) }
 {
     let register = Register::new(alloc)?;
     play_named::<Brand, R, W>(alloc, register, input, output)

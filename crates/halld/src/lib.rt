@@ -63,6 +63,8 @@ mod reader;
 mod refusals;
 mod script;
 mod split;
+mod streams;
 mod words;
 
 pub use entry::{PlayFault, play};
+pub use streams::{Input, Output};

@@ -6,12 +6,14 @@ ghost use Rattle.halld.specs.Script.{NamesHost};
 ghost use Rattle.halld.specs.Notes.{named_by, host_of, opened_by, answer_text, whole_text};
 ghost use Rattle.halld.specs.Steps.{Answer, is_item, is_hung, late_text, IsLateHung};
 ghost use Rattle.halld.specs.Steps.{IsHungOut, IsBeat, IsDrained, IsPerformed};
+ghost use Rattle.halld.specs.Streams.{IsWrites};
 ghost use Rattle.halld.specs.Faults.{IsOutside};
 
 use crate::alone::{do_line, hang_late, tick, tidy};
 use crate::entry::PlayFault;
 use crate::notes::{notes_of, whole_notes};
 use crate::script::Step;
+use crate::streams::Output;
 use interleave::{Event, Moment, Naming, Note, Play, SessionId, StepRefusal};
 use line_grammar::Octets;
 use std::alloc::{AllocError, Global};
@@ -56,15 +58,14 @@ fn is_item(answer: &Result<Note, StepRefusal>) -> bool
 }
 
 /// Writes notes.
-fn write<W: Write>(notes: &[u8], output: &mut W) -> Result<(), PlayFault>
+fn write<W: Write + Drop>(notes: &[u8], output: &mut Output<W>) -> Result<(), PlayFault>
     ensures written { OnOk result
-        (Appends (W.contents output.old) (W.contents output.new) notes.now) }
+        (Appends (W.contents output.old.inner) (W.contents output.new.inner) notes.now) }
     ensures fault { IfErr result IsOutside }
+    ensures same { OnOk result (output.new.failures ≡ output.old.failures) }
+    ensures cause { IfErr result (IsWrites output.old.failures output.new.failures) }
 {
-    match output.write_all(notes) {
-        Ok(()) => Ok(()),
-        Err(_) => Err(PlayFault::WriteFailed),
-    }
+    output.write_all(notes)
 }
 
 impl<L: Naming> Player<L> {
@@ -113,19 +114,21 @@ impl<L: Naming> Player<L> {
     }
 
     /// Takes one event and writes its notes.
-    fn one<W: Write>(
+    fn one<W: Write + Drop>(
         &mut self,
         event: &Event,
-        output: &mut W,
+        output: &mut Output<W>,
     ) -> Result<Result<Note, StepRefusal>, PlayFault>
         requires { IsWellShaped event.now }
         ensures step { IfOk result (λ answer. IsStep self.old.play event.now answer self.new.play) }
         ensures hosts { IfOk result
             (λ answer. self.new.hosts.items ≡ self.old.hosts.items ++ opened_by event.now answer) }
-        ensures written { IfOk result (λ answer. Appends (W.contents output.old)
-            (W.contents output.new) (answer_text (named_by event.now)
+        ensures written { IfOk result (λ answer. Appends (W.contents output.old.inner)
+            (W.contents output.new.inner) (answer_text (named_by event.now)
             (host_of self.old.hosts.items (named_by event.now)) answer)) }
         ensures fault { IfErr result IsOutside }
+        ensures same { OnOk result (output.new.failures ≡ output.old.failures) }
+        ensures cause { IfErr result (IsWrites output.old.failures output.new.failures) }
     {
         let answer = self.take(event)?;
         let session = named_by(event);
@@ -135,27 +138,36 @@ impl<L: Naming> Player<L> {
     }
 
     /// Writes the notes of what worker 1 came to alone, of which a record has this label.
-    fn tell<W: Write>(
+    fn tell<W: Write + Drop>(
         &self,
         label: &str,
         answer: &Result<Note, StepRefusal>,
-        output: &mut W,
+        output: &mut Output<W>,
     ) -> Result<(), PlayFault>
-        ensures written { OnOk result (Appends (W.contents output.old) (W.contents output.new)
+        ensures written { OnOk result (Appends (W.contents output.old.inner)
+            (W.contents output.new.inner)
             (whole_text label.now answer.now)) }
         ensures fault { IfErr result IsOutside }
+        ensures same { OnOk result (output.new.failures ≡ output.old.failures) }
+        ensures cause { IfErr result (IsWrites output.old.failures output.new.failures) }
     {
         let notes = whole_notes(self.alloc, label, answer)?;
         write(&notes, output)
     }
 
     /// Takes what is due to a session until there is nothing more.
-    fn drain<W: Write>(&mut self, session: SessionId, output: &mut W) -> Result<(), PlayFault>
+    fn drain<W: Write + Drop>(
+        &mut self,
+        session: SessionId,
+        output: &mut Output<W>,
+    ) -> Result<(), PlayFault>
         ensures step { OnOk result ((text : List ℕ) × IsDrained session
             (host_of self.old.hosts.items session) self.old.play text self.new.play
             × (self.new.hosts.items ≡ self.old.hosts.items)
-            × Appends (W.contents output.old) (W.contents output.new) text) }
+            × Appends (W.contents output.old.inner) (W.contents output.new.inner) text) }
         ensures fault { IfErr result IsOutside }
+        ensures same { OnOk result (output.new.failures ≡ output.old.failures) }
+        ensures cause { IfErr result (IsWrites output.old.failures output.new.failures) }
     {
         for _ in 0..u64::MAX {
             let answer = self.one(&Event::Take { session }, output)?;
@@ -167,12 +179,18 @@ impl<L: Naming> Player<L> {
     }
 
     /// Hangs the late session of the lowest number and writes its notes, and answers whether one was hung.
-    fn hang_next<W: Write>(&mut self, moment: Moment, output: &mut W) -> Result<bool, PlayFault>
+    fn hang_next<W: Write + Drop>(
+        &mut self,
+        moment: Moment,
+        output: &mut Output<W>,
+    ) -> Result<bool, PlayFault>
         ensures step { IfOk result (λ more. (a : Option Answer)
             × IsLateHung moment self.old.play a self.new.play × (more ≡ is_hung a)
-            × Appends (W.contents output.old) (W.contents output.new) (late_text a)) }
+            × Appends (W.contents output.old.inner) (W.contents output.new.inner) (late_text a)) }
         ensures hosts { self.new.hosts.items ≡ self.old.hosts.items }
         ensures fault { IfErr result IsOutside }
+        ensures same { OnOk result (output.new.failures ≡ output.old.failures) }
+        ensures cause { IfErr result (IsWrites output.old.failures output.new.failures) }
     {
         let Some(answer) = hang_late(&mut self.play, moment) else {
             return Ok(false);
@@ -183,11 +201,18 @@ impl<L: Naming> Player<L> {
     }
 
     /// Hangs late sessions until there is none.
-    fn hang_all<W: Write>(&mut self, moment: Moment, output: &mut W) -> Result<(), PlayFault>
+    fn hang_all<W: Write + Drop>(
+        &mut self,
+        moment: Moment,
+        output: &mut Output<W>,
+    ) -> Result<(), PlayFault>
         ensures step { OnOk result ((text : List ℕ) × IsHungOut moment self.old.play text
-            self.new.play × Appends (W.contents output.old) (W.contents output.new) text) }
+            self.new.play × Appends (W.contents output.old.inner)
+            (W.contents output.new.inner) text) }
         ensures hosts { self.new.hosts.items ≡ self.old.hosts.items }
         ensures fault { IfErr result IsOutside }
+        ensures same { OnOk result (output.new.failures ≡ output.old.failures) }
+        ensures cause { IfErr result (IsWrites output.old.failures output.new.failures) }
     {
         for _ in 0..u64::MAX {
             if !self.hang_next(moment, output)? {
@@ -198,11 +223,17 @@ impl<L: Naming> Player<L> {
     }
 
     /// Ticks, and hangs who is late.
-    fn beat<W: Write>(&mut self, moment: Moment, output: &mut W) -> Result<(), PlayFault>
+    fn beat<W: Write + Drop>(
+        &mut self,
+        moment: Moment,
+        output: &mut Output<W>,
+    ) -> Result<(), PlayFault>
         ensures step { OnOk result ((text : List ℕ) × IsBeat moment self.old.play text self.new.play
-            × Appends (W.contents output.old) (W.contents output.new) text) }
+            × Appends (W.contents output.old.inner) (W.contents output.new.inner) text) }
         ensures hosts { self.new.hosts.items ≡ self.old.hosts.items }
         ensures fault { IfErr result IsOutside }
+        ensures same { OnOk result (output.new.failures ≡ output.old.failures) }
+        ensures cause { IfErr result (IsWrites output.old.failures output.new.failures) }
     {
         let answer = tick(&mut self.play, moment);
         self.tell("tick", &answer, output)?;
@@ -213,12 +244,18 @@ impl<L: Naming> Player<L> {
     }
 
     /// Does what a step of the script asks for.
-    pub(crate) fn perform<W: Write>(&mut self, step: Step, output: &mut W) -> Result<(), PlayFault>
+    pub(crate) fn perform<W: Write + Drop>(
+        &mut self,
+        step: Step,
+        output: &mut Output<W>,
+    ) -> Result<(), PlayFault>
         requires { NamesHost step }
         ensures step { OnOk result ((text : List ℕ) × IsPerformed step
             self.old.hosts.items self.old.play text self.new.hosts.items self.new.play
-            × Appends (W.contents output.old) (W.contents output.new) text) }
+            × Appends (W.contents output.old.inner) (W.contents output.new.inner) text) }
         ensures fault { IfErr result IsOutside }
+        ensures same { OnOk result (output.new.failures ≡ output.old.failures) }
+        ensures cause { IfErr result (IsWrites output.old.failures output.new.failures) }
     {
         match step {
             Step::One(event) => {

@@ -8,12 +8,14 @@ ghost use Rattle.halld.specs.Lines.{told_after, told_ahead, is_set_after};
 ghost use Rattle.halld.specs.Faults.{IsFaultOf, IsGood, IsOutside};
 ghost use Rattle.halld.specs.Stages.{head_of, IsReady};
 ghost use Rattle.halld.specs.Steps.{IsPerformed};
+ghost use Rattle.halld.specs.Streams.{IsWrites};
 ghost use Rattle.halld.specs.Printed.{start_of, hosts_of, server_of, Prints, PrintsAhead, Writes, GoesOn};
 
 use crate::entry::PlayFault;
 use crate::header::{HeaderFault, Limits};
 use crate::player::Player;
 use crate::script::{Step, StepFault, parse_step};
+use crate::streams::Output;
 use interleave::{Moment, Naming, Play, PlayRefusal, Register, Settings};
 use line_grammar::Octets;
 use std::alloc::{AllocError, Global};
@@ -74,6 +76,7 @@ fn new_player<L: Naming>(
     ensures play { IfOk result (λ player. player.play ≡ start_of limits.now) }
     ensures hosts { IfOk result (λ player. player.hosts.items ≡ []) }
     ensures fault { IfErr result (IsFaultOf (told_after (Some limits.now) 1 [])) }
+    ensures unasked { IfErr result (λ e. (n m : ℕ) → IsWrites n m e) }
 {
     let settings = settings_of(alloc, limits)?;
     match Play::new(
@@ -91,12 +94,12 @@ fn new_player<L: Naming>(
 }
 
 /// A player that did what a script's first step asks for.
-fn begin<L: Naming, W: Write>(
+fn begin<L: Naming, W: Write + Drop>(
     alloc: Global,
     register: Register<()>,
     limits: &Limits,
     step: Step,
-    output: &mut W,
+    output: &mut Output<W>,
 ) -> Result<Player<L>, PlayFault>
     requires named { register.table ≡ L.table }
     requires empty { register.rows ≡ [] }
@@ -104,8 +107,10 @@ fn begin<L: Naming, W: Write>(
     ensures ok { IfOk result (λ player. are_good limits.now ≡ true) }
     ensures performed { IfOk result (λ player. (text : List ℕ)
         × IsPerformed step [] (start_of limits.now) text player.hosts.items player.play
-        × Appends (W.contents output.old) (W.contents output.new) text) }
+        × Appends (W.contents output.old.inner) (W.contents output.new.inner) text) }
     ensures fault { IfErr result (IsFaultOf (told_after (Some limits.now) 1 [])) }
+    ensures same { OnOk result (output.new.failures ≡ output.old.failures) }
+    ensures cause { IfErr result (IsWrites output.old.failures output.new.failures) }
 {
     let mut player = new_player(alloc, register, limits)?;
     player.perform(step, output)?;
@@ -133,7 +138,7 @@ impl<L: Naming> Reader<L> {
 
     /// Does what a step asks for. The first one sets the server up.
     #[tactic(auto, using(crate::proofs::Faults::from_outside))]
-    fn step<W: Write>(&mut self, step: Step, output: &mut W) -> Result<(), PlayFault>
+    fn step<W: Write + Drop>(&mut self, step: Step, output: &mut Output<W>) -> Result<(), PlayFault>
         requires ready { IsReady L.table self.old.stage self.old.register }
         requires host { NamesHost step }
         ensures ready { OnOk result (IsReady L.table self.new.stage self.new.register) }
@@ -144,8 +149,10 @@ impl<L: Naming> Reader<L> {
         ensures performed { OnOk result ((text : List ℕ)
             × IsPerformed step (hosts_of self.old.stage) (server_of self.old.stage []) text
             (hosts_of self.new.stage) (server_of self.new.stage [])
-            × Appends (W.contents output.old) (W.contents output.new) text) }
+            × Appends (W.contents output.old.inner) (W.contents output.new.inner) text) }
         ensures fault { IfErr result (IsFaultOf (told_after (head_of self.old.stage) 1 [])) }
+        ensures same { OnOk result (output.new.failures ≡ output.old.failures) }
+        ensures cause { IfErr result (IsWrites output.old.failures output.new.failures) }
     {
         match &mut self.stage {
             Stage::Steps(player) => player.perform(step, output),
@@ -176,6 +183,7 @@ impl<L: Naming> Reader<L> {
             self.new.stage more text → Prints self.old.stage (self.old.line.items ∷ more) text) }
         ensures fault { IfErr result (λ e. (more : List (List ℕ)) → IsFaultOf
             (told_after (head_of self.old.stage) self.old.ended (self.old.line.items ∷ more)) e) }
+        ensures unasked { IfErr result (λ e. (n m : ℕ) → IsWrites n m e) }
     {
         let Stage::Head(limits) = &mut self.stage else {
             return Err(PlayFault::BadLine(self.ended));
@@ -191,7 +199,7 @@ impl<L: Naming> Reader<L> {
 
     /// Ends the script's present line.
     #[tactic(auto, using(crate::proofs::Ahead::empty_line))]
-    fn end_line<W: Write>(&mut self, output: &mut W) -> Result<(), PlayFault>
+    fn end_line<W: Write + Drop>(&mut self, output: &mut Output<W>) -> Result<(), PlayFault>
         requires few { self.old.ended + 1 < 2 ^ 64 }
         requires ready { IsReady L.table self.old.stage self.old.register }
         ensures ready { OnOk result (IsReady L.table self.new.stage self.new.register) }
@@ -200,11 +208,14 @@ impl<L: Naming> Reader<L> {
         ensures ahead { OnOk result ((more : List (List ℕ))
             → told_after (head_of self.new.stage) (self.new.ended + 1) more ≡ told_after
             (head_of self.old.stage) (self.old.ended + 1) (self.old.line.items ∷ more)) }
-        ensures printed { OnOk result (Writes (W.contents output.old) (W.contents output.new)
+        ensures printed { OnOk result (Writes (W.contents output.old.inner)
+            (W.contents output.new.inner)
             (λ written. (more : List (List ℕ)) (text : List ℕ) → Prints self.new.stage more text
             → Prints self.old.stage (self.old.line.items ∷ more) (written ++ text))) }
         ensures fault { IfErr result (λ e. (more : List (List ℕ)) → IsFaultOf (told_after
             (head_of self.old.stage) (self.old.ended + 1) (self.old.line.items ∷ more)) e) }
+        ensures same { OnOk result (output.new.failures ≡ output.old.failures) }
+        ensures cause { IfErr result (IsWrites output.old.failures output.new.failures) }
     {
         self.ended += 1;
         if self.line.is_empty() {
@@ -221,7 +232,11 @@ impl<L: Naming> Reader<L> {
 
     /// Takes the script's next octet.
     #[tactic(auto, using(crate::proofs::Ahead::line_ends, crate::proofs::Ahead::line_goes_on, crate::proofs::Printing::in_line))]
-    fn take_octet<W: Write>(&mut self, octet: u8, output: &mut W) -> Result<(), PlayFault>
+    fn take_octet<W: Write + Drop>(
+        &mut self,
+        octet: u8,
+        output: &mut Output<W>,
+    ) -> Result<(), PlayFault>
         requires few { self.old.ended + 1 < 2 ^ 64 }
         requires ready { IsReady L.table self.old.stage self.old.register }
         ensures ready { OnOk result (IsReady L.table self.new.stage self.new.register) }
@@ -229,11 +244,14 @@ impl<L: Naming> Reader<L> {
         ensures ahead { OnOk result ((rest : List ℕ) → told_ahead
             (head_of self.new.stage) self.new.ended self.new.line.items rest ≡ told_ahead
             (head_of self.old.stage) self.old.ended self.old.line.items (octet ∷ rest)) }
-        ensures printed { OnOk result (Writes (W.contents output.old) (W.contents output.new)
+        ensures printed { OnOk result (Writes (W.contents output.old.inner)
+            (W.contents output.new.inner)
             (GoesOn self.old.stage self.old.line.items self.new.stage self.new.line.items
             (octet ∷ []))) }
         ensures fault { IfErr result (λ e. (rest : List ℕ) → IsFaultOf (told_ahead
             (head_of self.old.stage) self.old.ended self.old.line.items (octet ∷ rest)) e) }
+        ensures same { OnOk result (output.new.failures ≡ output.old.failures) }
+        ensures cause { IfErr result (IsWrites output.old.failures output.new.failures) }
     {
         if octet == b'\n' {
             return self.end_line(output);
@@ -243,7 +261,11 @@ impl<L: Naming> Reader<L> {
     }
 
     /// Takes what comes next of the script.
-    pub(crate) fn feed<W: Write>(&mut self, block: &[u8], output: &mut W) -> Result<(), PlayFault>
+    pub(crate) fn feed<W: Write + Drop>(
+        &mut self,
+        block: &[u8],
+        output: &mut Output<W>,
+    ) -> Result<(), PlayFault>
         requires few { self.old.ended + length block.now < 2 ^ 64 }
         requires ready { IsReady L.table self.old.stage self.old.register }
         ensures ready { OnOk result (IsReady L.table self.new.stage self.new.register) }
@@ -252,10 +274,13 @@ impl<L: Naming> Reader<L> {
             (head_of self.new.stage) self.new.ended self.new.line.items rest ≡ told_ahead
             (head_of self.old.stage) self.old.ended self.old.line.items (block.now ++ rest)) }
         ensures printed { OnOk result
-            (Writes (W.contents output.old) (W.contents output.new) (GoesOn self.old.stage
+            (Writes (W.contents output.old.inner)
+            (W.contents output.new.inner) (GoesOn self.old.stage
             self.old.line.items self.new.stage self.new.line.items block.now)) }
         ensures fault { IfErr result (λ e. (rest : List ℕ) → IsFaultOf (told_ahead
             (head_of self.old.stage) self.old.ended self.old.line.items (block.now ++ rest)) e) }
+        ensures same { OnOk result (output.new.failures ≡ output.old.failures) }
+        ensures cause { IfErr result (IsWrites output.old.failures output.new.failures) }
     {
         for octet in block {
             self.take_octet(*octet, output)?;
@@ -268,6 +293,7 @@ impl<L: Naming> Reader<L> {
         requires ready { IsReady L.table self.old.stage self.old.register }
         ensures good { OnOk result (is_set_after (head_of self.old.stage) [] ≡ true) }
         ensures fault { IfErr result (IsFaultOf (told_after (head_of self.old.stage) 1 [])) }
+        ensures unasked { IfErr result (λ e. (n m : ℕ) → IsWrites n m e) }
     {
         if let Stage::Head(limits) = &self.stage {
             let Some(register) = self.register.take() else {
@@ -279,15 +305,21 @@ impl<L: Naming> Reader<L> {
     }
 
     /// Ends the script.
-    pub(crate) fn finish<W: Write>(&mut self, output: &mut W) -> Result<(), PlayFault>
+    pub(crate) fn finish<W: Write + Drop>(
+        &mut self,
+        output: &mut Output<W>,
+    ) -> Result<(), PlayFault>
         requires few { self.old.ended + 1 < 2 ^ 64 }
         requires ready { IsReady L.table self.old.stage self.old.register }
         ensures good { OnOk result
             (IsGood (told_ahead (head_of self.old.stage) self.old.ended self.old.line.items [])) }
-        ensures printed { OnOk result (Writes (W.contents output.old) (W.contents output.new)
+        ensures printed { OnOk result (Writes (W.contents output.old.inner)
+            (W.contents output.new.inner)
             (PrintsAhead self.old.stage self.old.line.items [])) }
         ensures fault { IfErr result (IsFaultOf
             (told_ahead (head_of self.old.stage) self.old.ended self.old.line.items [])) }
+        ensures same { OnOk result (output.new.failures ≡ output.old.failures) }
+        ensures cause { IfErr result (IsWrites output.old.failures output.new.failures) }
     {
         self.end_line(output)?;
         self.set_up()

@@ -8,7 +8,7 @@ mod start;
 use account::line_for;
 use clap::Error;
 use clap::error::ErrorKind;
-use halld::{PlayFault, play};
+use halld::{Input, Output, PlayFault, play};
 use script::SCRIPT;
 use serving_options::{Asked, parse};
 use start::{Ended, check_options, serve_options, tell_reason};
@@ -51,10 +51,10 @@ fn refuse(rt: &(impl Print + Eprint), error: Error) -> ExitCode {
 /// Plays the script on standard input.
 fn play_standard(rt: &HostRuntime) -> ExitCode {
     let alloc = rt.alloc();
-    let Ok(mut output) = BufWriter::new(alloc, rt.stdout()) else {
+    let Ok(output) = BufWriter::new(alloc, rt.stdout()) else {
         return fault(rt, PlayFault::Memory);
     };
-    match play(alloc, &mut rt.stdin(), &mut output) {
+    match play(alloc, &mut Input::new(rt.stdin()), &mut Output::new(output)) {
         Ok(()) => ExitCode::SUCCESS,
         Err(ended) => fault(rt, ended),
     }

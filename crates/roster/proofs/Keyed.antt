@@ -2,7 +2,7 @@
 use Rattle.std.proofs.Common.{◌≡◌, inl, inr, ℕ, zero, suc, ◌≤◌, ◌+◌, ◌<◌, Bool, true, false, cond, List}
 use Rattle.std.proofs.Common.{[], ◌∷◌, ◌++◌, filter, slice_get, slice_set, length, Option, Some, None}
 use Rattle.std.proofs.Common.{Result, Ok, Err, is_ok, arith, refl, sym, ap, ◌∙◌, subst}
-use Rattle.std.specs.Result.{OnOk}
+use Rattle.std.specs.Result.{OnOk, OnErr}
 use Rattle.std.specs.Map.{lookup, values_of, set_value, remove_entry}
 use Rattle.std.specs.Option.{option_map_or}
 use Rattle.std.specs.Str.{bytes_eq}
@@ -103,6 +103,10 @@ pub on_ok_map : {E : Type 0} {P Q : Type 0} (r : Result (Unit {0}) E) → (P →
 on_ok_map (Ok u) f p = f p
 on_ok_map (Err x) f p = tt
 
+pub on_err_map : {E : Type 0} {P Q : Type 0} (r : Result (Unit {0}) E) → (P → Q) → OnErr r P → OnErr r Q
+on_err_map (Ok u) f p = tt
+on_err_map (Err x) f p = f p
+
 -- what a step on the channel of a name leaves, where it was found
 module _ (ks : List Channel) (c : List ℕ) (x : Channel) (at : channel_of ks c ≡ Some x) where
   pub room_at : room_in ks c ≡ x.held.room
@@ -129,6 +133,20 @@ reserves_none ks c n out = record {
 
 pub some_same : (x y : Channel) → Some x ≡ Some y → x ≡ y
 some_same x y e = cc
+
+-- what was found is held as it is
+pub with_same : (ks : List Channel) (c : List ℕ) (x : Channel) (h : Held) → channel_of ks c ≡ Some x → h ≡ x.held
+    → with_held ks c h ≡ ks
+with_same [] c x h at e = refl
+with_same (k ∷ ks) c x h at e = elim (either (is_same k.name c)) [
+  | inl same ↦
+      let it : k ≡ x = some_same k x (sym (ap (λ b. cond b (Some k) (channel_of ks c)) same) ∙ at) in
+      ap (λ b. cond b (held_as k h ∷ ks) (k ∷ with_held ks c h)) same
+      ∙ ap (λ m. held_as k m ∷ ks) (e ∙ ap (λ (y : Channel). y.held) (sym it))
+  | inr miss ↦
+      ap (λ b. cond b (held_as k h ∷ ks) (k ∷ with_held ks c h)) miss
+      ∙ ap (λ ls. k ∷ ls) (with_same ks c x h (sym (ap (λ b. cond b (Some k) (channel_of ks c)) miss) ∙ at) e)
+]
 
 pub reholds_none : (ks : List Channel) (c : List ℕ) (f : State → State) (less : ℕ) → channel_of ks c ≡ None
     → Reholds ks ks c (f (state_in ks c)) less

@@ -18,5 +18,6 @@ pub mod FieldLaws
 pub mod OnceLaws
 pub mod OwnChannels
 pub mod Copies
+pub mod Widened
 pub mod Places
 pub mod Going

@@ -8,7 +8,8 @@ use Rattle.channel_state.specs.State.{nothing}
 use Rattle.channel_state.specs.Held.{Held}
 use Rattle.std.specs.List.{list_any}
 use Rattle.std.specs.Option.{option_map_or}
-use Rattle.std.proofs.lemmas.List.{take_more, take_all}
+use Rattle.std.specs.List.{flat_map}
+use Rattle.std.proofs.lemmas.List.{take_more, take_all, length-append}
 use Rattle.std.proofs.lemmas.List.Folds.{list_any-append}
 use Rattle.casemapping.specs.Fold.{is_same}
 use Rattle.casemapping.proofs.SameNames.{is_same-left, is_same-sym}
@@ -16,7 +17,8 @@ use Rattle.roster.specs.declared.deed.Deed.TheVariants.{Opened, NickSet, UserSet
 use Rattle.roster.specs.declared.deed.Deed.TheVariants.{ExchangeSet, LoggedIn, Enrolled, AwaySet}
 use Rattle.roster.specs.declared.deed.Deed.TheVariants.{InvisibleSet, ChannelMade, Changed, Ended, Gone}
 use Rattle.roster.specs.Tables.{channel_of, with_held}
-use Rattle.roster.specs.Stands.{HaveSeats, AreSpare, Alike, AreApart, ReservesBy}
+use Rattle.roster.specs.Lists.{keyed_name, BeginWith}
+use Rattle.roster.specs.Stands.{HaveSeats, KeepsSeats, AreSpare, Alike, AreApart, ReservesBy}
 use Rattle.roster.specs.Stands.{changed_name, is_change, changes, is_making}
 use Rattle.roster.proofs.Bools.{either, or-none, or-false}
 use Rattle.roster.proofs.ChannelTable.{apart-with}
@@ -189,20 +191,21 @@ none_changing c (d ∷ ds) e =
     let first = changes-cons c d ds ∙ ap (λ b. cond b 1 0 + changes c ds) parts.0 in
     let rest = none_changing c ds parts.1 in omega arith
 
-seats_for_these : (ds : List Deed) (ks : List Channel) → HaveSeatsFor (length ds) ds ks → HaveSeats ds ks
-seats_for_these ds [] h = tt
-seats_for_these ds (k ∷ ks) h = (
+seats_for_these : (n : ℕ) (ds : List Deed) (ks : List Channel) → length ds ≤ n → HaveSeatsFor n ds ks
+    → HaveSeats ds ks
+seats_for_these n ds [] m h = tt
+seats_for_these n ds (k ∷ ks) m h = (
   elim (either (list_any (is_change k.name) ds)) [
     | inl some ↦ let a = h.0 some in let few = changes_few k.name ds in omega arith
     | inr none ↦ let e = none_changing k.name ds none in omega arith
   ],
-  seats_for_these ds ks h.1,
+  seats_for_these n ds ks m h.1,
 )
 
-pub seats_for_all : (ds : List Deed) (i : ℕ) (ks : List Channel) → length ds ≤ i
-    → HaveSeatsFor (length ds) (take i ds) ks → HaveSeats ds ks
-seats_for_all ds i ks l h = seats_for_these ds ks
-    (subst (λ (es : List Deed). HaveSeatsFor (length ds) es ks) (take_all i ds l) h)
+pub seats_for_all : (n : ℕ) (ds : List Deed) (i : ℕ) (ks : List Channel) → length ds ≤ n → length ds ≤ i
+    → HaveSeatsFor n (take i ds) ks → HaveSeats ds ks
+seats_for_all n ds i ks m l h = seats_for_these n ds ks m
+    (subst (λ (es : List Deed). HaveSeatsFor n es ks) (take_all i ds l) h)
 
 pub alike_more : (ks ls ms : List Channel) → Alike ks ls → Alike ls ms → Alike ks ms
 alike_more [] [] [] a b = tt
@@ -211,3 +214,62 @@ alike_more [] (l ∷ ls) ms a b = absurd a
 alike_more (k ∷ ks) [] ms a b = absurd a
 alike_more (k ∷ ks) (l ∷ ls) [] a b = absurd b
 alike_more (k ∷ ks) (l ∷ ls) (m ∷ ms) a b = (b.0 ∙ a.0, b.1 ∙ a.1, alike_more ks ls ms a.2 b.2)
+
+-- ---- channels that keep their room
+
+pub keeps_same : (n : ℕ) (ks ls : List Channel) → ls ≡ ks → KeepsSeats n ks ls
+keeps_same n ks ls e = λ ds few h. subst (HaveSeats ds) (sym e) h
+
+pub keeps_more : (n : ℕ) (ks ls ms : List Channel) → KeepsSeats n ks ls → KeepsSeats n ls ms → KeepsSeats n ks ms
+keeps_more n ks ls ms a b = λ ds few h. b ds few (a ds few h)
+
+seats_with : (n : ℕ) (ds : List Deed) (ks : List Channel) (c : List ℕ) (m : Held)
+    → ((a : List ℕ) → changes a ds ≤ n) → n ≤ m.room → HaveSeats ds ks → HaveSeats ds (with_held ks c m)
+seats_with n ds [] c m few l h = tt
+seats_with n ds (k ∷ ks) c m few l h = elim (either (is_same k.name c)) [
+  | inl same ↦ rw same ((let f = few k.name in omega arith), h.1)
+  | inr miss ↦ rw miss (h.0, seats_with n ds ks c m few l h.1)
+]
+
+pub keeps_by : (n : ℕ) (o : Option (List ℕ)) (ks ls : List Channel) → ReservesBy o ks ls n → KeepsSeats n ks ls
+keeps_by n None ks ls r = keeps_same n ks ls r
+keeps_by n (Some c) ks ls r = λ ds few h. subst (HaveSeats ds) (sym r.reserved)
+    (seats_with n ds ks c r.held few r.room h)
+
+-- ---- each deed that changes a channel has a folded name
+
+one_at_most : (b : Bool) → cond b 1 0 ≤ 1
+one_at_most true = omega arith
+one_at_most false = omega arith
+
+keyed_once : (c : List ℕ) (d : Deed) → cond (is_change c d) 1 0 ≤ length (keyed_name d)
+keyed_once c (Opened t x) = omega arith
+keyed_once c (NickSet t x) = omega arith
+keyed_once c (UserSet t x y) = omega arith
+keyed_once c (HoldSet t x) = omega arith
+keyed_once c (CapsSet t x) = omega arith
+keyed_once c (ExchangeSet t x) = omega arith
+keyed_once c (LoggedIn t x) = omega arith
+keyed_once c (Enrolled t) = omega arith
+keyed_once c (AwaySet t x) = omega arith
+keyed_once c (InvisibleSet t x) = omega arith
+keyed_once c (ChannelMade t k) = omega arith
+keyed_once c (Changed k x) = one_at_most (is_same k c)
+keyed_once c (Ended t w x) = omega arith
+keyed_once c (Gone t) = omega arith
+
+changes_named : (c : List ℕ) (ds : List Deed) → changes c ds ≤ length (flat_map keyed_name ds)
+changes_named c [] = omega arith
+changes_named c (d ∷ ds) =
+    let e = changes-cons c d ds in let first = keyed_once c d in let rest = changes_named c ds in
+    let both = length-append (keyed_name d) (flat_map keyed_name ds) in omega arith
+
+begin_longer : (cs ks : List (List ℕ)) → BeginWith cs ks → length cs ≤ length ks
+begin_longer [] ks b = omega arith
+begin_longer (c ∷ cs) [] b = absurd b
+begin_longer (c ∷ cs) (k ∷ ks) b = let rest = begin_longer cs ks b.1 in omega arith
+
+pub changes_keyed : (c : List ℕ) (ds : List Deed) (folds : List (List ℕ)) → BeginWith (flat_map keyed_name ds) folds
+    → changes c ds ≤ length folds
+changes_keyed c ds folds b =
+    let a = changes_named c ds in let l = begin_longer (flat_map keyed_name ds) folds b in omega arith

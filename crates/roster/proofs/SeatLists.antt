@@ -322,15 +322,14 @@ still_noted : (ks : List Channel) (fs : List Deed) (rs qs : List (ℕ × Card))
     → (s : ℕ) (c : List ℕ) → among s (state fs c).invited ≡ true → holds_name c (row_of qs s).notes ≡ true
 still_noted ks fs rs qs st w i s c e = w.notes s c (ap (λ (k : State). among s k.invited) (st c) ∙ e) (i s c e)
 
-pub listed_wide : (ks : List Channel) (rs qs : List (ℕ × Card)) (copies left : List (List ℕ)) (fs ds : List Deed)
+pub listed_wide : (ks : List Channel) (rs qs : List (ℕ × Card)) (copies : List (List ℕ)) (fs ds : List Deed)
     → ((c : List ℕ) → state_in ks c ≡ state fs c) → AreListed rs copies fs ds → Refits ks rs qs
-    → AreListed qs left fs []
-listed_wide ks rs qs copies left fs ds st i w = record {
+    → AreListed qs copies fs ds
+listed_wide ks rs qs copies fs ds st i w = record {
   lists = λ s. w.lists s ∙ i.lists s;
-  noted = still_noted ks
-      fs rs qs st w i.noted;
-  room = λ s. let z : 0 ≤ (row_of qs s).room = omega arith in z;
-  copies = tt;
+  noted = still_noted ks fs rs qs st w i.noted;
+  room = λ s. let had = i.room s in let wide = w.rooms s in omega arith;
+  copies = i.copies;
 }
 
 -- the server ends a session

@@ -100,6 +100,10 @@ pub record LeavesThose (old new : List Channel) (cs : List (List ℕ)) (t : ℕ)
   pub held : AreHeld new
   pub seats : (ds : List Deed) → HaveSeats ds old → HaveSeats ds new
 
+-- channels keep their room for deeds of which each channel has at most n
+abbrev pub KeepsSeats : ℕ → List Channel → List Channel → Type 0
+KeepsSeats n old new = (ds : List Deed) → ((c : List ℕ) → changes c ds ≤ n) → HaveSeats ds old → HaveSeats ds new
+
 -- what channels that will be made are kept in
 abbrev pub AreSpare : ℕ → List Held → Type 0
 AreSpare n [] = Unit {0}

@@ -1,5 +1,5 @@
 //! A channel's state in memory of its own, so that little moves where a channel that was made earlier ends.
-ghost use Rattle.std.specs.Prelude.{◌≡◌, ◌-◌, ◌<◌, IfOk, OnOk};
+ghost use Rattle.std.specs.Prelude.{◌≡◌, ◌-◌, ◌<◌, IfOk, OnOk, OnErr};
 ghost use Rattle.channel_state.specs.State.{changed, departed, made_by, nothing};
 
 use channel_state::{Change, ChannelState};
@@ -52,10 +52,11 @@ impl Boxed {
         &self.state
     }
 
-    /// Makes room for so many changes.
+    /// Makes room for so many changes. An `Err` leaves what room there is.
     pub(crate) fn reserve(&mut self, changes: usize) -> Result<(), AllocError>
         ensures state { self.new.state ≡ self.old.state }
         ensures room { OnOk result (self.new.room ≡ changes) }
+        ensures err { OnErr result (self.new ≡ self.old) }
     {
         self.state.reserve(changes)
     }

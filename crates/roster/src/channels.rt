@@ -4,7 +4,7 @@ ghost use Rattle.std.specs.Map.{lookup, remove_entry};
 ghost use Rattle.std.specs.Str.{bytes_eq};
 ghost use Rattle.indexmap.specs.IndexMap.{spare};
 ghost use Rattle.std.specs.Prelude.{◌≡◌, ◌+◌, ◌<◌, ◌≤◌, ◌++◌, ◌∷◌, ℕ, suc, true, false, [], Some};
-ghost use Rattle.std.specs.Prelude.{None, length, option_copied, slice_get, IfOk, OnOk};
+ghost use Rattle.std.specs.Prelude.{None, length, option_copied, slice_get, IfOk, OnOk, OnErr};
 ghost use Rattle.casemapping.specs.Fold.{folded, is_same};
 ghost use Rattle.channel_state.specs.State.{among, changed, departed};
 ghost use Rattle.roster.specs.Tables.{channel_of, state_in, room_in, Reholds, Makes, Changes, IsPlace, Departs};
@@ -103,6 +103,7 @@ impl Channels {
     /// Makes room for so many more.
     pub(crate) fn reserve(&mut self, more: usize) -> Result<(), AllocError>
         ensures list { self.new.list ≡ self.old.list }
+        ensures kept { self.old.room ≤ self.new.room }
         ensures room { OnOk result (more ≤ self.new.room) }
     {
         self.channels.reserve(more)
@@ -152,6 +153,7 @@ impl Channels {
     pub(crate) fn reserve_named(&mut self, name: &[u8], changes: usize) -> Result<(), AllocError>
         ensures alike { Alike self.old.list self.new.list }
         ensures reserved { OnOk result (Reserves self.old.list self.new.list name.now changes) }
+        ensures err { OnErr result (self.new.list ≡ self.old.list) }
         ensures room { self.new.room ≡ self.old.room }
     {
         let key = Folded::new(self.alloc, name)?;

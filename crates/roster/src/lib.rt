@@ -16,6 +16,7 @@ mod room;
 mod roster;
 mod sessions;
 mod sharing;
+mod stock;
 mod tables;
 mod touched;
 

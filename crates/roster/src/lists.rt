@@ -270,6 +270,7 @@ fn reserve_for(
     ensures marks { marks.new ≡ marks.old }
     ensures people { (t : ℕ) → person_at people.new.list t ≡ person_at people.old.list t }
     ensures kept { Refits channels.now.list people.old.list people.new.list }
+    ensures spare { people.old.room ≤ people.new.room }
     ensures room { OnOk result ((s : ℕ) → is_joining s deed.now ≡ true
         → more ≤ (row_of people.new.list s).room) }
 {
@@ -289,6 +290,7 @@ pub(crate) fn reserve_lists(
     ensures marks { marks.new ≡ marks.old }
     ensures people { (t : ℕ) → person_at people.new.list t ≡ person_at people.old.list t }
     ensures kept { Refits channels.now.list people.old.list people.new.list }
+    ensures spare { people.old.room ≤ people.new.room }
     ensures room { OnOk result ((s : ℕ) → joinings s deeds.now ≤ (row_of people.new.list s).room) }
 {
     for deed in deeds {

@@ -54,6 +54,7 @@ impl Nicks {
     /// Makes room for so many more.
     pub(crate) fn reserve(&mut self, more: usize) -> Result<(), AllocError>
         ensures list { self.new.list ≡ self.old.list }
+        ensures kept { self.old.room ≤ self.new.room }
         ensures room { OnOk result (more ≤ self.new.room) }
     {
         self.holders.reserve(more)

@@ -183,6 +183,7 @@ impl People {
     /// Makes room for so many more.
     pub(crate) fn reserve(&mut self, more: usize) -> Result<(), AllocError>
         ensures list { self.new.list ≡ self.old.list }
+        ensures kept { self.old.room ≤ self.new.room }
         ensures room { OnOk result (more ≤ self.new.room) }
     {
         self.cards.reserve(more)
@@ -475,8 +476,25 @@ impl People {
         card.names.refit(channels, session, more)
     }
 
-    /// Makes room for names of channels of a session, and for its card. Before its notes grow those are taken out
-    /// whose channels invite it no more.
+    /// A session that has no card gets one, and there is room for as many more as before.
+    fn add_card(&mut self, marks: &mut Marks, session: SessionId) -> Result<(), AllocError>
+        ensures marks { marks.new ≡ marks.old }
+        ensures people { (t : ℕ) → person_at self.new.list t ≡ person_at self.old.list t }
+        ensures lists { Widens self.old.list self.new.list }
+        ensures there { OnOk result (IsSome (card_in self.new.list session)) }
+        ensures room { self.old.room ≤ self.new.room }
+    {
+        if self.has(marks, session) {
+            return Ok(());
+        }
+        let spare = self.cards.capacity() - self.cards.len();
+        self.cards.reserve(spare.checked_add(1).ok_or(AllocError)?)?;
+        self.open(marks, session);
+        Ok(())
+    }
+
+    /// Makes room for names of channels of a session, which has a card then. Before its notes grow those are taken
+    /// out whose channels invite it no more.
     pub(crate) fn reserve_names(
         &mut self,
         marks: &mut Marks,
@@ -488,9 +506,9 @@ impl People {
         ensures people { (t : ℕ) → person_at self.new.list t ≡ person_at self.old.list t }
         ensures lists { Refits channels.now.list self.old.list self.new.list }
         ensures names { OnOk result (more ≤ (row_of self.new.list session).room) }
+        ensures room { self.old.room ≤ self.new.room }
     {
-        self.cards.reserve(1)?;
-        self.open(marks, session);
+        self.add_card(marks, session)?;
         self.reserve_card(channels, session, more)
     }
 }

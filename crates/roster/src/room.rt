@@ -1,6 +1,7 @@
 //! Room for deeds, made before they are applied.
-ghost use Rattle.std.specs.Prelude.{◌≡◌, ◌≤◌, length, count_by, option_copied, OnOk};
-ghost use Rattle.roster.specs.Stands.{is_making, Alike, AreApart, HaveSeats, ReservesBy, changed_name, AreSpare};
+ghost use Rattle.std.specs.Prelude.{◌≡◌, ◌≤◌, length, count_by, option_copied, OnOk, OnErr};
+ghost use Rattle.roster.specs.Stands.{is_making, Alike, AreApart, HaveSeats, KeepsSeats, ReservesBy};
+ghost use Rattle.roster.specs.Stands.{changed_name, AreSpare};
 
 use crate::boxed::Boxed;
 use crate::channels::Channels;
@@ -26,6 +27,7 @@ fn reserve_for(channels: &mut Channels, deed: &Deed, changes: usize) -> Result<(
     ensures alike { Alike channels.old.list channels.new.list }
     ensures reserved { OnOk result
         (ReservesBy (changed_name deed.now) channels.old.list channels.new.list changes) }
+    ensures err { OnErr result (channels.new.list ≡ channels.old.list) }
     ensures room { channels.new.room ≡ channels.old.room }
 {
     match changed_name(deed) {
@@ -34,15 +36,17 @@ fn reserve_for(channels: &mut Channels, deed: &Deed, changes: usize) -> Result<(
     }
 }
 
-/// Makes room for their changes in the channels that deeds change.
-fn reserve_seats(channels: &mut Channels, deeds: &[Deed]) -> Result<(), AllocError>
-    requires { AreApart channels.old.list }
+/// Makes room for so many changes in each of the channels that deeds change.
+fn reserve_seats(channels: &mut Channels, deeds: &[Deed], changes: usize) -> Result<(), AllocError>
+    requires apart { AreApart channels.old.list }
+    requires enough { length deeds.now ≤ changes }
     ensures alike { Alike channels.old.list channels.new.list }
+    ensures kept { KeepsSeats changes channels.old.list channels.new.list }
     ensures seats { OnOk result (HaveSeats deeds.now channels.new.list) }
     ensures room { channels.new.room ≡ channels.old.room }
 {
     for deed in deeds {
-        reserve_for(channels, deed, deeds.len())?;
+        reserve_for(channels, deed, changes)?;
     }
     Ok(())
 }
@@ -55,8 +59,11 @@ fn is_making(deed: &Deed) -> bool
 }
 
 /// Makes what channels that will be made are kept in.
-fn fill_spare(alloc: Global, spare: &mut Vec<Boxed>, deeds: &[Deed]) -> Result<(), AllocError>
-    ensures none { AreSpare 0 spare.new.items }
+pub(crate) fn fill_spare(
+    alloc: Global,
+    spare: &mut Vec<Boxed>,
+    deeds: &[Deed],
+) -> Result<(), AllocError>
     ensures enough { OnOk result (count_by is_making deeds.now ≤ length spare.new.items) }
     ensures empty { OnOk result (AreSpare (length deeds.now) spare.new.items) }
 {
@@ -78,6 +85,9 @@ pub(crate) fn reserve_people(
     ensures people { people.new.list ≡ people.old.list }
     ensures marks { marks.new.list ≡ marks.old.list }
     ensures nicks { nicks.new.list ≡ nicks.old.list }
+    ensures people_kept { people.old.room ≤ people.new.room }
+    ensures marks_kept { marks.old.room ≤ marks.new.room }
+    ensures nicks_kept { nicks.old.room ≤ nicks.new.room }
     ensures people_room { OnOk result (deeds ≤ people.new.room) }
     ensures marks_room { OnOk result (deeds ≤ marks.new.room) }
     ensures nicks_room { OnOk result (deeds ≤ nicks.new.room) }
@@ -87,22 +97,20 @@ pub(crate) fn reserve_people(
     nicks.reserve(deeds)
 }
 
-/// Makes room in the table of channels, and in those that deeds change.
+/// Makes room in the table of channels, and for so many changes in each of those that deeds change.
 pub(crate) fn reserve_channels(
-    alloc: Global,
     channels: &mut Channels,
-    spare: &mut Vec<Boxed>,
     deeds: &[Deed],
+    changes: usize,
 ) -> Result<(), AllocError>
-    requires { AreApart channels.old.list }
+    requires apart { AreApart channels.old.list }
+    requires enough { length deeds.now ≤ changes }
     ensures alike { Alike channels.old.list channels.new.list }
-    ensures none { AreSpare 0 spare.new.items }
+    ensures kept { KeepsSeats changes channels.old.list channels.new.list }
+    ensures spare { channels.old.room ≤ channels.new.room }
     ensures room { OnOk result (length deeds.now ≤ channels.new.room) }
     ensures seats { OnOk result (HaveSeats deeds.now channels.new.list) }
-    ensures enough { OnOk result (count_by is_making deeds.now ≤ length spare.new.items) }
-    ensures empty { OnOk result (AreSpare (length deeds.now) spare.new.items) }
 {
-    fill_spare(alloc, spare, deeds)?;
     channels.reserve(deeds.len())?;
-    reserve_seats(channels, deeds)
+    reserve_seats(channels, deeds, changes)
 }

@@ -4,30 +4,30 @@ ghost use Rattle.std.specs.Prelude.{◌≡◌, ◌<◌, ◌^◌, ◌∷◌, [], 
 ghost use Rattle.std.specs.Prelude.{option_copied, unwrap_or, IfOk, IfSome, OnOk, OnErr};
 ghost use Rattle.roster.specs.declared.deed.Deed.TheVariants.{Ended};
 
-use crate::boxed::Boxed;
 use crate::channels::Channels;
 use crate::deed::Deed;
 use crate::given::Given;
 use crate::hashing::NameHashing;
-use crate::keys::{change, copy_keys, make, take};
-use crate::lists::{copy_names, has_name, join_made, reseat, reserve_lists, seat_of};
+use crate::keys::{change, make, take};
+use crate::lists::{has_name, join_made, reseat, reserve_lists, seat_of};
 use crate::marks::Marks;
 use crate::nicks::Nicks;
 use crate::people::{People, blank_enrol, enrol_of};
 use crate::room::{reserve_channels, reserve_people};
 use crate::sessions::Sessions;
 use crate::sharing::find_sharers;
+use crate::stock::Stock;
 use crate::touched::{Touched, touched_by};
-use casemapping::Folded;
 use channel_state::ChannelState;
 use chronicle::{SessionId, Why};
 use ghosts::{Change, Snapshot, append_all, apply, blank, copied};
 use line_grammar::Octets;
 use registration::{Caps, Enrol, Settings};
 use std::alloc::{AllocError, Global};
-use std::collections::{LinkedList, VecDeque};
+use std::collections::LinkedList;
 use std::hash::RandomState;
 use std::marker::Model;
+use std::mem::swap;
 
 /// What is known of sessions and channels, by all facts that were ever established. A clause sees it as the list of
 /// these, with the server's settings and the facts that it is ready for.
@@ -39,12 +39,10 @@ pub struct Roster {
     marks: Marks,
     nicks: Nicks,
     channels: Channels,
-    /// What channels that will be made are kept in.
-    spare: Vec<Boxed>,
-    /// The names of channels that will be made, for the lists of those who make them.
-    copies: VecDeque<Octets>,
-    /// The folded names of channels and nicknames that deeds will give.
-    keys: VecDeque<Folded>,
+    /// For the facts that it is ready for.
+    stock: Stock,
+    /// Where that of the next ones is made, before it takes the place of the other.
+    fresh: Stock,
     facts: Snapshot<LinkedList<Deed>>,
     ready: Snapshot<LinkedList<Deed>>,
 }
@@ -63,8 +61,8 @@ impl Model for Roster {
     } };
 
     ghost invariant = { λ a. IsKept a.people a.marks a.nicks a.channels
-        a.spare.items a.keys.items a.facts.value a.ready.value
-        × AreListed a.people.list a.copies.items a.facts.value a.ready.value };
+        a.stock.spare.items a.stock.keys.items a.facts.value a.ready.value
+        × AreListed a.people.list a.stock.copies.items a.facts.value a.ready.value };
 }
 
 // A fact is added, as the newest.
@@ -83,7 +81,7 @@ impl Change<LinkedList<Deed>, ()> for DropsFirst {
 
 impl Roster {
     ghost use Rattle.registration.specs.Settings.{IsWellSet};
-    ghost use Rattle.roster.specs.Legal.{IsOpened, AreNext};
+    ghost use Rattle.roster.specs.Legal.{IsOpened, AreLegal, AreNext};
     ghost use Rattle.registration.specs.Enrol.{enrolment};
     ghost use Rattle.roster.specs.LookBack.{opened, host, nick, user, real, caps, enrol, registered, away};
     ghost use Rattle.roster.specs.LookBack.{invisible, why, parting, holder, found, on, state, members, name_of};
@@ -121,9 +119,8 @@ impl Roster {
             marks: Marks::new(alloc),
             nicks: Nicks::new(alloc, hashing),
             channels: Channels::new(alloc, hashing),
-            spare: Vec::new(alloc),
-            copies: VecDeque::new(alloc),
-            keys: VecDeque::new(alloc),
+            stock: Stock::new(alloc),
+            fresh: Stock::new(alloc),
             facts: blank(alloc),
             ready: blank(alloc),
         }
@@ -141,27 +138,28 @@ impl Roster {
             marks: self.marks.copied()?,
             nicks: self.nicks.copied()?,
             channels: self.channels.copied()?,
-            spare: Vec::new(self.alloc),
-            copies: VecDeque::new(self.alloc),
-            keys: VecDeque::new(self.alloc),
+            stock: Stock::new(self.alloc),
+            fresh: Stock::new(self.alloc),
             facts: copied(&self.facts),
             ready: blank(self.alloc),
         })
     }
 
-    /// Makes room for facts that may come next. At an `Err` it is ready for none.
+    /// Makes room for facts that may come next, in the place of those that it is ready for. An `Err` changes nothing:
+    /// it is still ready for these.
     pub fn prepare(&mut self, deeds: &[Deed]) -> Result<(), AllocError>
         requires { AreNext self.old.facts deeds.now }
         ensures settings { self.new.settings ≡ self.old.settings }
         ensures facts { self.new.facts ≡ self.old.facts }
         ensures ready { OnOk result (self.new.ready ≡ deeds.now) }
-        ensures none { OnErr result (self.new.ready ≡ []) }
+        ensures err { OnErr result (self.new ≡ self.old) }
     {
-        self.ready = blank(self.alloc);
         if deeds.is_empty() {
+            self.ready = blank(self.alloc);
             return Ok(());
         }
-        reserve_channels(self.alloc, &mut self.channels, &mut self.spare, deeds)?;
+        let changes = deeds.len().max(self.stock.keys.len());
+        reserve_channels(&mut self.channels, deeds, changes)?;
         reserve_lists(&mut self.people, &mut self.marks, &self.channels, deeds)?;
         reserve_people(
             &mut self.people,
@@ -169,8 +167,9 @@ impl Roster {
             &mut self.nicks,
             deeds.len(),
         )?;
-        copy_names(&mut self.copies, deeds)?;
-        copy_keys(self.alloc, &mut self.keys, deeds)?;
+        self.fresh.fill(self.alloc, deeds)?;
+        swap(&mut self.stock, &mut self.fresh);
+        self.ready = blank(self.alloc);
         append_all(&mut self.ready, deeds);
         Ok(())
     }
@@ -190,24 +189,29 @@ impl Roster {
             Touched::Nick { session, nick } => {
                 let before = self.people.rename(&mut self.marks, session, nick);
                 self.nicks.give_back(before);
-                take(&mut self.nicks, &mut self.keys, session);
+                take(&mut self.nicks, &mut self.stock.keys, session);
             }
             Touched::NewChannel { session, channel } => {
                 make(
                     &mut self.channels,
-                    &mut self.spare,
-                    &mut self.keys,
+                    &mut self.stock.spare,
+                    &mut self.stock.keys,
                     channel,
                     session,
                 );
-                join_made(&mut self.people, &mut self.copies, session);
+                join_made(&mut self.people, &mut self.stock.copies, session);
             }
             Touched::Channel {
                 channel,
                 change: made,
             } => {
                 let seat = seat_of(&made);
-                change(&mut self.channels, &mut self.keys, channel.as_slice(), made);
+                change(
+                    &mut self.channels,
+                    &mut self.stock.keys,
+                    channel.as_slice(),
+                    made,
+                );
                 reseat(&mut self.people, seat, channel);
             }
             Touched::All { session } => {
@@ -215,7 +219,7 @@ impl Roster {
                 self.channels.leave_each(names, session);
                 let notes = self.people.notes(&self.marks, session);
                 self.channels.leave_each(notes, session);
-                let is_last = self.keys.is_empty();
+                let is_last = self.stock.keys.is_empty();
                 let nick = self.people.forget(&mut self.marks, session, is_last);
                 self.nicks.give_back(nick);
             }
@@ -239,6 +243,15 @@ impl Roster {
         self.ready = blank(self.alloc);
         self.marks.set(session, reason);
         self.people.part(session);
+    }
+
+    /// What holds of every roster: each of its facts might come when it did, and those that it is ready for may come
+    /// next.
+    pub fn sound(&self)
+        ensures legal { AreLegal self.now.facts }
+        ensures next { AreNext self.now.facts self.now.ready }
+    {
+        let _ = &self.facts;
     }
 
     /// The server's settings.
@@ -470,16 +483,6 @@ impl Roster {
         ensures { result ≡ length (channels self.now.facts) }
     {
         self.channels.len()
-    }
-
-    /// The name of the channel at a place, from 0, in the order of making.
-    pub fn channel_at(&self, place: usize) -> Option<&Octets>
-        ensures { option_copied result ≡ slice_get (channels self.now.facts) place }
-    {
-        match self.channels.nth(place) {
-            Some(channel) => Some(&channel.name),
-            None => None,
-        }
     }
 
     /// The channel at a place, from 0, in the order of making: its name as it was first spelled, and the channel.

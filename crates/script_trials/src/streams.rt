@@ -1,6 +1,6 @@
 //! Readers and writers that give or take little, or fail.
 use crate::again::{room, twice};
-use halld::{PlayFault, play};
+use halld::{Input, Output, PlayFault, play};
 use std::alloc::{AllocError, Global};
 use std::io;
 use std::io::{ErrorKind, Read, Write};
@@ -88,17 +88,17 @@ impl Streams {
 
     /// Plays the script.
     fn play(self, alloc: Global) -> Result<(Result<(), PlayFault>, Vec<u8>), AllocError> {
-        let mut input = Slow {
+        let mut input = Input::new(Slow {
             octets: self.script,
             left: self.reads,
-        };
-        let mut output = Narrow {
+        });
+        let mut output = Output::new(Narrow {
             octets: room(alloc)?,
             left: self.writes,
             fails: self.fails,
-        };
+        });
         let result = play(alloc, &mut input, &mut output);
-        Ok((result, output.octets))
+        Ok((result, output.into_inner().octets))
     }
 
     /// Whether the play ends so, after the front of its notes of so many octets; if it ends for want of memory, with
@@ -208,14 +208,14 @@ impl Read for Interrupted<'_> {
 
 /// Plays a script whose reads are interrupted.
 fn played_with_interrupts(alloc: Global) -> Result<(Result<(), PlayFault>, Vec<u8>), AllocError> {
-    let mut input = Interrupted {
+    let mut input = Input::new(Interrupted {
         octets: b"take 1\n",
         is_interrupted: false,
-    };
-    let mut notes = room(alloc)?;
+    });
+    let mut notes = Output::new(room(alloc)?);
     match play(alloc, &mut input, &mut notes) {
         Err(PlayFault::Memory) => Err(AllocError),
-        result => Ok((result, notes)),
+        result => Ok((result, notes.into_inner())),
     }
 }
 
@@ -244,8 +244,8 @@ impl Write for Unflushed {
 
 /// Plays a script into a writer that can't be flushed.
 fn played_unflushed(alloc: Global, script: &[u8]) -> Result<Result<(), PlayFault>, AllocError> {
-    let mut input = script;
-    match play(alloc, &mut input, &mut Unflushed) {
+    let mut input = Input::new(script);
+    match play(alloc, &mut input, &mut Output::new(Unflushed)) {
         Err(PlayFault::Memory) => Err(AllocError),
         result => Ok(result),
     }

@@ -37,11 +37,9 @@ fn sweep_in<L: Naming, R: Wait + Drop>(
 {
     let moment = later(moment, hall.last_moment());
     told.begin();
-    hall.swap_told(told);
     let before = Snapshot::of(&*hall);
-    let answer = hall.sweep(moment);
+    let answer = hall.sweep_told(moment, told);
     let after = Snapshot::of(&*hall);
-    hall.swap_told(told);
     Swept {
         answer,
         moment,

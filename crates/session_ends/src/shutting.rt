@@ -36,11 +36,9 @@ pub fn hang_at<L: Naming, R: Wait + Drop>(
     ensures before { result.before.value ≡ hall.old }
 {
     told.begin();
-    hall.swap_told(told);
     let before = Snapshot::of(&*hall);
-    let hung = hall.hang(session, why, moment);
+    let hung = hall.hang_told(session, why, moment, told);
     let after = Snapshot::of(&*hall);
-    hall.swap_told(told);
     Ending {
         hung,
         moment,

@@ -5,6 +5,7 @@ use Rattle.std.proofs.KnownBytes.{Appends-nil, Appends-trans}
 use Rattle.tungstenite.specs.Content.{Content}
 use Rattle.tungstenite.specs.Socket.{Socket, Flushed}
 use Rattle.websocket_front.specs.declared.subprotocol.Subprotocol.{Subprotocol}
+use Rattle.websocket_front.specs.declared.counted.Causes.{Causes}
 use Rattle.websocket_front.specs.Lines.{lines}
 use Rattle.websocket_front.specs.Frames.{message, frame_of, frame, frames}
 use Rattle.websocket_front.specs.Fronted.{Fronted, waiting, GoesOut, Gains, IsFramed, TakesLines}
@@ -37,8 +38,9 @@ module _ {S : Type 0} where
   idle f none = ap (λ r. f.socket.output ++ frames f.subprotocol (lines r)) none ∙ ap
       (λ l. f.socket.output ++ frames f.subprotocol l) lines_none ∙ append-nil f.socket.output
 
-  abbrev pub fronted : Socket S → Subprotocol → List ℕ → Bool → Fronted S
-  fronted s p rest is_open = record { socket = s; subprotocol = p; rest = rest; is_open = is_open }
+  abbrev pub fronted : Socket S → Causes → Subprotocol → List ℕ → Bool → Fronted S
+  fronted s causes p rest is_open =
+      record { socket = s; causes = causes; subprotocol = p; rest = rest; is_open = is_open }
 
   -- a message of the line at the front of what is left is in the output
   pub framed : (contents : S → Option (List ℕ)) (p : Subprotocol) (left text : List ℕ) (old new : Socket S)
@@ -55,9 +57,10 @@ module _ {S : Type 0} where
 
   -- the first line's frame joins the output
   pub goes_framed : (contents : S → Option (List ℕ)) (p : Subprotocol) (old new : Socket S) (left text : List ℕ)
-      (next : ℕ) (is_open : Bool) → IsFramed contents p left text old new next
-      → GoesOut contents old.stream (old.output ++ frames p (lines left)) (fronted new p (drop next text) is_open)
-  goes_framed contents p old new left text next is_open is =
+      (causes : Causes) (next : ℕ) (is_open : Bool) → IsFramed contents p left text old new next
+      → GoesOut contents old.stream (old.output ++ frames p (lines left))
+      (fronted new causes p (drop next text) is_open)
+  goes_framed contents p old new left text causes next is_open is =
       let others = frames p (lines (drop next text)) in
       let f = frame p is.line in
       record {
@@ -72,21 +75,21 @@ module _ {S : Type 0} where
 
   -- a frame joins the output, and no line is left
   pub goes_closed : (contents : S → Option (List ℕ)) (p : Subprotocol)
-      (old new : Socket S) (f : List ℕ) (is_open : Bool) → Gains contents old new f
-      → GoesOut contents old.stream (old.output ++ f) (fronted new p [] is_open)
-  goes_closed contents p old new f is_open gained =
+      (old new : Socket S) (causes : Causes) (f : List ℕ) (is_open : Bool) → Gains contents old new f
+      → GoesOut contents old.stream (old.output ++ f) (fronted new causes p [] is_open)
+  goes_closed contents p old new causes f is_open gained =
       record {
         gone = gained.gone;
         appended = gained.appended;
         parts = gained.parts ∙ ap
-            (λ l. gained.gone ++ l) (sym (idle (fronted new p [] is_open) refl));
+            (λ l. gained.gone ++ l) (sym (idle (fronted new causes p [] is_open) refl));
       }
 
   -- some of the output goes to the stream
-  pub goes_flushed : (contents : S → Option (List ℕ)) (p : Subprotocol) (old new : Socket S) (rest : List ℕ)
-      (is_open : Bool) → Flushed contents old new
-      → GoesOut contents old.stream (old.output ++ frames p (lines rest)) (fronted new p rest is_open)
-  goes_flushed contents p old new rest is_open flushed =
+  pub goes_flushed : (contents : S → Option (List ℕ)) (p : Subprotocol) (old new : Socket S) (causes : Causes)
+      (rest : List ℕ) (is_open : Bool) → Flushed contents old new
+      → GoesOut contents old.stream (old.output ++ frames p (lines rest)) (fronted new causes p rest is_open)
+  goes_flushed contents p old new causes rest is_open flushed =
       let others = frames p (lines rest) in
       record {
         gone = flushed.0;
@@ -95,10 +98,10 @@ module _ {S : Type 0} where
       }
 
   -- no line was left
-  pub goes_emptied : (contents : S → Option (List ℕ)) (p : Subprotocol) (s : Socket S) (rest : List ℕ)
-      (is_open : Bool) → rest ≡ []
-      → GoesOut contents s.stream (s.output ++ frames p (lines rest)) (fronted s p [] is_open)
-  goes_emptied contents p s rest is_open none =
+  pub goes_emptied : (contents : S → Option (List ℕ)) (p : Subprotocol) (s : Socket S) (causes : Causes)
+      (rest : List ℕ) (is_open : Bool) → rest ≡ []
+      → GoesOut contents s.stream (s.output ++ frames p (lines rest)) (fronted s causes p [] is_open)
+  goes_emptied contents p s causes rest is_open none =
       record {
         gone = [];
         appended = Appends-nil (contents s.stream);

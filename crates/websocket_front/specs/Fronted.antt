@@ -1,22 +1,30 @@
 -- What clauses see of a session's WebSocket: this project's own.
-use Rattle.std.specs.Prelude.{◌≡◌, ℕ, Bool, true, false, cond, List, [], ◌∷◌, ◌++◌, drop, Option, None, Some, refl}
+use Rattle.std.specs.Prelude.{◌≡◌, ◌≤◌, ◌+◌, ◌⊎◌, ℕ, Bool, true, false, cond, List, [], ◌∷◌, ◌++◌, drop}
+use Rattle.std.specs.Prelude.{Option, None, Some, refl}
 use Rattle.std.specs.Coded.{Coded, code_by, coded×, coded_ℕ, coded_bool, coded_list}
 use Rattle.std.specs.Io.KnownBytes.{Appends}
 use Rattle.tungstenite.specs.Socket.{Socket, socket_code}
 use Rattle.tungstenite.specs.Heads.{Serves}
 use Rattle.tungstenite.specs.Content.{close}
+use Rattle.websocket.specs.Connection.{can_write}
 use Rattle.websocket.specs.declared.protocol.frame.coding.CloseCode.{CloseCode}
 use Rattle.deliveries.specs.declared.delivery.Delivery.{Delivery}
 use Rattle.websocket_front.specs.declared.subprotocol.Subprotocol.{Subprotocol}
 use Rattle.websocket_front.specs.declared.subprotocol.Subprotocol.TheVariants.{Text, Binary}
+use Rattle.websocket_front.specs.declared.counted.Causes.{Causes}
 use Rattle.websocket_front.specs.declared.front.Ending.{Ending}
+use Rattle.websocket_front.specs.declared.front.FrontFault.{FrontFault}
+use Rattle.websocket_front.specs.declared.front.FrontFault.TheVariants.{Io, Protocol}
+use Rattle.websocket_front.specs.Asked.{Asks}
+use Rattle.websocket_front.specs.Causes.{Answers}
 use Rattle.websocket_front.specs.Lines.{lines}
 use Rattle.websocket_front.specs.Frames.{frame_of, frame, frames, delivery_frames}
 
--- the socket; what its messages are; what is left of the item that was put last, whose lines aren't in frames yet; and
--- whether it is still open, neither closed by the client nor failed
+-- the socket; how often it and the memory answered what; what its messages are; what is left of the item that was put
+-- last, whose lines aren't in frames yet; and whether it is still open, neither closed by the client nor failed
 pub record Fronted (S : Type 0) : Type 0 where
   pub socket : Socket S
+  pub causes : Causes
   pub subprotocol : Subprotocol
   pub rest : List ℕ
   pub is_open : Bool
@@ -43,6 +51,14 @@ subprotocol_back Binary = refl
 abbrev pub subprotocol_code : Coded Subprotocol
 subprotocol_code = code_by Bool coded_bool is_binary (λ b. cond b Binary Text) subprotocol_back
 
+abbrev pub causes_code : Coded Causes
+causes_code =
+    code_by (ℕ × (ℕ × (ℕ × ℕ)))
+    (coded× coded_ℕ (coded× coded_ℕ (coded× coded_ℕ coded_ℕ)))
+    (λ c. (c.pauses, (c.failures, (c.breaches, c.shortages))))
+    (λ p. record { pauses = p.0; failures = p.1.0; breaches = p.1.1.0; shortages = p.1.1.1 })
+    (λ _. refl)
+
 -- the frame of a close with this code and no words
 abbrev pub close_of_code : CloseCode → List ℕ
 close_of_code code = frame_of (close (Some (code, [])))
@@ -50,11 +66,22 @@ close_of_code code = frame_of (close (Some (code, [])))
 module _ {S : Type 0} where
   abbrev pub fronted_code : Coded S → Coded (Fronted S)
   fronted_code stream =
-      code_by (Socket S × (Subprotocol × (List ℕ × Bool)))
-      (coded× (socket_code stream) (coded× subprotocol_code (coded× (coded_list coded_ℕ) coded_bool)))
-      (λ f. (f.socket, (f.subprotocol, (f.rest, f.is_open))))
-      (λ p. record { socket = p.0; subprotocol = p.1.0; rest = p.1.1.0; is_open = p.1.1.1 })
+      code_by (Socket S × (Causes × (Subprotocol × (List ℕ × Bool))))
+      (coded× (socket_code stream)
+      (coded× causes_code (coded× subprotocol_code (coded× (coded_list coded_ℕ) coded_bool))))
+      (λ f. (f.socket, (f.causes, (f.subprotocol, (f.rest, f.is_open)))))
+      (λ p. record {
+        socket = p.0;
+        causes = p.1.0;
+        subprotocol = p.1.1.0;
+        rest = p.1.1.1.0;
+        is_open = p.1.1.1.1;
+      })
       (λ _. refl)
+
+  -- the same front, after more answers
+  abbrev pub with_causes : Fronted S → Causes → Fronted S
+  with_causes f causes = record f { causes = causes }
 
   -- the octets that wait to go out: those in the output, and the frames of the lines that have none yet
   abbrev pub waiting : Fronted S → List ℕ
@@ -106,8 +133,19 @@ module _ {S : Type 0} where
   abbrev pub IsOut : (S → Option (List ℕ)) → S → List ℕ → Fronted S → Type 0
   IsOut contents old octets new = Appends (contents old) (contents new.socket.stream) octets × (waiting new ≡ [])
 
-  -- a front that a handshake gave: it serves a client whose request was answered, and has done nothing since
+  -- a front that a handshake gave: it serves a client whose request was answered, as that asks, and has done nothing
+  -- since
   pub record IsGreeted (f : Fronted S) : Type 0 where
     pub serves : Serves f.socket
+    pub asked : (head : List ℕ) × Asks head f.subprotocol
     pub none_waits : f.rest ≡ []
     pub is_open : f.is_open ≡ true
+
+  -- the socket or the memory answered this fault, or a close was sent before, after which nothing may be
+  abbrev pub IsUnsent : FrontFault → Fronted S → Fronted S → Type 0
+  IsUnsent f old new =
+      Answers f old.causes new.causes ⊎ ((f ≡ Protocol) × (can_write new.socket.conn.state ≡ false))
+
+  -- or the stream took nothing, 1,024 times
+  abbrev pub IsNotOut : FrontFault → Fronted S → Fronted S → Type 0
+  IsNotOut f old new = IsUnsent f old new ⊎ ((f ≡ Io) × (old.causes.pauses + 1024 ≤ new.causes.pauses))

@@ -1,5 +1,7 @@
 pub mod Faults
+pub mod Causes
 pub mod Offers
+pub mod Asked
 pub mod Lines
 pub mod Frames
 pub mod Fronted

@@ -1,17 +1,19 @@
 -- What is read of a client, by the readings of its socket: each ends a run of frames, as RFC 6455 (sections 5 to 7)
 -- has them.
-use Rattle.std.specs.Prelude.{◌≡◌, ◌⊎◌, ⊤, ℕ, Bool, true, false, List, [], ◌∷◌, Option, None, Some, Result, Ok, Err}
+use Rattle.std.specs.Prelude.{◌≡◌, ◌+◌, ◌^◌, ◌⊎◌, ⊤, ℕ, Bool, true, false, List, [], ◌∷◌, length}
+use Rattle.std.specs.Prelude.{Option, None, Some, Result, Ok, Err}
 use Rattle.tungstenite.specs.Socket.{Socket, Reads}
-use Rattle.tungstenite.specs.Failure.{IsIo}
 use Rattle.tungstenite.specs.declared.error.Error.{Error}
-use Rattle.tungstenite.specs.declared.error.Error.TheVariants.{ConnectionClosed}
 use Rattle.tungstenite.specs.declared.message.Message.{Message}
 use Rattle.tungstenite.specs.declared.message.Message.TheVariants as Kind
 use Rattle.websocket_front.specs.declared.front.FrontFault.{FrontFault}
 use Rattle.websocket_front.specs.declared.front.FrontFault.TheVariants.{Memory}
 use Rattle.websocket_front.specs.declared.front.Got.{Got}
 use Rattle.websocket_front.specs.declared.front.Got.TheVariants.{Payload, Nothing, Closed}
-use Rattle.websocket_front.specs.Faults.{fault_of}
+use Rattle.websocket_front.specs.declared.front.Meaning.TheVariants as Meant
+use Rattle.websocket_front.specs.Faults.{meaning}
+use Rattle.websocket_front.specs.Causes.{Answers}
+use Rattle.websocket_front.specs.Fronted.{Fronted}
 
 -- pings and pongs, which aren't given
 abbrev pub IsControl : Message → Type 0
@@ -39,12 +41,12 @@ IsClose (Kind.Close frame) = ⊤
 -- a reading came to the client's close, now or before
 abbrev pub IsClosing : Result Message Error → Type 0
 IsClosing (Ok m) = IsClose m
-IsClosing (Err e) = e ≡ ConnectionClosed
+IsClosing (Err e) = meaning e ≡ Meant.Closed
 
 -- a reading found that the stream has nothing now
 abbrev pub IsWaiting : Result Message Error → Type 0
 IsWaiting (Ok m) = ⊥
-IsWaiting (Err e) = IsIo e
+IsWaiting (Err e) = meaning e ≡ Meant.Later
 
 -- a payload of these octets, and nothing else
 abbrev pub IsGiven : List ℕ → Option Got → Type 0
@@ -92,10 +94,19 @@ module _ {S : Type 0} where
 
   -- a reading failed so, or there was no memory for a payload's octets
   abbrev pub FailsBy : (Result Message Error → Socket S → Type 0) → FrontFault → Type 0
-  FailsBy Led f = (f ≡ Memory) ⊎ ((e : Error) × (s : Socket S) × Led (Err e) s × (f ≡ fault_of e))
+  FailsBy Led f = (f ≡ Memory) ⊎ ((e : Error) × (s : Socket S) × Led (Err e) s × (meaning e ≡ Meant.Fault f))
 
   abbrev pub Fails : (S → Option (List ℕ)) → Socket S → FrontFault → Type 0
   Fails remaining old f = FailsBy (ReadsOn remaining old) f
 
   abbrev pub FailsOnce : (S → Option (List ℕ)) → Socket S → FrontFault → Type 0
   FailsOnce remaining old f = FailsBy (λ r s. Reads remaining old s r) f
+
+  -- so many pings and pongs came, one after another, that a call gave up
+  abbrev pub HasNoEnd : (S → Option (List ℕ)) → Socket S → Socket S → Type 0
+  HasNoEnd remaining old new = (ss : List (Socket S)) × (length ss + 1 ≡ 2 ^ 64) × Passes remaining old ss new
+
+  -- the socket or the memory answered this fault, or there was no end of pings
+  abbrev pub FailsBecause : (S → Option (List ℕ)) → FrontFault → Fronted S → Fronted S → Type 0
+  FailsBecause remaining f old new =
+      Answers f old.causes new.causes ⊎ ((f ≡ Memory) × HasNoEnd remaining old.socket new.socket)

@@ -1,11 +1,16 @@
 //! A session's WebSocket after its handshake.
-ghost use Rattle.std.specs.Prelude.{◌≡◌, [], true, false, IfOk, OnOk, IfErr};
+ghost use Rattle.std.specs.Prelude.{◌≡◌, [], true, false, Some, Ok, IfOk, OnOk, IfErr};
+ghost use Rattle.std.specs.IoError.{error_kind};
 ghost use Rattle.websocket.specs.declared.protocol.config.Role.TheVariants.{Server};
 ghost use Rattle.websocket.specs.declared.protocol.frame.coding.CloseCode.TheVariants as codes;
-ghost use Rattle.websocket_front.specs.Faults.{fault_of_breach, MeansOf};
-ghost use Rattle.websocket_front.specs.Fronted.{close_of_code};
+ghost use Rattle.tungstenite.specs.Failure.{IsIo};
+ghost use Rattle.websocket_front.specs.Causes.{Grows, Answers, Pauses};
+ghost use Rattle.websocket_front.specs.Faults.{fault_of_breach, is_passing, meaning, IfLater};
+ghost use Rattle.websocket_front.specs.Fronted.{close_of_code, with_causes};
 ghost use Rattle.websocket_front.specs.Reading.{Gives, GivesOne, Fails, FailsOnce, IsGiven, GoesOn, GoesOnOne};
+ghost use Rattle.websocket_front.specs.Reading.{FailsBecause};
 
+use crate::counted::Counted;
 use crate::subprotocol::Subprotocol;
 use deliveries::Text;
 use std::alloc::Global;
@@ -71,8 +76,7 @@ pub(crate) enum Meaning {
 /// A session's WebSocket on a stream.
 #[derive(Drop)]
 pub struct Front<S: Read + Write + Drop> {
-    pub(crate) alloc: Global,
-    pub(crate) socket: WebSocket<S, NoMask>,
+    pub(crate) socket: Counted<S>,
     pub(crate) subprotocol: Subprotocol,
     // The text of the item that was put last, whose lines before a place are in frames.
     pub(crate) begun: Option<Text>,
@@ -90,18 +94,21 @@ impl<S: Read + Write + Drop> Model for Front<S> {
     ghost coded = { fronted_code S.code };
 
     ghost view = { λ a. record {
-      socket = a.socket;
+      socket = a.socket.inner;
+      causes = a.socket.causes.value;
       subprotocol = a.subprotocol;
       rest = rest_of a.begun a.place;
       is_open = is_open_of a.ending;
     } };
 
-    ghost invariant = { λ a. (is_open_of a.ending ≡ true → a.socket.conn.role ≡ Server)
+    ghost invariant = { λ a. (is_open_of a.ending ≡ true → a.socket.inner.conn.role ≡ Server)
         × (is_open_of a.ending ≡ false → rest_of a.begun a.place ≡ []) };
 }
 
 /// Whether an error only says that the stream has or takes nothing now.
-pub(crate) fn is_later(error: &io::Error) -> bool {
+pub(crate) fn is_later(error: &io::Error) -> bool
+    ensures { result ≡ is_passing (error_kind error.now) }
+{
     match error.kind() {
         ErrorKind::WouldBlock | ErrorKind::TimedOut | ErrorKind::Interrupted => true,
         _ => false,
@@ -130,7 +137,8 @@ fn fault_of_breach(breach: &ProtocolError) -> FrontFault
 
 /// What an error of the socket means.
 pub(crate) fn meaning_of(error: &Error) -> Meaning
-    ensures { MeansOf result error.now }
+    ensures meaning { result ≡ meaning error.now }
+    ensures io { IfLater result (IsIo error.now) }
 {
     match error {
         Error::Io(cause) => {
@@ -191,7 +199,7 @@ fn is_given_up<S: Read + Write + Drop>(socket: &mut WebSocket<S, NoMask>) -> boo
 
 /// Sends a client a close that says what was wrong, as far as the stream takes it now: that it broke the protocol, or
 /// that memory was wanting. `was_open` says that no close had been sent when the error came.
-fn refuse<S: Read + Write + Drop>(
+pub(crate) fn refuse<S: Read + Write + Drop>(
     socket: &mut WebSocket<S, NoMask>,
     error: &Error,
     was_open: bool,
@@ -222,8 +230,7 @@ impl<S: Read + Write + Drop> Front<S> {
         ensures stays_open { result.is_open ≡ true }
     {
         Front {
-            alloc,
-            socket,
+            socket: Counted::new(alloc, socket),
             subprotocol,
             begun: None,
             place: 0,
@@ -242,7 +249,7 @@ impl<S: Read + Write + Drop> Front<S> {
     pub fn stream(&self) -> &S
         ensures { result.now ≡ self.now.socket.stream }
     {
-        self.socket.get_ref()
+        self.socket.get().get_ref()
     }
 
     /// Reads the client's next payload. Pings are answered on the way, however many they are: `read_message` reads one
@@ -252,11 +259,16 @@ impl<S: Read + Write + Drop> Front<S> {
     /// client's close is answered, as far as the stream takes it; a later flush sends the rest. After a breach of the
     /// protocol, and for want of memory, the client is sent a close that says which, in the same way. After a fault
     /// nothing more is read, and no line is taken.
+    #[tactic(auto, using(crate::proofs::Growing::grows_trans, crate::proofs::Growing::answers_after))]
     pub fn next(&mut self) -> Result<Got, FrontFault>
         ensures gives { self.old.is_open ≡ true
             → IfOk result (Gives S.remaining self.old.socket self.new.socket) }
         ensures fails { self.old.is_open ≡ true → IfErr result (Fails S.remaining self.old.socket) }
         ensures goes_on { self.old.is_open ≡ true → IfOk result (GoesOn self.new.is_open) }
+        ensures nothing { self.old.is_open ≡ true → result ≡ Ok Got.Nothing
+            → Pauses self.old.causes self.new.causes }
+        ensures cause { self.old.is_open ≡ true
+            → IfErr result (λ f. FailsBecause S.remaining f self.old self.new) }
         ensures rest { self.new.is_open ≡ true → self.new.rest ≡ self.old.rest }
         ensures subprotocol { self.new.subprotocol ≡ self.old.subprotocol }
     {
@@ -265,7 +277,7 @@ impl<S: Read + Write + Drop> Front<S> {
             Some(Ending::Failed(fault)) => return Err(fault),
             None => {}
         }
-        for _ in 0..usize::MAX {
+        for turn in 0..usize::MAX {
             if let Some(got) = self.read_open()? {
                 return Ok(got);
             }
@@ -281,6 +293,10 @@ impl<S: Read + Write + Drop> Front<S> {
         ensures fails { self.old.is_open ≡ true
             → IfErr result (FailsOnce S.remaining self.old.socket) }
         ensures goes_on { self.old.is_open ≡ true → IfOk result (GoesOnOne self.new.is_open) }
+        ensures cause { self.old.is_open ≡ true
+            → IfErr result (λ f. Answers f self.old.causes self.new.causes) }
+        ensures nothing { self.old.is_open ≡ true → result ≡ Ok (Some Got.Nothing)
+            → Pauses self.old.causes self.new.causes }
         ensures rest { self.new.is_open ≡ true → self.new.rest ≡ self.old.rest }
         ensures subprotocol { self.new.subprotocol ≡ self.old.subprotocol }
     {
@@ -292,15 +308,20 @@ impl<S: Read + Write + Drop> Front<S> {
     }
 
     /// The same where the front is open.
+    #[tactic(auto, using(crate::proofs::Growing::grows_trans, crate::proofs::Growing::answers_after))]
     fn read_open(&mut self) -> Result<Option<Got>, FrontFault>
         requires is_open { self.old.is_open ≡ true }
         ensures gives { IfOk result (GivesOne S.remaining self.old.socket self.new.socket) }
         ensures goes_on { IfOk result (GoesOnOne self.new.is_open) }
         ensures fails { IfErr result (FailsOnce S.remaining self.old.socket) }
+        ensures grows { Grows self.old.causes self.new.causes }
+        ensures cause { IfErr result (λ f. Answers f self.old.causes self.new.causes) }
+        ensures nothing { result ≡ Ok (Some Got.Nothing)
+            → Pauses self.old.causes self.new.causes }
         ensures rest { self.new.is_open ≡ true → self.new.rest ≡ self.old.rest }
         ensures subprotocol { self.new.subprotocol ≡ self.old.subprotocol }
     {
-        let was_open = self.socket.can_write();
+        let was_open = self.socket.get().can_write();
         match self.socket.read() {
             Ok(Message::Text(text)) => self.payload(text.as_str().as_bytes()),
             Ok(Message::Binary(octets)) => self.payload(octets.as_slice()),
@@ -320,7 +341,7 @@ impl<S: Read + Write + Drop> Front<S> {
                     Ok(Some(Got::Closed))
                 }
                 Meaning::Fault(fault) => {
-                    refuse(&mut self.socket, &error, was_open);
+                    self.socket.refuse(&error, was_open);
                     self.begun = None;
                     self.ending = Some(Ending::Failed(fault));
                     Err(fault)
@@ -334,16 +355,18 @@ impl<S: Read + Write + Drop> Front<S> {
         requires is_open { self.old.is_open ≡ true }
         ensures given { IfOk result (IsGiven octets.now) }
         ensures goes_on { IfOk result (GoesOnOne self.new.is_open) }
-        ensures same { OnOk result (self.new ≡ self.old) }
+        ensures same { OnOk result (self.new ≡ with_causes self.old self.new.causes) }
         ensures memory { IfErr result (λ e. e ≡ FrontFault.Memory) }
         ensures ended { IfErr result (λ _. self.new.is_open ≡ false) }
+        ensures grows { Grows self.old.causes self.new.causes }
+        ensures cause { IfErr result (λ f. Answers f self.old.causes self.new.causes) }
         ensures subprotocol { self.new.subprotocol ≡ self.old.subprotocol }
     {
-        match octets.to_vec(self.alloc) {
+        match self.socket.copy(octets) {
             Ok(octets) => Ok(Some(Got::Payload(octets))),
             Err(_) => {
-                let was_open = self.socket.can_write();
-                refuse(&mut self.socket, &Error::OutOfMemory, was_open);
+                let was_open = self.socket.get().can_write();
+                self.socket.refuse(&Error::OutOfMemory, was_open);
                 self.begun = None;
                 self.ending = Some(Ending::Failed(FrontFault::Memory));
                 Err(FrontFault::Memory)

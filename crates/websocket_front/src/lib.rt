@@ -2,12 +2,16 @@
 //! 6455 and the IRCv3 WebSocket specification).
 #![tactic(auto)]
 
+mod asking;
+mod counted;
 mod front;
 mod greeting;
+mod heard;
 mod laws;
 mod sending;
 mod subprotocol;
 
+pub use counted::Causes;
 pub use front::{Front, FrontFault, Got, close_for_memory};
 pub use greeting::{GreetFault, Greeted, Greeting, greet};
 pub use laws::lines_stay;

@@ -3,24 +3,22 @@
 //! What waits is octets, then lines: frames wait in the output, and the lines of an item for which it has no room wait
 //! as they are and share the item's text. Nothing is written before a flush, so lines that come together go out
 //! together. A line for which there is no memory stays where it is, and a later flush goes on.
-ghost use Rattle.std.specs.Prelude.{◌≡◌, ◌≤◌, ◌<◌, ◌+◌, ◌↔◌, [], true, false, length};
-ghost use Rattle.std.specs.Prelude.{drop, IsTrue, Ok, Err, IfOk, OnOk, IfErr};
-ghost use Rattle.deliveries.specs.Text.{delivery_text};
+ghost use Rattle.std.specs.Prelude.{◌≡◌, ◌≤◌, ◌<◌, ◌+◌, ◌↔◌, ◌⊎◌, [], true, false, length};
+ghost use Rattle.std.specs.Prelude.{drop, IsTrue, None, Ok, Err, IfOk, OnOk, IfErr};
 ghost use Rattle.tungstenite.specs.Connection.{can_write};
-ghost use Rattle.tungstenite.specs.Socket.{content_of};
 ghost use Rattle.websocket.specs.declared.protocol.config.Role.TheVariants.{Server};
-ghost use Rattle.websocket_front.specs.Lines.{line_length};
-ghost use Rattle.websocket_front.specs.Frames.{message, frame_of, IsNext, IsSendable};
-ghost use Rattle.websocket_front.specs.Fronted.{waiting, waiting_with, close_of_code, output_with_close};
-ghost use Rattle.websocket_front.specs.Fronted.{GoesOut, Gains, FramesNext, TakesLines, IsOut};
+ghost use Rattle.websocket_front.specs.Causes.{Grows, Answers, Pauses};
+ghost use Rattle.websocket_front.specs.Lines.{line_length, lines};
+ghost use Rattle.websocket_front.specs.Frames.{IsNext};
+ghost use Rattle.websocket_front.specs.Fronted.{with_causes, waiting, waiting_with, output_with_close};
+ghost use Rattle.websocket_front.specs.Fronted.{GoesOut, FramesNext, TakesLines, IsOut, IsUnsent, IsNotOut};
 
-use crate::front::{Ending, Front, FrontFault, Meaning, close_frame, meaning_of};
+use crate::counted::Counted;
+use crate::front::{Ending, Front, FrontFault};
 use crate::subprotocol::Subprotocol;
-use deliveries::{Delivery, Item, Text, write_out};
-use line_grammar::Octets;
-use std::alloc::{AllocError, Global};
+use deliveries::Item;
 use std::io::{Read, Write};
-use tungstenite::{CloseCode, Error, Message, NoMask, Utf8Bytes, WebSocket};
+use tungstenite::{CloseCode, Message};
 
 /// How often `send_item` goes on where the stream takes nothing.
 const TRIES: u32 = 1024;
@@ -52,115 +50,49 @@ fn line_end(text: &[u8], place: usize) -> usize
     end
 }
 
-/// A line as a message.
-fn message_of(alloc: Global, subprotocol: Subprotocol, line: &[u8]) -> Result<Message, AllocError>
-    ensures { IfOk result (λ m. content_of m ≡ message subprotocol line.now) }
-{
-    match subprotocol {
-        Subprotocol::Text => {
-            let text = String::from_utf8_lossy(alloc, line)?;
-            Ok(Message::Text(Utf8Bytes::from_string(text)?))
-        }
-        Subprotocol::Binary => Message::binary(alloc, line),
-    }
-}
-
-/// A delivery's text, for a session that has this host.
-fn text_of(alloc: Global, delivery: &Delivery, host: &[u8]) -> Result<Text, AllocError>
-    ensures { IfOk result (λ t. t ≡ delivery_text delivery.now host.now) }
-{
-    match delivery {
-        Delivery::Lines { text, .. } => text.clone(),
-        Delivery::Last { .. } => {
-            let mut octets = Vec::new(alloc);
-            match write_out(delivery, host, &mut octets) {
-                (_, Ok(())) => Text::new(alloc, Octets::from_vec(octets)),
-                (_, Err(_)) => Err(AllocError),
-            }
-        }
-    }
-}
-
 /// The line that begins at a place as a message, and where the next begins.
-fn next_message(
-    alloc: Global,
+fn next_message<S: Read + Write + Drop>(
+    socket: &mut Counted<S>,
     subprotocol: Subprotocol,
     text: &[u8],
     place: usize,
-) -> Result<(Message, usize), AllocError>
+) -> Result<(Message, usize), FrontFault>
     requires { place < length text.now }
-    ensures { IfOk result (IsNext subprotocol (drop place text.now) text.now) }
+    ensures next { IfOk result (IsNext subprotocol (drop place text.now) text.now) }
+    ensures inner { socket.new.inner ≡ socket.old.inner }
+    ensures memory { IfErr result (λ e. e ≡ FrontFault.Memory) }
+    ensures grows { Grows socket.old.causes.value socket.new.causes.value }
+    ensures cause { IfErr result (λ f. Answers f socket.old.causes.value socket.new.causes.value) }
 {
     let end = line_end(text, place);
-    let message = message_of(alloc, subprotocol, &text[place..end])?;
+    let message = socket.message(subprotocol, &text[place..end])?;
     Ok((message, end + 2))
-}
-
-/// Writes a message into a socket's output, where that has room.
-fn write_message<S: Read + Write + Drop>(
-    socket: &mut WebSocket<S, NoMask>,
-    message: Message,
-) -> Result<bool, FrontFault>
-    requires server { socket.old.conn.role ≡ Server }
-    requires sendable { IsSendable (content_of message) }
-    ensures taken { IfOk result
-        (λ b. b ≡ true → Gains S.contents socket.old socket.new (frame_of (content_of message))) }
-    ensures full { IfOk result (λ b. b ≡ false → socket.new ≡ socket.old) }
-    ensures memory { result ≡ Err FrontFault.Memory → socket.new ≡ socket.old }
-{
-    match socket.write(message) {
-        Ok(()) => Ok(true),
-        Err(Error::WriteBufferFull) => Ok(false),
-        Err(error) => match meaning_of(&error) {
-            Meaning::Later => Ok(true),
-            Meaning::Closed => Err(FrontFault::Protocol),
-            Meaning::Fault(fault) => Err(fault),
-        },
-    }
 }
 
 /// Writes the line that begins at a place into a socket's output, where that has room, and answers where the next one
 /// begins.
+#[tactic(auto, using(crate::proofs::Growing::grows_trans, crate::proofs::Growing::answers_after))]
 fn frame_line<S: Read + Write + Drop>(
-    alloc: Global,
-    socket: &mut WebSocket<S, NoMask>,
+    socket: &mut Counted<S>,
     subprotocol: Subprotocol,
     text: &[u8],
     place: usize,
 ) -> Result<Option<usize>, FrontFault>
-    requires server { socket.old.conn.role ≡ Server }
+    requires server { socket.old.inner.conn.role ≡ Server }
     requires inside { place < length text.now }
-    ensures ok { IfOk result
-        (FramesNext S.contents subprotocol (drop place text.now) text.now socket.old socket.new) }
-    ensures memory { result ≡ Err FrontFault.Memory → socket.new ≡ socket.old }
+    ensures ok { IfOk result (FramesNext S.contents subprotocol
+        (drop place text.now) text.now socket.old.inner socket.new.inner) }
+    ensures memory { result ≡ Err FrontFault.Memory → socket.new.inner ≡ socket.old.inner }
+    ensures grows { Grows socket.old.causes.value socket.new.causes.value }
+    ensures no_room { result ≡ Ok None
+        → Answers FrontFault.Memory socket.old.causes.value socket.new.causes.value }
+    ensures cause { IfErr result (λ f. Answers f socket.old.causes.value socket.new.causes.value) }
 {
-    let Ok((message, next)) = next_message(alloc, subprotocol, text, place) else {
-        return Err(FrontFault::Memory);
-    };
-    match write_message(socket, message) {
+    let (message, next) = next_message(socket, subprotocol, text, place)?;
+    match socket.write(message) {
         Ok(true) => Ok(Some(next)),
         Ok(false) => Ok(None),
         Err(fault) => Err(fault),
-    }
-}
-
-/// Writes a close with this code into a socket's output, and then as much of that as the stream takes now.
-fn close_socket<S: Read + Write + Drop>(
-    socket: &mut WebSocket<S, NoMask>,
-    code: CloseCode,
-) -> Result<(), FrontFault>
-    requires server { socket.old.conn.role ≡ Server }
-    requires opened { can_write socket.old.conn.state ≡ true }
-    ensures taken { OnOk result (Gains S.contents socket.old socket.new (close_of_code code)) }
-    ensures memory { result ≡ Err FrontFault.Memory → socket.new ≡ socket.old }
-{
-    match socket.close(Some(close_frame(code))) {
-        Ok(()) => Ok(()),
-        Err(error) => match meaning_of(&error) {
-            Meaning::Later => Ok(()),
-            Meaning::Closed => Err(FrontFault::Protocol),
-            Meaning::Fault(fault) => Err(fault),
-        },
     }
 }
 
@@ -177,12 +109,16 @@ impl<S: Read + Write + Drop> Front<S> {
 
     /// Has an item wait, for a session that has this host: each of its lines for which the output has room as a frame,
     /// and the others as they are, until a flush makes room. For want of memory it changes nothing.
+    #[tactic(auto, using(crate::proofs::Growing::grows_trans, crate::proofs::Growing::answers_after))]
     pub fn put_item(&mut self, item: &Item, host: &[u8]) -> Result<(), FrontFault>
         requires ready { self.old.rest ≡ [] }
         ensures ok { OnOk result (GoesOut S.contents self.old.socket.stream
             (waiting_with self.old item.now.delivery host.now) self.new) }
         ensures memory { result ≡ Err FrontFault.Memory → self.old.is_open ≡ true
-            → self.new ≡ self.old }
+            → self.new ≡ with_causes self.old self.new.causes }
+        ensures grows { Grows self.old.causes self.new.causes }
+        ensures cause { self.old.is_open ≡ true
+            → IfErr result (λ f. IsUnsent f self.old self.new) }
         ensures stays_open { OnOk result (self.new.is_open ≡ true) }
         ensures subprotocol { self.new.subprotocol ≡ self.old.subprotocol }
     {
@@ -191,12 +127,10 @@ impl<S: Read + Write + Drop> Front<S> {
             Some(Ending::Failed(fault)) => return Err(fault),
             None => {}
         }
-        if !self.socket.can_write() {
+        if !self.socket.get().can_write() {
             return Err(FrontFault::Protocol);
         }
-        let Ok(text) = text_of(self.alloc, item.delivery(), host) else {
-            return Err(FrontFault::Memory);
-        };
+        let text = self.socket.text(item.delivery(), host)?;
         self.begun = Some(text);
         self.place = 0;
         self.frame_lines()
@@ -204,9 +138,12 @@ impl<S: Read + Write + Drop> Front<S> {
 
     /// Puts the lines at the front of a text into frames, while the output has room and there is memory, and answers
     /// how many octets of the text those lines have, with their CR LF.
+    #[tactic(auto, using(crate::proofs::Growing::grows_trans, crate::proofs::Growing::answers_after))]
     pub fn put_lines(&mut self, text: &[u8]) -> Result<usize, FrontFault>
         requires ready { self.old.rest ≡ [] }
         ensures ok { IfOk result (TakesLines S.contents self.old text.now self.new) }
+        ensures cause { self.old.is_open ≡ true
+            → IfErr result (λ f. Answers f self.old.causes self.new.causes) }
         ensures stays_open { OnOk result (self.new.is_open ≡ true) }
         ensures subprotocol { self.new.subprotocol ≡ self.old.subprotocol }
     {
@@ -240,10 +177,13 @@ impl<S: Read + Write + Drop> Front<S> {
             (drop place text.now) text.now self.old.socket self.new.socket) }
         ensures stays_open { OnOk result (self.new.is_open ≡ true) }
         ensures rest { self.new.rest ≡ [] }
-        ensures memory { result ≡ Err FrontFault.Memory → self.new ≡ self.old }
+        ensures memory { result ≡ Err FrontFault.Memory
+            → self.new ≡ with_causes self.old self.new.causes }
+        ensures grows { Grows self.old.causes self.new.causes }
+        ensures cause { IfErr result (λ f. Answers f self.old.causes self.new.causes) }
         ensures subprotocol { self.new.subprotocol ≡ self.old.subprotocol }
     {
-        match frame_line(self.alloc, &mut self.socket, self.subprotocol, text, place) {
+        match frame_line(&mut self.socket, self.subprotocol, text, place) {
             Ok(next) => Ok(next),
             Err(FrontFault::Memory) => Err(FrontFault::Memory),
             Err(fault) => {
@@ -255,11 +195,14 @@ impl<S: Read + Write + Drop> Front<S> {
     }
 
     /// Puts lines into frames while the output has room and there is memory.
+    #[tactic(auto, using(crate::proofs::Growing::grows_trans, crate::proofs::Growing::answers_after))]
     fn frame_lines(&mut self) -> Result<(), FrontFault>
         requires is_open { self.old.is_open ≡ true }
         ensures ok { OnOk result
             (GoesOut S.contents self.old.socket.stream (waiting self.old) self.new) }
         ensures memory { IfErr result (λ e. e ≡ FrontFault.Memory → ⊥) }
+        ensures grows { Grows self.old.causes self.new.causes }
+        ensures cause { IfErr result (λ f. Answers f self.old.causes self.new.causes) }
         ensures stays_open { OnOk result (self.new.is_open ≡ true) }
         ensures subprotocol { self.new.subprotocol ≡ self.old.subprotocol }
     {
@@ -280,8 +223,17 @@ impl<S: Read + Write + Drop> Front<S> {
         ensures ok { OnOk result
             (GoesOut S.contents self.old.socket.stream (waiting self.old) self.new) }
         ensures stays_open { OnOk result (self.new.is_open ≡ true) }
+        ensures one { result ≡ Ok Framed.One
+            → length (lines self.old.rest) ≡ length (lines self.new.rest) + 1 }
         ensures all { result ≡ Ok Framed.All → self.new.rest ≡ [] }
-        ensures memory { result ≡ Err FrontFault.Memory → self.new ≡ self.old }
+        ensures memory { result ≡ Err FrontFault.Memory
+            → self.new ≡ with_causes self.old self.new.causes }
+        ensures full { result ≡ Ok Framed.Full
+            → self.new ≡ with_causes self.old self.new.causes }
+        ensures no_room { result ≡ Ok Framed.Full
+            → Answers FrontFault.Memory self.old.causes self.new.causes }
+        ensures grows { Grows self.old.causes self.new.causes }
+        ensures cause { IfErr result (λ f. Answers f self.old.causes self.new.causes) }
         ensures subprotocol { self.new.subprotocol ≡ self.old.subprotocol }
     {
         let Some(text) = &self.begun else {
@@ -292,13 +244,7 @@ impl<S: Read + Write + Drop> Front<S> {
             return Ok(Framed::All);
         }
         let (octets, place) = (text.as_slice(), self.place);
-        match frame_line(
-            self.alloc,
-            &mut self.socket,
-            self.subprotocol,
-            octets,
-            place,
-        ) {
+        match frame_line(&mut self.socket, self.subprotocol, octets, place) {
             Ok(Some(next)) => {
                 self.place = next;
                 Ok(Framed::One)
@@ -316,11 +262,16 @@ impl<S: Read + Write + Drop> Front<S> {
     /// Writes what waits, and answers whether all is out: if not, the stream takes no more now. For want of memory
     /// nothing is lost, and it may be called again. After the client's close, or a fault that isn't the stream's, what
     /// waits are the frames up to the answer, or to the close that says what was wrong.
+    #[tactic(auto, using(crate::proofs::Growing::grows_trans, crate::proofs::Growing::answers_after))]
     pub fn flush(&mut self) -> Result<bool, FrontFault>
         ensures ok { OnOk result
             (GoesOut S.contents self.old.socket.stream (waiting self.old) self.new) }
         ensures all { result ≡ Ok true → waiting self.new ≡ [] }
         ensures ready { result ≡ Ok true → self.new.rest ≡ [] }
+        ensures behind { result ≡ Ok false → Pauses self.old.causes self.new.causes }
+        ensures grows { Grows self.old.causes self.new.causes }
+        ensures cause { self.old.is_open ≡ true
+            → IfErr result (λ f. Answers f self.old.causes self.new.causes) }
         ensures memory { result ≡ Err FrontFault.Memory → self.new.is_open ≡ true
             → GoesOut S.contents self.old.socket.stream (waiting self.old) self.new }
         ensures stays_open { OnOk result (self.new.is_open ≡ self.old.is_open) }
@@ -332,7 +283,7 @@ impl<S: Read + Write + Drop> Front<S> {
             None => {}
         }
         let mut is_out = false;
-        for _ in 0..usize::MAX {
+        loop {
             match self.frame_next()? {
                 Framed::One => is_out = false,
                 Framed::All => return self.send_output(),
@@ -347,7 +298,6 @@ impl<S: Read + Write + Drop> Front<S> {
                 }
             }
         }
-        Ok(false)
     }
 
     /// Writes the output, and answers whether all of it is out.
@@ -358,31 +308,36 @@ impl<S: Read + Write + Drop> Front<S> {
         ensures rest { OnOk result (self.new.rest ≡ self.old.rest) }
         ensures stays_open { OnOk result (self.new.is_open ≡ self.old.is_open) }
         ensures io { IfErr result (λ e. e ≡ FrontFault.Io) }
+        ensures behind { result ≡ Ok false → Pauses self.old.causes self.new.causes }
+        ensures grows { Grows self.old.causes self.new.causes }
+        ensures cause { IfErr result (λ f. Answers f self.old.causes self.new.causes) }
         ensures subprotocol { self.new.subprotocol ≡ self.old.subprotocol }
     {
         match self.socket.flush() {
-            Ok(()) => Ok(true),
-            Err(error) => match meaning_of(&error) {
-                Meaning::Later => Ok(false),
-                _ => {
-                    self.begun = None;
-                    self.ending = Some(Ending::Failed(FrontFault::Io));
-                    Err(FrontFault::Io)
-                }
-            },
+            Ok(is_out) => Ok(is_out),
+            Err(fault) => {
+                self.begun = None;
+                self.ending = Some(Ending::Failed(fault));
+                Err(fault)
+            }
         }
     }
 
     /// Flushes until all is out.
+    #[tactic(auto, using(crate::proofs::Growing::grows_trans, crate::proofs::Growing::answers_after))]
     fn flush_all(&mut self) -> Result<(), FrontFault>
         ensures ok { OnOk result
             (GoesOut S.contents self.old.socket.stream (waiting self.old) self.new) }
         ensures out { OnOk result (waiting self.new ≡ []) }
         ensures ready { OnOk result (self.new.rest ≡ []) }
+        ensures grows { Grows self.old.causes self.new.causes }
+        ensures cause { self.old.is_open ≡ true
+            → IfErr result (λ f. Answers f self.old.causes self.new.causes
+            ⊎ ((f ≡ FrontFault.Io) × (self.old.causes.pauses + 1024 ≤ self.new.causes.pauses))) }
         ensures stays_open { OnOk result (self.new.is_open ≡ self.old.is_open) }
         ensures subprotocol { self.new.subprotocol ≡ self.old.subprotocol }
     {
-        for _ in 0..TRIES {
+        for turn in 0..TRIES {
             if self.flush()? {
                 return Ok(());
             }
@@ -395,9 +350,12 @@ impl<S: Read + Write + Drop> Front<S> {
     /// Writes what waits, and then an item for a session that has this host: one message for each of its lines,
     /// without CR LF. A text message has U+FFFD for what isn't UTF-8. Where the stream takes nothing it tries again,
     /// 1,024 times in all; then it is a fault of the stream.
+    #[tactic(auto, using(crate::proofs::Growing::grows_trans, crate::proofs::Growing::answers_after))]
     pub fn send_item(&mut self, item: &Item, host: &[u8]) -> Result<(), FrontFault>
         ensures ok { OnOk result (IsOut S.contents self.old.socket.stream
             (waiting_with self.old item.now.delivery host.now) self.new) }
+        ensures cause { self.old.is_open ≡ true
+            → IfErr result (λ f. IsNotOut f self.old self.new) }
         ensures stays_open { OnOk result (self.new.is_open ≡ true) }
         ensures subprotocol { self.new.subprotocol ≡ self.old.subprotocol }
     {
@@ -412,6 +370,8 @@ impl<S: Read + Write + Drop> Front<S> {
         ensures ok { OnOk result (can_write self.old.socket.conn.state ≡ true
             → self.old.is_open ≡ true → GoesOut S.contents self.old.socket.stream
             (output_with_close self.old code) self.new) }
+        ensures cause { self.old.is_open ≡ true
+            → IfErr result (λ f. Answers f self.old.causes self.new.causes) }
         ensures stays_open { OnOk result (self.new.is_open ≡ self.old.is_open) }
         ensures subprotocol { self.new.subprotocol ≡ self.old.subprotocol }
     {
@@ -420,10 +380,10 @@ impl<S: Read + Write + Drop> Front<S> {
             Some(Ending::Failed(fault)) => return Err(fault),
             None => {}
         }
-        if !self.socket.can_write() {
+        if !self.socket.get().can_write() {
             return Ok(());
         }
-        match close_socket(&mut self.socket, code) {
+        match self.socket.close(code) {
             Ok(()) => {
                 self.begun = None;
                 Ok(())

@@ -1,16 +1,14 @@
-//! Which kind of messages a client asks for.
+//! Which kind of messages a client asks for, and how that is answered.
 //!
-//! The handshake's callback sets a flag, since `tungstenite` hands nothing else back; no clause ties it to the
-//! request.
+//! `tungstenite` hands no request back, so what is served is read of its octets (`asking`). What is answered is chosen
+//! of the headers that it hands on; no clause ties the two.
 
 ghost use Rattle.std.specs.Prelude.{◌≡◌, map};
 ghost use Rattle.websocket_front.specs.Offers.{name_of, named, first_named, chosen, is_separator};
 
 use http::header::GetAll;
 use http::{HeaderName, HeaderValue, Request, Response, StatusCode};
-use std::alloc::{AllocError, Global};
-use std::sync::Arc;
-use std::sync::atomic::{AtomicBool, Ordering};
+use std::alloc::Global;
 use tungstenite::Callback;
 use tungstenite::handshake::server::ErrorResponse;
 
@@ -56,7 +54,7 @@ fn is_separator(octet: u8) -> bool
 }
 
 /// The first subprotocol that a header's value names, a list parted by commas and white space.
-fn first_named(value: &[u8]) -> Option<Subprotocol>
+pub(crate) fn first_named(value: &[u8]) -> Option<Subprotocol>
     ensures { result ≡ first_named value.now }
 {
     let mut start = 0;
@@ -85,43 +83,16 @@ fn chosen(values: GetAll<'_, HeaderValue>) -> Option<Subprotocol>
     None
 }
 
-/// What was chosen for a client, as its handshake tells it.
-#[derive(Drop)]
-pub(crate) struct Choice {
-    is_binary: Arc<AtomicBool>,
-}
-
-impl Choice {
-    /// Nothing was chosen.
-    pub(crate) fn new(alloc: Global) -> Result<Choice, AllocError> {
-        Ok(Choice {
-            is_binary: Arc::new(alloc, AtomicBool::new(false))?,
-        })
-    }
-
-    /// The handshake's side of it.
-    pub(crate) fn chooser(&self, alloc: Global) -> Result<Chooser, AllocError> {
-        Ok(Chooser {
-            alloc,
-            is_binary: Arc::try_clone(&self.is_binary)?,
-        })
-    }
-
-    /// The subprotocol that is served: text where none was chosen.
-    pub(crate) fn subprotocol(&self) -> Subprotocol {
-        if self.is_binary.load(Ordering::SeqCst) {
-            Subprotocol::Binary
-        } else {
-            Subprotocol::Text
-        }
-    }
-}
-
 /// Chooses a subprotocol for the client that a request is of.
 #[derive(Drop)]
 pub(crate) struct Chooser {
     alloc: Global,
-    is_binary: Arc<AtomicBool>,
+}
+
+impl Chooser {
+    pub(crate) fn new(alloc: Global) -> Chooser {
+        Chooser { alloc }
+    }
 }
 
 /// A response for want of memory.
@@ -141,8 +112,6 @@ impl Callback for Chooser {
         let Some(subprotocol) = chosen(offers) else {
             return Ok(response);
         };
-        self.is_binary
-            .store(subprotocol == Subprotocol::Binary, Ordering::SeqCst);
         let name = HeaderName::from_static("sec-websocket-protocol");
         match response.headers_mut().insert(name, subprotocol.name()) {
             Ok(_) => Ok(response),

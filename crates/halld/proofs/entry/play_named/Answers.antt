@@ -8,12 +8,13 @@ use Rattle.halld.specs.Faults.{IsFaultOf, IsGood}
 use Rattle.halld.specs.Printed.{IsPrinted}
 use Rattle.halld.proofs.Known.{if_known, appends_kept, told_from_start}
 use Rattle.halld.proofs.Known.{printed_from_start, ok_too, then_ok, err_too, then_err}
+use Rattle.halld.proofs.Caused.{given_on}
 use Rattle.halld.proofs.entry.play_named.Goals as goal
 
 pub returns-clause-fault : goal.returns-clause-fault
 returns-clause-fault g c =
     let r = c.new-reader.ensures in let new = c.new-reader.result in
-    let known = g.R.Read.remaining c.args.input.now in
+    let known = g.R.Read.remaining c.args.input.now.inner in
     let told = λ (e : PlayFault). IfSome known (λ script. IsFaultOf (told_of script) e) in
     err_too told c.flush_after.result c.play_lines-played.result
     (if_known (λ script. IsFaultOf (told_of script) WriteFailed) known (λ script k. tt))
@@ -28,7 +29,7 @@ returns-clause-fault g c =
 pub returns-clause-good : goal.returns-clause-good
 returns-clause-good g c =
     let r = c.new-reader.ensures in let new = c.new-reader.result in
-    let known = g.R.Read.remaining c.args.input.now in
+    let known = g.R.Read.remaining c.args.input.now.inner in
     ok_too _ c.flush_after.result c.play_lines-played.result c.flush_after.ensures.played
     (then_ok c.play_lines-played.result
     (λ all. if_known (λ script. IsGood (told_of script)) known
@@ -39,7 +40,7 @@ returns-clause-good g c =
 pub returns-clause-printed : goal.returns-clause-printed
 returns-clause-printed g c =
     let r = c.new-reader.ensures in let new = c.new-reader.result in
-    let known = g.R.Read.remaining c.args.input.now in
+    let known = g.R.Read.remaining c.args.input.now.inner in
     ok_too _ c.flush_after.result c.play_lines-played.result c.flush_after.ensures.played
     (then_ok c.play_lines-played.result
     (λ p. (
@@ -49,3 +50,10 @@ returns-clause-printed g c =
           (λ script k. printed_from_start new.stage new.line.items r.head r.line script p.0 (p.2 script k)),
     ))
     c.play_lines-played.ensures.printed)
+
+pub returns-clause-cause : goal.returns-clause-cause
+returns-clause-cause g c =
+    given_on c.args.input.now c.play_lines-played.new.input c.args.output.now c.play_lines-played.new.output
+    c.flush_after.new.output c.flush_after.result c.play_lines-played.result c.play_lines-played.ensures.cause
+    c.play_lines-played.ensures.same c.flush_after.ensures.fault c.flush_after.ensures.write
+    c.flush_after.ensures.grows c.flush_after.ensures.cause

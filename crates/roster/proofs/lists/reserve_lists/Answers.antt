@@ -8,6 +8,7 @@ loop-deed-init c = record {
   people = λ t. refl;
   kept = refits_refl c.args.channels.now.list
       c.args.people.now.list;
+  spare = omega arith;
   room = room_for_none (length c.args.deeds.now) c.args.people.now.list;
 }
 
@@ -19,6 +20,7 @@ loop-deed-preserved c =
       people = λ t. c.reserve_for.ensures.people t ∙ c.loop-deed.invariant.people t;
       kept = refits_more c.args.channels.now.list c.args.people.now.list rs qs c.loop-deed.invariant.kept
           c.reserve_for.ensures.kept;
+      spare = let had = c.loop-deed.invariant.spare in let more = c.reserve_for.ensures.spare in omega arith;
       room = room_for_more c.args.channels.now.list
           (length ds) c.loop-deed.deed-index ds c.deed-item.result rs qs c.loop-deed-test.true c.deed-item.is
           c.reserve_for.ensures.kept c.loop-deed.invariant.room c.in_ok-reserve_for.ensures.room;

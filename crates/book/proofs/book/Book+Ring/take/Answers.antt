@@ -3,7 +3,7 @@ use Rattle.book.specs.Book.{outbox_at}
 use Rattle.std.proofs.Common.{refl, ◌-◌, slice_set, Some}
 use Rattle.book.proofs.KeptSteps.{taken_kept}
 use Rattle.book.proofs.Hearing.{since_as, since_put}
-use Rattle.book.proofs.Based.{based_as, based_boxes, set_many, put_came}
+use Rattle.book.proofs.Based.{based_as, based_boxes, set_many, put_still}
 use Rattle.book.proofs.book.Book+Ring.take.Goals as goal
 
 pub invariant_of-self : goal.invariant_of-self
@@ -16,7 +16,7 @@ invariant_of-self c =
           a.roster.settings in let v = with_taken (outbox_at was s) in let new = slice_set was (s - 1) (Some v) in
           based_as a.base h h n n g g new c.take.new.self.boxes
           (based_boxes a.base h n g was new c.self.invariant.based (set_many was (s - 1) (Some v))
-          (put_came was s v k.here k.from_1 k.opened)) refl refl refl c.take.ensures.taken);
+          (put_still was s v k.here k.from_1 k.opened)) refl refl refl c.take.ensures.taken);
       since = (let was = a.outboxes.boxes in let h = a.journal.history in let v = with_taken (outbox_at was s) in
           let new = slice_set was (s - 1) (Some v) in
           since_as a.last_heard a.last_heard h h new c.take.new.self.boxes (since_put a.last_heard h was s v

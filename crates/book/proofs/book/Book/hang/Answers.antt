@@ -17,7 +17,7 @@ use Rattle.book.proofs.Appends.{shut_seats, hang_room, hung_follows, hung_put, h
 use Rattle.book.proofs.Sent.{item_is}
 use Rattle.book.proofs.Owes.{few_put}
 use Rattle.book.proofs.Hearing.{since_as, since_record, since_missed, since_put}
-use Rattle.book.proofs.Based.{based_as, based_boxes, based_record, based_missed, set_many, put_came}
+use Rattle.book.proofs.Based.{based_as, based_boxes, based_record, based_missed, set_many, put_still}
 use Rattle.book.proofs.book.Book.hang.Goals as goal
 
 pub append-number-requires : goal.append-number-requires
@@ -63,7 +63,7 @@ invariant_of-self over c =
           c.end.new.self.settings new c.offer.new.self.boxes
           (based_boxes a.base (r ∷ h) n g was new (based_record a.base h r n g was c.self.invariant.based)
           (set_many was (s - 1) (Some took.after))
-          (put_came was s took.after may.known.here may.known.from_1 few)) app.history
+          (put_still was s took.after may.known.here may.known.from_1 few)) app.history
           (ap (λ l. l.dropped) app.limit) c.end.ensures.settings took.now);
       since = (let h = a.journal.history in let r = fresh_record h c.args.moment (Hung s w) in
           let was = a.outboxes.boxes in let new = slice_set was (s - 1) (Some took.after) in

@@ -13,7 +13,7 @@ use Rattle.book.proofs.Opened.{sessions_le, seats_held}
 use Rattle.book.proofs.KeptSteps.{shown, opened_kept}
 use Rattle.book.specs.declared.last_heard.Since.{Since}
 use Rattle.book.proofs.Hearing.{since_as, since_opened, since_next}
-use Rattle.book.proofs.Based.{based_as, based_boxes, based_record, opened_many, opened_came}
+use Rattle.book.proofs.Based.{based_as, based_boxes, based_record, opened_many, opened_still}
 use Rattle.book.proofs.book.Book.open.Goals as goal
 
 pub invariant_of-self-2 : goal.invariant_of-self-2
@@ -60,7 +60,7 @@ invariant_of-self-2 over c =
           c.apply.new.self.settings (was ++ Some c.args.outbox ∷ []) c.open-3.new.self.boxes
           (based_boxes a.base (r ∷ h) n g was (was ++ Some c.args.outbox ∷ [])
           (based_record a.base h r n g was c.self.invariant.based) (opened_many was c.args.outbox)
-          (opened_came was c.args.outbox)) history (ap (λ l. l.dropped) limit) settings boxes);
+          (opened_still was c.args.outbox)) history (ap (λ l. l.dropped) limit) settings boxes);
       since = (let h = a.journal.history in let s = c.new-session.result in let was = a.outboxes.boxes in
           let x : Since = record { moment = c.args.moment; pinged = false } in
           since_as ((s, x) ∷ a.last_heard) c.open.new.self

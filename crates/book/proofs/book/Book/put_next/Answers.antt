@@ -14,7 +14,7 @@ use Rattle.book.proofs.Sent.{item_is}
 use Rattle.book.proofs.Puts.{put_is, miss_is}
 use Rattle.book.proofs.Owes.{few_put}
 use Rattle.book.proofs.Hearing.{since_as, since_missed, since_put}
-use Rattle.book.proofs.Based.{based_as, based_boxes, based_missed, set_many, put_came}
+use Rattle.book.proofs.Based.{based_as, based_boxes, based_missed, set_many, put_still}
 use Rattle.book.proofs.book.Book.put_next.Goals as goal
 
 pub offer-requires-clause-there : goal.offer-requires-clause-there
@@ -60,7 +60,7 @@ invariant_of-self-then-offer over c =
           let there : is_here was s ≡ true = ap (λ o. is_some o) took.here in
           based_as a.base h h n n g g new c.offer.new.self.boxes
           (based_boxes a.base h n g was new c.self.invariant.based (set_many was (s - 1) (Some took.after))
-          (put_came was s took.after there is.0 is.1)) refl refl refl took.now);
+          (put_still was s took.after there is.0 is.1)) refl refl refl took.now);
       since = (let was = a.outboxes.boxes in let h = a.journal.history in let s = p.session in
           let new = slice_set was (s - 1) (Some took.after) in
           let is = subst (IsPlan a.roster.settings h (length was)) plan c.self.invariant.kept.sound.plan in

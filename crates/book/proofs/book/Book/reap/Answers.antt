@@ -3,7 +3,7 @@ use Rattle.book.specs.Book.{MayReap}
 use Rattle.book.proofs.KeptSteps.{shown, reaped_kept}
 use Rattle.std.specs.Map.{remove_entry}
 use Rattle.book.proofs.Hearing.{since_as, since_reaped}
-use Rattle.book.proofs.Based.{based_as, based_boxes, set_many, reaped_came}
+use Rattle.book.proofs.Based.{based_as, based_reaped}
 use Rattle.book.proofs.book.Book.reap.Goals as goal
 
 pub invariant_of-self : goal.invariant_of-self
@@ -21,9 +21,10 @@ invariant_of-self over c =
           c.give_up.ensures c.give_up-count.ensures.given;
       based = (let was = a.outboxes.boxes in let h = a.journal.history in let n = a.journal.limit.dropped in
           let g = a.roster.settings in let new = slice_set was (s - 1) None in
-          based_as a.base h h n n g g new c.give_up-count.new.self.boxes
-          (based_boxes a.base h n g was new c.self.invariant.based (set_many was (s - 1) None)
-          (reaped_came was s may.known.from_1 to)) refl refl refl c.give_up-count.ensures.given);
+          let kept = c.forget_counts.new.base in
+          based_as kept h h n n g g new c.give_up-count.new.self.boxes
+          (based_reaped a.base kept h n g was s c.self.invariant.based c.forget_counts.ensures may.known.from_1 to)
+          refl refl refl c.give_up-count.ensures.given);
       since = (let was = a.outboxes.boxes in let h = a.journal.history in let new = slice_set was (s - 1) None in
           since_as (remove_entry (nat_eq s) a.last_heard) c.forget.new.self h h new c.give_up-count.new.self.boxes
           (since_reaped a.last_heard h was s c.self.invariant.since c.forget.ensures.once may.known.from_1 to)

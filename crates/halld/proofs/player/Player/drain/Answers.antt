@@ -15,6 +15,7 @@ loop-preserved g c =
           c.loop.invariant.taken is c.in_ok-answer.ensures.step c.in_ok-answer.ensures.written
           c.loop.invariant.hosts;
       hosts = same ∙ c.loop.invariant.hosts;
+      same = c.in_ok-answer.ensures.same ∙ c.loop.invariant.same;
     }
 
 pub returns-then-not-is_item-clause-step : goal.returns-then-not-is_item-clause-step

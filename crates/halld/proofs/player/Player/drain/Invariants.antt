@@ -10,6 +10,7 @@ invariant-loop g l =
     record {
       taken : (text : List ℕ)
           × AreTaken l.counter l.session (host_of l.fn.self.hosts.items l.session) l.fn.self.play text l.self.play
-          × Appends (g.W.Write.contents l.fn.output) (g.W.Write.contents l.output) text;
+          × Appends (g.W.Write.contents l.fn.output.inner) (g.W.Write.contents l.output.inner) text;
       hosts : l.self.hosts.items ≡ l.fn.self.hosts.items;
+      same : l.output.failures ≡ l.fn.output.failures;
     }

@@ -10,6 +10,7 @@ loop-preserved g c =
       hung = one_more c.loop.counter c.args.moment c.args.self.now.play c.loop.self.play c.hang_next.new.self.play
           c.in_ok-hang_next.field-0 _ _ _ c.loop.invariant.hung c.in_ok-hang_next.ensures.step is;
       hosts = c.hang_next.ensures.hosts ∙ c.loop.invariant.hosts;
+      same = c.in_ok-hang_next.ensures.same ∙ c.loop.invariant.same;
     }
 
 pub returns-then-not-branch-clause-step : goal.returns-then-not-branch-clause-step

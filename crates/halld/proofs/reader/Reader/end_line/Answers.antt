@@ -2,6 +2,7 @@ use Rattle.std.proofs.Common.{◌≡◌, Some, ap, sym, ◌∙◌}
 use Rattle.halld.specs.Script.{step_of}
 use Rattle.halld.specs.Stages.{head_of}
 use Rattle.halld.proofs.Faults.{after_step, at_step}
+use Rattle.halld.proofs.Caused.{unasked_writes}
 use Rattle.halld.proofs.Printing as printing
 use Rattle.halld.proofs.reader.Reader.end_line.Goals as goal
 
@@ -25,3 +26,6 @@ returns-clause-printed g c =
     ∙ c.in-Ok.ensures.ok in
     printing.after_step c.step.result c.args.self.now.stage c.step.new.self.stage c.args.self.now.line.items
     c.in-Ok.step _ _ read c.step.ensures.head c.step.ensures.performed
+
+pub returns-in-Err-Bad-clause-cause : goal.returns-in-Err-Bad-clause-cause
+returns-in-Err-Bad-clause-cause g c = unasked_writes c.header.result _ _ c.header.ensures.unasked

@@ -1,9 +1,10 @@
 use Rattle.std.proofs.lemmas.Grind.{common_steps}
-use Rattle.std.proofs.Common.{◌<◌, length, arith}
+use Rattle.std.proofs.Common.{◌<◌, ◌∙◌, length, arith}
 use Rattle.std.proofs.lemmas.Result.{err_from_is_err_and}
 use Rattle.halld.specs.Lines.{told_ahead}
 use Rattle.halld.specs.Printed.{PrintsAhead}
 use Rattle.halld.proofs.Faults.{at_octet, octet_on}
+use Rattle.halld.proofs.Caused.{writes_from}
 use Rattle.halld.proofs.Printing.{one_on}
 use Rattle.halld.specs.Stages.{head_of}
 use Rattle.halld.proofs.reader.Reader.feed.Goals as goal
@@ -22,6 +23,7 @@ loop-octet-preserved g c =
     let at : c.loop-octet.octet-index < length c.args.block.now = grind (arith, common_steps) in
     record {
       ready = c.in_ok-take_octet.ensures.ready;
+      same = c.in_ok-take_octet.ensures.same ∙ c.loop-octet.invariant.same;
       ended = omega (arith, c.in_ok-take_octet.ensures.ended);
       ahead = octet_on c.args.block.now c.loop-octet.octet-index
           (told_ahead (head_of c.args.self.now.stage) c.args.self.now.ended c.args.self.now.line.items)
@@ -33,3 +35,8 @@ loop-octet-preserved g c =
           (PrintsAhead c.take_octet.new.self.stage c.take_octet.new.self.line.items) _ _ _ at
           c.loop-octet.invariant.printed c.in_ok-take_octet.ensures.printed;
     }
+
+pub returns-in_err-take_octet-clause-cause : goal.returns-in_err-take_octet-clause-cause
+returns-in_err-take_octet-clause-cause g c =
+    let p = err_from_is_err_and c.from_residual.result c.from_residual.ensures.1 in
+    rw (p.1, p.2) (writes_from _ _ _ _ c.loop-octet.invariant.same c.in_err-take_octet.ensures.cause)

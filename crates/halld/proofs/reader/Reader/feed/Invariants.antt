@@ -10,10 +10,11 @@ invariant-loop-octet g l =
     record {
       ready : IsReady g.L.Naming.table l.self.stage l.self.register;
       ended : l.self.ended ≤ l.fn.self.ended + l.octet-index;
+      same : l.output.failures ≡ l.fn.output.failures;
       ahead : (rest : List ℕ)
           → told_ahead (head_of l.self.stage) l.self.ended l.self.line.items (drop l.octet-index l.block ++ rest)
           ≡ told_ahead (head_of l.fn.self.stage) l.fn.self.ended l.fn.self.line.items (l.block ++ rest);
-      printed : Writes (g.W.Write.contents l.fn.output) (g.W.Write.contents l.output) (λ w. (rest : List ℕ)
+      printed : Writes (g.W.Write.contents l.fn.output.inner) (g.W.Write.contents l.output.inner) (λ w. (rest : List ℕ)
           (text : List ℕ) → PrintsAhead l.self.stage l.self.line.items (drop l.octet-index l.block ++ rest) text
           → PrintsAhead l.fn.self.stage l.fn.self.line.items (l.block ++ rest) (w ++ text));
     }

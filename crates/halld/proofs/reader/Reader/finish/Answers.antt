@@ -1,6 +1,7 @@
 use Rattle.std.proofs.lemmas.Result.{err_from_is_err_and}
 use Rattle.halld.specs.Stages.{head_of}
 use Rattle.halld.proofs.Faults.{at_end, good_at_end, fault_at_end}
+use Rattle.halld.proofs.Caused.{unasked_writes}
 use Rattle.halld.proofs.Printing.{last_line}
 use Rattle.halld.proofs.reader.Reader.finish.Goals as goal
 
@@ -24,3 +25,6 @@ pub returns-clause-printed : goal.returns-clause-printed
 returns-clause-printed g c =
     last_line c.set_up.result c.args.self.now.stage c.end_line.new.self.stage c.args.self.now.line.items _ _
     c.in_ok-end_line.ensures.printed
+
+pub returns-clause-cause : goal.returns-clause-cause
+returns-clause-cause g c = unasked_writes c.set_up.result _ _ c.set_up.ensures.unasked

@@ -4,7 +4,8 @@ use Rattle.roster.specs.Table.{Table}
 use Rattle.roster.specs.declared.tables.Channel.{Channel}
 use Rattle.roster.specs.Stands.{Alike, Reserves}
 use Rattle.roster.proofs.MadeRoom.{alike_refl, alike_with}
-use Rattle.roster.proofs.Keyed.{seen, unseen, now_keyed, now_list, some_same, on_ok_map, reserves_none}
+use Rattle.roster.proofs.Keyed.{seen, unseen, now_keyed, now_list, some_same, with_same, on_ok_map, on_err_map}
+use Rattle.roster.proofs.Keyed.{reserves_none}
 use Rattle.roster.proofs.channels.Channels.reserve_named.Goals as goal
 
 pub returns-in_err-key-clause-alike : goal.returns-in_err-key-clause-alike
@@ -57,3 +58,16 @@ returns-clause-reserved c =
     let list = now_list a.channels.entries _ ks c.in_ok-key.key n x h c.in_ok-key.ensures c.self.invariant view
     c.in-Some.ensures.value (c.get_mut.follows.holds _).0 in
     on_ok_map c.reserve.result (λ e. record { held = h; reserved = list; room = omega arith }) c.reserve.ensures.room
+
+pub returns-clause-err : goal.returns-clause-err
+returns-clause-err c =
+    let a = c.self.inside in
+    let x = c.in-Some.channel.now in
+    let h = c.reserve.new.self in
+    let n = c.args.name.now in
+    let ks = c.args.self.now.list in let view = ap (λ (t : Table Channel). t.list) c.self.view_is in
+    let at = seen a.channels.entries a.channels.entries ks c.in_ok-key.key n x h c.in_ok-key.ensures
+    c.self.invariant view c.in-Some.ensures.value in
+    let list = now_list a.channels.entries _ ks c.in_ok-key.key n x h c.in_ok-key.ensures c.self.invariant view
+    c.in-Some.ensures.value (c.get_mut.follows.holds _).0 in
+    on_err_map c.reserve.result (λ e. list ∙ with_same ks n x h at e) c.reserve.ensures.err

@@ -29,10 +29,11 @@ hear-requires-clause-of c =
     let ds = r.ready.value in
     let d = c.args.deed in
     let es = r.people in
-    let ws = r.marks in let hs = r.nicks in let ks = r.channels in let sp = r.spare.items in let fo = r.keys.items in
+    let ws = r.marks in let hs = r.nicks in let ks = r.channels in
+    let sp = r.stock.spare.items in let ns = r.stock.copies.items in let fo = r.stock.keys.items in
     let first : slice_get ds 0 ≡ Some d = ap (λ (k : Known). slice_get k.ready 0) c.self.view_is ∙ c.requires in
     let b = before d (d) refl fs ds es ws hs ks sp fo first c.self.invariant.0 in
-    let l = listed_before d (d) refl fs ds first es.list r.copies.items c.self.invariant.1 in
+    let l = listed_before d (d) refl fs ds first es.list ns c.self.invariant.1 in
     of_deed es.list ws.list hs.list fs b.people d b.next.0
 
 pub invariant_of-self : goal.invariant_of-self
@@ -42,12 +43,13 @@ invariant_of-self c =
     let ds = r.ready.value in
     let d = c.args.deed in
     let es = r.people in
-    let ws = r.marks in let hs = r.nicks in let ks = r.channels in let sp = r.spare.items in let fo = r.keys.items in
+    let ws = r.marks in let hs = r.nicks in let ks = r.channels in
+    let sp = r.stock.spare.items in let ns = r.stock.copies.items in let fo = r.stock.keys.items in
     let first : slice_get ds 0 ≡ Some d = ap (λ (k : Known). slice_get k.ready 0) c.self.view_is ∙ c.requires in
     let e = c.in-Person.deed in
     let is : d ≡ e = c.in-Person.ensures.0 in let p : is_plain d ≡ true = ap is_plain is ∙ c.in-Person.ensures.1 in
     let b = before d (d) refl fs ds es ws hs ks sp fo first c.self.invariant.0 in
-    let l = listed_before d (d) refl fs ds first es.list r.copies.items c.self.invariant.1 in
+    let l = listed_before d (d) refl fs ds first es.list ns c.self.invariant.1 in
     let vs = c.tell.new.marks in let same = sym c.tell.ensures.marks in
     let heard_why = subst (λ (v : Table Why). (u : ℕ) → why_at v.list u
     ≡ unwrap_or (tells_why u d) (why_at ws.list u)) same c.hear.ensures.whys in
@@ -59,10 +61,10 @@ invariant_of-self c =
     (heard x (person_at es.list u)) (person_at es.list u)) (sym is) c.tell.ensures.people in (
       done d d refl fs ds qs vs hs ks sp fo _ _ c.apply.ensures c.apply-2.ensures
           (kept_plain es ws hs ks sp fo fs (drop 1 ds) d qs vs p b told c.tell.ensures.room heard_why many free),
-      listed_after d d refl fs ds first es.list r.copies.items qs.list r.copies.items _ _ c.self.invariant.0.next
+      listed_after d d refl fs ds first es.list ns qs.list ns _ _ c.self.invariant.0.next
           c.self.invariant.1
           (relists_plain es.list qs.list d p c.tell.ensures.lists)
-          (copies_plain d (drop 1 ds) r.copies.items p l.copies) c.apply.ensures c.apply-2.ensures,
+          (copies_plain d (drop 1 ds) ns p l.copies) c.apply.ensures c.apply-2.ensures,
     )
 
 pub invariant_of-self-in-Nick : goal.invariant_of-self-in-Nick
@@ -72,11 +74,12 @@ invariant_of-self-in-Nick c =
     let ds = r.ready.value in
     let d = c.args.deed in
     let es = r.people in
-    let ws = r.marks in let hs = r.nicks in let ks = r.channels in let sp = r.spare.items in let fo = r.keys.items in
+    let ws = r.marks in let hs = r.nicks in let ks = r.channels in
+    let sp = r.stock.spare.items in let ns = r.stock.copies.items in let fo = r.stock.keys.items in
     let first : slice_get ds 0 ≡ Some d = ap (λ (k : Known). slice_get k.ready 0) c.self.view_is ∙ c.requires in
     let t = c.in-Nick.session in let n = c.in-Nick.nick in let e = NickSet t n in let is : d ≡ e = c.in-Nick.ensures in
     let b = before d (NickSet t n) is fs ds es ws hs ks sp fo first c.self.invariant.0 in
-    let l = listed_before d (NickSet t n) is fs ds first es.list r.copies.items c.self.invariant.1 in
+    let l = listed_before d (NickSet t n) is fs ds first es.list ns c.self.invariant.1 in
     let vs = c.rename-before.new.marks in let same = sym c.rename-before.ensures.marks in
     let heard_why = subst (λ (v : Table Why). (u : ℕ) → why_at v.list u
     ≡ unwrap_or (tells_why u d) (why_at ws.list u)) same c.hear.ensures.whys in
@@ -97,7 +100,7 @@ invariant_of-self-in-Nick c =
           (kept_renamed es ws hs ks sp fo fs (drop 1 ds) t n qs vs mid ls c.take.new.keys.items
           b c.rename-before.ensures.people c.rename-before.ensures.room why count free freed
           c.give_back.ensures.room taken c.take.ensures.room left),
-      listed_after d e is fs ds first es.list r.copies.items qs.list r.copies.items _ _ c.self.invariant.0.next
+      listed_after d e is fs ds first es.list ns qs.list ns _ _ c.self.invariant.0.next
           c.self.invariant.1
           (relists_wide es.list qs.list e (λ s cs. refl) (λ s ns. refl) c.rename-before.ensures.lists) l.copies
           c.apply.ensures c.apply-2.ensures,
@@ -110,12 +113,13 @@ make-requires-clause-empty c =
     let ds = r.ready.value in
     let d = c.args.deed in
     let es = r.people in
-    let ws = r.marks in let hs = r.nicks in let ks = r.channels in let sp = r.spare.items in let fo = r.keys.items in
+    let ws = r.marks in let hs = r.nicks in let ks = r.channels in
+    let sp = r.stock.spare.items in let ns = r.stock.copies.items in let fo = r.stock.keys.items in
     let first : slice_get ds 0 ≡ Some d = ap (λ (k : Known). slice_get k.ready 0) c.self.view_is ∙ c.requires in
     let t = c.in-NewChannel.session in
     let n = c.in-NewChannel.channel in let is : d ≡ ChannelMade t n = c.in-NewChannel.ensures in
     let b = before d (ChannelMade t n) is fs ds es ws hs ks sp fo first c.self.invariant.0 in
-    let l = listed_before d (ChannelMade t n) is fs ds first es.list r.copies.items c.self.invariant.1 in
+    let l = listed_before d (ChannelMade t n) is fs ds first es.list ns c.self.invariant.1 in
     spare_less (length (ChannelMade t n ∷ drop 1 ds)) 1 sp (omega arith) b.room.empty
 
 pub invariant_of-self-in-NewChannel : goal.invariant_of-self-in-NewChannel
@@ -125,12 +129,13 @@ invariant_of-self-in-NewChannel c =
     let ds = r.ready.value in
     let d = c.args.deed in
     let es = r.people in
-    let ws = r.marks in let hs = r.nicks in let ks = r.channels in let sp = r.spare.items in let fo = r.keys.items in
+    let ws = r.marks in let hs = r.nicks in let ks = r.channels in
+    let sp = r.stock.spare.items in let ns = r.stock.copies.items in let fo = r.stock.keys.items in
     let first : slice_get ds 0 ≡ Some d = ap (λ (k : Known). slice_get k.ready 0) c.self.view_is ∙ c.requires in
     let t = c.in-NewChannel.session in
     let n = c.in-NewChannel.channel in let e = ChannelMade t n in let is : d ≡ e = c.in-NewChannel.ensures in
     let b = before d (ChannelMade t n) is fs ds es ws hs ks sp fo first c.self.invariant.0 in
-    let l = listed_before d (ChannelMade t n) is fs ds first es.list r.copies.items c.self.invariant.1 in
+    let l = listed_before d (ChannelMade t n) is fs ds first es.list ns c.self.invariant.1 in
     let vs = c.hear.new.self in
     let why = subst (λ (x : Deed). (u : ℕ) → why_at vs.list u ≡ unwrap_or (tells_why u x) (why_at ws.list u)) is
     c.hear.ensures.whys in
@@ -139,14 +144,14 @@ invariant_of-self-in-NewChannel c =
     let left = subst (BeginWith (flat_map keyed_name (drop 1 ds))) (sym c.make.ensures.keys)
     (later_copies (folded n) (flat_map keyed_name (drop 1 ds)) fo b.room.keys) in
     let rest = subst (BeginWith (flat_map made_name (drop 1 ds))) (sym c.join_made.ensures.copies)
-    (later_copies n (flat_map made_name (drop 1 ds)) r.copies.items l.copies) in (
+    (later_copies n (flat_map made_name (drop 1 ds)) ns l.copies) in (
       done d e is fs ds qs vs hs ms c.make.new.spare.items c.make.new.keys.items _ _ c.apply.ensures c.apply-2.ensures
           (kept_made es ws hs ks sp fo fs (drop 1 ds) t n qs vs ms c.make.new.spare.items c.make.new.keys.items b
           c.join_made.ensures.people c.join_made.ensures.room why count c.hear.ensures.room c.make.ensures.made
           c.make.ensures.fewer c.make.ensures.room left),
-      listed_after d e is fs ds first es.list r.copies.items qs.list c.join_made.new.copies.items _ _
+      listed_after d e is fs ds first es.list ns qs.list c.join_made.new.copies.items _ _
           c.self.invariant.0.next c.self.invariant.1
-          (c.join_made.ensures.joined n (first_copy n (flat_map made_name (drop 1 ds)) r.copies.items l.copies))
+          (c.join_made.ensures.joined n (first_copy n (flat_map made_name (drop 1 ds)) ns l.copies))
           rest c.apply.ensures c.apply-2.ensures,
     )
 
@@ -157,11 +162,12 @@ change-requires-clause-room c =
     let ds = r.ready.value in
     let d = c.args.deed in
     let es = r.people in
-    let ws = r.marks in let hs = r.nicks in let ks = r.channels in let sp = r.spare.items in let fo = r.keys.items in
+    let ws = r.marks in let hs = r.nicks in let ks = r.channels in
+    let sp = r.stock.spare.items in let ns = r.stock.copies.items in let fo = r.stock.keys.items in
     let first : slice_get ds 0 ≡ Some d = ap (λ (k : Known). slice_get k.ready 0) c.self.view_is ∙ c.requires in
     let n = c.in-Channel.channel in let x = c.in-Channel.made in let is : d ≡ Changed n x = c.in-Channel.ensures in
     let b = before d (Changed n x) is fs ds es ws hs ks sp fo first c.self.invariant.0 in
-    let l = listed_before d (Changed n x) is fs ds first es.list r.copies.items c.self.invariant.1 in
+    let l = listed_before d (Changed n x) is fs ds first es.list ns c.self.invariant.1 in
     subst (λ (m : List ℕ). 0 < room_in ks.list m) (sym c.as_slice.ensures)
     (seat_free x n (drop 1 ds) ks.list b.room.seats)
 
@@ -172,12 +178,13 @@ reseat-requires c = λ s it.
     let ds = r.ready.value in
     let d = c.args.deed in
     let es = r.people in
-    let ws = r.marks in let hs = r.nicks in let ks = r.channels in let sp = r.spare.items in let fo = r.keys.items in
+    let ws = r.marks in let hs = r.nicks in let ks = r.channels in
+    let sp = r.stock.spare.items in let ns = r.stock.copies.items in let fo = r.stock.keys.items in
     let first : slice_get ds 0 ≡ Some d = ap (λ (k : Known). slice_get k.ready 0) c.self.view_is ∙ c.requires in
     let n = c.in-Channel.channel in let x = c.in-Channel.made in let is : d ≡ Changed n x = c.in-Channel.ensures in
     let b = before d (Changed n x) is fs ds es ws hs ks sp fo first c.self.invariant.0 in
-    let l = listed_before d (Changed n x) is fs ds first es.list r.copies.items c.self.invariant.1 in
-    seat_room es.list r.copies.items fs (drop 1 ds) (Changed n x) s l
+    let l = listed_before d (Changed n x) is fs ds first es.list ns c.self.invariant.1 in
+    seat_room es.list ns fs (drop 1 ds) (Changed n x) s l
     (ap (is_taken s) (sym c.seat_of-seat.ensures) ∙ it)
 
 pub invariant_of-self-in-Channel : goal.invariant_of-self-in-Channel
@@ -187,12 +194,13 @@ invariant_of-self-in-Channel c =
     let ds = r.ready.value in
     let d = c.args.deed in
     let es = r.people in
-    let ws = r.marks in let hs = r.nicks in let ks = r.channels in let sp = r.spare.items in let fo = r.keys.items in
+    let ws = r.marks in let hs = r.nicks in let ks = r.channels in
+    let sp = r.stock.spare.items in let ns = r.stock.copies.items in let fo = r.stock.keys.items in
     let first : slice_get ds 0 ≡ Some d = ap (λ (k : Known). slice_get k.ready 0) c.self.view_is ∙ c.requires in
     let n = c.in-Channel.channel in
     let x = c.in-Channel.made in let e = Changed n x in let is : d ≡ e = c.in-Channel.ensures in
     let b = before d (Changed n x) is fs ds es ws hs ks sp fo first c.self.invariant.0 in
-    let l = listed_before d (Changed n x) is fs ds first es.list r.copies.items c.self.invariant.1 in
+    let l = listed_before d (Changed n x) is fs ds first es.list ns c.self.invariant.1 in
     let vs = c.hear.new.self in
     let why = subst (λ (x : Deed). (u : ℕ) → why_at vs.list u ≡ unwrap_or (tells_why u x) (why_at ws.list u)) is
     c.hear.ensures.whys in
@@ -205,7 +213,7 @@ invariant_of-self-in-Channel c =
           (kept_changed es ws hs ks sp fo fs
           (drop 1 ds) n x qs vs ms c.change.new.keys.items b c.reseat.ensures.people c.reseat.ensures.room why
           count c.hear.ensures.room changes c.change.ensures.room left),
-      listed_after d e is fs ds first es.list r.copies.items qs.list r.copies.items _ _ c.self.invariant.0.next
+      listed_after d e is fs ds first es.list ns qs.list ns _ _ c.self.invariant.0.next
           c.self.invariant.1
           (reseats es.list qs.list n n x c.seat_of-seat.result refl c.seat_of-seat.ensures c.reseat.ensures.lists)
           l.copies c.apply.ensures c.apply-2.ensures,
@@ -218,11 +226,12 @@ invariant_of-self-in-All c =
     let ds = r.ready.value in
     let d = c.args.deed in
     let es = r.people in
-    let ws = r.marks in let hs = r.nicks in let ks = r.channels in let sp = r.spare.items in let fo = r.keys.items in
+    let ws = r.marks in let hs = r.nicks in let ks = r.channels in
+    let sp = r.stock.spare.items in let ns = r.stock.copies.items in let fo = r.stock.keys.items in
     let first : slice_get ds 0 ≡ Some d = ap (λ (k : Known). slice_get k.ready 0) c.self.view_is ∙ c.requires in
     let t = c.in-All.session in let e = Gone t in let is : d ≡ e = c.in-All.ensures in
     let b = before d (Gone t) is fs ds es ws hs ks sp fo first c.self.invariant.0 in
-    let l = listed_before d (Gone t) is fs ds first es.list r.copies.items c.self.invariant.1 in
+    let l = listed_before d (Gone t) is fs ds first es.list ns c.self.invariant.1 in
     let vs = c.forget-nick.new.marks in let same = sym c.forget-nick.ensures.marks in
     let heard_why = subst (λ (v : Table Why). (u : ℕ) → why_at v.list u
     ≡ unwrap_or (tells_why u d) (why_at ws.list u)) same c.hear.ensures.whys in
@@ -246,9 +255,9 @@ invariant_of-self-in-All c =
       done d e is fs ds qs vs ls ms sp fo _ _ c.apply.ensures c.apply-2.ensures
           (kept_gone es ws hs ks sp fo fs (drop 1 ds) t (own ++ notes) qs vs ls ms b c.forget-nick.ensures.people
           c.forget-nick.ensures.room why count free freed c.give_back-in-All.ensures.room left cover room),
-      listed_done d e qs.list r.copies.items fs ds _ _ is c.apply.ensures c.apply-2.ensures
-          (listed_gone es.list qs.list r.copies.items fo fs (drop 1 ds) t c.is_empty-is_last.result
+      listed_done d e qs.list ns fs ds _ _ is c.apply.ensures c.apply-2.ensures
+          (listed_gone es.list qs.list ns fo fs (drop 1 ds) t c.is_empty-is_last.result
           b.next.0 l c.forget-nick.ensures.lists c.forget-nick.ensures.notes c.forget-nick.ensures.rooms
-          (λ it. none_there fo (deque_len r.keys) (grind (arith, common_steps))
+          (λ it. none_there fo (deque_len r.stock.keys) (grind (arith, common_steps))
           (sym c.is_empty-is_last.ensures ∙ it)) b.room.keys),
     )

@@ -1,4 +1,5 @@
 use Rattle.std.proofs.Common.{◌≡◌, ◌++◌, ℕ, List, OnOk, sym, ap, ◌∙◌, subst}
+use Rattle.tungstenite.specs.Socket.{Socket}
 use Rattle.deliveries.specs.Text.{delivery_text}
 use Rattle.websocket_front.specs.Lines.{lines}
 use Rattle.websocket_front.specs.Frames.{frames}
@@ -10,14 +11,17 @@ pub returns-clause-ok : goal.returns-clause-ok
 returns-clause-ok g c =
     let a = c.self.inside in
     let p = a.subprotocol in
-    let out = a.socket.output in
+    let out = a.socket.inner.output in
     let rest = rest_of a.begun a.place in
-    let text = c.in-Ok.text in
+    let text = c.in_ok-text.text in
     let host = c.args.host.now in
     let ready = ap (λ (f : Fronted g.row.S.Denot). f.rest) c.self.view_is ∙ c.requires.ready in
-    let is : text ≡ delivery_text c.args.item.now.delivery host = c.in-Ok.ensures ∙ ap
+    let is : text ≡ delivery_text c.args.item.now.delivery host = c.in_ok-text.ensures.text ∙ ap
     (λ d. delivery_text d host) c.delivery.ensures in
     let whole = ap (λ t. (out ++ frames p (lines rest)) ++ frames p (lines t)) (sym is)
     ∙ waits_with p out rest text ready in
+    let ok = subst (λ (s : Socket g.row.S.Denot). OnOk c.frame_lines.result (GoesOut g.S.Write.contents
+    s.stream (s.output ++ frames p (lines text)) c.frame_lines.new.self)) c.in_ok-text.ensures.inner
+    c.frame_lines.ensures.ok in
     rw (← c.self.view_is) (subst (λ (xs : List ℕ). OnOk c.frame_lines.result (GoesOut g.S.Write.contents
-    a.socket.stream xs c.frame_lines.new.self)) (sym whole) c.frame_lines.ensures.ok)
+    a.socket.inner.stream xs c.frame_lines.new.self)) (sym whole) ok)

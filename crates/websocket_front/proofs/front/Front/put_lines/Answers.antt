@@ -1,4 +1,5 @@
 use Rattle.std.proofs.Common.{◌∙◌}
+use Rattle.websocket_front.proofs.Growing.{grows_trans}
 use Rattle.websocket_front.proofs.Steps.{takes_more}
 use Rattle.websocket_front.proofs.front.Front.put_lines.Goals as goal
 
@@ -13,4 +14,5 @@ loop-preserved g c =
       subprotocol = h.subprotocol ∙ i.subprotocol;
       rest = h.rest;
       is_open = h.stays_open;
+      grows = grows_trans c.args.self.now.causes c.loop.self.causes c.frame_line.new.self.causes i.grows h.grows;
     }

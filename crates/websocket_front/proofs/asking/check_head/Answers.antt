@@ -1,0 +1,7 @@
+use Rattle.tungstenite.proofs.HeadLemmas.{accepted-head}
+use Rattle.websocket_front.proofs.asking.check_head.Goals as goal
+
+pub returns : goal.returns
+returns c =
+    accepted-head c.args.head.now c.args.found.now c.args.spans.now c.check_request.result c.requires.within
+    c.requires.parsed c.check_request.ensures

@@ -1,0 +1,29 @@
+-- What a client asks for by the head of its request (RFC 6455, sections 4.1 and 4.2.1).
+use Rattle.std.specs.Prelude.{◌≡◌, ℕ, cond, List, [], ◌∷◌, codes, take, Option, None, Some, Ok}
+use Rattle.httparse.specs.declared.spans.HeaderSpan.{HeaderSpan}
+use Rattle.httparse.specs.declared.spans.RequestSpans.{RequestSpans}
+use Rattle.httparse.specs.Spans.{IsRequestWithin, IsRequestOf}
+use Rattle.websocket.specs.Headers.{Fields, fields_of, eq_ignore_case}
+use Rattle.tungstenite.specs.Heads.{IsAccepted}
+use Rattle.websocket_front.specs.declared.subprotocol.Subprotocol.{Subprotocol}
+use Rattle.websocket_front.specs.declared.subprotocol.Subprotocol.TheVariants.{Text}
+use Rattle.websocket_front.specs.Offers.{chosen}
+
+-- the values of the headers that offer subprotocols, in their order
+abbrev pub offers : Fields → List (List ℕ)
+offers [] = []
+offers (h ∷ hs) = cond (eq_ignore_case h.0 (codes "sec-websocket-protocol")) (h.1 ∷ offers hs) (offers hs)
+
+-- what is served: the first offer that can be, or else text
+abbrev pub served : Option Subprotocol → Subprotocol
+served None = Text
+served (Some p) = p
+
+-- these octets are the head of a request for a WebSocket, by whose headers this subprotocol is served
+pub record Asks (head : List ℕ) (p : Subprotocol) : Type 0 where
+  pub accepted : IsAccepted head
+  pub request : RequestSpans
+  pub spans : List HeaderSpan
+  pub within : IsRequestWithin head spans request
+  pub parsed : IsRequestOf head spans request
+  pub serves : p ≡ served (chosen (offers (fields_of head (take request.headers spans))))
