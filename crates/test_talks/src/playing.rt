@@ -1,6 +1,6 @@
 //! Playing stories, in which one growth is refused at most.
 use crate::story::Story;
-use halld::{PlayFault, play};
+use halld::{Input, Output, PlayFault, play};
 use std::alloc::{AllocError, Global};
 use std::cell::Cell;
 use std::io;
@@ -76,27 +76,28 @@ struct Played {
 
 fn play_once(alloc: Global, story: &Story<'_>) -> Result<Played, AllocError> {
     let is_refused = Cell::new(false);
-    let mut input = Steps {
+    let mut input = Input::new(Steps {
         line: &[],
         left: &[],
         rest: &story.script.octets,
         is_refused: &is_refused,
-    };
+    });
     let wanted = story.notes.octets.len();
-    let mut output = Notes {
+    let mut output = Output::new(Notes {
         octets: Vec::with_capacity(alloc, wanted.saturating_add(ROOM))?,
         is_refused: &is_refused,
         was_refused: false,
-    };
+    });
     let (end, fault) = match play(alloc, &mut input, &mut output) {
         Ok(()) => (String::new(alloc), None),
         Err(fault) => (format!(in alloc; "{fault}")?, Some(fault)),
     };
+    let notes = output.into_inner();
     Ok(Played {
         end,
         fault,
-        notes: output.octets,
-        was_refused: output.was_refused,
+        notes: notes.octets,
+        was_refused: notes.was_refused,
         is_owed: is_refused.get(),
     })
 }
