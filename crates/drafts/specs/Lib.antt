@@ -2,6 +2,7 @@ pub mod Effects
 pub mod Lines
 pub mod Hearers
 pub mod Replies
+pub mod Targets
 pub mod Drafted
 pub mod Denials
 pub mod Seen

@@ -5,5 +5,5 @@ pub use Rattle.drafts.specs.Seen.{IsSeen, seen}
 pub use Rattle.drafts.specs.Effects.{copied, deeds_of, heard, replied}
 pub use Rattle.drafts.specs.Hearers.{shown}
 pub use Rattle.drafts.specs.Lines.{away_line, extended_join_line, join_line, pong_line, prefix, title}
-pub use Rattle.drafts.specs.Replies.{tells, tells_all}
+pub use Rattle.drafts.specs.Replies.{away_told, tells, tells_all}
 pub use Rattle.drafts.specs.Denials.{denied}

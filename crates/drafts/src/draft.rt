@@ -190,6 +190,13 @@ impl<'a> Draft<'a> {
         self.add(Effect::Copy { line })
     }
 
+    /// Whether the record established no fact so far: what is known is then what was known before it.
+    pub(crate) fn tells_nothing(&self) -> bool
+        ensures { result ≡ true → self.now.facts ≡ self.now.base }
+    {
+        self.verdict.deeds.is_empty()
+    }
+
     /// The host of a session.
     pub(crate) fn host_of(&self, session: SessionId) -> &[u8]
         ensures { result.now ≡ host self.now.facts session }
@@ -230,6 +237,9 @@ impl<'a> Draft<'a> {
     pub fn caps_of(&self, session: SessionId) -> Caps
         ensures { result ≡ caps self.now.facts session }
     {
+        if self.tells_nothing() {
+            return self.roster.caps_of(session);
+        }
         self.enrol_of(session).caps
     }
 
@@ -237,6 +247,9 @@ impl<'a> Draft<'a> {
     pub fn is_registered(&self, session: SessionId) -> bool
         ensures { result ≡ registered self.now.facts session }
     {
+        if self.tells_nothing() {
+            return self.roster.is_registered(session);
+        }
         self.enrol_of(session).registered
     }
 

@@ -12,7 +12,7 @@ use numerics::Line;
 use std::alloc::{AllocError, Global};
 
 /// A name, or a star before it is known.
-fn title_text(name: Option<&Octets>) -> &[u8]
+pub fn title_text(name: Option<&Octets>) -> &[u8]
     ensures { result.now ≡ title (option_copied name.entry) }
 {
     match name {
@@ -31,19 +31,42 @@ fn push_title(text: &mut Vec<u8>, name: Option<&Octets>) -> Result<(), AllocErro
 /// Octets that are reserved for `nick!user@host`. A longer one has them grow.
 const PREFIX_ROOM: usize = 96;
 
-/// Whom the lines of a session come from: `nick!user@host`, with a star for a name that isn't known yet.
+/// `nick!user@host`, with a star for a name that isn't known yet.
+fn prefix_with(
+    alloc: Global,
+    nick: Option<&Octets>,
+    user: Option<&Octets>,
+    host: &[u8],
+) -> Result<Octets, AllocError>
+    ensures { IfOk result (λ p. p ≡ title (option_copied nick.entry) ++ codes "!"
+        ++ title (option_copied user.entry) ++ codes "@" ++ host.now) }
+{
+    let mut text = Vec::with_capacity(alloc, PREFIX_ROOM)?;
+    push_title(&mut text, nick)?;
+    text.extend_from_slice(b"!")?;
+    push_title(&mut text, user)?;
+    text.extend_from_slice(b"@")?;
+    text.extend_from_slice(host)?;
+    Ok(Octets::from_vec(text))
+}
+
+/// Whom the lines of a session come from: `nick!user@host`, with a star for a name that isn't known yet. Where the
+/// record established no fact yet its names are found by one look-up.
 #[tactic(auto, unfolding(crate::specs::Lines::prefix))]
 pub fn prefix_of(draft: &Draft<'_>, session: SessionId) -> Result<Octets, AllocError>
     ensures { IfOk result (λ p. p ≡ prefix draft.now.facts session) }
 {
+    if draft.tells_nothing() {
+        let (nick, user, host) = draft.before().names_of(session);
+        return prefix_with(draft.alloc(), nick, user, host);
+    }
     let enrol = draft.enrol_of(session);
-    let mut text = Vec::with_capacity(draft.alloc(), PREFIX_ROOM)?;
-    push_title(&mut text, enrol.nick)?;
-    text.extend_from_slice(b"!")?;
-    push_title(&mut text, enrol.user)?;
-    text.extend_from_slice(b"@")?;
-    text.extend_from_slice(draft.host_of(session))?;
-    Ok(Octets::from_vec(text))
+    prefix_with(
+        draft.alloc(),
+        enrol.nick,
+        enrol.user,
+        draft.host_of(session),
+    )
 }
 
 /// The line that shows a join of a channel.

@@ -4,22 +4,20 @@ ghost use Rattle.numerics.specs.Numerics.{numeric as numeric_line};
 ghost use Rattle.drafts.specs.declared.effect.Effect.TheVariants.{Answer};
 ghost use Rattle.drafts.specs.Drafted.{grown};
 ghost use Rattle.drafts.specs.Lines.{title};
-ghost use Rattle.drafts.specs.Replies.{tells, tells_all};
+ghost use Rattle.drafts.specs.Replies.{away_told, tells, tells_all};
 
 use crate::draft::Draft;
+use crate::lines::title_text;
 use chronicle::SessionId;
 use line_grammar::Octets;
 use numerics::Numeric;
 use std::alloc::{AllocError, Global};
 
-/// A name, or a star before it is known.
+/// A copy of a name, or of a star before it is known.
 pub fn title_of(alloc: Global, name: Option<&Octets>) -> Result<Octets, AllocError>
     ensures { IfOk result (λ t. t ≡ title (option_copied name.entry)) }
 {
-    match name {
-        Some(name) => name.clone(),
-        None => Octets::copied(alloc, b"*"),
-    }
+    Octets::copied(alloc, title_text(name))
 }
 
 /// Answers with a numeric to whom it names.
@@ -63,4 +61,22 @@ pub fn tell_all(
         answer_numeric(draft, to.as_slice(), numeric)?;
     }
     Ok(())
+}
+
+/// Answers a session that a user of this nickname is away, where it is.
+pub fn tell_away(
+    draft: &mut Draft,
+    session: SessionId,
+    nick: &[u8],
+    away: Option<&Octets>,
+) -> Result<(), AllocError>
+    ensures { OnOk result (draft.new ≡ grown draft.old (away_told draft.old.settings draft.old.facts
+        session nick.now (option_copied away.entry))) }
+{
+    let Some(text) = away else {
+        return Ok(());
+    };
+    let nick = Octets::copied(draft.alloc(), nick)?;
+    let text = text.clone()?;
+    tell(draft, session, Numeric::Away { nick, text })
 }

@@ -193,6 +193,9 @@ pub fn complete(draft: &mut Draft, session: SessionId) -> Result<(), AllocError>
     ensures { OnOk result
         (draft.new ≡ grown draft.old (completed draft.old.settings draft.old.facts session)) }
 {
+    if draft.is_registered(session) {
+        return Ok(());
+    }
     if draft.enrol_of(session).ready() {
         return register(draft, session);
     }
