@@ -1,4 +1,3 @@
 pub mod Rows
-pub mod Named
 pub mod Lists
 pub mod Examples

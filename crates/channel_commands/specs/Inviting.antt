@@ -3,7 +3,7 @@ use Rattle.std.specs.Prelude.{ℕ, not, ◌&&◌, List, [], ◌∷◌, Option, S
 use Rattle.channel_state.specs.declared.change.Change.TheVariants.{Invited}
 use Rattle.channel_state.specs.State.{among}
 use Rattle.numerics.specs.declared.numeric.Numeric.TheVariants.{NoSuchNick, NoSuchChannel, NotOnChannel}
-use Rattle.numerics.specs.declared.numeric.Numeric.TheVariants.{UserOnChannel, ChanOPrivsNeeded, Inviting, Away}
+use Rattle.numerics.specs.declared.numeric.Numeric.TheVariants.{UserOnChannel, ChanOPrivsNeeded, Inviting}
 use Rattle.registration.specs.declared.settings.Settings.{Settings}
 use Rattle.roster.specs.declared.deed.Deed.{Deed}
 use Rattle.roster.specs.declared.deed.Deed.TheVariants.{Changed}
@@ -13,13 +13,9 @@ use Rattle.drafts.specs.declared.effect.Effect.TheVariants.{Establish, Show}
 use Rattle.drafts.specs.Seen.{Seen}
 use Rattle.drafts.specs.Lines.{title, prefix}
 use Rattle.drafts.specs.Replies.{tells}
+pub use Rattle.drafts.specs.Replies.{away_told}
 use Rattle.channel_commands.specs.Found.{channel_of, user_of}
 use Rattle.channel_commands.specs.Lines.{invite_line}
-
--- that a user is away, with its text
-abbrev pub away_told : Settings → List Deed → ℕ → List ℕ → Option (List ℕ) → List Effect
-away_told g fs s n None = []
-away_told g fs s n (Some text) = tells g fs s (Away n text) ∷ []
 
 -- the invited user is shown it. Of several invitations the last counts
 abbrev pub invites_user : Settings → List Deed → ℕ → ℕ → List ℕ → Seen → List Effect

@@ -1,18 +1,17 @@
-//! The commands about channels: how each is named and read, and what it does (RFC 2812, sections 3.2.1, 3.2.2,
+//! The commands about channels: how each is read, and what it does (RFC 2812, sections 3.2.1, 3.2.2,
 //! 3.2.4, 3.2.7 and 3.2.8).
 ghost use Rattle.std.specs.Prelude.{◌≡◌, ◌∷◌, ◌≤◌, length, OnOk, MatchOption};
 ghost use Rattle.roster.specs.Legal.{IsOpened};
 ghost use Rattle.drafts.specs.Words.{grown};
-ghost use Rattle.command_params.specs.Params.{IsRead, IsReadByName};
-ghost use Rattle.channel_commands.specs.Channel.{EachChannelIsNamed, NoChannelIsMisnamed};
-ghost use Rattle.channel_commands.specs.Channel.{channel_command_of, join_command};
+ghost use Rattle.command_params.specs.Params.{IsRead};
+ghost use Rattle.channel_commands.specs.Channel.{join_command};
 ghost use Rattle.channel_commands.specs.Channel.{part_command, kick_command, invite_command};
 ghost use Rattle.channel_commands.specs.Channel.{topic_command, serves_channel};
 
 use crate::{invite, join, kick, part, set_topic};
 use chronicle::SessionId;
 use command_params::{
-    JoinTargets, ReadFault, copied_first, first, is_named, needs_more, read_names, read_targets,
+    CommandName, JoinTargets, ReadFault, copied_first, first, needs_more, read_names, read_targets,
 };
 use drafts::Draft;
 use line_grammar::{LineParameters, Octets, OctetsList};
@@ -59,32 +58,35 @@ fn split_two<'a>(params: &LineParameters<'a>) -> Option<(&'a [u8], &'a [u8], Lin
     Some((first, second, params))
 }
 
-fn read_join(alloc: Global, params: &LineParameters<'_>) -> Result<ChannelCommand, ReadFault>
+/// What JOIN asks for (RFC 2812, section 3.2.1).
+pub fn read_join(alloc: Global, params: &LineParameters<'_>) -> Result<ChannelCommand, ReadFault>
     ensures { IsRead (join_command params.now) result }
 {
     let Some((list, params)) = params.split_first() else {
-        return Err(needs_more(b"JOIN"));
+        return Err(needs_more(CommandName::Join));
     };
     let targets = read_targets(alloc, list, first(&params))?;
     Ok(ChannelCommand::Join { targets })
 }
 
-fn read_part(alloc: Global, params: &LineParameters<'_>) -> Result<ChannelCommand, ReadFault>
+/// What PART asks for (section 3.2.2).
+pub fn read_part(alloc: Global, params: &LineParameters<'_>) -> Result<ChannelCommand, ReadFault>
     ensures { IsRead (part_command params.now) result }
 {
     let Some((list, params)) = params.split_first() else {
-        return Err(needs_more(b"PART"));
+        return Err(needs_more(CommandName::Part));
     };
     let channels = read_names(alloc, list)?;
     let text = Octets::copied(alloc, first(&params))?;
     Ok(ChannelCommand::Part { channels, text })
 }
 
-fn read_kick(alloc: Global, params: &LineParameters<'_>) -> Result<ChannelCommand, ReadFault>
+/// What KICK asks for (section 3.2.8).
+pub fn read_kick(alloc: Global, params: &LineParameters<'_>) -> Result<ChannelCommand, ReadFault>
     ensures { IsRead (kick_command params.now) result }
 {
     let Some((channel, list, params)) = split_two(params) else {
-        return Err(needs_more(b"KICK"));
+        return Err(needs_more(CommandName::Kick));
     };
     let channel = Octets::copied(alloc, channel)?;
     let nicks = read_names(alloc, list)?;
@@ -96,57 +98,29 @@ fn read_kick(alloc: Global, params: &LineParameters<'_>) -> Result<ChannelComman
     })
 }
 
-fn read_invite(alloc: Global, params: &LineParameters<'_>) -> Result<ChannelCommand, ReadFault>
+/// What INVITE asks for (section 3.2.7).
+pub fn read_invite(alloc: Global, params: &LineParameters<'_>) -> Result<ChannelCommand, ReadFault>
     ensures { IsRead (invite_command params.now) result }
 {
     let Some((nick, channel, _)) = split_two(params) else {
-        return Err(needs_more(b"INVITE"));
+        return Err(needs_more(CommandName::Invite));
     };
     let nick = Octets::copied(alloc, nick)?;
     let channel = Octets::copied(alloc, channel)?;
     Ok(ChannelCommand::Invite { nick, channel })
 }
 
-fn read_topic(alloc: Global, params: &LineParameters<'_>) -> Result<ChannelCommand, ReadFault>
+/// What TOPIC asks for (section 3.2.4).
+pub fn read_topic(alloc: Global, params: &LineParameters<'_>) -> Result<ChannelCommand, ReadFault>
     ensures { IsRead (topic_command params.now) result }
 {
     let Some((channel, params)) = params.split_first() else {
-        return Err(needs_more(b"TOPIC"));
+        return Err(needs_more(CommandName::Topic));
     };
     let channel = Octets::copied(alloc, channel)?;
     let text = copied_first(alloc, &params)?;
     Ok(ChannelCommand::Topic { channel, text })
 }
-
-/// What is asked by a name, or the numeric that answers it by what it says alone. `None` where it is no such
-/// command's.
-#[tactic(auto, unfolding(crate::specs::Channel::channel_command_of))]
-pub fn read_channel(
-    alloc: Global,
-    name: &[u8],
-    params: &LineParameters<'_>,
-) -> Option<Result<ChannelCommand, ReadFault>>
-    ensures { IsReadByName (channel_command_of name.now params.now) result }
-{
-    match name {
-        name if is_named(name, b"JOIN") => Some(read_join(alloc, params)),
-        name if is_named(name, b"PART") => Some(read_part(alloc, params)),
-        name if is_named(name, b"KICK") => Some(read_kick(alloc, params)),
-        name if is_named(name, b"INVITE") => Some(read_invite(alloc, params)),
-        name if is_named(name, b"TOPIC") => Some(read_topic(alloc, params)),
-        _ => None,
-    }
-}
-
-/// That each such command has a name by which it is read.
-pub fn each_channel_is_named()
-    ensures { EachChannelIsNamed }
-{}
-
-/// That no such command is read by the name of another.
-pub fn no_channel_is_misnamed()
-    ensures { NoChannelIsMisnamed }
-{}
 
 /// Does what a command about channels asks for.
 pub fn serve_channel(

@@ -1,38 +1,20 @@
 //! INVITE (RFC 2812, section 3.2.7).
-ghost use Rattle.std.specs.Prelude.{◌≡◌, ◌∷◌, [], Some, option_copied, OnOk};
+ghost use Rattle.std.specs.Prelude.{◌≡◌, ◌∷◌, [], Some, OnOk};
 ghost use Rattle.numerics.specs.declared.numeric.Numeric.TheVariants.{Inviting, UserOnChannel};
 ghost use Rattle.drafts.specs.declared.effect.Effect.TheVariants.{Show};
 ghost use Rattle.drafts.specs.Words.{IsSeen, grown, prefix, tells};
 ghost use Rattle.channel_commands.specs.Lines.{invite_line};
-ghost use Rattle.channel_commands.specs.Inviting.{away_told, invites_user, invites_seen, invites_found, invites};
+ghost use Rattle.channel_commands.specs.Inviting.{invites_user, invites_seen, invites_found, invites};
 
 use crate::finding::{channel_of, user_of};
 use crate::lines::invite_line;
 use channel_state::Change;
 use chronicle::SessionId;
-use drafts::{Denial, Draft, Seen, deny, prefix_of, tell, title_of};
+use drafts::{Denial, Draft, Seen, deny, prefix_of, tell, tell_away, title_of};
 use line_grammar::Octets;
 use numerics::Numeric;
 use roster::Sessions;
 use std::alloc::AllocError;
-
-/// Answers that a user is away, where it is.
-fn tell_away(
-    draft: &mut Draft,
-    session: SessionId,
-    nick: &Octets,
-    away: Option<&Octets>,
-) -> Result<(), AllocError>
-    ensures { OnOk result (draft.new ≡ grown draft.old (away_told draft.old.settings draft.old.facts
-        session nick.now (option_copied away.entry))) }
-{
-    let Some(text) = away else {
-        return Ok(());
-    };
-    let nick = nick.clone()?;
-    let text = text.clone()?;
-    tell(draft, session, Numeric::Away { nick, text })
-}
 
 /// Answers that a user is on a channel already.
 fn tell_present(
@@ -111,7 +93,7 @@ fn invite_user(
         },
     )?;
     tell_invited(draft, session, nick, seen.name())?;
-    tell_away(draft, session, nick, away)
+    tell_away(draft, session, nick.as_slice(), away)
 }
 
 /// Invites a user to a channel that is there.

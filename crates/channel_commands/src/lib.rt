@@ -1,4 +1,4 @@
-//! The commands about channels: JOIN, PART, KICK, INVITE and TOPIC, how each is named and read, and what it does
+//! The commands about channels: JOIN, PART, KICK, INVITE and TOPIC, how each is read, and what it does
 //! (RFC 2812, section 3.2).
 #![tactic(auto)]
 
@@ -16,7 +16,7 @@ mod lines;
 mod topics;
 
 pub use channel::{
-    ChannelCommand, each_channel_is_named, no_channel_is_misnamed, read_channel, serve_channel,
+    ChannelCommand, read_invite, read_join, read_kick, read_part, read_topic, serve_channel,
 };
 pub use inviting::invite;
 pub use joining::join;

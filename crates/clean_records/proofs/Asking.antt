@@ -1,6 +1,6 @@
 -- What is read of a clean message: a command whose texts are clean, or a fault that names a text.
 use Rattle.std.proofs.Common.{◌≡◌, ℕ, ◌==◌, ◌≤◌, Bool, true, not, ◌&&◌, nat_le, nat_lt, List, []}
-use Rattle.std.proofs.Common.{◌∷◌, filter, length, IfSome, Option, Some, None, Result, Ok, Err, refl, subst, inl, inr}
+use Rattle.std.proofs.Common.{◌∷◌, filter, length, IfSome, Some, Result, Ok, Err, refl, inl, inr}
 use Rattle.std.proofs.Common.{arith}
 use Rattle.std.specs.List.{AllByRecursion, list_all, slice_split}
 use Rattle.std.proofs.lemmas.Bool.{and_from, and_parts, leb-true, or_cases}
@@ -9,9 +9,7 @@ use Rattle.line_grammar.specs.Reading.{is_command, is_digit, is_letter}
 use Rattle.line_grammar.specs.Spelling.{is_text_octet}
 use Rattle.casemapping.specs.Fold.{is_same}
 use Rattle.command_params.specs.declared.fault.ReadFault.{ReadFault}
-use Rattle.command_params.specs.declared.fault.ReadFault.TheVariants.{UnknownCommand, NeedMoreParams}
-use Rattle.command_params.specs.declared.fault.ReadFault.TheVariants.{NoRecipient}
-use Rattle.command_params.specs.declared.fault.ReadFault.TheVariants.{InvalidCapSubcommand}
+use Rattle.command_params.specs.declared.fault.ReadFault.TheVariants.{InvalidCapSubcommand, UnknownCommand}
 use Rattle.command_params.specs.Lists.{distinct, is_comma, names_of}
 use Rattle.command_params.specs.Params.{first_or_empty, first_or_none}
 use Rattle.answer_octets.proofs.Kept.{filter-all, split-kept}
@@ -21,22 +19,12 @@ use Rattle.clean_records.proofs.Texts.{AreTexts, high-text}
 
 abbrev pub IsCleanFault : ReadFault → Type 0
 IsCleanFault (UnknownCommand name) = IsText name
-IsCleanFault (NeedMoreParams command) = IsText command
-IsCleanFault (NoRecipient command) = IsText command
 IsCleanFault (InvalidCapSubcommand subcommand) = IsText subcommand
 IsCleanFault fault = Unit {0}
 
 abbrev pub IsCleanRead : {K : Type 0} → (K → Type 0) → Result K ReadFault → Type 0
 IsCleanRead P (Ok k) = P k
 IsCleanRead P (Err fault) = IsCleanFault fault
-
-abbrev pub IfRead : {K : Type 0} → (K → Type 0) → Option (Result K ReadFault) → Type 0
-IfRead P None = Unit {0}
-IfRead P (Some read) = IsCleanRead P read
-
-pub was-read : {K : Type 0} (P : K → Type 0) (o : Option (Result K ReadFault)) (k : K) → IfRead P o → o ≡ Some (Ok k)
-    → P k
-was-read P o k is e = subst (IfRead P) e is
 
 -- ---- parameters
 

@@ -3,7 +3,6 @@ use Rattle.std.proofs.Common.{◌≡◌, ℕ, zero, suc, ◌+◌, Bool, true, fa
 use Rattle.std.proofs.Common.{codes, filter, length, slice_get, IfSome, Option, Some, None, Result}
 use Rattle.std.proofs.Common.{refl, arith, unwrap_or, ◌≤◌}
 use Rattle.std.specs.List.{AllByRecursion, slice_split}
-use Rattle.std.specs.Str.{str_eq_ignore_ascii_case}
 use Rattle.std.proofs.lemmas.Bool.{and_from, and_parts, cond_both, not-false}
 use Rattle.casemapping.specs.Names.{channel_shape}
 use Rattle.line_grammar.specs.Parts.{is_present}
@@ -40,7 +39,7 @@ use Rattle.departing.specs.Leaving.{leaves}
 use Rattle.query_commands.specs.Names.{names_told}
 use Rattle.channel_commands.specs.declared.channel.ChannelCommand.{ChannelCommand}
 use Rattle.channel_commands.specs.declared.channel.ChannelCommand.TheVariants as channel
-use Rattle.channel_commands.specs.Channel.{channel_command_of, invite_command, join_command, kick_command}
+use Rattle.channel_commands.specs.Channel.{invite_command, join_command, kick_command}
 use Rattle.channel_commands.specs.Channel.{part_command}
 use Rattle.channel_commands.specs.Channel.{serves_channel, topic_command}
 use Rattle.channel_commands.specs.Each.{each, each_counted}
@@ -59,10 +58,8 @@ use Rattle.answer_octets.specs.Clean.{IsClean, IsWordOf}
 use Rattle.answer_octets.proofs.Kept.{split-kept, take-kept}
 use Rattle.answer_octets.proofs.Numerics.{line-clean}
 use Rattle.clean_records.specs.Clean.{IsChannel, IsServing, IsText}
-use Rattle.clean_records.specs.Laws.{ChannelCommandsAreClean}
-use Rattle.clean_records.proofs.Asking.{IfRead, IsCleanRead, distinct-all, first-if_any, first-text, names-texts}
-use Rattle.clean_records.proofs.Asking.{was-read}
-use Rattle.clean_records.proofs.Effects.{Clean, IsTextNumeric, clean-effects, either, facts-of, from-session, joined}
+use Rattle.clean_records.proofs.Asking.{IsCleanRead, distinct-all, first-if_any, first-text, names-texts}
+use Rattle.clean_records.proofs.Effects.{Clean, IsTextNumeric, either, from-session, joined}
 use Rattle.clean_records.proofs.Effects.{later, more, none, only, some_shown, told, told_all, told_only}
 use Rattle.clean_records.proofs.Lists.{all-both, all-filter, all-texts, texts-all}
 use Rattle.clean_records.proofs.Lookups.{Facts, IfSeen, IsCleanSeen, account-shown, away-is, changed-clean}
@@ -421,41 +418,29 @@ targets-texts list keys is =
     (all-filter IsCleanTarget (λ t. is_present t.channel) ts (paired-texts cs (slice_split is_comma keys)
     (all-texts cs (split-kept is_text_octet is_comma list is))))
 
-reads_join : (ps : List (List ℕ)) → AreTexts ps → IsReadChannel (join_command ps)
-reads_join [] are = refl
+pub reads_join : (ps : List (List ℕ)) → AreTexts ps → IsReadChannel (join_command ps)
+reads_join [] are = tt
 reads_join (list ∷ ps) are = targets-texts list (first_or_empty ps) (and_parts _ _ are).0
 
-reads_part : (ps : List (List ℕ)) → AreTexts ps → IsReadChannel (part_command ps)
-reads_part [] are = refl
+pub reads_part : (ps : List (List ℕ)) → AreTexts ps → IsReadChannel (part_command ps)
+reads_part [] are = tt
 reads_part (list ∷ ps) are = let parts = and_parts _ _ are in (names-texts list parts.0, first-text ps parts.1)
 
-reads_kick : (ps : List (List ℕ)) → AreTexts ps → IsReadChannel (kick_command ps)
-reads_kick [] are = refl
-reads_kick (name ∷ []) are = refl
+pub reads_kick : (ps : List (List ℕ)) → AreTexts ps → IsReadChannel (kick_command ps)
+reads_kick [] are = tt
+reads_kick (name ∷ []) are = tt
 reads_kick (name ∷ list ∷ ps) are =
     let each = all-texts (name ∷ list ∷ ps) are in
     (each.0, names-texts list each.1.0, first-text ps (texts-all ps each.1.1))
 
-reads_invite : (ps : List (List ℕ)) → AreTexts ps → IsReadChannel (invite_command ps)
-reads_invite [] are = refl
-reads_invite (nick ∷ []) are = refl
+pub reads_invite : (ps : List (List ℕ)) → AreTexts ps → IsReadChannel (invite_command ps)
+reads_invite [] are = tt
+reads_invite (nick ∷ []) are = tt
 reads_invite (nick ∷ name ∷ ps) are = let each = all-texts (nick ∷ name ∷ ps) are in (each.0, each.1.0)
 
-reads_topic : (ps : List (List ℕ)) → AreTexts ps → IsReadChannel (topic_command ps)
-reads_topic [] are = refl
+pub reads_topic : (ps : List (List ℕ)) → AreTexts ps → IsReadChannel (topic_command ps)
+reads_topic [] are = tt
 reads_topic (name ∷ ps) are = let parts = and_parts _ _ are in (parts.0, first-if_any ps parts.1)
-
-abbrev IfChannel : Option (Result ChannelCommand ReadFault) → Type 0
-IfChannel o = IfRead IsCleanChannel o
-
-pub channel-read : (n : List ℕ) (ps : List (List ℕ)) → AreTexts ps → IfChannel (channel_command_of n ps)
-unfolding channel_command_of
-channel-read n ps are =
-    cond_both (str_eq_ignore_ascii_case n (codes "JOIN")) _ _ IfChannel (λ _. reads_join ps are)
-    (λ _. cond_both (str_eq_ignore_ascii_case n (codes "PART")) _ _ IfChannel (λ _. reads_part ps are)
-    (λ _. cond_both (str_eq_ignore_ascii_case n (codes "KICK")) _ _ IfChannel (λ _. reads_kick ps are)
-    (λ _. cond_both (str_eq_ignore_ascii_case n (codes "INVITE")) _ _ IfChannel (λ _. reads_invite ps are)
-    (λ _. cond_both (str_eq_ignore_ascii_case n (codes "TOPIC")) _ _ IfChannel (λ _. reads_topic ps are) (λ _. tt)))))
 
 -- ---- what each does
 
@@ -469,9 +454,3 @@ of_channel g fs s (channel.Invite nick name) serves facts is =
     inviting_found g fs s nick name (user_of fs nick) serves facts is.0 is.1
 of_channel g fs s (channel.Topic name text) serves facts is =
     topic_seen g fs s name text (channel_of fs name) serves facts is.0 is.1 (channel-is fs name facts)
-
-pub channel-commands : ChannelCommandsAreClean
-channel-commands g fs s k m serves are text read =
-    clean-effects (serves_channel g fs s k) (of_channel g fs s k serves (facts-of fs are)
-    (was-read IsCleanChannel (channel_command_of m.command m.params) k (channel-read m.command m.params text.params)
-    read))

@@ -18,8 +18,8 @@ use Rattle.drafts.specs.Lines.{go_on_line, pong_line}
 use Rattle.line_grammar.specs.Spelling.{is_text_octet}
 use Rattle.line_grammar.specs.Reading.{parameters, reading, with_command}
 use Rattle.commands.specs.Asked.{asked_of}
-use Rattle.commands.specs.Commands.{command_of}
-use Rattle.session_commands.specs.Session.{session_named, session_of}
+use Rattle.command_params.specs.Names.{named}
+use Rattle.commands.specs.Commands.{command_by, command_of}
 use Rattle.deeds.specs.Deeds.{effects}
 use Rattle.clean_records.specs.Clean.{AreCleanEffects, IsCleanDeed, IsCleanEffect, IsCleanHistory, IsCleanKind}
 use Rattle.clean_records.specs.Clean.{IsServing, IsText, is_own}
@@ -154,6 +154,6 @@ parted : (g : Settings) → AreCleanEffects (effects g (deed.Ended 1 Quit broken
 parted g are = no (are 0 (Answer go_on_line) (omega arith)).params
 
 ponged : (g : Settings) → AreCleanEffects (effects g [] (kind.Said 1 1 (Line piece_of_two))) → ⊥
-unfolding asked_of reading parameters with_command command_of session_named session_of
+unfolding asked_of reading parameters with_command command_of command_by named
 ponged g are =
     no (and_parts (list_all is_text_octet g.server) false (are 0 (Answer go_on_line) (omega arith)).params).1

@@ -10,6 +10,7 @@ pub mod Talks
 pub mod Queries
 pub mod Channels
 pub mod Modes
+pub mod Reading
 pub mod Rows
 pub mod Histories
 pub mod Answered

@@ -3,7 +3,6 @@ use Rattle.std.proofs.Common.{◌≡◌, ℕ, Bool, true, false, not, ◌||◌, 
 use Rattle.std.proofs.Common.{decimal, is_some, length, map, option_to_list, take, IfSome, Option, Some, None}
 use Rattle.std.proofs.Common.{refl, arith}
 use Rattle.std.specs.List.{AllByRecursion, list_any}
-use Rattle.std.specs.Str.{str_eq_ignore_ascii_case}
 use Rattle.std.proofs.lemmas.Bool.{and_from, and_parts, cond_both}
 use Rattle.line_grammar.specs.Spelling.{is_text_octet, needs_colon}
 use Rattle.channel_state.specs.declared.change.Change.TheVariants.{RankSet, FlagSet, KeySet, LimitSet, BanSet, BanLifted}
@@ -36,7 +35,7 @@ use Rattle.mode_commands.specs.Letters as letters_of
 use Rattle.mode_commands.specs.Lines.{key_told, letter_where, letters_after, letters_set, limit_told, mode_line}
 use Rattle.mode_commands.specs.Lines.{params_of}
 use Rattle.mode_commands.specs.Lines.{params_set, sign, sign_after}
-use Rattle.mode_commands.specs.Modes.{mode_command, mode_of, names_channel, of_channel, of_user, serves_mode}
+use Rattle.mode_commands.specs.Modes.{mode_command, names_channel, of_channel, of_user, serves_mode}
 use Rattle.mode_commands.specs.Parameters.{after_bang, completed, completed_by, has_octet, is_key, limit_of}
 use Rattle.mode_commands.specs.Steps.{agree, all_shown, ban_step, flag_of, flag_step, has_ban, has_key, has_limit}
 use Rattle.mode_commands.specs.Steps.{has_rank, key_given, key_lifted, key_set, key_step, limit_given, limit_lifted}
@@ -47,9 +46,8 @@ use Rattle.mode_commands.specs.UserModes.{hides, invisible_after, is_known, mode
 use Rattle.answer_octets.specs.Clean.{IsClean}
 use Rattle.answer_octets.proofs.Kept.{take-kept}
 use Rattle.clean_records.specs.Clean.{IsChannel, IsCleanChange, IsServing, IsText}
-use Rattle.clean_records.specs.Laws.{ModeCommandsAreClean}
-use Rattle.clean_records.proofs.Asking.{IfRead, IsCleanRead, was-read}
-use Rattle.clean_records.proofs.Effects.{Clean, IsTextNumeric, clean-effects, either, facts-of, from-session, joined}
+use Rattle.clean_records.proofs.Asking.{IsCleanRead}
+use Rattle.clean_records.proofs.Effects.{Clean, IsTextNumeric, either, from-session, joined}
 use Rattle.clean_records.proofs.Effects.{later, more, none, only, told, told_all, told_only}
 use Rattle.clean_records.proofs.Lists.{all-both, all-texts}
 use Rattle.clean_records.proofs.Lookups.{Facts, IfSeen, IsCleanSeen, nick-shown, seen-is}
@@ -436,15 +434,9 @@ if_a_user g fs s target changes (Some t) serves facts text =
 abbrev pub IsCleanModes : ModeCommand → Type 0
 IsCleanModes k = IsText k.target × AllByRecursion IsText k.changes
 
-pub mode-read : (n : List ℕ) (ps : List (List ℕ)) → AreTexts ps → IfRead IsCleanModes (mode_of n ps)
-unfolding mode_of
-mode-read n ps are =
-    cond_both (str_eq_ignore_ascii_case n (codes "MODE")) (Some (mode_command ps)) None (IfRead IsCleanModes)
-    (λ _. reads ps are) (λ _. tt)
-  where
-    reads : (qs : List (List ℕ)) → AreTexts qs → IsCleanRead IsCleanModes (mode_command qs)
-    reads [] all = refl
-    reads (target ∷ qs) all = all-texts (target ∷ qs) all
+pub reads_mode : (ps : List (List ℕ)) → AreTexts ps → IsCleanRead IsCleanModes (mode_command ps)
+reads_mode [] are = tt
+reads_mode (target ∷ ps) are = all-texts (target ∷ ps) are
 
 pub of_mode : (g : Settings) (fs : List Deed) (s : ℕ) (k : ModeCommand) → IsServing g → Facts fs → IsCleanModes k
     → Clean (serves_mode g fs s k)
@@ -453,8 +445,3 @@ of_mode g fs s k serves facts is =
     (of_user g fs s k.target k.changes (found fs k.target))
     (if_a_channel g fs s k.target k.changes (seen fs k.target) serves facts is.0 is.1 (seen-is fs k.target facts))
     (if_a_user g fs s k.target k.changes (found fs k.target) serves facts is.0)
-
-pub mode-commands : ModeCommandsAreClean
-mode-commands g fs s k m serves are text read =
-    clean-effects (serves_mode g fs s k) (of_mode g fs s k serves (facts-of fs are)
-    (was-read IsCleanModes (mode_of m.command m.params) k (mode-read m.command m.params text.params) read))

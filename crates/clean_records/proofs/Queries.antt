@@ -1,8 +1,7 @@
 -- What NAMES, LIST, WHO, WHOIS and MOTD are told.
 use Rattle.std.proofs.Common.{ℕ, Bool, true, false, List, [], ◌∷◌, ◌++◌, codes, decimal, map}
-use Rattle.std.proofs.Common.{length, flat_map, is_some, IfSome, Option, Some, None, Result, Err, refl}
+use Rattle.std.proofs.Common.{length, flat_map, is_some, IfSome, Option, Some, None, Err, refl}
 use Rattle.std.specs.List.{AllByRecursion}
-use Rattle.std.specs.Str.{str_eq_ignore_ascii_case}
 use Rattle.std.proofs.lemmas.Bool.{and_from, and_parts, cond_both}
 use Rattle.line_grammar.specs.Parts.{is_empty}
 use Rattle.casemapping.specs.Fold.{is_same}
@@ -18,7 +17,6 @@ use Rattle.roster.specs.declared.deed.Deed.{Deed}
 use Rattle.roster.specs.LookBack.{away, channels_on, found, nick}
 use Rattle.drafts.specs.Lines.{title}
 use Rattle.drafts.specs.Seen.{Seen, seen}
-use Rattle.command_params.specs.declared.fault.ReadFault.{ReadFault}
 use Rattle.command_params.specs.declared.fault.ReadFault.TheVariants.{NoNicknameGiven}
 use Rattle.command_params.specs.Lists.{list_given}
 use Rattle.query_commands.specs.declared.query.Query.{Query}
@@ -27,7 +25,7 @@ use Rattle.query_commands.specs.Listing.{channels_asked, listed, listed_seen, li
 use Rattle.query_commands.specs.Motd.{motd_asked}
 use Rattle.query_commands.specs.Names.{member_name, member_names, name_lines, names_asked, names_of, names_room}
 use Rattle.query_commands.specs.Names.{names_seen, names_told, rank_of}
-use Rattle.query_commands.specs.Query.{queries, query_of, told}
+use Rattle.query_commands.specs.Query.{queries, told}
 use Rattle.query_commands.specs.Visible.{channel_for, members_for, seen_by, sees}
 use Rattle.query_commands.specs.Who.{who_asked, who_of, who_seen}
 use Rattle.query_commands.specs.Whois.{away_told, channel_titles, channels_room, channels_told, nick_asked}
@@ -36,9 +34,8 @@ use Rattle.answer_octets.proofs.Blocks.{word-text}
 use Rattle.answer_octets.proofs.Kept.{spaced-kept}
 use Rattle.answer_octets.proofs.Names.{settings-server}
 use Rattle.clean_records.specs.Clean.{IsServing, IsText}
-use Rattle.clean_records.specs.Laws.{QueriesAreClean}
-use Rattle.clean_records.proofs.Asking.{IfRead, IsCleanRead, first-if_any, first-text, names-texts, was-read}
-use Rattle.clean_records.proofs.Effects.{Clean, IsTextNumeric, clean-effects, facts-of, told_all}
+use Rattle.clean_records.proofs.Asking.{IsCleanRead, first-text, names-texts}
+use Rattle.clean_records.proofs.Effects.{Clean, IsTextNumeric, told_all}
 use Rattle.clean_records.proofs.Lists.{all-both, all-flat, each-flat, each-map, texts-all, cut-texts}
 use Rattle.clean_records.proofs.Lookups.{Facts, IfSeen, IsCleanSeen, away-is, host-shown, nick-shown}
 use Rattle.clean_records.proofs.Lookups.{real-shown, seen-is, user-shown}
@@ -239,7 +236,7 @@ IsCleanQuery (query.Who n) = IfSome n IsText
 IsCleanQuery (query.Whois n) = IsText n
 IsCleanQuery (query.Motd server) = IfSome server IsText
 
-list-texts : (ps : List (List ℕ)) → AreTexts ps → IfSome (list_given ps) (AllByRecursion IsText)
+pub list-texts : (ps : List (List ℕ)) → AreTexts ps → IfSome (list_given ps) (AllByRecursion IsText)
 list-texts [] are = tt
 list-texts (p ∷ ps) are = names-texts p (and_parts _ _ are).0
 
@@ -248,21 +245,9 @@ asked-text [] are = refl
 asked-text (p ∷ []) are = (and_parts _ _ are).0
 asked-text (p ∷ q ∷ ps) are = first-text (q ∷ ps) (and_parts _ _ are).1
 
-reads_whois : (ps : List (List ℕ)) → AreTexts ps → IsCleanRead IsCleanQuery (whois_query ps)
+pub reads_whois : (ps : List (List ℕ)) → AreTexts ps → IsCleanRead IsCleanQuery (whois_query ps)
 reads_whois ps are = cond_both (is_empty (nick_asked ps)) (Err NoNicknameGiven) _ (IsCleanRead IsCleanQuery) (λ _. tt)
     (λ _. asked-text ps are)
-
-abbrev IfQuery : Option (Result Query ReadFault) → Type 0
-IfQuery o = IfRead IsCleanQuery o
-
-pub query-read : (n : List ℕ) (ps : List (List ℕ)) → AreTexts ps → IfQuery (query_of n ps)
-unfolding query_of
-query-read n ps are =
-    cond_both (str_eq_ignore_ascii_case n (codes "NAMES")) _ _ IfQuery (λ _. list-texts ps are)
-    (λ _. cond_both (str_eq_ignore_ascii_case n (codes "LIST")) _ _ IfQuery (λ _. tt)
-    (λ _. cond_both (str_eq_ignore_ascii_case n (codes "WHO")) _ _ IfQuery (λ _. first-if_any ps are)
-    (λ _. cond_both (str_eq_ignore_ascii_case n (codes "WHOIS")) _ _ IfQuery (λ _. reads_whois ps are)
-    (λ _. cond_both (str_eq_ignore_ascii_case n (codes "MOTD")) _ _ IfQuery (λ _. first-if_any ps are) (λ _. tt)))))
 
 -- ---- what each is told
 
@@ -277,8 +262,3 @@ told-clean g fs s (query.Motd server) serves facts is = motd-all g server serves
 pub of_query : (g : Settings) (fs : List Deed) (s : ℕ) (q : Query) → IsServing g → Facts fs → IsCleanQuery q
     → Clean (queries g fs s q)
 of_query g fs s q serves facts is = told_all g fs s (told g fs s q) serves facts (told-clean g fs s q serves facts is)
-
-pub query-commands : QueriesAreClean
-query-commands g fs s q m serves are text read =
-    clean-effects (queries g fs s q) (of_query g fs s q serves (facts-of fs are)
-    (was-read IsCleanQuery (query_of m.command m.params) q (query-read m.command m.params text.params) read))

@@ -13,77 +13,39 @@ use Rattle.roster.specs.declared.deed.Deed.{Deed}
 use Rattle.roster.specs.LookBack.{after, registered}
 use Rattle.drafts.specs.Effects.{deeds_of}
 use Rattle.drafts.specs.Replies.{tells}
+use Rattle.command_params.specs.Names.{name_text}
 use Rattle.command_params.specs.declared.fault.ReadFault.{ReadFault}
 use Rattle.command_params.specs.declared.fault.ReadFault.TheVariants.{UnknownCommand, NeedMoreParams}
 use Rattle.command_params.specs.declared.fault.ReadFault.TheVariants.{NoNicknameGiven, NoRecipient, NoTextToSend}
 use Rattle.command_params.specs.declared.fault.ReadFault.TheVariants.{NoOrigin, InvalidCapSubcommand, Memory}
 use Rattle.commands.specs.Asked.{asked_by, asked_of, read_as}
-use Rattle.commands.specs.Commands.{as_topic, by_name, command_of}
+use Rattle.commands.specs.Commands.{command_of}
 use Rattle.commands.specs.declared.asked.Asked.{Asked}
 use Rattle.commands.specs.declared.asked.Asked.TheVariants.{Nothing, TooLong, Command as Asks, Fault as Fails}
 use Rattle.commands.specs.declared.command.Command.{Command}
 use Rattle.commands.specs.declared.command.Command.TheVariants.{Session, Channel, Mode, Talk, Query}
 use Rattle.session_commands.specs.Registration.{completed}
-use Rattle.session_commands.specs.Session.{session_by_name}
-use Rattle.channel_commands.specs.Channel.{channel_command_of}
-use Rattle.mode_commands.specs.Modes.{mode_of}
-use Rattle.talk_commands.specs.Talk.{talk_of}
-use Rattle.query_commands.specs.Query.{query_of}
 use Rattle.deeds.specs.Deeds.{effects}
 use Rattle.deeds.specs.Rows.{asked, fault_numeric, is_for_registered, is_silent, of_asked, of_command, refused, served}
 use Rattle.deeds.specs.Rows.{turned_away}
-use Rattle.answer_octets.specs.Clean.{HasText, is_one_line}
+use Rattle.answer_octets.specs.Clean.{is_one_line}
 use Rattle.answer_octets.proofs.Pieces.{read-text}
 use Rattle.clean_records.specs.Clean.{IsCleanKind, IsServing}
 use Rattle.clean_records.specs.Laws.{RecordsAreClean}
-use Rattle.clean_records.proofs.Asking.{IfRead, IsCleanFault, IsCleanRead, command-text}
-use Rattle.clean_records.proofs.Channels.{IsCleanChannel, channel-read, of_channel}
+use Rattle.clean_records.proofs.Asking.{IsCleanFault}
+use Rattle.clean_records.proofs.Channels.{of_channel}
 use Rattle.clean_records.proofs.Effects.{Clean, clean-effects, either, facts-of, joined, later, none}
 use Rattle.clean_records.proofs.Effects.{told_only}
 use Rattle.clean_records.proofs.Lookups.{Facts}
-use Rattle.clean_records.proofs.Modes.{IsCleanModes, mode-read, of_mode}
+use Rattle.clean_records.proofs.Modes.{of_mode}
 use Rattle.clean_records.proofs.Own.{own}
-use Rattle.clean_records.proofs.Queries.{IsCleanQuery, of_query, query-read}
-use Rattle.clean_records.proofs.Sessions.{IsCleanSession, completing, of_session, session-read}
-use Rattle.clean_records.proofs.Talks.{IsCleanCommand as IsCleanTalk, of_talk, talk-read}
+use Rattle.clean_records.proofs.Queries.{of_query}
+use Rattle.clean_records.proofs.Reading.{IsCleanCommand, IsReadCommand, command-read, name-is_text}
+use Rattle.clean_records.proofs.Sessions.{completing, of_session}
+use Rattle.clean_records.proofs.Talks.{of_talk}
 use Rattle.clean_records.proofs.Texts.{both, one}
 
 -- ---- what is read
-
-abbrev IsCleanCommand : Command → Type 0
-IsCleanCommand (Session k) = IsCleanSession k
-IsCleanCommand (Channel k) = IsCleanChannel k
-IsCleanCommand (Mode k) = IsCleanModes k
-IsCleanCommand (Talk k) = IsCleanTalk k
-IsCleanCommand (Query q) = IsCleanQuery q
-
-abbrev IsReadCommand : Result Command ReadFault → Type 0
-IsReadCommand read = IsCleanRead IsCleanCommand read
-
-as-topic : {K : Type 0} (P : K → Type 0) (topic : K → Command) (read : Result K ReadFault)
-    → ((k : K) → P k → IsCleanCommand (topic k)) → IsCleanRead P read → IsReadCommand (as_topic topic read)
-as-topic P topic (Ok k) f is = f k is
-as-topic P topic (Err fault) f is = is
-
-by-name : {K : Type 0} (P : K → Type 0) (topic : K → Command) (o : Option (Result K ReadFault))
-    (other : Result Command ReadFault) → ((k : K) → P k → IsCleanCommand (topic k)) → IfRead P o
-    → IsReadCommand other → IsReadCommand (by_name topic o other)
-by-name P topic None other f is less = less
-by-name P topic (Some read) other f is less = as-topic P topic read f is
-
-command-read : (m : Message) → HasText m → IsReadCommand (command_of m)
-unfolding command_of
-command-read m text =
-    by-name IsCleanSession Session (session_by_name m.command m.params) _ (λ k is. is)
-    (session-read m.command m.params text.params)
-    (by-name IsCleanChannel Channel (channel_command_of m.command m.params) _ (λ k is. is)
-    (channel-read m.command m.params text.params)
-    (by-name IsCleanModes Mode (mode_of m.command m.params) _ (λ k is. is)
-    (mode-read m.command m.params text.params)
-    (by-name IsCleanTalk Talk (talk_of m.command m.tags m.params) _ (λ k is. is)
-    (talk-read m.command m.tags m.params text.tags text.params)
-    (by-name IsCleanQuery Query (query_of m.command m.params) _ (λ k is. is)
-    (query-read m.command m.params text.params) (command-text m.command text.command)))))
 
 abbrev IsCleanAsked : Asked → Type 0
 IsCleanAsked Nothing = Unit {0}
@@ -137,12 +99,15 @@ refusing : (g : Settings) (fs : List Deed) (s : ℕ) (fault : ReadFault) → IsS
 refusing g fs s (UnknownCommand name) serves facts is =
     told_only g fs s (numeric.UnknownCommand name) serves facts (record { words = one name is; text = refl })
 refusing g fs s (NeedMoreParams command) serves facts is =
-    told_only g fs s (numeric.NeedMoreParams command) serves facts (record { words = one command is; text = refl })
+    let name = name_text command in
+    told_only g fs s (numeric.NeedMoreParams name) serves facts
+    (record { words = one name (name-is_text command); text = refl })
 refusing g fs s NoNicknameGiven serves facts is =
     told_only g fs s numeric.NoNicknameGiven serves facts (record { words = refl; text = refl })
 refusing g fs s (NoRecipient command) serves facts is =
-    told_only g fs s (numeric.NoRecipient command) serves facts
-    (record { words = refl; text = both command (codes ")" ++ []) is refl })
+    let name = name_text command in
+    told_only g fs s (numeric.NoRecipient name) serves facts
+    (record { words = refl; text = both name (codes ")" ++ []) (name-is_text command) refl })
 refusing g fs s NoTextToSend serves facts is =
     told_only g fs s numeric.NoTextToSend serves facts (record { words = refl; text = refl })
 refusing g fs s NoOrigin serves facts is =

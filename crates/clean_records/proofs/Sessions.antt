@@ -52,14 +52,12 @@ use Rattle.session_commands.specs.declared.session.CapSubcommand.{CapSubcommand}
 use Rattle.session_commands.specs.declared.session.CapSubcommand.TheVariants.{Ls, List as ListCaps, Req, End}
 use Rattle.session_commands.specs.declared.session.SessionCommand.{SessionCommand}
 use Rattle.session_commands.specs.declared.session.SessionCommand.TheVariants as session
-use Rattle.session_commands.specs.declared.session.SessionName.{SessionName}
-use Rattle.session_commands.specs.declared.session.SessionName.TheVariants as name
 use Rattle.session_commands.specs.Negotiation.{authenticates, cap_list, cap_text, closes, lists, negotiates}
 use Rattle.session_commands.specs.Negotiation.{requested, sasl_answered, waits}
 use Rattle.session_commands.specs.Registration.{aborts, completed, enrolls, is_held, nick_answered, passes}
 use Rattle.session_commands.specs.Registration.{registers, renames, shows_nick, takes_nick, user_answered}
-use Rattle.session_commands.specs.Session.{cap_req, cap_subcommand, is_user_octet, named_or_not}
-use Rattle.session_commands.specs.Session.{serves_session, session_by_name, session_named, session_of}
+use Rattle.session_commands.specs.Session.{authenticate_command, cap_command, cap_req, cap_subcommand, is_user_octet}
+use Rattle.session_commands.specs.Session.{nick_command, pass_command, ping_command, serves_session}
 use Rattle.session_commands.specs.Session.{told, user_command, user_name}
 use Rattle.session_commands.specs.Welcome.{support_numerics, welcome_numerics}
 use Rattle.answer_octets.specs.Clean.{IsClean, IsMoment, IsWordOf}
@@ -69,13 +67,13 @@ use Rattle.answer_octets.proofs.Lines.{value-word}
 use Rattle.answer_octets.proofs.Moments.{moment-value}
 use Rattle.answer_octets.proofs.Names.{settings-server}
 use Rattle.clean_records.specs.Clean.{IsCleanEffect, IsNick, IsServing, IsText}
-use Rattle.clean_records.specs.Laws.{SessionCommandsAreClean, WelcomesAreClean}
+use Rattle.clean_records.specs.Laws.{WelcomesAreClean}
 use Rattle.clean_records.proofs.Effects.{Clean, IsTextNumeric, clean-effects, either, facts-of, from-server}
 use Rattle.clean_records.proofs.Effects.{from-session}
 use Rattle.clean_records.proofs.Effects.{joined, later, more, none, only, told as tells-clean, told_all, told_only}
 use Rattle.clean_records.proofs.Lists.{all-both, all-texts, cut-texts, find-is}
 use Rattle.clean_records.proofs.Lookups.{Facts, nick-shown, prefix-shown}
-use Rattle.clean_records.proofs.Asking.{IfRead, IsCleanRead, first-text, present-parts, was-read}
+use Rattle.clean_records.proofs.Asking.{IsCleanRead, first-text, present-parts}
 use Rattle.clean_records.proofs.Texts.{AreTexts, both, filter-passes, high-word, nick-text, one, take-short, texts-map}
 use Rattle.clean_records.proofs.Texts.{two}
 
@@ -284,7 +282,7 @@ IsCleanSession (session.Ping token) = IsText token
 IsCleanSession (session.Quit text) = IsText text
 IsCleanSession k = Unit {0}
 
-abbrev IsReadSession : Result SessionCommand ReadFault → Type 0
+abbrev pub IsReadSession : Result SessionCommand ReadFault → Type 0
 IsReadSession read = IsCleanRead IsCleanSession read
 
 reads_cap : (sub : List ℕ) (ps : List (List ℕ)) → IsText sub → AreTexts ps → IsReadSession (cap_subcommand sub ps)
@@ -295,7 +293,7 @@ reads_cap sub ps is are =
     (λ _. cond_both (str_eq_ignore_ascii_case sub (codes "END")) _ _ IsReadSession (λ _. tt) (λ _. is))))
   where
     reads_req : (qs : List (List ℕ)) → AreTexts qs → IsReadSession (cap_req qs)
-    reads_req [] all = refl
+    reads_req [] all = tt
     reads_req (list ∷ qs) all = present-parts is_space list (and_parts _ _ all).0
 
 user-octet : (b : ℕ) → is_user_octet b ≡ true → is_word_octet b ≡ true
@@ -311,39 +309,36 @@ user-word u = record {
 
 reads_user : (u real : List ℕ) → IsText real → IsReadSession (told u real)
 reads_user u real is =
-    cond_both (is_empty (user_name u)) _ _ IsReadSession (λ _. refl)
+    cond_both (is_empty (user_name u)) _ _ IsReadSession (λ _. tt)
     (λ _. (user-word u, take-kept is_text_octet 100 real is))
 
-reads_user_of : (ps : List (List ℕ)) → AreTexts ps → IsReadSession (user_command ps)
-reads_user_of [] are = refl
-reads_user_of (u ∷ []) are = refl
-reads_user_of (u ∷ m ∷ []) are = refl
-reads_user_of (u ∷ m ∷ n ∷ []) are = refl
+pub reads_user_of : (ps : List (List ℕ)) → AreTexts ps → IsReadSession (user_command ps)
+reads_user_of [] are = tt
+reads_user_of (u ∷ []) are = tt
+reads_user_of (u ∷ m ∷ []) are = tt
+reads_user_of (u ∷ m ∷ n ∷ []) are = tt
 reads_user_of (u ∷ m ∷ n ∷ real ∷ ps) are =
     reads_user u real (all-texts (u ∷ m ∷ n ∷ real ∷ ps) are).1.1.1.0
 
-reads_session : (n : SessionName) (ps : List (List ℕ)) → AreTexts ps → IsReadSession (session_of n ps)
-unfolding session_of
-reads_session name.Quit ps are = first-text ps are
-reads_session name.Cap [] are = refl
-reads_session name.Cap (sub ∷ ps) are = let parts = and_parts _ _ are in reads_cap sub ps parts.0 parts.1
-reads_session name.Authenticate [] are = refl
-reads_session name.Authenticate (piece ∷ ps) are = tt
-reads_session name.Pass [] are = refl
-reads_session name.Pass (password ∷ ps) are = tt
-reads_session name.Nick ps are =
+pub reads_cap_of : (ps : List (List ℕ)) → AreTexts ps → IsReadSession (cap_command ps)
+reads_cap_of [] are = tt
+reads_cap_of (sub ∷ ps) are = let parts = and_parts _ _ are in reads_cap sub ps parts.0 parts.1
+
+pub reads_authenticate : (ps : List (List ℕ)) → IsReadSession (authenticate_command ps)
+reads_authenticate [] = tt
+reads_authenticate (piece ∷ ps) = tt
+
+pub reads_pass : (ps : List (List ℕ)) → IsReadSession (pass_command ps)
+reads_pass [] = tt
+reads_pass (password ∷ ps) = tt
+
+pub reads_nick : (ps : List (List ℕ)) → AreTexts ps → IsReadSession (nick_command ps)
+reads_nick ps are =
     cond_both (is_empty (first_or_empty ps)) (Err NoNicknameGiven) _ IsReadSession (λ _. tt) (λ _. first-text ps are)
-reads_session name.User ps are = reads_user_of ps are
-reads_session name.Ping ps are =
+
+pub reads_ping : (ps : List (List ℕ)) → AreTexts ps → IsReadSession (ping_command ps)
+reads_ping ps are =
     cond_both (is_empty (first_or_empty ps)) (Err NoOrigin) _ IsReadSession (λ _. tt) (λ _. first-text ps are)
-reads_session name.Pong ps are = tt
-
-named-session : (o : Option SessionName) (ps : List (List ℕ)) → AreTexts ps → IfRead IsCleanSession (named_or_not o ps)
-named-session None ps are = tt
-named-session (Some n) ps are = reads_session n ps are
-
-pub session-read : (n : List ℕ) (ps : List (List ℕ)) → AreTexts ps → IfRead IsCleanSession (session_by_name n ps)
-session-read n ps are = named-session (session_named n) ps are
 
 -- ---- what each does
 
@@ -359,12 +354,6 @@ of_session g fs s (session.Ping token) serves facts is = only (Answer (pong_line
     (ponging g token serves is)
 of_session g fs s session.Pong serves facts is = none
 of_session g fs s (session.Quit text) serves facts is = only (Establish (deed.Ended s Quit text)) is
-
-pub session-commands : SessionCommandsAreClean
-session-commands g fs s k m serves are text read =
-    clean-effects (serves_session g fs s k) (of_session g fs s k serves (facts-of fs are)
-    (was-read IsCleanSession (session_by_name m.command m.params) k
-    (session-read m.command m.params text.params) read))
 
 -- ---- the welcome
 

@@ -4,7 +4,6 @@ use Rattle.std.proofs.Common.{codes, filter, length, slice_index_or, flat_map, i
 use Rattle.std.proofs.Common.{Some, None, Result, refl, arith, ◌≤◌}
 use Rattle.std.specs.Bool.{if◌then◌else◌}
 use Rattle.std.specs.List.{AllByRecursion, list_all}
-use Rattle.std.specs.Str.{str_eq_ignore_ascii_case}
 use Rattle.std.proofs.lemmas.Bool.{and_from, and_parts, cond_both}
 use Rattle.line_grammar.specs.Parts.{is_empty}
 use Rattle.line_grammar.specs.Reading.{is_command}
@@ -34,16 +33,15 @@ use Rattle.talk_commands.specs.declared.verb.Verb.TheVariants as verb
 use Rattle.talk_commands.specs.Away.{away_answer, goes_away, kept, notified}
 use Rattle.talk_commands.specs.Lines.{Sent, sent_line, verb_text}
 use Rattle.talk_commands.specs.Talk.{notice_command, privmsg_command, relayed, second_or_empty, serves_talk}
-use Rattle.talk_commands.specs.Talk.{tagmsg_command, talk_of}
+use Rattle.talk_commands.specs.Talk.{tagmsg_command}
 use Rattle.talk_commands.specs.Talking.{answers, delivers, echoes, keeps, may_speak, names_channel, reaches, sends}
 use Rattle.talk_commands.specs.Talking.{tells_away, to_channel, to_one, to_open, to_user}
 use Rattle.answer_octets.specs.Clean.{IsClean, IsRelayed, is_no_nul}
 use Rattle.answer_octets.proofs.Kept.{take-kept}
 use Rattle.answer_octets.proofs.Relayed.{relayed-clients}
 use Rattle.clean_records.specs.Clean.{IsChannel, IsServing, IsText}
-use Rattle.clean_records.specs.Laws.{TalkCommandsAreClean}
-use Rattle.clean_records.proofs.Asking.{IfRead, IsCleanRead, first-text, names-texts, was-read}
-use Rattle.clean_records.proofs.Effects.{Clean, IsTextNumeric, clean-effects, either, facts-of, from-session, joined}
+use Rattle.clean_records.proofs.Asking.{IsCleanRead, first-text, names-texts}
+use Rattle.clean_records.proofs.Effects.{Clean, IsTextNumeric, either, from-session, joined}
 use Rattle.clean_records.proofs.Effects.{more}
 use Rattle.clean_records.proofs.Effects.{none, of_all, only, some_shown, told, told_only}
 use Rattle.clean_records.proofs.Lookups.{Facts, away-is, name_of-is, nick-shown}
@@ -196,15 +194,13 @@ going_away g fs s text serves facts is =
 
 -- ---- what is read
 
-pub record IsCleanTalk (names : List (List ℕ)) (words passed : List ℕ) : Type 0 where
+pub record IsCleanTalk (names : List (List ℕ)) (words : Option (List ℕ)) (passed : List ℕ) : Type 0 where
   pub targets : AllByRecursion IsText names
-  pub text : IsText words
+  pub text : IfSome words IsText
   pub tags : IsRelayed passed
 
 abbrev pub IsCleanCommand : TalkCommand → Type 0
-IsCleanCommand (talk.Privmsg targets text tags) = IsCleanTalk targets text tags
-IsCleanCommand (talk.Notice targets text tags) = IsCleanTalk targets text tags
-IsCleanCommand (talk.Tagmsg targets tags) = IsCleanTalk targets [] tags
+IsCleanCommand (talk.Send v targets text tags) = IsCleanTalk targets text tags
 IsCleanCommand (talk.Away text) = IsText text
 
 abbrev IsReadTalk : Result TalkCommand ReadFault → Type 0
@@ -224,65 +220,41 @@ second-text [] are = refl
 second-text (p ∷ ps) are = first-text ps (and_parts _ _ are).1
 
 sent-read : (tags : List ℕ) (ps : List (List ℕ)) → list_all is_word_octet tags ≡ true → AreTexts ps
-    → IsCleanTalk (names_of (first_or_empty ps)) (second_or_empty ps) (relayed tags)
+    → IsCleanTalk (names_of (first_or_empty ps)) (Some (second_or_empty ps)) (relayed tags)
 sent-read tags ps words are = record {
   targets = names-texts (first_or_empty ps) (first-text ps are);
   text = second-text ps are;
   tags = relayed-is tags words;
 }
 
-reads_privmsg : (tags : List ℕ) (ps : List (List ℕ)) → list_all is_word_octet tags ≡ true → AreTexts ps
+pub reads_privmsg : (tags : List ℕ) (ps : List (List ℕ)) → list_all is_word_octet tags ≡ true → AreTexts ps
     → IsReadTalk (privmsg_command tags ps)
 reads_privmsg tags ps words are =
-    cond_both (is_empty (first_or_empty ps)) _ _ IsReadTalk (λ _. refl)
+    cond_both (is_empty (first_or_empty ps)) _ _ IsReadTalk (λ _. tt)
     (λ _. cond_both (is_empty (second_or_empty ps)) _ _ IsReadTalk (λ _. tt) (λ _. sent-read tags ps words are))
 
-reads_notice : (tags : List ℕ) (ps : List (List ℕ)) → list_all is_word_octet tags ≡ true → AreTexts ps
+pub reads_notice : (tags : List ℕ) (ps : List (List ℕ)) → list_all is_word_octet tags ≡ true → AreTexts ps
     → IsReadTalk (notice_command tags ps)
 reads_notice tags ps words are =
     cond_both (is_empty (first_or_empty ps) || is_empty (second_or_empty ps)) _ _ IsReadTalk
     (λ _. record { targets = tt; text = refl; tags = record { words = refl; clients = refl } })
     (λ _. sent-read tags ps words are)
 
-reads_tagmsg : (tags : List ℕ) (ps : List (List ℕ)) → list_all is_word_octet tags ≡ true → AreTexts ps
+pub reads_tagmsg : (tags : List ℕ) (ps : List (List ℕ)) → list_all is_word_octet tags ≡ true → AreTexts ps
     → IsReadTalk (tagmsg_command tags ps)
 reads_tagmsg tags ps words are =
-    cond_both (is_empty (first_or_empty ps)) _ _ IsReadTalk (λ _. refl)
+    cond_both (is_empty (first_or_empty ps)) _ _ IsReadTalk (λ _. tt)
     (λ _. record {
       targets = names-texts (first_or_empty ps) (first-text ps are);
-      text = refl;
+      text = tt;
       tags = relayed-is tags words;
     })
-
-abbrev IfTalk : Option (Result TalkCommand ReadFault) → Type 0
-IfTalk o = IfRead IsCleanCommand o
-
-pub talk-read : (n tags : List ℕ) (ps : List (List ℕ)) → list_all is_word_octet tags ≡ true → AreTexts ps
-    → IfTalk (talk_of n tags ps)
-unfolding talk_of
-talk-read n tags ps words are =
-    cond_both (str_eq_ignore_ascii_case n (codes "PRIVMSG")) _ _ IfTalk (λ _. reads_privmsg tags ps words are)
-    (λ _. cond_both (str_eq_ignore_ascii_case n (codes "NOTICE")) _ _ IfTalk (λ _. reads_notice tags ps words are)
-    (λ _. cond_both (str_eq_ignore_ascii_case n (codes "TAGMSG")) _ _ IfTalk (λ _. reads_tagmsg tags ps words are)
-    (λ _. cond_both (str_eq_ignore_ascii_case n (codes "AWAY")) _ _ IfTalk (λ _. first-text ps are) (λ _. tt))))
 
 -- ---- what each does
 
 pub of_talk : (g : Settings) (fs : List Deed) (s : ℕ) (k : TalkCommand) → IsServing g → Facts fs → IsCleanCommand k
     → Clean (serves_talk g fs s k)
-of_talk g fs s (talk.Privmsg targets text tags) serves facts is = sending g fs s
-    (record { verb = verb.Privmsg; text = Some text; tags = tags }) targets serves facts
+of_talk g fs s (talk.Send v targets text tags) serves facts is = sending g fs s
+    (record { verb = v; text = text; tags = tags }) targets serves facts
     (record { text = is.text; tags = is.tags }) is.targets
-of_talk g fs s (talk.Notice targets text tags) serves facts is = sending g fs s
-    (record { verb = verb.Notice; text = Some text; tags = tags }) targets serves facts
-    (record { text = is.text; tags = is.tags }) is.targets
-of_talk g fs s (talk.Tagmsg targets tags) serves facts is = sending g fs s
-    (record { verb = verb.Tagmsg; text = None; tags = tags }) targets serves facts
-    (record { text = tt; tags = is.tags }) is.targets
 of_talk g fs s (talk.Away text) serves facts is = going_away g fs s text serves facts is
-
-pub talk-commands : TalkCommandsAreClean
-talk-commands g fs s k m serves are text read =
-    clean-effects (serves_talk g fs s k) (of_talk g fs s k serves (facts-of fs are)
-    (was-read IsCleanCommand (talk_of m.command m.tags m.params) k
-    (talk-read m.command m.tags m.params text.tags text.params) read))

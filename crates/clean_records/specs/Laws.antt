@@ -11,15 +11,17 @@ use Rattle.roster.specs.LookBack.{caps}
 use Rattle.drafts.specs.Effects.{copies, reply}
 use Rattle.session_commands.specs.declared.session.SessionCommand.{SessionCommand}
 use Rattle.session_commands.specs.Registration.{completed}
-use Rattle.session_commands.specs.Session.{serves_session, session_by_name}
+use Rattle.session_commands.specs.Session.{serves_session}
 use Rattle.channel_commands.specs.declared.channel.ChannelCommand.{ChannelCommand}
-use Rattle.channel_commands.specs.Channel.{channel_command_of, serves_channel}
+use Rattle.channel_commands.specs.Channel.{serves_channel}
 use Rattle.mode_commands.specs.declared.modes.ModeCommand.{ModeCommand}
-use Rattle.mode_commands.specs.Modes.{mode_of, serves_mode}
+use Rattle.mode_commands.specs.Modes.{serves_mode}
 use Rattle.talk_commands.specs.declared.talk.TalkCommand.{TalkCommand}
-use Rattle.talk_commands.specs.Talk.{serves_talk, talk_of}
+use Rattle.talk_commands.specs.Talk.{serves_talk}
 use Rattle.query_commands.specs.declared.query.Query.{Query}
-use Rattle.query_commands.specs.Query.{queries, query_of}
+use Rattle.query_commands.specs.Query.{queries}
+use Rattle.commands.specs.Commands.{command_of}
+use Rattle.commands.specs.declared.command.Command.TheVariants.{Session, Channel, Mode, Talk, Query as Asks}
 use Rattle.deeds.specs.Deeds.{effects, facts, label_in, lines, text}
 use Rattle.deeds.specs.Ping.{ping_line}
 use Rattle.answer_octets.specs.Clean.{HasText, IsClean, IsCleanAnswer, IsMoment}
@@ -37,7 +39,7 @@ OwnRecordsAreClean = (g : Settings) (fs : List Deed) (k : Kind) → AreClean fs 
 
 abbrev pub SessionCommandsAreClean : Type 0
 SessionCommandsAreClean = (g : Settings) (fs : List Deed) (s : ℕ) (k : SessionCommand) (m : Message) → IsServing g
-    → AreClean fs → HasText m → session_by_name m.command m.params ≡ Some (Ok k)
+    → AreClean fs → HasText m → command_of m ≡ Ok (Session k)
     → AreCleanEffects (serves_session g fs s k)
 
 -- and the welcome that follows where a session is complete
@@ -47,21 +49,21 @@ WelcomesAreClean = (g : Settings) (fs : List Deed) (s : ℕ) → IsServing g →
 
 abbrev pub TalkCommandsAreClean : Type 0
 TalkCommandsAreClean = (g : Settings) (fs : List Deed) (s : ℕ) (k : TalkCommand) (m : Message) → IsServing g
-    → AreClean fs → HasText m → talk_of m.command m.tags m.params ≡ Some (Ok k)
+    → AreClean fs → HasText m → command_of m ≡ Ok (Talk k)
     → AreCleanEffects (serves_talk g fs s k)
 
 abbrev pub ChannelCommandsAreClean : Type 0
 ChannelCommandsAreClean = (g : Settings) (fs : List Deed) (s : ℕ) (k : ChannelCommand) (m : Message) → IsServing g
-    → AreClean fs → HasText m → channel_command_of m.command m.params ≡ Some (Ok k)
+    → AreClean fs → HasText m → command_of m ≡ Ok (Channel k)
     → AreCleanEffects (serves_channel g fs s k)
 
 abbrev pub ModeCommandsAreClean : Type 0
 ModeCommandsAreClean = (g : Settings) (fs : List Deed) (s : ℕ) (k : ModeCommand) (m : Message) → IsServing g
-    → AreClean fs → HasText m → mode_of m.command m.params ≡ Some (Ok k) → AreCleanEffects (serves_mode g fs s k)
+    → AreClean fs → HasText m → command_of m ≡ Ok (Mode k) → AreCleanEffects (serves_mode g fs s k)
 
 abbrev pub QueriesAreClean : Type 0
 QueriesAreClean = (g : Settings) (fs : List Deed) (s : ℕ) (q : Query) (m : Message) → IsServing g → AreClean fs
-    → HasText m → query_of m.command m.params ≡ Some (Ok q) → AreCleanEffects (queries g fs s q)
+    → HasText m → command_of m ≡ Ok (Asks q) → AreCleanEffects (queries g fs s q)
 
 -- ---- any record, and any history
 

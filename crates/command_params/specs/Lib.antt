@@ -1,3 +1,4 @@
 pub mod Lists
 pub mod ListSteps
+pub mod Names
 pub mod Params

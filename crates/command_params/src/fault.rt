@@ -36,11 +36,9 @@ impl From<AllocError> for ReadFault {
     }
 }
 
-/// 461: too few parameters for the command of this name.
-pub fn needs_more(command: &'static [u8]) -> ReadFault
-    ensures { result ≡ NeedMoreParams command.now }
+/// 461: too few parameters for a command.
+pub fn needs_more(command: CommandName) -> ReadFault
+    ensures { result ≡ NeedMoreParams command }
 {
-    ReadFault::NeedMoreParams {
-        command: CommandName::new(command),
-    }
+    ReadFault::NeedMoreParams { command }
 }

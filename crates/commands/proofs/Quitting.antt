@@ -1,6 +1,6 @@
 -- A command asks to quit exactly where the piece does from which it is read.
-use Rattle.std.proofs.Common.{◌≡◌, ℕ, Bool, true, false, ◌&&◌, cond, List, [], ◌∷◌, codes}
-use Rattle.std.proofs.Common.{Option, Some, None, Result, Ok, Err, refl, inl, inr}
+use Rattle.std.proofs.Common.{◌≡◌, Bool, true, false, not, ◌&&◌, List, [], ◌∷◌, drop, codes}
+use Rattle.std.proofs.Common.{Option, Some, None, Result, Ok, Err, refl, sym, ap, ◌∙◌, inl, inr}
 use Rattle.std.specs.List.{find, list_all}
 use Rattle.std.specs.Str.{str_eq_ignore_ascii_case}
 use Rattle.std.proofs.lemmas.Bool.{cases_Bool}
@@ -9,96 +9,79 @@ use Rattle.line_grammar.specs.declared.splitter.Piece.{Piece}
 use Rattle.line_grammar.specs.declared.splitter.Piece.TheVariants.{Line, TooLong}
 use Rattle.line_grammar.specs.Reading.{reading}
 use Rattle.chronicle.specs.History.{asks_to_quit, is_quit}
+use Rattle.command_params.specs.declared.name.CommandName.{CommandName}
+use Rattle.command_params.specs.declared.name.CommandName.TheVariants as name
 use Rattle.command_params.specs.declared.fault.ReadFault.{ReadFault}
-use Rattle.command_params.specs.declared.fault.ReadFault.TheVariants.{UnknownCommand}
-use Rattle.command_params.specs.Params.{first_or_empty}
-use Rattle.line_grammar.specs.Parts.{is_empty}
-use Rattle.query_commands.specs.Query.{query_of}
+use Rattle.command_params.specs.Names.{all_names, name_text, named}
 use Rattle.commands.specs.declared.command.Command.{Command}
 use Rattle.commands.specs.declared.command.Command.TheVariants as topic
 use Rattle.session_commands.specs.declared.session.SessionCommand.{SessionCommand}
-use Rattle.session_commands.specs.declared.session.SessionName.{SessionName}
-use Rattle.session_commands.specs.declared.session.SessionName.TheVariants.{Cap, Authenticate, Pass, Nick, User}
-use Rattle.session_commands.specs.declared.session.SessionName.TheVariants.{Ping, Pong, Quit}
-use Rattle.session_commands.specs.Session.{user_name, cap_req, cap_subcommand, user_command}
-use Rattle.session_commands.specs.Session.{named_or_not, session_named, session_of, session_text}
-use Rattle.channel_commands.specs.Channel.{channel_command_of}
-use Rattle.mode_commands.specs.Modes.{mode_of}
-use Rattle.talk_commands.specs.Talk.{talk_of}
-use Rattle.commands.specs.Commands.{as_topic, by_name, command_of}
-use Rattle.commands.specs.Asked.{read_as, asked_by, asked_of, asks_for_quit, is_quit_command}
+use Rattle.session_commands.specs.declared.session.SessionCommand.TheVariants as session
+use Rattle.channel_commands.specs.declared.channel.ChannelCommand.{ChannelCommand}
+use Rattle.channel_commands.specs.declared.channel.ChannelCommand.TheVariants as channel
+use Rattle.talk_commands.specs.declared.talk.TalkCommand.{TalkCommand}
+use Rattle.talk_commands.specs.declared.talk.TalkCommand.TheVariants as talk
+use Rattle.talk_commands.specs.declared.verb.Verb.{Verb}
+use Rattle.talk_commands.specs.declared.verb.Verb.TheVariants as verb
+use Rattle.talk_commands.specs.Lines.{verb_name}
+use Rattle.query_commands.specs.declared.query.Query.{Query}
+use Rattle.query_commands.specs.declared.query.Query.TheVariants as query
+use Rattle.commands.specs.Asked.{read_as, asked_by, asked_of, asks_for_quit, is_quit_command, is_quit_of_session}
+use Rattle.commands.specs.Commands.{by_name, command_by, command_of}
+use Rattle.commands.specs.Named.{HasName, channel_name, name_of, query_name, session_name, talk_name}
+use Rattle.commands.proofs.Named.{none-misnamed}
 
 -- whether it was read as QUIT
 abbrev is_quit_read : Result Command ReadFault → Bool
 is_quit_read r = asks_for_quit (read_as r)
 
--- ---- topics without QUIT
+-- ---- only QUIT is named so
 
-by_other : {K : Type 0} (topic : K → Command) (o : Option (Result K ReadFault)) (other : Result Command ReadFault)
-    → ((k : K) → is_quit_command (topic k) ≡ false) → is_quit_read other ≡ false
-    → is_quit_read (by_name topic o other) ≡ false
-by_other topic None other never e = e
-by_other topic (Some (Ok k)) other never e = never k
-by_other topic (Some (Err fault)) other never e = refl
+abbrev is_quit_name : CommandName → Bool
+is_quit_name name.Quit = true
+is_quit_name other = false
 
-abbrev elsewhere : Message → Result Command ReadFault
-elsewhere m =
-    by_name topic.Channel (channel_command_of m.command m.params)
-    (by_name topic.Mode (mode_of m.command m.params)
-    (by_name topic.Talk (talk_of m.command m.tags m.params)
-    (by_name topic.Query (query_of m.command m.params) (Err (UnknownCommand m.command)))))
+of_session : (k : SessionCommand) → is_quit_of_session k ≡ is_quit_name (session_name k)
+of_session (session.Quit text) = refl
+of_session _ = refl
 
-no_quit_elsewhere : (m : Message) → is_quit_read (elsewhere m) ≡ false
-no_quit_elsewhere m =
-    by_other topic.Channel (channel_command_of m.command m.params) _ (λ k. refl)
-    (by_other topic.Mode (mode_of m.command m.params) _ (λ k. refl)
-    (by_other topic.Talk (talk_of m.command m.tags m.params) _ (λ k. refl)
-    (by_other topic.Query (query_of m.command m.params) _ (λ k. refl) refl)))
+of_channel : (k : ChannelCommand) → false ≡ is_quit_name (channel_name k)
+of_channel (channel.Join targets) = refl
+of_channel _ = refl
 
--- ---- the session's own
+of_verb : (v : Verb) → false ≡ is_quit_name (verb_name v)
+of_verb verb.Privmsg = refl
+of_verb _ = refl
 
-abbrev is_quit_of : Result SessionCommand ReadFault → Bool
-is_quit_of r = is_quit_read (as_topic topic.Session r)
+of_talk : (k : TalkCommand) → false ≡ is_quit_name (talk_name k)
+of_talk (talk.Send v targets text tags) = of_verb v
+of_talk (talk.Away text) = refl
 
-either : (b : Bool) (j k : Result SessionCommand ReadFault) → is_quit_of j ≡ false → is_quit_of k ≡ false
-    → is_quit_of (cond b j k) ≡ false
-either true j k e f = e
-either false j k e f = f
+of_query : (q : Query) → false ≡ is_quit_name (query_name q)
+of_query (query.Names channels) = refl
+of_query _ = refl
 
-no_cap_req : (ps : List (List ℕ)) → is_quit_of (cap_req ps) ≡ false
-no_cap_req [] = refl
-no_cap_req (list ∷ ps) = refl
+of_command : (k : Command) → is_quit_command k ≡ is_quit_name (name_of k)
+of_command (topic.Session k) = of_session k
+of_command (topic.Channel k) = of_channel k
+of_command (topic.Mode k) = refl
+of_command (topic.Talk k) = of_talk k
+of_command (topic.Query q) = of_query q
 
-no_cap : (sub : List ℕ) (ps : List (List ℕ)) → is_quit_of (cap_subcommand sub ps) ≡ false
-no_cap sub ps =
-    let is : List ℕ → Bool = str_eq_ignore_ascii_case sub in
-    either (is (codes "LS")) _ _ refl (either (is (codes "LIST")) _ _ refl
-    (either (is (codes "REQ")) (cap_req ps) _ (no_cap_req ps) (either (is (codes "END")) _ _ refl refl)))
+-- what is read by another name doesn't quit
+other_read : (c : CommandName) (r : Result Command ReadFault) → HasName c r → is_quit_name c ≡ false
+    → is_quit_read r ≡ false
+other_read c (Ok k) has e = of_command k ∙ ap is_quit_name has ∙ e
+other_read c (Err fault) has e = refl
 
-no_user : (ps : List (List ℕ)) → is_quit_of (user_command ps) ≡ false
-no_user [] = refl
-no_user (u ∷ []) = refl
-no_user (u ∷ m ∷ []) = refl
-no_user (u ∷ m ∷ n ∷ []) = refl
-no_user (u ∷ m ∷ n ∷ r ∷ ps) = either (is_empty (user_name u)) _ _ refl refl
+-- ---- a search among names
 
-abbrev is_other : SessionName → Bool
-is_other Quit = false
-is_other other = true
+abbrev is_other : CommandName → Bool
+is_other c = not (is_quit_name c)
 
-not_quit : (name : SessionName) → is_other name ≡ true → (ps : List (List ℕ)) → is_quit_of (session_of name ps) ≡ false
-unfolding session_of
-not_quit Cap e [] = refl
-not_quit Cap e (sub ∷ ps) = no_cap sub ps
-not_quit Authenticate e [] = refl
-not_quit Authenticate e (p ∷ ps) = refl
-not_quit Pass e [] = refl
-not_quit Pass e (p ∷ ps) = refl
-not_quit Nick e ps = either (is_empty (first_or_empty ps)) _ _ refl refl
-not_quit User e ps = no_user ps
-not_quit Ping e ps = either (is_empty (first_or_empty ps)) _ _ refl refl
-not_quit Pong e ps = refl
-not_quit Quit e ps = cc
+not_other : (b : Bool) → not b ≡ true → b ≡ false
+not_other true e = sym e
+not_other false e = refl
 
 first_true : (a b : Bool) → (a && b) ≡ true → a ≡ true
 first_true true b e = refl
@@ -108,29 +91,26 @@ second_true : (a b : Bool) → (a && b) ≡ true → b ≡ true
 second_true true b e = e
 second_true false b e = cc
 
-abbrev by_session : (SessionName → Bool) → Message → List SessionName → Result Command ReadFault
-by_session p m names = by_name topic.Session (named_or_not (find p names) m.params) (elsewhere m)
-
--- a search among other names never finds QUIT
-none_found : (p : SessionName → Bool) (m : Message) (names : List SessionName) → list_all is_other names ≡ true
-    → is_quit_read (by_session p m names) ≡ false
-none_found p m [] e = no_quit_elsewhere m
-none_found p m (name ∷ names) e =
-    elim (cases_Bool (p name)) [
-      | inl is ↦ rw is (not_quit name (first_true (is_other name) (list_all is_other names) e) m.params)
-      | inr isnt ↦ rw isnt (none_found p m names (second_true (is_other name) (list_all is_other names) e))
+-- among other names it never finds QUIT
+none_found : (p : CommandName → Bool) (m : Message) (names : List CommandName) → list_all is_other names ≡ true
+    → is_quit_read (by_name (find p names) m) ≡ false
+none_found p m [] e = refl
+none_found p m (c ∷ names) e =
+    elim (cases_Bool (p c)) [
+      | inl is ↦ rw is (other_read c (command_by c m) (none-misnamed c m)
+          (not_other (is_quit_name c) (first_true (is_other c) (list_all is_other names) e)))
+      | inr isnt ↦ rw isnt (none_found p m names (second_true (is_other c) (list_all is_other names) e))
     ]
 
-found_first : (p : SessionName → Bool) (m : Message) (names : List SessionName) → list_all is_other names ≡ true
-    → is_quit_read (by_session p m (Quit ∷ names)) ≡ p Quit
-unfolding session_of
+found_first : (p : CommandName → Bool) (m : Message) (names : List CommandName) → list_all is_other names ≡ true
+    → is_quit_read (by_name (find p (name.Quit ∷ names)) m) ≡ p name.Quit
+unfolding command_by
 found_first p m names e =
-    elim (cases_Bool (p Quit)) [ inl is ↦ rw is refl | inr isnt ↦ rw isnt (none_found p m names e) ]
+    elim (cases_Bool (p name.Quit)) [ inl is ↦ rw is refl | inr isnt ↦ rw isnt (none_found p m names e) ]
 
 quit_read : (m : Message) → is_quit_read (command_of m) ≡ str_eq_ignore_ascii_case m.command (codes "QUIT")
-unfolding command_of session_named
-quit_read m = found_first (λ known. str_eq_ignore_ascii_case m.command (session_text known)) m
-    (Cap ∷ Authenticate ∷ Pass ∷ Nick ∷ User ∷ Ping ∷ Pong ∷ []) refl
+unfolding command_of named
+quit_read m = found_first (λ known. str_eq_ignore_ascii_case m.command (name_text known)) m (drop 1 all_names) refl
 
 of_message : (m : Option Message) → asks_for_quit (asked_by m) ≡ asks_to_quit m
 of_message None = refl

@@ -1,5 +1,7 @@
 pub mod Commands
+pub mod Named
 pub mod Asked
+pub use Rattle.command_params.specs.Names
 pub use Rattle.session_commands.specs.Registration
 pub use Rattle.session_commands.specs.Session
 pub use Rattle.query_commands.specs.Query

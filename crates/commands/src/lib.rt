@@ -10,6 +10,6 @@ pub use channel_commands;
 pub use command::Command;
 pub use mode_commands;
 pub use query_commands;
-pub use reading::read;
+pub use reading::{none_is_misnamed, read};
 pub use session_commands;
 pub use talk_commands;

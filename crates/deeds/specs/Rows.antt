@@ -9,6 +9,7 @@ use Rattle.commands.specs.declared.asked.Asked.{Asked}
 use Rattle.commands.specs.declared.asked.Asked.TheVariants.{Nothing, TooLong, Command as Asks, Fault as Fails}
 use Rattle.commands.specs.declared.command.Command.{Command}
 use Rattle.commands.specs.declared.command.Command.TheVariants.{Session, Channel, Mode, Talk, Query}
+use Rattle.command_params.specs.Names.{name_text}
 use Rattle.command_params.specs.declared.fault.ReadFault.{ReadFault}
 use Rattle.command_params.specs.declared.fault.ReadFault.TheVariants.{UnknownCommand, NeedMoreParams}
 use Rattle.command_params.specs.declared.fault.ReadFault.TheVariants.{NoNicknameGiven, NoRecipient, NoTextToSend}
@@ -60,9 +61,9 @@ of_command g fs s k = asked g fs s k ++ completed g (after fs (deeds_of (asked g
 -- the numeric that answers a message which asks for nothing that can be done
 abbrev pub fault_numeric : ReadFault → Option Numeric
 fault_numeric (UnknownCommand name) = Some (numeric.UnknownCommand name)
-fault_numeric (NeedMoreParams command) = Some (numeric.NeedMoreParams command)
+fault_numeric (NeedMoreParams command) = Some (numeric.NeedMoreParams (name_text command))
 fault_numeric NoNicknameGiven = Some numeric.NoNicknameGiven
-fault_numeric (NoRecipient command) = Some (numeric.NoRecipient command)
+fault_numeric (NoRecipient command) = Some (numeric.NoRecipient (name_text command))
 fault_numeric NoTextToSend = Some numeric.NoTextToSend
 fault_numeric NoOrigin = Some numeric.NoOrigin
 fault_numeric (InvalidCapSubcommand subcommand) = Some (numeric.InvalidCapCmd subcommand)

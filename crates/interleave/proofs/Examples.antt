@@ -15,10 +15,10 @@ use Rattle.registration.specs.Caps.{after_request}
 use Rattle.labels_batches.specs.Rendered.{spelled_line}
 use Rattle.answer_octets.specs.Laws.{IsLoneText}
 use Rattle.answer_octets.specs.TextLines.{label_answers}
-use Rattle.session_commands.specs.Session.{session_named, session_of}
 use Rattle.drafts.specs.Lines.{prefix}
 use Rattle.commands.specs.Asked.{asked_of}
-use Rattle.commands.specs.Commands.{command_of}
+use Rattle.commands.specs.Names.{named}
+use Rattle.commands.specs.Commands.{command_by, command_of}
 use Rattle.deliveries.specs.declared.delivery.Delivery.TheVariants.{Lines}
 use Rattle.deliveries.specs.Owed.{owed}
 use Rattle.interleave.specs.Laws.{IsRequest, Request, record_of}
@@ -68,23 +68,23 @@ pong = codes "@label=a\\sb :irc.example PONG irc.example x"
 
 -- its label counts, unescaped
 counts : IsRequest server history asks
-unfolding reading parameters with_command asked_of command_of session_named session_of after_request fold_of is_quit
+unfolding reading parameters with_command asked_of command_of command_by named after_request fold_of is_quit
     counting_tags key_shape last_value is_utf8 chars encode
 counts = record { split = refl; counts = refl; no_quit = refl; met = refl }
 
 -- what the history owes the session
 owes : owed server history 1
     ≡ Lines 2 (codes ":irc.example CAP * ACK :labeled-response batch" ++ crlf) ∷ Lines 3 (pong ++ crlf) ∷ []
-unfolding reading parameters with_command asked_of command_of session_named session_of after_request fold_of is_quit
-    prefix octets untagged spelled_line counting_tags key_shape last_value is_utf8 chars encode
+unfolding reading parameters with_command asked_of command_of command_by named after_request fold_of is_quit prefix
+    octets untagged spelled_line counting_tags key_shape last_value is_utf8 chars encode
 owes = refl
 
 -- one line with a label is of record 3, and none of record 2
 labels :
     ((host : List ℕ) → label_answers (map (octets_of host) (owed server history 1)) 3 ≡ 1)
     × ((host : List ℕ) → label_answers (map (octets_of host) (owed server history 1)) 2 ≡ 0)
-unfolding reading parameters with_command asked_of command_of session_named session_of after_request fold_of is_quit
-    prefix octets untagged spelled_line counting_tags key_shape last_value is_utf8 chars encode
+unfolding reading parameters with_command asked_of command_of command_by named after_request fold_of is_quit prefix
+    octets untagged spelled_line counting_tags key_shape last_value is_utf8 chars encode
 labels = ((λ host. refl), (λ host. refl))
 
 -- of the same answer twice, two
@@ -93,13 +93,13 @@ unfolding counting_tags key_shape last_value is_utf8 chars encode
 twice = refl
 
 lone : IsLoneText (codes "a b") (copies_text server asks) (pong ++ crlf)
-unfolding reading parameters with_command asked_of command_of session_named session_of after_request fold_of is_quit
-    prefix octets untagged spelled_line counting_tags key_shape last_value is_utf8 chars encode
+unfolding reading parameters with_command asked_of command_of command_by named after_request fold_of is_quit prefix
+    octets untagged spelled_line counting_tags key_shape last_value is_utf8 chars encode
 lone = record { line = pong; lines = refl; labelled = refl; opens_none = λ e. absurd (cc) }
 
 answered : IsAnsweredWhole server history asks
-unfolding reading parameters with_command asked_of command_of session_named session_of after_request fold_of is_quit
-    prefix octets untagged spelled_line counting_tags key_shape last_value is_utf8 chars encode
+unfolding reading parameters with_command asked_of command_of command_by named after_request fold_of is_quit prefix
+    octets untagged spelled_line counting_tags key_shape last_value is_utf8 chars encode
 answered = record {
   text = pong ++ crlf;
   owes = (1, omega arith, refl);
@@ -113,6 +113,6 @@ abbrev asks_in_two : Request
 asks_in_two = record asks { piece = Line (codes "@label=a PING :x" ++ crlf ++ codes "@label=a FOO") }
 
 two_labels : label_answers (map (octets_of (codes "h1")) (owed server (record_of asks_in_two ∷ before) 1)) 3 ≡ 2
-unfolding reading parameters with_command asked_of command_of session_named session_of after_request fold_of is_quit
-    prefix octets untagged spelled_line counting_tags key_shape last_value is_utf8 chars encode
+unfolding reading parameters with_command asked_of command_of command_by named after_request fold_of is_quit prefix
+    octets untagged spelled_line counting_tags key_shape last_value is_utf8 chars encode
 two_labels = refl

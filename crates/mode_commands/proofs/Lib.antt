@@ -1,4 +1,3 @@
 mod Examples
 pub mod Mild
-pub mod Named
 pub mod Turns

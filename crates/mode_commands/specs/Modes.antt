@@ -1,9 +1,9 @@
--- MODE: how it is named and read, and what it does. RFC 2812, sections 3.1.5 and 3.2.3.
-use Rattle.std.specs.Prelude.{◌≡◌, ℕ, Bool, true, false, ◌==◌, ◌||◌, List, [], ◌∷◌, codes}
-use Rattle.std.specs.Prelude.{Result, Ok, Option, Some, None, is_some, if◌then◌else◌}
-use Rattle.std.specs.Str.{str_eq_ignore_ascii_case}
+-- MODE: how it is read, and what it does. RFC 2812, sections 3.1.5 and 3.2.3.
+use Rattle.std.specs.Prelude.{ℕ, ◌==◌, List, [], ◌∷◌}
+use Rattle.std.specs.Prelude.{Result, Ok, Option, Some, None, if◌then◌else◌}
+use Rattle.command_params.specs.declared.name.CommandName.TheVariants.{Mode}
 use Rattle.command_params.specs.declared.fault.ReadFault.{ReadFault}
-use Rattle.command_params.specs.Params.{HasName, needs_more}
+use Rattle.command_params.specs.Params.{needs_more}
 use Rattle.numerics.specs.declared.numeric.Numeric.TheVariants.{NoSuchNick, NoSuchChannel, UsersDontMatch}
 use Rattle.registration.specs.declared.settings.Settings.{Settings}
 use Rattle.roster.specs.declared.deed.Deed.{Deed}
@@ -11,33 +11,14 @@ use Rattle.roster.specs.LookBack.{found}
 use Rattle.drafts.specs.declared.effect.Effect.{Effect}
 use Rattle.drafts.specs.Replies.{tells}
 use Rattle.drafts.specs.Seen.{Seen, seen}
+pub use Rattle.drafts.specs.Targets.{names_channel}
 use Rattle.mode_commands.specs.declared.modes.ModeCommand.{ModeCommand}
 use Rattle.mode_commands.specs.ChannelModes.{channel_modes}
 use Rattle.mode_commands.specs.UserModes.{own_modes}
 
 abbrev pub mode_command : List (List ℕ) → Result ModeCommand ReadFault
-mode_command [] = needs_more (codes "MODE")
+mode_command [] = needs_more Mode
 mode_command (target ∷ ps) = Ok (record { target = target; changes = ps })
-
--- what is asked by a name, which is taken in either case, or the fault of its shape
-unfoldable pub mode_of : List ℕ → List (List ℕ) → Option (Result ModeCommand ReadFault)
-mode_of n ps = if str_eq_ignore_ascii_case n (codes "MODE") then Some (mode_command ps) else None
-
--- the name of the command
-abbrev pub mode_text : ModeCommand → List ℕ
-mode_text k = codes "MODE"
-
-abbrev pub EachModeIsNamed : Type 0
-EachModeIsNamed = (k : ModeCommand) (ps : List (List ℕ)) → is_some (mode_of (mode_text k) ps) ≡ true
-
--- and none is read by another's name
-abbrev pub NoModeIsMisnamed : Type 0
-NoModeIsMisnamed = (n : List ℕ) (ps : List (List ℕ)) → HasName mode_text n (mode_of n ps)
-
--- a channel's name begins with `#` or `&`
-abbrev pub names_channel : List ℕ → Bool
-names_channel [] = false
-names_channel (b ∷ bs) = b == 35 || b == 38
 
 abbrev pub of_channel : Settings → List Deed → ℕ → List ℕ → List (List ℕ) → Option Seen → List Effect
 of_channel g fs s target changes None = tells g fs s (NoSuchChannel target) ∷ []

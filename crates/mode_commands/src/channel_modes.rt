@@ -1,5 +1,5 @@
 //! MODE of a channel (RFC 2812, section 3.2.3).
-ghost use Rattle.std.specs.Prelude.{◌≡◌, ◌∷◌, ◌++◌, [], map, IfOk, OnOk};
+ghost use Rattle.std.specs.Prelude.{◌≡◌, ◌∷◌, ◌++◌, [], false, map, IfOk, OnOk};
 ghost use Rattle.numerics.specs.declared.numeric.Numeric.TheVariants.{BanList};
 ghost use Rattle.drafts.specs.Words.{IsSeen, grown, tells, tells_all};
 ghost use Rattle.mode_commands.specs.ChannelModes.{asks_bans, ban_numerics, channel_modes, does};
@@ -103,101 +103,63 @@ fn refuse(
     }
 }
 
-/// A letter that changes a channel, has no effect, or is refused.
+/// A letter that changes a channel, has no effect, or is refused. After the last letter nobody looks at the channel
+/// that was seen: it stays as it was.
 fn take_step(
     draft: &mut Draft,
     session: SessionId,
     seen: &mut Seen,
     step: Step,
+    is_last: bool,
     shown: &mut Vec<ModeChange>,
 ) -> Result<(), AllocError>
     requires seen { IsSeen draft.old.facts seen.old }
     requires mild { IsMild seen.old.state step }
     ensures grown { OnOk result (draft.new
         ≡ grown draft.old (does draft.old.settings session seen.old.name draft.old.facts step)) }
-    ensures seen { OnOk result
-        (seen.new ≡ record { name = seen.old.name; state = stepped step seen.old.state }) }
-    ensures known { OnOk result (IsSeen draft.new.facts seen.new) }
+    ensures seen { OnOk result (is_last ≡ false
+        → seen.new ≡ record { name = seen.old.name; state = stepped step seen.old.state }) }
+    ensures known { OnOk result (is_last ≡ false → IsSeen draft.new.facts seen.new) }
     ensures shown { OnOk result (shown.new.items ≡ shown.old.items ++ shown_by step) }
 {
     match step {
         Step::Nothing => Ok(()),
         Step::Refused { refusal } => refuse(draft, session, seen.name(), refusal),
         Step::Changes { change, shown: new } => {
-            draft.change(seen, change)?;
+            if is_last {
+                draft.establish_change(seen, change)?;
+            } else {
+                draft.change(seen, change)?;
+            }
             shown.push(new)?;
             Ok(())
         }
     }
 }
 
-/// Takes one letter.
+/// Takes one letter. The last is taken where the channel is kept, if it is the only one.
 #[tactic(auto, using(crate::proofs::Mild::step_mild))]
 fn take_change(
     draft: &mut Draft,
     session: SessionId,
     seen: &mut Seen,
     asked: &ModeChange,
+    is_last: bool,
     shown: &mut Vec<ModeChange>,
 ) -> Result<(), AllocError>
     requires seen { IsSeen draft.old.facts seen.old }
     ensures grown { OnOk result (draft.new ≡ grown draft.old (does draft.old.settings session
         seen.old.name draft.old.facts (step draft.old.base seen.old.state asked.now))) }
-    ensures seen { OnOk result (seen.new ≡ record {
+    ensures seen { OnOk result (is_last ≡ false → seen.new ≡ record {
       name = seen.old.name;
       state = stepped (step draft.old.base seen.old.state asked.now) seen.old.state;
     }) }
-    ensures known { OnOk result (IsSeen draft.new.facts seen.new) }
+    ensures known { OnOk result (is_last ≡ false → IsSeen draft.new.facts seen.new) }
     ensures shown { OnOk result (shown.new.items
         ≡ shown.old.items ++ shown_by (step draft.old.base seen.old.state asked.now)) }
 {
     let step = step_of(draft.alloc(), draft.before(), seen.state(), asked)?;
-    take_step(draft, session, seen, step, shown)
-}
-
-/// The last letter changes a channel, has no effect, or is refused. The channel that was seen stays as it was.
-fn end_step(
-    draft: &mut Draft,
-    session: SessionId,
-    seen: &Seen,
-    step: Step,
-    shown: &mut Vec<ModeChange>,
-) -> Result<(), AllocError>
-    requires seen { IsSeen draft.old.facts seen.now }
-    requires mild { IsMild seen.now.state step }
-    ensures grown { OnOk result (draft.new
-        ≡ grown draft.old (does draft.old.settings session seen.now.name draft.old.facts step)) }
-    ensures shown { OnOk result (shown.new.items ≡ shown.old.items ++ shown_by step) }
-{
-    match step {
-        Step::Nothing => Ok(()),
-        Step::Refused { refusal } => refuse(draft, session, seen.name(), refusal),
-        Step::Changes { change, shown: new } => {
-            draft.establish_change(seen, change)?;
-            shown.push(new)?;
-            Ok(())
-        }
-    }
-}
-
-/// Takes the last letter, after which nobody looks at the channel: so it is looked at where it is kept, if it is the
-/// only one.
-#[tactic(auto, using(crate::proofs::Mild::step_mild))]
-fn take_last(
-    draft: &mut Draft,
-    session: SessionId,
-    seen: &Seen,
-    asked: &ModeChange,
-    shown: &mut Vec<ModeChange>,
-) -> Result<(), AllocError>
-    requires seen { IsSeen draft.old.facts seen.now }
-    ensures grown { OnOk result (draft.new ≡ grown draft.old (does draft.old.settings session
-        seen.now.name draft.old.facts (step draft.old.base seen.now.state asked.now))) }
-    ensures shown { OnOk result (shown.new.items
-        ≡ shown.old.items ++ shown_by (step draft.old.base seen.now.state asked.now)) }
-{
-    let step = step_of(draft.alloc(), draft.before(), seen.state(), asked)?;
-    end_step(draft, session, seen, step, shown)
+    take_step(draft, session, seen, step, is_last, shown)
 }
 
 /// Takes letters in turn.
@@ -218,9 +180,9 @@ fn take_each(
         return Ok(());
     };
     for change in others {
-        take_change(draft, session, seen, change, shown)?;
+        take_change(draft, session, seen, change, false, shown)?;
     }
-    take_last(draft, session, seen, last, shown)
+    take_change(draft, session, seen, last, true, shown)
 }
 
 /// Shows members what changed, where something did.

@@ -10,7 +10,5 @@ mod steps;
 mod user_modes;
 
 pub use letters::ModeChange;
-pub use modes::{
-    ModeCommand, change_modes, each_mode_is_named, no_mode_is_misnamed, read_mode, serve_mode,
-};
+pub use modes::{ModeCommand, change_modes, read_mode, serve_mode};
 pub use steps::Step;

@@ -1,17 +1,17 @@
-//! MODE: how it is named and read, and what it does (RFC 2812, sections 3.1.5 and 3.2.3).
+//! MODE: how it is read, and what it does (RFC 2812, sections 3.1.5 and 3.2.3).
 ghost use Rattle.std.specs.Prelude.{◌≡◌, OnOk};
 ghost use Rattle.roster.specs.LookBack.{found};
 ghost use Rattle.roster.specs.Legal.{IsOpened};
 ghost use Rattle.drafts.specs.Words.{grown, seen};
-ghost use Rattle.command_params.specs.Params.{IsRead, IsReadByName};
-ghost use Rattle.mode_commands.specs.Modes.{EachModeIsNamed, NoModeIsMisnamed, mode_command, mode_of, modes};
-ghost use Rattle.mode_commands.specs.Modes.{names_channel, of_channel, of_user, serves_mode};
+ghost use Rattle.command_params.specs.Params.{IsRead};
+ghost use Rattle.mode_commands.specs.Modes.{mode_command, modes};
+ghost use Rattle.mode_commands.specs.Modes.{of_channel, of_user, serves_mode};
 
 use crate::channel_modes::channel_modes;
 use crate::user_modes::own_modes;
 use chronicle::SessionId;
-use command_params::{ReadFault, copied, is_named, needs_more};
-use drafts::{Denial, Draft, deny, tell};
+use command_params::{CommandName, ReadFault, copied, needs_more};
+use drafts::{Denial, Draft, deny, names_channel, tell};
 use line_grammar::{LineParameters, Octets, OctetsList};
 use numerics::Numeric;
 use std::alloc::{AllocError, Global};
@@ -24,48 +24,16 @@ pub struct ModeCommand {
     pub changes: OctetsList,
 }
 
-fn read_params(alloc: Global, params: &LineParameters<'_>) -> Result<ModeCommand, ReadFault>
+/// What MODE asks for.
+pub fn read_mode(alloc: Global, params: &LineParameters<'_>) -> Result<ModeCommand, ReadFault>
     ensures { IsRead (mode_command params.now) result }
 {
     let Some((target, params)) = params.split_first() else {
-        return Err(needs_more(b"MODE"));
+        return Err(needs_more(CommandName::Mode));
     };
     let target = Octets::copied(alloc, target)?;
     let changes = copied(alloc, &params)?;
     Ok(ModeCommand { target, changes })
-}
-
-/// What is asked by a name, or the numeric that answers it by what it says alone. `None` where it is another
-/// command's.
-#[tactic(auto, unfolding(crate::specs::Modes::mode_of))]
-pub fn read_mode(
-    alloc: Global,
-    name: &[u8],
-    params: &LineParameters<'_>,
-) -> Option<Result<ModeCommand, ReadFault>>
-    ensures { IsReadByName (mode_of name.now params.now) result }
-{
-    if is_named(name, b"MODE") {
-        return Some(read_params(alloc, params));
-    }
-    None
-}
-
-/// That the command has a name by which it is read.
-pub fn each_mode_is_named()
-    ensures { EachModeIsNamed }
-{}
-
-/// That the command is read by no other name.
-pub fn no_mode_is_misnamed()
-    ensures { NoModeIsMisnamed }
-{}
-
-/// Whether a target is a channel: its name begins with `#` or `&`.
-fn names_channel(target: &[u8]) -> bool
-    ensures { result ≡ names_channel target.now }
-{
-    matches!(target, [b'#' | b'&', ..])
 }
 
 fn of_channel(

@@ -1,6 +1,6 @@
 pub mod Told
-pub mod Named
 pub mod Lists
 pub mod Listed
 pub mod Examples
 pub mod Members
+pub mod NameLines

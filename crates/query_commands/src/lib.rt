@@ -5,6 +5,7 @@
 mod each;
 mod listing;
 mod motd;
+mod name_line;
 mod names;
 mod query;
 mod telling;
@@ -12,7 +13,10 @@ mod visible;
 mod who;
 mod whois;
 
-pub use motd::push_motd;
-pub use names::push_members;
-pub use query::{Query, ask, each_query_is_named, no_query_is_misnamed, read_query};
+pub use listing::read_list;
+pub use motd::{push_motd, read_motd};
+pub use names::{push_members, read_names};
+pub use query::{Query, ask};
 pub use telling::Telling;
+pub use who::read_who;
+pub use whois::read_whois;

@@ -21,7 +21,7 @@ use roster::Roster;
 use std::alloc::{AllocError, Global};
 
 /// What LIST asks for.
-pub(crate) fn read(alloc: Global, params: &LineParameters<'_>) -> Result<Query, ReadFault>
+pub fn read_list(alloc: Global, params: &LineParameters<'_>) -> Result<Query, ReadFault>
     ensures { IsRead (list_query params.now) result }
 {
     let channels = read_list_given(alloc, params)?;

@@ -15,7 +15,7 @@ use numerics::Numeric;
 use std::alloc::{AllocError, Global};
 
 /// What MOTD asks for.
-pub(crate) fn read(alloc: Global, params: &LineParameters<'_>) -> Result<Query, ReadFault>
+pub fn read_motd(alloc: Global, params: &LineParameters<'_>) -> Result<Query, ReadFault>
     ensures { IsRead (motd_query params.now) result }
 {
     let server = copied_first(alloc, params)?;

@@ -1,30 +1,31 @@
 //! NAMES, and who is on a channel as JOIN tells it (RFC 2812, section 3.2.5).
 ghost use Rattle.std.specs.Prelude.{◌≡◌, true, map, IfOk, OnOk};
 ghost use Rattle.std.specs.List.{flat_map};
-ghost use Rattle.numerics.specs.declared.numeric.Numeric.TheVariants.{NamReply};
 ghost use Rattle.numerics.specs.Numerics.{numeric as numeric_line};
 ghost use Rattle.numerics.specs.Outgoing.{room};
 ghost use Rattle.channel_state.specs.State.{among};
 ghost use Rattle.command_params.specs.Params.{IsRead};
 ghost use Rattle.query_commands.specs.Telling.{telling_more};
-ghost use Rattle.query_commands.specs.Names.{rank_of, member_name, member_names, names_room, name_lines, all_told};
+ghost use Rattle.query_commands.specs.Names.{rank_of, member_name, names_room, name_lines, all_told};
 ghost use Rattle.query_commands.specs.Names.{names_told, with_members, names_of, names_asked, names_query};
 
 use crate::Query;
 use crate::each::{TellsOf, tell_of_each};
+use crate::name_line::{MemberName, NameLine};
 use crate::telling::Telling;
 use crate::visible::{Listed, channel_for, members_for};
 use channel_state::ChannelState;
 use chronicle::SessionId;
 use command_params::{ReadFault, read_list_given};
-use drafts::{Draft, title_of};
+use drafts::{Draft, title_of, title_text};
 use line_grammar::{LineParameters, Octets, OctetsList};
-use numerics::{Numeric, Prefix, prefixed, split_names};
+use numerics::{Numeric, Prefix};
 use roster::Roster;
 use std::alloc::{AllocError, Global};
+use std::mem::replace;
 
 /// What NAMES asks for.
-pub(crate) fn read(alloc: Global, params: &LineParameters<'_>) -> Result<Query, ReadFault>
+pub fn read_names(alloc: Global, params: &LineParameters<'_>) -> Result<Query, ReadFault>
     ensures { IsRead (names_query params.now) result }
 {
     let channels = read_list_given(alloc, params)?;
@@ -46,49 +47,13 @@ pub(crate) fn rank_of(state: &ChannelState, member: SessionId) -> Option<Prefix>
 
 /// A member's nickname, with the mark of its rank.
 #[tactic(auto, unfolding(crate::specs::Names::member_name))]
-fn member_name(
-    alloc: Global,
-    roster: &Roster,
-    state: &ChannelState,
-    member: SessionId,
-) -> Result<Octets, AllocError>
-    ensures { IfOk result (λ n. n ≡ member_name roster.now.facts state.now.state member) }
+fn member_name<'a>(roster: &'a Roster, state: &ChannelState, member: SessionId) -> MemberName<'a>
+    ensures { result ≡ member_name roster.now.facts state.now.state member }
 {
-    let rank = rank_of(state, member);
-    match roster.nick_of(member) {
-        Some(nick) => prefixed(alloc, rank, nick.as_slice()),
-        None => prefixed(alloc, rank, b"*"),
+    MemberName {
+        rank: rank_of(state, member),
+        nick: title_text(roster.nick_of(member)),
     }
-}
-
-/// The names of members, in order.
-fn names_in_order(
-    alloc: Global,
-    roster: &Roster,
-    state: &ChannelState,
-    members: &[SessionId],
-) -> Result<Vec<Octets>, AllocError>
-    ensures { IfOk result
-        (λ v. v.items ≡ map (member_name roster.now.facts state.now.state) members.now) }
-{
-    let mut names = Vec::with_capacity(alloc, members.len())?;
-    for member in members {
-        names.push(member_name(alloc, roster, state, *member)?)?;
-    }
-    Ok(names)
-}
-
-/// The names of the members that a session is told of.
-fn member_names(
-    alloc: Global,
-    roster: &Roster,
-    session: SessionId,
-    state: &ChannelState,
-) -> Result<Vec<Octets>, AllocError>
-    ensures { IfOk result (λ v. v.items ≡ member_names roster.now.facts session state.now.state) }
-{
-    let members = members_for(alloc, roster, session, state)?;
-    names_in_order(alloc, roster, state, members.as_slice())
 }
 
 /// How many octets more the line of a numeric may have.
@@ -126,41 +91,33 @@ fn names_room(
     room_of(alloc, server, to.as_slice(), &numeric)
 }
 
-/// Adds a numeric for each line of names.
-#[tactic(auto, using(crate::proofs::Told::more_more))]
-fn push_lines(
-    telling: &mut Telling<'_>,
-    secret: bool,
-    channel: &Octets,
-    lines: Vec<OctetsList>,
-) -> Result<(), AllocError>
-    ensures { OnOk result
-        (telling.new ≡ telling_more telling.old (map (NamReply secret channel.now) lines.items)) }
-{
-    for names in lines {
-        let channel = channel.clone()?;
-        telling.push(Numeric::NamReply {
-            secret,
-            channel,
-            names,
-        })?;
-    }
-    Ok(())
-}
-
-/// Adds names in as few lines as their order allows.
+/// Adds the names of members in as few lines as their order allows.
 fn push_names(
     alloc: Global,
     telling: &mut Telling<'_>,
+    roster: &Roster,
     listed: &Listed<'_>,
-    names: Vec<Octets>,
+    members: &[SessionId],
     room: usize,
 ) -> Result<(), AllocError>
-    ensures { OnOk result
-        (telling.new ≡ telling_more telling.old (name_lines listed.now room names.items)) }
+    ensures { OnOk result (telling.new ≡ telling_more telling.old (name_lines listed.now room
+        (map (member_name roster.now.facts listed.now.state) members.now))) }
 {
-    let lines = split_names(alloc, names, room)?;
-    push_lines(telling, listed.state.modes().secret, listed.name, lines)
+    let Some((first, rest)) = members.split_first() else {
+        return Ok(());
+    };
+    let secret = listed.state.modes().secret;
+    let mut line = NameLine::new(alloc, room, &member_name(roster, listed.state, *first))?;
+    for member in rest {
+        let name = member_name(roster, listed.state, *member);
+        if line.takes(&name, room) {
+            line = line.with(&name)?;
+        } else {
+            let next = NameLine::new(alloc, room, &name)?;
+            telling.push_names(secret, listed.name, replace(&mut line, next))?;
+        }
+    }
+    telling.push_names(secret, listed.name, line)
 }
 
 /// Adds the names of members of a channel, and that they are all.
@@ -170,13 +127,21 @@ fn push_all(
     telling: &mut Telling<'_>,
     session: SessionId,
     listed: &Listed<'_>,
-    names: Vec<Octets>,
+    members: &[SessionId],
 ) -> Result<(), AllocError>
     ensures { OnOk result (telling.new ≡ telling_more telling.old
-        (all_told draft.now.settings draft.now.base session listed.now names.items)) }
+        (all_told draft.now.settings draft.now.base session listed.now
+        (map (member_name draft.now.base listed.now.state) members.now))) }
 {
     let room = names_room(draft, session, listed)?;
-    push_names(draft.alloc(), telling, listed, names, room)?;
+    push_names(
+        draft.alloc(),
+        telling,
+        draft.before(),
+        listed,
+        members,
+        room,
+    )?;
     let channel = listed.name.clone()?;
     telling.push(Numeric::EndOfNames(channel))
 }
@@ -191,8 +156,8 @@ fn push_listed(
     ensures { OnOk result (telling.new ≡ telling_more telling.old
         (names_told draft.now.settings draft.now.base session listed.now)) }
 {
-    let names = member_names(draft.alloc(), draft.before(), session, listed.state)?;
-    push_all(draft, telling, session, listed, names)
+    let members = members_for(draft.alloc(), draft.before(), session, listed.state)?;
+    push_all(draft, telling, session, listed, members.as_slice())
 }
 
 /// Adds who is on a channel, as a session that is one of them is told: 353 in as few lines as fit, and 366. The
@@ -209,8 +174,7 @@ pub fn push_members(
     ensures { OnOk result (telling.new ≡ telling_more telling.old (names_told draft.now.settings
         draft.now.base session (with_members name.now state.now.state members.now))) }
 {
-    let names = names_in_order(draft.alloc(), draft.before(), state, members)?;
-    push_all(draft, telling, session, &Listed { name, state }, names)
+    push_all(draft, telling, session, &Listed { name, state }, members)
 }
 
 /// Whom a session is told of, who asks for them by the names of channels.

@@ -1,17 +1,15 @@
-//! The commands that only ask: how each is named and read, and what each is told.
+//! The commands that only ask, and what each is told.
 ghost use Rattle.std.specs.Prelude.{◌≡◌, OnOk};
 ghost use Rattle.drafts.specs.Words.{grown};
-ghost use Rattle.command_params.specs.Params.{IsReadByName};
-ghost use Rattle.query_commands.specs.Query.{EachQueryIsNamed, NoQueryIsMisnamed, queries, query_of, told};
+ghost use Rattle.query_commands.specs.Query.{queries, told};
 ghost use Rattle.query_commands.specs.Telling.{telling_more};
 
 use crate::telling::Telling;
 use crate::{listing, motd, names, who, whois};
 use chronicle::SessionId;
-use command_params::{ReadFault, is_named};
 use drafts::Draft;
-use line_grammar::{LineParameters, Octets, OctetsList};
-use std::alloc::{AllocError, Global};
+use line_grammar::{Octets, OctetsList};
+use std::alloc::AllocError;
 
 /// What is asked. Names are as given. A list of names has no empty one, and none that repeats another in either
 /// case.
@@ -28,35 +26,6 @@ pub enum Query {
     /// The message of the day (section 3.4.1).
     Motd { server: Option<Octets> },
 }
-
-/// What is asked by a name, or the numeric that answers it by what it says alone. `None` where it is no query's name.
-#[tactic(auto, unfolding(crate::specs::Query::query_of))]
-pub fn read_query(
-    alloc: Global,
-    name: &[u8],
-    params: &LineParameters<'_>,
-) -> Option<Result<Query, ReadFault>>
-    ensures { IsReadByName (query_of name.now params.now) result }
-{
-    match name {
-        name if is_named(name, b"NAMES") => Some(names::read(alloc, params)),
-        name if is_named(name, b"LIST") => Some(listing::read(alloc, params)),
-        name if is_named(name, b"WHO") => Some(who::read(alloc, params)),
-        name if is_named(name, b"WHOIS") => Some(whois::read(alloc, params)),
-        name if is_named(name, b"MOTD") => Some(motd::read(alloc, params)),
-        _ => None,
-    }
-}
-
-/// That each query has a name by which it is read.
-pub fn each_query_is_named()
-    ensures { EachQueryIsNamed }
-{}
-
-/// That no query is read by the name of another.
-pub fn no_query_is_misnamed()
-    ensures { NoQueryIsMisnamed }
-{}
 
 /// Adds what a session is told that asks.
 fn answer(

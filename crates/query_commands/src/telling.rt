@@ -2,10 +2,12 @@
 ghost use Rattle.std.specs.Prelude.{◌≡◌, ◌∷◌, [], map, IfOk, OnOk};
 ghost use Rattle.drafts.specs.declared.effect.Effect.TheVariants.{Answer};
 ghost use Rattle.drafts.specs.Words.{grown};
+ghost use Rattle.numerics.specs.declared.numeric.Numeric.TheVariants.{NamReply};
 
+use crate::name_line::NameLine;
 use chronicle::SessionId;
 use drafts::{Draft, title_of};
-use ghosts::{Snapshot, append, blank};
+use ghosts::{Change, Snapshot, append, apply, blank};
 use line_grammar::Octets;
 use numerics::{Line, Numeric};
 use std::alloc::{AllocError, Global};
@@ -32,6 +34,24 @@ impl<'a> Model for Telling<'a> {
     ghost view = { λ a. record { server = a.server.now; to = a.to; items = a.numerics.value } };
 
     ghost invariant = { λ a. a.lines.items ≡ map (numeric a.server.now a.to) a.numerics.value };
+}
+
+/// The names of a channel that a line tells.
+#[derive(Drop)]
+struct NamesTold<'a> {
+    secret: bool,
+    channel: &'a Octets,
+    names: &'a Snapshot<LinkedList<Octets>>,
+}
+
+// The numeric of these names is told, as the last.
+struct TellsNames;
+
+impl<'a> Change<LinkedList<Numeric>, NamesTold<'a>> for TellsNames {
+    ghost use Rattle.std.specs.Prelude.{◌++◌, ◌∷◌, []};
+    ghost use Rattle.numerics.specs.declared.numeric.Numeric.TheVariants.{NamReply};
+
+    ghost changed = { λ ns t. ns ++ NamReply t.secret t.channel.now t.names.now.value ∷ [] };
 }
 
 /// Answers with lines, in order.
@@ -85,6 +105,28 @@ impl<'a> Telling<'a> {
         ensures { OnOk result (self.new ≡ telling_more self.old (numeric ∷ [])) }
     {
         self.say(&numeric)
+    }
+
+    /// Tells the names of a channel that one line has.
+    pub(crate) fn push_names(
+        &mut self,
+        secret: bool,
+        channel: &Octets,
+        line: NameLine,
+    ) -> Result<(), AllocError>
+        ensures { OnOk result
+            (self.new ≡ telling_more self.old (NamReply secret channel.now line ∷ [])) }
+    {
+        let names = line.names();
+        let told = line.told(self.alloc, self.server, self.to.as_slice(), secret, channel)?;
+        self.lines.push(told)?;
+        let told = NamesTold {
+            secret,
+            channel,
+            names: &names,
+        };
+        apply::<TellsNames, LinkedList<Numeric>, NamesTold<'_>>(&mut self.numerics, &told);
+        Ok(())
     }
 
     /// Answers with all that was told, in order.

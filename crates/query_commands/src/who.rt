@@ -19,7 +19,7 @@ use roster::Roster;
 use std::alloc::{AllocError, Global};
 
 /// What WHO asks for.
-pub(crate) fn read(alloc: Global, params: &LineParameters<'_>) -> Result<Query, ReadFault>
+pub fn read_who(alloc: Global, params: &LineParameters<'_>) -> Result<Query, ReadFault>
     ensures { IsRead (who_query params.now) result }
 {
     let name = copied_first(alloc, params)?;

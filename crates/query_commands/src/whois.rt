@@ -38,7 +38,7 @@ fn nick_asked<'a>(params: &LineParameters<'a>) -> &'a [u8]
 }
 
 /// What WHOIS asks for.
-pub(crate) fn read(alloc: Global, params: &LineParameters<'_>) -> Result<Query, ReadFault>
+pub fn read_whois(alloc: Global, params: &LineParameters<'_>) -> Result<Query, ReadFault>
     ensures { IsRead (whois_query params.now) result }
 {
     let nick = nick_asked(params);

@@ -1,11 +1,10 @@
 -- What JOIN, PART, KICK, INVITE, TOPIC and MODE show, and to whom.
-use Rattle.std.proofs.Common.{◌≡◌, ℕ, Bool, true, false, not, ◌&&◌, ◌==◌, nat_le, List, [], ◌∷◌, ◌++◌, codes}
-use Rattle.std.proofs.Common.{filter, is_some, length, slice_get, Option, Some, None, refl}
-use Rattle.std.specs.Bool.{if◌then◌else◌}
+use Rattle.std.proofs.Common.{◌≡◌, ℕ, Bool, false, not, ◌&&◌, ◌==◌, nat_le, List, [], ◌∷◌}
+use Rattle.std.proofs.Common.{filter, slice_get, Option, Some, None, refl}
 use Rattle.std.specs.List.{list_any}
 use Rattle.casemapping.specs.Names.{channel_shape}
 use Rattle.channel_state.specs.declared.change.Change.TheVariants.{Joined, Left, Invited, TopicSet}
-use Rattle.channel_state.specs.State.{State, among, changed, made_by, without}
+use Rattle.channel_state.specs.State.{among, changed, made_by, without}
 use Rattle.command_params.specs.declared.join_targets.JoinTarget.{JoinTarget}
 use Rattle.numerics.specs.declared.numeric.Numeric.TheVariants.{Away, ChanOPrivsNeeded, Inviting, NoSuchChannel}
 use Rattle.numerics.specs.declared.numeric.Numeric.TheVariants.{NoSuchNick, NotOnChannel, NoTopic, TooManyChannels}
@@ -40,14 +39,14 @@ use Rattle.mode_commands.specs.declared.letters.ModeChange.{ModeChange}
 use Rattle.mode_commands.specs.declared.steps.Step.{Step}
 use Rattle.mode_commands.specs.declared.steps.Step.TheVariants as step
 use Rattle.mode_commands.specs.ChannelModes.{asks_bans, ban_numerics, channel_modes, does, does_changes}
-use Rattle.mode_commands.specs.ChannelModes.{refusal_numeric, shows_changes, takes_changes, takes_steps, tells_modes}
+use Rattle.mode_commands.specs.ChannelModes.{refusal_numeric, shows_changes, takes_changes, tells_modes}
 use Rattle.mode_commands.specs.ChannelModes as modes_of
 use Rattle.mode_commands.specs.Letters.{asked_changes, asks}
 use Rattle.mode_commands.specs.Lines.{mode_line}
 use Rattle.mode_commands.specs.Modes.{modes, names_channel, of_channel, of_user}
 use Rattle.mode_commands.specs.Steps.{agree, all_shown, steps}
 use Rattle.mode_commands.specs.UserModes.{hides, invisible_after, is_known, modes_text}
-use Rattle.mode_commands.specs.UserModes.{own_modes, takes_own, tells_unknown}
+use Rattle.mode_commands.specs.UserModes.{own_modes, tells_unknown}
 use Rattle.record_laws.specs.Laws.{IsEachOnce}
 use Rattle.record_laws.proofs.Times.{once-changed, once-filter, once-one, once-without}
 use Rattle.record_laws.proofs.Fits.{Fit, SeenOnce, either, found_once, in_turn, in_turn_counted, is_batch, joined}

@@ -1,11 +1,9 @@
 -- What the effects of any record show, and to whom.
-use Rattle.std.proofs.Common.{◌≡◌, ◌≢◌, ℕ, ◌<◌, Bool, true, false, not, ◌&&◌, ◌==◌, cond, List, [], ◌∷◌, ◌++◌}
-use Rattle.std.proofs.Common.{codes, map, filter, length, Option, Some, None, refl, sym, ap, ◌∙◌, arith}
-use Rattle.std.specs.Bool.{if◌then◌else◌}
+use Rattle.std.proofs.Common.{◌≡◌, ◌≢◌, ℕ, true, false, not, ◌&&◌, ◌==◌, List, [], ◌∷◌}
+use Rattle.std.proofs.Common.{codes, map, filter, Option, Some, None, refl, sym, ap, ◌∙◌, arith}
 use Rattle.std.specs.List.{All}
 use Rattle.std.proofs.lemmas.List.Elements.{All-cons, All-append}
 use Rattle.std.proofs.lemmas.Slice.Eq.{bytes_eq-Decides}
-use Rattle.chronicle.specs.declared.record.Kind.{Kind}
 use Rattle.chronicle.specs.declared.record.Kind.TheVariants as kind
 use Rattle.numerics.specs.declared.numeric.Numeric.{Numeric}
 use Rattle.numerics.specs.declared.numeric.Numeric.TheVariants as numeric
@@ -28,19 +26,16 @@ use Rattle.talk_commands.specs.declared.talk.TalkCommand.TheVariants as talk
 use Rattle.query_commands.specs.Query.{told as query_told}
 use Rattle.session_commands.specs.Session.{serves_session}
 use Rattle.channel_commands.specs.Channel.{serves_channel}
-use Rattle.mode_commands.specs.Modes.{serves_mode}
 use Rattle.talk_commands.specs.Talk.{serves_talk}
 use Rattle.drafts.specs.declared.effect.Effect.{Effect}
 use Rattle.drafts.specs.declared.effect.Effect.TheVariants.{Establish, Answer, Show, Copy}
-use Rattle.drafts.specs.Effects.{deeds_of, heard, replied, reply}
+use Rattle.drafts.specs.Effects.{deeds_of, replied, reply}
 use Rattle.drafts.specs.Lines.{pong_line}
 use Rattle.drafts.specs.Replies.{tells}
-use Rattle.deeds.specs.Deeds.{effects}
 use Rattle.deeds.specs.Departure.{departs}
 use Rattle.session_commands.specs.Registration.{completed}
 use Rattle.deeds.specs.Rows.{asked, fault_numeric, is_for_registered, is_silent}
 use Rattle.deeds.specs.Rows.{of_asked, of_command, refused, served, turned_away}
-use Rattle.talk_commands.specs.declared.verb.Verb.TheVariants as verb
 use Rattle.record_laws.specs.Laws.{AllShowOnce, HearersStandOnce, IsEachOnce}
 use Rattle.record_laws.specs.Laws.{NoLineOpensABatch, RecordsOpenNoOthers, ShowsOnce}
 use Rattle.record_laws.proofs.Times.{once-sharers}
@@ -71,12 +66,8 @@ of_channel g fs s (channel.Topic channel text) = topic g fs s channel text
 
 of_talk : (g : Settings) (fs : List Deed) (s : ℕ) (k : TalkCommand) → IsEachOnce (opened fs)
     → Fit (serves_talk g fs s k)
-of_talk g fs s (talk.Privmsg targets text tags) once = sent g fs s
-    (record { verb = verb.Privmsg; text = Some text; tags = tags }) targets
-of_talk g fs s (talk.Notice targets text tags) once = sent g fs s
-    (record { verb = verb.Notice; text = Some text; tags = tags }) targets
-of_talk g fs s (talk.Tagmsg targets tags) once = sent g fs s
-    (record { verb = verb.Tagmsg; text = None; tags = tags }) targets
+of_talk g fs s (talk.Send v targets text tags) once = sent g fs s
+    (record { verb = v; text = text; tags = tags }) targets
 of_talk g fs s (talk.Away text) once = gone_away g fs s text once
 
 -- a query does nothing but tell, whatever it tells

@@ -1,7 +1,6 @@
 -- What CAP, AUTHENTICATE, NICK, USER, PASS and QUIT show, and to whom, and the welcome.
-use Rattle.std.proofs.Common.{◌≡◌, ℕ, Bool, true, false, not, ◌&&◌, ◌==◌, List, []}
-use Rattle.std.proofs.Common.{◌∷◌, ◌++◌, codes, Option, Some, None, refl}
-use Rattle.std.specs.Bool.{if◌then◌else◌}
+use Rattle.std.proofs.Common.{ℕ, true, false, List, []}
+use Rattle.std.proofs.Common.{◌∷◌, codes, Option, Some, None, refl}
 use Rattle.chronicle.specs.declared.why.Why.TheVariants.{Quit}
 use Rattle.numerics.specs.declared.numeric.Numeric.TheVariants as numeric
 use Rattle.numerics.specs.Numerics.{spaced}
@@ -22,9 +21,9 @@ use Rattle.session_commands.specs.declared.session.CapSubcommand.TheVariants.{Ls
 use Rattle.roster.specs.declared.deed.Deed.{Deed}
 use Rattle.roster.specs.declared.deed.Deed.TheVariants as deed
 use Rattle.roster.specs.LookBack.{after, caps, enrol, exchange, opened, registered, sharers}
-use Rattle.drafts.specs.declared.effect.Effect.TheVariants.{Establish, Answer, Show}
+use Rattle.drafts.specs.declared.effect.Effect.TheVariants.{Establish, Answer}
 use Rattle.drafts.specs.Effects.{deeds_of}
-use Rattle.drafts.specs.Lines.{go_on_line, nick_line, prefix}
+use Rattle.drafts.specs.Lines.{go_on_line, prefix}
 use Rattle.drafts.specs.Replies.{tells, tells_all}
 use Rattle.session_commands.specs.Negotiation.{authenticates, cap_list, closes, lists, negotiates}
 use Rattle.session_commands.specs.Negotiation.{requested, sasl_answered, waits}

@@ -1,5 +1,5 @@
 -- What PRIVMSG, NOTICE, TAGMSG and AWAY show, and to whom.
-use Rattle.std.proofs.Common.{◌≡◌, ℕ, Bool, true, false, not, ◌&&◌, ◌||◌, ◌==◌, nat_lt, List, [], ◌∷◌, ◌++◌}
+use Rattle.std.proofs.Common.{◌≡◌, ℕ, true, false, not, ◌&&◌, ◌==◌, nat_lt, List, [], ◌∷◌}
 use Rattle.std.proofs.Common.{codes, cond, filter, length, slice_index_or, Option, Some, None, refl}
 use Rattle.std.specs.Bool.{if◌then◌else◌}
 use Rattle.std.specs.List.{flat_map}
@@ -27,7 +27,7 @@ use Rattle.talk_commands.specs.Talking.{shows, tells_away, to_channel, to_one, t
 use Rattle.talk_commands.specs.Away.{away_answer, goes_away, is_same_text, kept, notified}
 use Rattle.record_laws.specs.Laws.{IsEachOnce}
 use Rattle.record_laws.proofs.Times.{once-filter, once-none, once-one, once-sharers, once-state, once-without}
-use Rattle.record_laws.proofs.Fits.{Fit, Fits, either, is_batch, joined, more, none}
+use Rattle.record_laws.proofs.Fits.{Fit, either, is_batch, joined, more, none}
 use Rattle.record_laws.proofs.Fits.{of_all, only, some_shown, told, told_only}
 
 verb_plain : (v : Verb) → bytes_eq (verb_text v) (codes "BATCH") ≡ false

@@ -8,9 +8,7 @@ use Rattle.channel_state.specs.declared.change.Rank.TheVariants.{Operator, Voice
 use Rattle.channel_state.specs.State.{State, changed, departed, is_some_one, lasting}
 use Rattle.channel_state.specs.State.{made_by, nothing, with_last, without}
 use Rattle.roster.specs.declared.deed.Deed.{Deed}
-use Rattle.roster.specs.declared.deed.Deed.TheVariants.{Opened, NickSet, UserSet, HoldSet, CapsSet}
-use Rattle.roster.specs.declared.deed.Deed.TheVariants.{ExchangeSet, LoggedIn, Enrolled, AwaySet}
-use Rattle.roster.specs.declared.deed.Deed.TheVariants.{InvisibleSet, ChannelMade, Changed, Ended, Gone}
+use Rattle.roster.specs.declared.deed.Deed.TheVariants.{ChannelMade, Changed, Gone}
 use Rattle.roster.specs.LookBack.{opened, share, sharers, state}
 use Rattle.record_laws.specs.Laws.{IsEachOnce, times}
 

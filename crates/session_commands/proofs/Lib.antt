@@ -1,3 +1,2 @@
 pub mod UserNames
 pub mod Support
-pub mod Named

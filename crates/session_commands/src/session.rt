@@ -1,4 +1,4 @@
-//! The commands of a session's own: how each is named and read, and what it does (RFC 2812, sections 3.1.1 to 3.1.3,
+//! The commands of a session's own: how each is read, and what it does (RFC 2812, sections 3.1.1 to 3.1.3,
 //! 3.1.7, 3.7.2 and 3.7.3; IRCv3 Capability Negotiation and SASL 3.1).
 ghost use Rattle.std.specs.Prelude.{◌≡◌, ◌∷◌, ◌≤◌, [], ℕ, List, length, IfOk, OnOk, MatchOption};
 ghost use Rattle.std.specs.List.{list_any};
@@ -7,16 +7,15 @@ ghost use Rattle.drafts.specs.declared.effect.Effect.TheVariants.{Answer};
 ghost use Rattle.drafts.specs.Words.{grown, pong_line};
 ghost use Rattle.line_grammar.specs.Parts.{is_present};
 ghost use Rattle.command_params.specs.Params.{IsRead};
-ghost use Rattle.session_commands.specs.Session.{EachSessionIsNamed, NoSessionIsMisnamed, session_named, session_of};
-ghost use Rattle.session_commands.specs.Session.{session_text, cap_req, cap_subcommand, cap_command};
-ghost use Rattle.session_commands.specs.Session.{authenticate_command, pass_command, pong_command, nick_command};
+ghost use Rattle.session_commands.specs.Session.{cap_req, cap_subcommand, cap_command};
+ghost use Rattle.session_commands.specs.Session.{authenticate_command, pass_command, nick_command};
 ghost use Rattle.session_commands.specs.Session.{is_user_octet, user_name, user_command, ping_command, quit_command};
 ghost use Rattle.session_commands.specs.Session.{serves_session, shows_values, told};
 
 use crate::enrolling::{introduce, pass, quit, take_nick};
 use crate::negotiation::{authenticate, negotiate};
 use chronicle::SessionId;
-use command_params::{ReadFault, first, into_first, is_named, needs_more, read_words};
+use command_params::{CommandName, ReadFault, first, into_first, is_named, needs_more, read_words};
 use drafts::{Draft, pong_line};
 use line_grammar::{LineMessage, LineParameters, Octets, OctetsList};
 use std::alloc::{AllocError, Global};
@@ -56,70 +55,6 @@ pub enum SessionCommand {
     Pong,
 }
 
-/// The name of such a command.
-#[derive(Clone, Copy)]
-pub enum SessionName {
-    Quit,
-    Cap,
-    Authenticate,
-    Pass,
-    Nick,
-    User,
-    Ping,
-    Pong,
-}
-
-/// Each of them.
-const KNOWN: [SessionName; 8] = [
-    SessionName::Quit,
-    SessionName::Cap,
-    SessionName::Authenticate,
-    SessionName::Pass,
-    SessionName::Nick,
-    SessionName::User,
-    SessionName::Ping,
-    SessionName::Pong,
-];
-
-impl SessionName {
-    /// The command of a name, in either case. `None` where it is none.
-    #[tactic(auto, unfolding(crate::specs::Session::session_named))]
-    pub fn read(name: &[u8]) -> Option<SessionName>
-        ensures { result ≡ session_named name.now }
-    {
-        KNOWN
-            .iter()
-            .copied()
-            .find(|known| is_named(name, known.text()))
-    }
-
-    /// The name in upper case.
-    pub fn text(&self) -> &'static [u8]
-        ensures { result.now ≡ session_text self.now }
-    {
-        match self {
-            SessionName::Quit => b"QUIT",
-            SessionName::Cap => b"CAP",
-            SessionName::Authenticate => b"AUTHENTICATE",
-            SessionName::Pass => b"PASS",
-            SessionName::Nick => b"NICK",
-            SessionName::User => b"USER",
-            SessionName::Ping => b"PING",
-            SessionName::Pong => b"PONG",
-        }
-    }
-}
-
-/// That none is left out among the names that are known: each is read by its own.
-pub fn each_session_is_named()
-    ensures { EachSessionIsNamed }
-{}
-
-/// That none is read by the name of another.
-pub fn no_session_is_misnamed()
-    ensures { NoSessionIsMisnamed }
-{}
-
 /// Octets of a user name, and of a real name.
 const USERLEN: usize = 16;
 
@@ -146,7 +81,7 @@ fn read_cap_req(alloc: Global, params: &LineParameters<'_>) -> Result<SessionCom
     ensures { IsRead (cap_req params.now) result }
 {
     let Some((list, _)) = params.split_first() else {
-        return Err(needs_more(b"CAP"));
+        return Err(needs_more(CommandName::Cap));
     };
     let words = read_words(alloc, list)?;
     Ok(SessionCommand::Cap(CapSubcommand::Req { words }))
@@ -176,36 +111,40 @@ fn read_cap_subcommand(
     Err(ReadFault::InvalidCapSubcommand { subcommand })
 }
 
-/// A subcommand is kept without taking memory, so that no growth comes before the fault of an unknown one.
-fn read_cap(alloc: Global, message: LineMessage<'_>) -> Result<SessionCommand, ReadFault>
+/// What CAP asks for (IRCv3 Capability Negotiation). A subcommand is kept without taking memory, so that no growth
+/// comes before the fault of an unknown one.
+pub fn read_cap(alloc: Global, message: LineMessage<'_>) -> Result<SessionCommand, ReadFault>
     ensures { IsRead (cap_command message.entry.params) result }
 {
     let Some((_, params)) = message.params().split_first() else {
-        return Err(needs_more(b"CAP"));
+        return Err(needs_more(CommandName::Cap));
     };
     let subcommand = into_first(alloc, message);
     read_cap_subcommand(alloc, subcommand, &params)
 }
 
-fn read_authenticate(message: LineMessage<'_>) -> Result<SessionCommand, ReadFault>
+/// What AUTHENTICATE asks for (IRCv3 SASL 3.1).
+pub fn read_authenticate(message: LineMessage<'_>) -> Result<SessionCommand, ReadFault>
     ensures { IsRead (authenticate_command message.entry.params) result }
 {
     match message.into_first_param() {
         Some(piece) => Ok(SessionCommand::Authenticate { piece }),
-        None => Err(needs_more(b"AUTHENTICATE")),
+        None => Err(needs_more(CommandName::Authenticate)),
     }
 }
 
-fn read_pass(params: &LineParameters<'_>) -> Result<SessionCommand, ReadFault>
+/// What PASS asks for (RFC 2812, section 3.1.1).
+pub fn read_pass(params: &LineParameters<'_>) -> Result<SessionCommand, ReadFault>
     ensures { IsRead (pass_command params.now) result }
 {
     match params.split_first() {
         Some(_) => Ok(SessionCommand::Pass),
-        None => Err(needs_more(b"PASS")),
+        None => Err(needs_more(CommandName::Pass)),
     }
 }
 
-fn read_nick(alloc: Global, message: LineMessage<'_>) -> Result<SessionCommand, ReadFault>
+/// What NICK asks for (section 3.1.2).
+pub fn read_nick(alloc: Global, message: LineMessage<'_>) -> Result<SessionCommand, ReadFault>
     ensures { IsRead (nick_command message.entry.params) result }
 {
     let nick = into_first(alloc, message);
@@ -252,7 +191,7 @@ fn told(alloc: Global, user: &[u8], real: &[u8]) -> Result<SessionCommand, ReadF
     ensures { IsRead (told user.now real.now) result }
 {
     if !has_usable(user) {
-        return Err(needs_more(b"USER"));
+        return Err(needs_more(CommandName::User));
     }
     let user = usable(alloc, user)?;
     let mut real = Vec::from_slice(alloc, real)?;
@@ -273,16 +212,18 @@ fn user_and_real<'a>(params: &LineParameters<'a>) -> Option<(&'a [u8], &'a [u8])
     Some((user, real))
 }
 
-fn read_user(alloc: Global, params: &LineParameters<'_>) -> Result<SessionCommand, ReadFault>
+/// What USER asks for (section 3.1.3).
+pub fn read_user(alloc: Global, params: &LineParameters<'_>) -> Result<SessionCommand, ReadFault>
     ensures { IsRead (user_command params.now) result }
 {
     match user_and_real(params) {
         Some((user, real)) => told(alloc, user, real),
-        None => Err(needs_more(b"USER")),
+        None => Err(needs_more(CommandName::User)),
     }
 }
 
-fn read_ping(alloc: Global, message: LineMessage<'_>) -> Result<SessionCommand, ReadFault>
+/// What PING asks for (section 3.7.2).
+pub fn read_ping(alloc: Global, message: LineMessage<'_>) -> Result<SessionCommand, ReadFault>
     ensures { IsRead (ping_command message.entry.params) result }
 {
     let token = into_first(alloc, message);
@@ -292,32 +233,12 @@ fn read_ping(alloc: Global, message: LineMessage<'_>) -> Result<SessionCommand, 
     Ok(SessionCommand::Ping { token })
 }
 
-fn read_quit(alloc: Global, message: LineMessage<'_>) -> Result<SessionCommand, ReadFault>
+/// What QUIT asks for (section 3.1.7).
+pub fn read_quit(alloc: Global, message: LineMessage<'_>) -> Result<SessionCommand, ReadFault>
     ensures { IsRead (quit_command message.entry.params) result }
 {
     let text = into_first(alloc, message);
     Ok(SessionCommand::Quit { text })
-}
-
-/// What a command asks for by its parameters, or the numeric that answers it by what it says alone.
-#[tactic(auto, unfolding(crate::specs::Session::session_of))]
-pub fn read_session(
-    alloc: Global,
-    name: SessionName,
-    message: LineMessage<'_>,
-) -> Result<SessionCommand, ReadFault>
-    ensures { IsRead (session_of name message.entry.params) result }
-{
-    match name {
-        SessionName::Cap => read_cap(alloc, message),
-        SessionName::Authenticate => read_authenticate(message),
-        SessionName::Pass => read_pass(&message.params()),
-        SessionName::Nick => read_nick(alloc, message),
-        SessionName::User => read_user(alloc, &message.params()),
-        SessionName::Ping => read_ping(alloc, message),
-        SessionName::Pong => Ok(SessionCommand::Pong),
-        SessionName::Quit => read_quit(alloc, message),
-    }
 }
 
 /// Answers PING.

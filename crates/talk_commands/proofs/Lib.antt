@@ -1,3 +1,4 @@
 pub mod Quiet
-pub mod Named
+pub mod Reached
+pub mod Relayed
 mod Examples

@@ -7,7 +7,7 @@ use Rattle.channel_state.specs.State.{State, among, is_banned, without}
 use Rattle.numerics.specs.declared.numeric.Numeric.{Numeric}
 use Rattle.numerics.specs.declared.outgoing.Out.{Out}
 use Rattle.numerics.specs.declared.numeric.Numeric.TheVariants.{NoSuchChannel, CannotSendToChan}
-use Rattle.numerics.specs.declared.numeric.Numeric.TheVariants.{NoSuchNick, TooManyTargets, Away}
+use Rattle.numerics.specs.declared.numeric.Numeric.TheVariants.{NoSuchNick, TooManyTargets}
 use Rattle.registration.specs.declared.caps.Cap.TheVariants.{EchoMessage, MessageTags}
 use Rattle.registration.specs.declared.settings.Settings.{Settings}
 use Rattle.registration.specs.Caps.{is_on}
@@ -16,7 +16,8 @@ use Rattle.roster.specs.LookBack.{nick, away, caps, found, state, name_of}
 use Rattle.drafts.specs.declared.effect.Effect.{Effect}
 use Rattle.drafts.specs.declared.effect.Effect.TheVariants.{Answer, Show, Copy}
 use Rattle.drafts.specs.Lines.{title, prefix}
-use Rattle.drafts.specs.Replies.{tells}
+use Rattle.drafts.specs.Replies.{away_told, tells}
+pub use Rattle.drafts.specs.Targets.{names_channel}
 use Rattle.talk_commands.specs.declared.verb.Verb.{Verb}
 use Rattle.talk_commands.specs.declared.verb.Verb.TheVariants.{Privmsg, Notice, Tagmsg}
 use Rattle.talk_commands.specs.Lines.{Sent, sent_line}
@@ -77,7 +78,7 @@ delivers fs s b t l = (if t == s then keeps fs s b l else Show (filter (reaches 
 
 -- the sender of a PRIVMSG is told that the user is away
 abbrev pub tells_away : Settings → List Deed → ℕ → Verb → ℕ → Option (List ℕ) → List Effect
-tells_away g fs s Privmsg t (Some text) = tells g fs s (Away (title (nick fs t)) text) ∷ []
+tells_away g fs s Privmsg t text = away_told g fs s (title (nick fs t)) text
 tells_away g fs s v t text = []
 
 abbrev pub to_user : Settings → List Deed → ℕ → Sent → List ℕ → Option ℕ → List Effect
@@ -86,11 +87,6 @@ to_user g fs s b n (Some t) = delivers fs s b t (sent_line b (prefix fs s) (titl
     ++ tells_away g fs s b.verb t (away fs t)
 
 -- ---- several targets
-
--- a name that begins like a channel's: 35 is `#`, 38 is `&`
-abbrev pub names_channel : List ℕ → Bool
-names_channel [] = false
-names_channel (b ∷ bs) = b == 35 || b == 38
 
 abbrev pub to_one : Settings → List Deed → ℕ → Sent → List ℕ → List Effect
 to_one g fs s b target =

@@ -9,7 +9,7 @@ mod verb;
 
 pub use away::{AWAYLEN, go_away};
 pub use talk::{
-    TalkCommand, each_talk_is_named, is_unanswered, no_talk_is_misnamed, read_talk, serve_talk,
+    TalkCommand, is_unanswered, read_away, read_notice, read_privmsg, read_tagmsg, serve_talk,
 };
 pub use talking::send;
 pub use verb::{Sending, Verb};

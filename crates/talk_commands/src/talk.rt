@@ -1,16 +1,18 @@
-//! The commands that send texts: how each is named and read, and what it does (RFC 2812, sections 3.3.1, 3.3.2 and
+//! The commands that send texts: how each is read, and what it does (RFC 2812, sections 3.3.1, 3.3.2 and
 //! 4.1; IRCv3 message-tags).
 ghost use Rattle.std.specs.Prelude.{◌≡◌, IfOk, OnOk};
 ghost use Rattle.roster.specs.Legal.{IsOpened};
 ghost use Rattle.drafts.specs.Words.{grown};
-ghost use Rattle.command_params.specs.Params.{IsRead, IsReadByName};
-ghost use Rattle.talk_commands.specs.Talk.{EachTalkIsNamed, NoTalkIsMisnamed, is_unanswered, serves_talk};
-ghost use Rattle.talk_commands.specs.Talk.{talk_of, privmsg_command, notice_command, tagmsg_command};
+ghost use Rattle.command_params.specs.Lists.{names_of};
+ghost use Rattle.command_params.specs.Params.{IsRead};
+ghost use Rattle.talk_commands.specs.declared.talk.TalkCommand.TheVariants.{Send};
+ghost use Rattle.talk_commands.specs.Talk.{is_unanswered, serves_talk};
+ghost use Rattle.talk_commands.specs.Talk.{privmsg_command, notice_command, tagmsg_command};
 ghost use Rattle.talk_commands.specs.Talk.{away_command, relayed, second_or_empty};
 
 use crate::{Sending, Verb, go_away, send};
 use chronicle::SessionId;
-use command_params::{CommandName, ReadFault, first, is_named, read_names};
+use command_params::{CommandName, ReadFault, first, read_names};
 use drafts::Draft;
 use line_grammar::{LineParameters, Octets, OctetsList};
 use message_tags::{client_only, tags_of};
@@ -20,22 +22,12 @@ use std::alloc::{AllocError, Global};
 /// empty one, and none that repeats another in either case.
 #[derive(Drop)]
 pub enum TalkCommand {
-    /// A text, which isn't empty, for users and channels (section 3.3.1).
-    Privmsg {
+    /// A text, which isn't empty, for users and channels (sections 3.3.1 and 3.3.2), or tags alone, where `text` is
+    /// `None` (IRCv3 message-tags). NOTICE is for nobody where its targets or its text were missing or empty.
+    Send {
+        verb: Verb,
         targets: OctetsList,
-        text: Octets,
-        tags: Octets,
-    },
-    /// The same, never answered with a numeric. For nobody, where the targets or the text were missing or
-    /// empty (section 3.3.2).
-    Notice {
-        targets: OctetsList,
-        text: Octets,
-        tags: Octets,
-    },
-    /// Tags alone, for users and channels (IRCv3 message-tags).
-    Tagmsg {
-        targets: OctetsList,
+        text: Option<Octets>,
         tags: Octets,
     },
     /// To be away with this text, or here again where it is empty (section 4.1).
@@ -55,14 +47,39 @@ fn second<'a>(params: &LineParameters<'a>) -> &'a [u8]
 }
 
 /// The tags that are passed on.
+#[tactic(auto, using(crate::proofs::Relayed::none_relayed))]
 fn relayed(alloc: Global, tag_data: &[u8]) -> Result<Octets, AllocError>
     ensures { IfOk result (λ t. t ≡ relayed tag_data.now) }
 {
+    if tag_data.is_empty() {
+        return Ok(Octets::from_vec(Vec::new(alloc)));
+    }
     let tags = tags_of(alloc, tag_data)?;
     client_only(alloc, &tags)
 }
 
-fn read_privmsg(
+/// What is sent to those whom a list names.
+fn sent(
+    alloc: Global,
+    verb: Verb,
+    list: &[u8],
+    text: Option<Octets>,
+    tag_data: &[u8],
+) -> Result<TalkCommand, AllocError>
+    ensures { IfOk result (λ k. k ≡ Send verb (names_of list.now) text (relayed tag_data.now)) }
+{
+    let targets = read_names(alloc, list)?;
+    let tags = relayed(alloc, tag_data)?;
+    Ok(TalkCommand::Send {
+        verb,
+        targets,
+        text,
+        tags,
+    })
+}
+
+/// What PRIVMSG asks for (RFC 2812, section 3.3.1).
+pub fn read_privmsg(
     alloc: Global,
     tag_data: &[u8],
     params: &LineParameters<'_>,
@@ -72,24 +89,19 @@ fn read_privmsg(
     let list = first(params);
     if list.is_empty() {
         return Err(ReadFault::NoRecipient {
-            command: CommandName::new(b"PRIVMSG"),
+            command: CommandName::Privmsg,
         });
     }
     let text = second(params);
     if text.is_empty() {
         return Err(ReadFault::NoTextToSend);
     }
-    let targets = read_names(alloc, list)?;
     let text = Octets::copied(alloc, text)?;
-    let tags = relayed(alloc, tag_data)?;
-    Ok(TalkCommand::Privmsg {
-        targets,
-        text,
-        tags,
-    })
+    Ok(sent(alloc, Verb::Privmsg, list, Some(text), tag_data)?)
 }
 
-fn read_notice(
+/// What NOTICE asks for (section 3.3.2).
+pub fn read_notice(
     alloc: Global,
     tag_data: &[u8],
     params: &LineParameters<'_>,
@@ -99,23 +111,19 @@ fn read_notice(
     let list = first(params);
     let text = second(params);
     if list.is_empty() || text.is_empty() {
-        return Ok(TalkCommand::Notice {
+        return Ok(TalkCommand::Send {
+            verb: Verb::Notice,
             targets: OctetsList::from_vec(Vec::new(alloc)),
-            text: Octets::from_vec(Vec::new(alloc)),
+            text: Some(Octets::from_vec(Vec::new(alloc))),
             tags: Octets::from_vec(Vec::new(alloc)),
         });
     }
-    let targets = read_names(alloc, list)?;
     let text = Octets::copied(alloc, text)?;
-    let tags = relayed(alloc, tag_data)?;
-    Ok(TalkCommand::Notice {
-        targets,
-        text,
-        tags,
-    })
+    Ok(sent(alloc, Verb::Notice, list, Some(text), tag_data)?)
 }
 
-fn read_tagmsg(
+/// What TAGMSG asks for (IRCv3 message-tags).
+pub fn read_tagmsg(
     alloc: Global,
     tag_data: &[u8],
     params: &LineParameters<'_>,
@@ -125,50 +133,19 @@ fn read_tagmsg(
     let list = first(params);
     if list.is_empty() {
         return Err(ReadFault::NoRecipient {
-            command: CommandName::new(b"TAGMSG"),
+            command: CommandName::Tagmsg,
         });
     }
-    let targets = read_names(alloc, list)?;
-    let tags = relayed(alloc, tag_data)?;
-    Ok(TalkCommand::Tagmsg { targets, tags })
+    Ok(sent(alloc, Verb::Tagmsg, list, None, tag_data)?)
 }
 
-fn read_away(alloc: Global, params: &LineParameters<'_>) -> Result<TalkCommand, ReadFault>
+/// What AWAY asks for (RFC 2812, section 4.1).
+pub fn read_away(alloc: Global, params: &LineParameters<'_>) -> Result<TalkCommand, ReadFault>
     ensures { IsRead (away_command params.now) result }
 {
     let text = Octets::copied(alloc, first(params))?;
     Ok(TalkCommand::Away { text })
 }
-
-/// What is asked by a name, or the numeric that answers it by what it says alone. `None` where it is no such
-/// command's.
-#[tactic(auto, unfolding(crate::specs::Talk::talk_of))]
-pub fn read_talk(
-    alloc: Global,
-    name: &[u8],
-    tag_data: &[u8],
-    params: &LineParameters<'_>,
-) -> Option<Result<TalkCommand, ReadFault>>
-    ensures { IsReadByName (talk_of name.now tag_data.now params.now) result }
-{
-    match name {
-        name if is_named(name, b"PRIVMSG") => Some(read_privmsg(alloc, tag_data, params)),
-        name if is_named(name, b"NOTICE") => Some(read_notice(alloc, tag_data, params)),
-        name if is_named(name, b"TAGMSG") => Some(read_tagmsg(alloc, tag_data, params)),
-        name if is_named(name, b"AWAY") => Some(read_away(alloc, params)),
-        _ => None,
-    }
-}
-
-/// That each such command has a name by which it is read.
-pub fn each_talk_is_named()
-    ensures { EachTalkIsNamed }
-{}
-
-/// That no such command is read by the name of another.
-pub fn no_talk_is_misnamed()
-    ensures { NoTalkIsMisnamed }
-{}
 
 /// Does what a command asks for that sends something.
 pub fn serve_talk(
@@ -182,40 +159,18 @@ pub fn serve_talk(
         ≡ grown draft.old (serves_talk draft.old.settings draft.old.facts session command.now)) }
 {
     match command {
-        TalkCommand::Privmsg {
+        TalkCommand::Send {
+            verb,
             targets,
             text,
             tags,
         } => {
-            let (verb, text) = (Verb::Privmsg, Some(text));
-            send(
-                draft,
-                session,
-                &Sending { verb, text, tags },
-                targets.as_slice(),
-            )
-        }
-        TalkCommand::Notice {
-            targets,
-            text,
-            tags,
-        } => {
-            let (verb, text) = (Verb::Notice, Some(text));
-            send(
-                draft,
-                session,
-                &Sending { verb, text, tags },
-                targets.as_slice(),
-            )
-        }
-        TalkCommand::Tagmsg { targets, tags } => {
-            let (verb, text) = (Verb::Tagmsg, None);
-            send(
-                draft,
-                session,
-                &Sending { verb, text, tags },
-                targets.as_slice(),
-            )
+            let sending = Sending {
+                verb: *verb,
+                text: text.as_ref(),
+                tags,
+            };
+            send(draft, session, &sending, targets.as_slice())
         }
         TalkCommand::Away { text } => go_away(draft, session, text),
     }
@@ -226,9 +181,10 @@ pub fn is_unanswered(command: &TalkCommand) -> bool
     ensures { result ≡ is_unanswered command.now }
 {
     match command {
-        TalkCommand::Notice { .. } => true,
-        TalkCommand::Privmsg { .. } | TalkCommand::Tagmsg { .. } | TalkCommand::Away { .. } => {
-            false
-        }
+        TalkCommand::Send { verb, .. } => match verb {
+            Verb::Notice => true,
+            Verb::Privmsg | Verb::Tagmsg => false,
+        },
+        TalkCommand::Away { .. } => false,
     }
 }

@@ -6,15 +6,15 @@ ghost use Rattle.roster.specs.LookBack.{away, found, name_of, state};
 ghost use Rattle.drafts.specs.declared.effect.Effect.TheVariants.{Show};
 ghost use Rattle.drafts.specs.Words.{denied, grown, prefix};
 ghost use Rattle.talk_commands.specs.Lines.{sent_line};
-ghost use Rattle.talk_commands.specs.Talking.{answers, delivers, echoes, is_barred, keeps, may_speak, names_channel};
+ghost use Rattle.talk_commands.specs.Talking.{answers, delivers, echoes, is_barred, keeps, may_speak};
 ghost use Rattle.talk_commands.specs.Talking.{reaches, sends, shows, tells_away, to_channel, to_one, to_open, to_user};
 
 use crate::{Sending, Verb};
 use channel_state::ChannelState;
 use chronicle::SessionId;
-use drafts::{Denial, Draft, deny, prefix_of, tell, title_of};
+use drafts::{Denial, Draft, deny, names_channel, prefix_of, tell_away, title_text};
 use line_grammar::Octets;
-use numerics::{Line, Numeric};
+use numerics::Line;
 use registration::Cap;
 use roster::{Roster, Sessions};
 use std::alloc::{AllocError, Global};
@@ -52,8 +52,8 @@ fn reaches(roster: &Roster, sending: &Sending<'_>, session: SessionId) -> bool
     }
 }
 
-/// Those of some sessions whom it reaches.
-fn reached(
+/// Those of some sessions whom it reaches, one by one.
+fn reached_of(
     alloc: Global,
     roster: &Roster,
     sending: &Sending<'_>,
@@ -64,6 +64,22 @@ fn reached(
     let mut hearers = Vec::from_slice(alloc, sessions)?;
     hearers.retain(|session| reaches(roster, sending, *session));
     Ok(Sessions::from_vec(hearers))
+}
+
+/// Those of some sessions whom it reaches. A text reaches them all.
+#[tactic(auto, using(crate::proofs::Reached::privmsg_reaches_all, crate::proofs::Reached::notice_reaches_all))]
+fn reached(
+    alloc: Global,
+    roster: &Roster,
+    sending: &Sending<'_>,
+    sessions: Sessions,
+) -> Result<Sessions, AllocError>
+    ensures { IfOk result (λ v. v ≡ filter (reaches roster.now.facts sending.now) sessions) }
+{
+    match sending.verb {
+        Verb::Privmsg | Verb::Notice => Ok(sessions),
+        Verb::Tagmsg => reached_of(alloc, roster, sending, sessions.as_slice()),
+    }
 }
 
 /// Gives a session back what it sent, as a part of the answer, where it wants to have it.
@@ -108,12 +124,12 @@ fn may_speak(state: &ChannelState, session: SessionId, source: &[u8]) -> bool
 fn show(
     draft: &mut Draft,
     sending: &Sending<'_>,
-    sessions: &[SessionId],
+    sessions: Sessions,
     line: Line,
 ) -> Result<(), AllocError>
     requires { draft.old.facts ≡ draft.old.base }
     ensures { OnOk result (draft.new ≡ grown draft.old
-        (Show (filter (reaches draft.old.facts sending.now) sessions.now) line ∷ [])) }
+        (Show (filter (reaches draft.old.facts sending.now) sessions) line ∷ [])) }
 {
     let hearers = reached(draft.alloc(), draft.before(), sending, sessions)?;
     draft.show(hearers, line)
@@ -136,7 +152,7 @@ fn send_to_members(
     let line = sending.line(draft.alloc(), from, name)?;
     let mut others = Sessions::copied(draft.alloc(), members)?;
     others.remove(session);
-    show(draft, sending, others.as_slice(), line)?;
+    show(draft, sending, others, line)?;
     echo(draft, session, sending, from, name)
 }
 
@@ -193,7 +209,8 @@ fn hand(
         (Show (filter (reaches draft.old.facts sending.now) (user ∷ [])) line ∷ []))) }
 {
     if user != session {
-        return show(draft, sending, &[user], line);
+        let hearer = Sessions::copied(draft.alloc(), &[user])?;
+        return show(draft, sending, hearer, line);
     }
     if !reaches(draft.before(), sending, session) {
         return Ok(());
@@ -221,7 +238,7 @@ fn deliver(
 }
 
 /// Tells the sender of a PRIVMSG that a user is away.
-fn tell_away(
+fn tell_sender(
     draft: &mut Draft,
     session: SessionId,
     verb: Verb,
@@ -231,15 +248,14 @@ fn tell_away(
     ensures { OnOk result (draft.new ≡ grown draft.old (tells_away draft.old.settings
         draft.old.facts session verb user (away draft.old.facts user))) }
 {
-    if verb != Verb::Privmsg {
-        return Ok(());
+    let roster = draft.before();
+    match verb {
+        Verb::Privmsg => {
+            let nick = title_text(roster.nick_of(user));
+            tell_away(draft, session, nick, roster.away_of(user))
+        }
+        Verb::Notice | Verb::Tagmsg => Ok(()),
     }
-    let Some(text) = draft.before().away_of(user) else {
-        return Ok(());
-    };
-    let nick = title_of(draft.alloc(), draft.before().nick_of(user))?;
-    let text = text.clone()?;
-    tell(draft, session, Numeric::Away { nick, text })
 }
 
 /// Sends it to a user.
@@ -258,26 +274,12 @@ fn send_to_user(
         return refuse(draft, session, sending.verb, Denial::NoSuchNick, nick);
     };
     let from = prefix_of(draft, session)?;
-    let name = title_of(draft.alloc(), draft.before().nick_of(user))?;
-    deliver(
-        draft,
-        session,
-        sending,
-        user,
-        from.as_slice(),
-        name.as_slice(),
-    )?;
-    tell_away(draft, session, sending.verb, user)
+    let name = title_text(draft.before().nick_of(user));
+    deliver(draft, session, sending, user, from.as_slice(), name)?;
+    tell_sender(draft, session, sending.verb, user)
 }
 
 // ---- several targets
-
-/// Whether a name begins like a channel's.
-fn names_channel(name: &[u8]) -> bool
-    ensures { result ≡ names_channel name.now }
-{
-    matches!(name.first(), Some(b'#' | b'&'))
-}
 
 /// Sends it to a target.
 fn send_to(

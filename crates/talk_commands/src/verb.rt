@@ -1,8 +1,9 @@
 //! The commands that carry a text or tags.
 ghost use Rattle.std.specs.Prelude.{◌≡◌, ◌∷◌, is_some, option_copied, option_to_list, IfOk};
 ghost use Rattle.numerics.specs.Outgoing.{line};
-ghost use Rattle.talk_commands.specs.Lines.{sent_line, verb_text};
+ghost use Rattle.talk_commands.specs.Lines.{sent_line, verb_name, verb_text};
 
+use command_params::CommandName;
 use line_grammar::Octets;
 use numerics::Line;
 use std::alloc::{AllocError, Global};
@@ -20,15 +21,22 @@ pub enum Verb {
 }
 
 impl Verb {
+    /// The command.
+    fn name(self) -> CommandName
+        ensures { result ≡ verb_name self }
+    {
+        match self {
+            Verb::Privmsg => CommandName::Privmsg,
+            Verb::Notice => CommandName::Notice,
+            Verb::Tagmsg => CommandName::Tagmsg,
+        }
+    }
+
     /// The command's name.
     fn text(self) -> &'static [u8]
         ensures { result.now ≡ verb_text self }
     {
-        match self {
-            Verb::Privmsg => b"PRIVMSG",
-            Verb::Notice => b"NOTICE",
-            Verb::Tagmsg => b"TAGMSG",
-        }
+        self.name().text()
     }
 }
 

@@ -1,4 +1,4 @@
-use Rattle.clean_records.proofs.Channels.{channel-commands}
+use Rattle.clean_records.proofs.Reading.{channel-commands}
 use Rattle.clean_records.proofs.channel_commands_are_clean.Goals as goal
 
 pub returns : goal.returns

@@ -1,4 +1,4 @@
-use Rattle.clean_records.proofs.Queries.{query-commands}
+use Rattle.clean_records.proofs.Reading.{query-commands}
 use Rattle.clean_records.proofs.queries_are_clean.Goals as goal
 
 pub returns : goal.returns

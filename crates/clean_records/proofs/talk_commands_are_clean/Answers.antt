@@ -1,4 +1,4 @@
-use Rattle.clean_records.proofs.Talks.{talk-commands}
+use Rattle.clean_records.proofs.Reading.{talk-commands}
 use Rattle.clean_records.proofs.talk_commands_are_clean.Goals as goal
 
 pub returns : goal.returns

@@ -1,4 +1,4 @@
-use Rattle.std.proofs.Common.{◌≡◌, ◌+◌, ◌++◌, List, [], ◌∷◌, ℕ, drop, ap, ◌∙◌}
+use Rattle.std.proofs.Common.{◌≡◌, ◌+◌, ◌++◌, List, [], ◌∷◌, ℕ, drop, refl, ap, ◌∙◌}
 use Rattle.registration.specs.declared.settings.Settings.{Settings}
 use Rattle.channel_state.specs.State.{State}
 use Rattle.roster.specs.declared.deed.Deed.{Deed}
@@ -24,7 +24,7 @@ loop-change-preserved c =
     (λ (h : Settings). grown d (does h s l.name d.facts y)) inv.settings ∙ ap
     (λ (m : List ℕ). grown d (does g s m d.facts y)) inv.name in
     let now : c.take_change.new.seen.state ≡ stepped y k = ap
-    (λ (z : Seen). z.state) c.in_ok-take_change.ensures.seen ∙ ap (λ z. stepped z k) same in
+    (λ (z : Seen). z.state) (c.in_ok-take_change.ensures.seen refl) ∙ ap (λ z. stepped z k) same in
     let rest = drop (i + 1) xs ++ zs in
     record {
       settings = ap (λ (e : Drafted). e.settings) grew ∙ inv.settings;
@@ -37,6 +37,6 @@ loop-change-preserved c =
           (λ (zs : List ModeChange). zs ++ all_shown (steps b (stepped y k) rest))
           (c.in_ok-take_change.ensures.shown ∙ ap (λ z. c.loop-change.shown.items ++ shown_by z) same)
           ∙ shown_more b k xs i zs c.loop-change.shown.items x c.loop-change-test.true c.change-item.is ∙ inv.shown;
-      name = ap (λ (z : Seen). z.name) c.in_ok-take_change.ensures.seen ∙ inv.name;
-      known = c.in_ok-take_change.ensures.known;
+      name = ap (λ (z : Seen). z.name) (c.in_ok-take_change.ensures.seen refl) ∙ inv.name;
+      known = c.in_ok-take_change.ensures.known refl;
     }
