@@ -23,12 +23,8 @@ use Rattle.registration.specs.Caps.{after_request}
 use Rattle.registration.specs.Enrol.{nick_answer, sasl_answer}
 use Rattle.registration.specs.Plain.{credentials_of}
 use Rattle.commands.specs.Asked.{asked_of}
-use Rattle.query_commands.specs.Query.{query_of}
-use Rattle.session_commands.specs.Session.{session_named, session_of}
-use Rattle.channel_commands.specs.Channel.{channel_command_of}
-use Rattle.mode_commands.specs.Modes.{mode_of}
-use Rattle.talk_commands.specs.Talk.{talk_of}
-use Rattle.commands.specs.Commands.{command_of}
+use Rattle.commands.specs.Names.{named}
+use Rattle.commands.specs.Commands.{command_by, command_of}
 use Rattle.casemapping.specs.Fold.{is_same}
 use Rattle.roster.specs.LookBack.{members}
 use Rattle.channel_commands.specs.Found.{channel_of}
@@ -95,9 +91,8 @@ starts = codes "NICK al" ∷ codes "USER a 0 * :Al" ∷ []
 -- ---- a session registers
 
 registers : owes [] starts ≡ Lines 3 welcome ∷ []
-unfolding reading parameters with_command asked_of command_of session_named session_of channel_command_of mode_of
-    talk_of query_of nick_answer fold_of nick_shape is_same is_quit prefix octets untagged numeric row_line cut
-    time_text civil_date falls_in spelled_line
+unfolding reading parameters with_command asked_of command_of command_by named nick_answer fold_of nick_shape is_same
+    is_quit prefix octets untagged numeric row_line cut time_text civil_date falls_in spelled_line
 registers = refl
 
 -- before it is registered it may not join; a message of too few parameters is told so first, and an unknown command
@@ -107,8 +102,8 @@ is_refused : owes [] (codes "JOIN #a" ∷ codes "JOIN" ∷ codes "FOO" ∷ codes
     ∷ Lines 3 (codes ":irc.example 461 * JOIN :Not enough parameters" ++ crlf)
     ∷ Lines 4 (codes ":irc.example 421 * FOO :Unknown command" ++ crlf)
     ∷ Lines 5 (codes ":irc.example 411 * :No recipient given (TAGMSG)" ++ crlf) ∷ []
-unfolding reading parameters with_command asked_of command_of session_named session_of channel_command_of mode_of
-    talk_of query_of fold_of is_quit prefix octets untagged numeric row_line spelled_line
+unfolding reading parameters with_command asked_of command_of command_by named fold_of is_quit prefix octets untagged
+    numeric row_line spelled_line
 is_refused = refl
 
 -- ---- a session logs in
@@ -128,24 +123,21 @@ failed = codes ":irc.example 904 * :SASL authentication failed" ++ crlf
 logs_in : owes accounts (asks ++ codes "AUTHENTICATE AGFsAGJj" ∷ [])
     ≡ asked ++ Lines 4 (codes ":irc.example 900 * *!*@h1 al :You are now logged in as al" ++ crlf
     ++ codes ":irc.example 903 * :SASL authentication successful" ++ crlf) ∷ []
-unfolding reading parameters with_command asked_of command_of session_named session_of channel_command_of mode_of
-    talk_of query_of after_request sasl_answer fold_of credentials_of base64_on_literals logged_in first_words
-    schedule rounds compress hash_after digest_bytes sha256 is_quit prefix octets untagged numeric row_line
-    spelled_line is_same
+unfolding reading parameters with_command asked_of command_of command_by named after_request sasl_answer fold_of
+    credentials_of base64_on_literals logged_in first_words schedule rounds compress hash_after digest_bytes sha256
+    is_quit prefix octets untagged numeric row_line spelled_line is_same
 logs_in = refl
 
 wrong_password : owes accounts (asks ++ codes "AUTHENTICATE AGFsAGJk" ∷ []) ≡ asked ++ Lines 4 failed ∷ []
-unfolding reading parameters with_command asked_of command_of session_named session_of channel_command_of mode_of
-    talk_of query_of after_request sasl_answer fold_of credentials_of base64_on_literals logged_in first_words
-    schedule rounds compress hash_after digest_bytes sha256 is_quit prefix octets untagged numeric row_line
-    spelled_line is_same
+unfolding reading parameters with_command asked_of command_of command_by named after_request sasl_answer fold_of
+    credentials_of base64_on_literals logged_in first_words schedule rounds compress hash_after digest_bytes sha256
+    is_quit prefix octets untagged numeric row_line spelled_line is_same
 wrong_password = refl
 
 ends_it : owes accounts (asks ++ codes "AUTHENTICATE *" ∷ [])
     ≡ asked ++ Lines 4 (codes ":irc.example 906 * :SASL authentication aborted" ++ crlf) ∷ []
-unfolding reading parameters with_command asked_of command_of session_named session_of channel_command_of
-    mode_of talk_of query_of after_request sasl_answer fold_of is_quit prefix octets untagged numeric row_line
-    spelled_line is_same
+unfolding reading parameters with_command asked_of command_of command_by named after_request sasl_answer fold_of
+    is_quit prefix octets untagged numeric row_line spelled_line is_same
 ends_it = refl
 
 abbrev piece : List ℕ
@@ -153,24 +145,22 @@ piece = codes "AUTHENTICATE " ++ replicate 400 65
 
 -- a piece of 400 octets waits for another
 pieces : owes accounts (asks ++ piece ∷ codes "AUTHENTICATE +" ∷ []) ≡ asked ++ Lines 5 failed ∷ []
-unfolding reading parameters with_command asked_of command_of session_named session_of channel_command_of mode_of
-    talk_of query_of after_request sasl_answer fold_of credentials_of base64_on_literals is_quit prefix octets
-    untagged numeric row_line spelled_line is_same
+unfolding reading parameters with_command asked_of command_of command_by named after_request sasl_answer fold_of
+    credentials_of base64_on_literals is_quit prefix octets untagged numeric row_line spelled_line is_same
 pieces = refl
 
 too_many : owes accounts (asks ++ piece ∷ piece ∷ piece ∷ codes "AUTHENTICATE A" ∷ [])
     ≡ asked ++ Lines 7 (codes ":irc.example 905 * :SASL message too long" ++ crlf) ∷ []
-unfolding reading parameters with_command asked_of command_of session_named session_of channel_command_of
-    mode_of talk_of query_of after_request sasl_answer fold_of is_quit prefix octets untagged numeric row_line
-    spelled_line is_same
+unfolding reading parameters with_command asked_of command_of command_by named after_request sasl_answer fold_of
+    is_quit prefix octets untagged numeric row_line spelled_line is_same
 too_many = refl
 
 -- registration waits for the end of the negotiation, and ends an exchange
 within_one : owes accounts (asks ++ starts ++ codes "CAP END" ∷ [])
     ≡ asked ++ Lines 6 (codes ":irc.example 906 al :SASL authentication aborted" ++ crlf ++ welcome) ∷ []
-unfolding reading parameters with_command asked_of command_of session_named session_of channel_command_of mode_of
-    talk_of query_of after_request nick_answer sasl_answer fold_of nick_shape is_same is_quit prefix octets untagged
-    numeric row_line cut time_text civil_date falls_in spelled_line
+unfolding reading parameters with_command asked_of command_of command_by named after_request nick_answer sasl_answer
+    fold_of nick_shape is_same is_quit prefix octets untagged numeric row_line cut time_text civil_date falls_in
+    spelled_line
 within_one = refl
 
 -- ---- two people in a channel, one of whom has another name then and leaves
@@ -188,10 +178,9 @@ story = Gone 1 ∷ says 1 3 (codes "NICK BO" ∷ codes "NICK alf" ∷ codes "QUI
     (says 2 3 (codes "PRIVMSG #a :hi" ∷ []) meets)
 
 members_then : members (facts (server []) (records meets)) (codes "#a") ≡ 1 ∷ 2 ∷ []
-unfolding reading parameters with_command asked_of command_of session_named session_of channel_command_of mode_of
-    talk_of query_of nick_answer fold_of nick_shape channel_shape is_same is_quit cut channel_of bar_of entered
-    introduced shown member_name members_for room numeric row_line untagged prefix octets spelled_line counting_tags
-    key_shape client_only_data
+unfolding reading parameters with_command asked_of command_of command_by named nick_answer fold_of nick_shape
+    channel_shape is_same is_quit cut channel_of bar_of entered introduced shown member_name members_for room numeric
+    row_line untagged prefix octets spelled_line counting_tags key_shape client_only_data
 members_then = refl
 
 owed_to_who_leaves : owed (server []) (records story) 1
@@ -199,20 +188,18 @@ owed_to_who_leaves : owed (server []) (records story) 1
     ∷ Lines 8 (codes ":bo!b@h2 JOIN #a" ++ crlf) ∷ Lines 9 (codes ":bo!b@h2 PRIVMSG #a :hi" ++ crlf)
     ∷ Lines 10 (codes ":irc.example 433 al BO :Nickname is already in use" ++ crlf)
     ∷ Lines 11 (codes ":al!a@h1 NICK alf" ++ crlf) ∷ Last 12 Quit ∷ []
-unfolding reading parameters with_command asked_of command_of session_named session_of channel_command_of mode_of
-    talk_of query_of nick_answer fold_of nick_shape channel_shape is_same is_quit prefix octets untagged numeric
-    row_line cut time_text civil_date falls_in channel_of bar_of entered introduced shown member_name members_for
-    room spelled_line counting_tags key_shape client_only_data
+unfolding reading parameters with_command asked_of command_of command_by named nick_answer fold_of nick_shape
+    channel_shape is_same is_quit prefix octets untagged numeric row_line cut time_text civil_date falls_in channel_of
+    bar_of entered introduced shown member_name members_for room spelled_line counting_tags key_shape client_only_data
 owed_to_who_leaves = refl
 
 shown_to_who_stays : owed (server []) (records story) 2
     ≡ Lines 7 (greets (codes "bo") (codes "!b@h2"))
     ∷ Lines 8 (codes ":bo!b@h2 JOIN #a" ++ crlf ++ names (codes "bo") (codes "@al bo"))
     ∷ Lines 11 (codes ":al!a@h1 NICK alf" ++ crlf) ∷ Lines 13 (codes ":alf!a@h1 QUIT :bye" ++ crlf) ∷ []
-unfolding reading parameters with_command asked_of command_of session_named session_of channel_command_of mode_of
-    talk_of query_of nick_answer fold_of nick_shape channel_shape is_same is_quit prefix octets untagged numeric
-    row_line cut time_text civil_date falls_in channel_of bar_of entered introduced shown member_name members_for
-    room spelled_line counting_tags key_shape client_only_data
+unfolding reading parameters with_command asked_of command_of command_by named nick_answer fold_of nick_shape
+    channel_shape is_same is_quit prefix octets untagged numeric row_line cut time_text civil_date falls_in channel_of
+    bar_of entered introduced shown member_name members_for room spelled_line counting_tags key_shape client_only_data
 shown_to_who_stays = refl
 
 -- a line with a label is answered with it
@@ -222,7 +209,6 @@ labelled :
     ≡ Lines 2 (codes ":irc.example CAP * ACK :batch labeled-response server-time" ++ crlf)
     ∷ Lines 3 (codes "@label=7;time=1970-01-01T00:00:00.000Z :irc.example PONG irc.example x" ++ crlf)
     ∷ Lines 4 (codes "@label=8;time=1970-01-01T00:00:00.000Z :irc.example ACK" ++ crlf) ∷ Last 5 Quit ∷ []
-unfolding reading parameters with_command asked_of command_of session_named session_of channel_command_of mode_of
-    talk_of query_of after_request is_quit octets untagged time_text civil_date falls_in spelled_line counting_tags
-    key_shape last_value is_utf8 chars encode
+unfolding reading parameters with_command asked_of command_of command_by named after_request is_quit octets untagged
+    time_text civil_date falls_in spelled_line counting_tags key_shape last_value is_utf8 chars encode
 labelled = refl

@@ -127,27 +127,4 @@ impl Base {
             None => None,
         }
     }
-
-    /// Since when a session was quiet. `None` where it was opened later, or is reaped.
-    pub fn quiet_since(&self, session: SessionId) -> Option<Moment>
-        ensures moment { IfSome result (λ m. (base_by self.now).quiet_since session ≡ Some m) }
-        ensures noted { is_some result ≡ is_noted self.now session }
-    {
-        match find_counts(&self.counts, session) {
-            Some(counts) => Some(counts.since.moment),
-            None => None,
-        }
-    }
-
-    /// Whether a session was pinged since it was heard of. `None` where it was opened later, or is
-    /// reaped.
-    pub fn was_pinged(&self, session: SessionId) -> Option<bool>
-        ensures pinged { IfSome result (λ b. (base_by self.now).was_pinged session ≡ b) }
-        ensures noted { is_some result ≡ is_noted self.now session }
-    {
-        match find_counts(&self.counts, session) {
-            Some(counts) => Some(counts.since.pinged),
-            None => None,
-        }
-    }
 }

@@ -7,6 +7,7 @@ ghost use Rattle.casemapping.specs.Names.{host_shape};
 ghost use Rattle.chronicle.specs.declared.record.Kind.TheVariants as kind;
 ghost use Rattle.chronicle.specs.History.{sessions, last_moment, shut, gone, misses};
 ghost use Rattle.chronicle.specs.Journal.{IsRoomier, most, numbered, record_at};
+ghost use Rattle.roster.specs.Legal.{AreLegal};
 ghost use Rattle.roster.specs.LookBack.{nick, on};
 ghost use Rattle.deeds.specs.Deeds.{facts};
 ghost use Rattle.book.specs.Settings.{IsWellSet};
@@ -332,19 +333,6 @@ impl<O: Outbox> Book<O> {
         Some(Step::Missed(hearer))
     }
 
-    /// Puts or misses all that is left of a plan.
-    pub(crate) fn put_rest(&mut self, plan: &mut Plan)
-        requires out { IsOut self.old plan.old }
-        ensures put { IsPutAll O.accepts O.refuses self.old self.old.plan self.new }
-        ensures out { IsOut self.new plan.new }
-        ensures none { self.new.plan ≡ [] }
-        ensures number { plan.new.number ≡ plan.old.number }
-        ensures session { plan.new.session ≡ plan.old.session }
-        ensures next { plan.new.next ≡ plan.old.next }
-    {
-        while let Some(_) = self.put_next(plan) {}
-    }
-
     /// Gives back the plan of a line, with nothing left in it, and the turn to the next line. It takes no memory.
     pub fn finish(&mut self, plan: Plan, baton: &mut Baton) -> Done
         requires out { IsOut self.old plan }
@@ -400,30 +388,6 @@ impl<O: Outbox> Book<O> {
             missed: Sessions::from_small_vec(missed),
             shut,
         }
-    }
-
-    /// Accepts the next line of a session: begins it, puts or misses all that it owes, and finishes it. A refusal
-    /// changes nothing.
-    pub fn line(
-        &mut self,
-        baton: &mut Baton,
-        piece: &Piece,
-        moment: Moment,
-    ) -> Result<Done, LineRefusal>
-        ensures ok { OnOk result (IsDone O.accepts O.refuses self.old
-            (kind.Said baton.old.session baton.old.next piece.now) moment self.new) }
-        ensures baton { OnOk result
-            (baton.new ≡ record { session = baton.old.session; next = baton.old.next + 1 }) }
-        ensures may { OnOk result (MayBegin self.old baton.old moment) }
-        ensures number { IfOk result (λ d. d.number ≡ length self.old.history + 1) }
-        ensures missed { IfOk result (λ d. d.missed ≡ newest_missed self.new.history) }
-        ensures shut { IfOk result (λ d. d.shut ≡ shut self.new.history baton.old.session) }
-        ensures refusal { IfErr result (λ e. IsLineRefusal self.old baton.old moment e) }
-        ensures err { OnErr result ((self.new ≡ self.old) × (baton.new ≡ baton.old)) }
-    {
-        let mut plan = self.begin(baton, piece, moment)?;
-        self.put_rest(&mut plan);
-        Ok(self.finish(plan, baton))
     }
 
     /// Whether a session may be hung now.
@@ -552,26 +516,6 @@ impl<O: Outbox> Book<O> {
             next: None,
             missed,
         })
-    }
-
-    /// Sweeps up to one session: begins, puts or misses all that it owes, and finishes. A refusal changes nothing.
-    #[tactic(auto, using(crate::proofs::Sweeps::swept_is))]
-    pub fn sweep(&mut self, moment: Moment) -> Result<Option<Done>, SweepRefusal>
-        ensures some { IfOk result (λ o. IfSome o (λ d. (s : ℕ)
-            × (to_sweep self.old.history ≡ Some s) × IsDone O.accepts O.refuses self.old
-            (kind.Gone s) moment self.new × (d.number ≡ length self.old.history + 1)
-            × (d.missed ≡ newest_missed self.new.history) × (d.shut ≡ shut self.new.history s))) }
-        ensures none { IfOk result
-            (λ o. o ≡ None → (to_sweep self.old.history ≡ None) × (self.new ≡ self.old)) }
-        ensures may { OnOk result (MaySweep self.old moment) }
-        ensures refusal { IfErr result (λ e. IsSweepRefusal self.old moment e) }
-        ensures err { OnErr result (self.new ≡ self.old) }
-    {
-        let Some(mut plan) = self.begin_sweep(moment)? else {
-            return Ok(None);
-        };
-        self.put_rest(&mut plan);
-        Ok(Some(self.finish_sweep(plan)))
     }
 
     /// Whether a session may be reaped now: what `reap` would answer. It takes no memory.
@@ -751,6 +695,13 @@ impl<O: Outbox> Book<O> {
         ensures { IsSound O.sent self.now }
     {
         let _ = &self.plan;
+    }
+
+    /// Each fact of the history might come when it did, so what follows of legal lists of facts holds of it.
+    pub fn facts_are_legal(&self)
+        ensures { AreLegal (facts self.now.settings self.now.history) }
+    {
+        self.roster.sound();
     }
 }
 

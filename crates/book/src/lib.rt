@@ -15,7 +15,6 @@ mod places;
 mod plan;
 mod read_line;
 mod refusals;
-mod rings;
 mod seat;
 mod seats;
 mod settings;

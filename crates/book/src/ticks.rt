@@ -112,28 +112,6 @@ impl<O: Outbox> Book<O> {
         }
     }
 
-    /// Pings all that are quiet for at least 120,000 milliseconds and weren't pinged since they were heard of:
-    /// begins, puts or misses all that it owes, and finishes. It answers `None` where there is nobody. A refusal
-    /// changes nothing.
-    pub fn tick(&mut self, moment: Moment) -> Result<Option<Done>, TickRefusal>
-        ensures some { IfOk result (λ o. IfSome o (λ d. IsDone O.accepts O.refuses
-            self.old kind.Ticked moment self.new × (d.number ≡ length self.old.history + 1)
-            × (d.missed ≡ newest_missed self.new.history) × (d.shut ≡ false))) }
-        ensures quiet { IfOk result
-            (λ o. IfSome o (λ d. IsSomebodyQuiet self.old moment × HasRoom self.old)) }
-        ensures none { IfOk result
-            (λ o. o ≡ None → (to_ping self.old.history moment ≡ []) × (self.new ≡ self.old)) }
-        ensures may { OnOk result (MayTick self.old moment) }
-        ensures refusal { IfErr result (λ e. IsTickRefusal self.old moment e) }
-        ensures err { OnErr result (self.new ≡ self.old) }
-    {
-        let Some(mut plan) = self.begin_tick(moment)? else {
-            return Ok(None);
-        };
-        self.put_rest(&mut plan);
-        Ok(Some(self.finish_tick(plan)))
-    }
-
     /// The session of the lowest number that isn't shut and was quiet for at least 240,000 milliseconds at a moment.
     /// It takes no memory.
     pub fn late(&self, moment: Moment) -> Option<SessionId>
