@@ -23,3 +23,6 @@ class Command:
     is_early: bool = False
     # Whether no numeric answers it.
     is_quiet: bool = False
+    # Its share of what scripts say, where many commands have 10; its share of what operators say besides.
+    share: int = 10
+    by_operators: int = 0

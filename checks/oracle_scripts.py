@@ -32,10 +32,6 @@ HOSTS = [b"h1", b"h2", b"h3", b"h4", b"10.0.0.7", b"0::1", b"a-b.c", b"H2", b"h"
 OTHER_LINES = [b"FOO", b"OPER a b", b"VERSION", b"123", b"12", b"1234", b"F00", b"lusers", b"USERHOST al", b"KILL al x", b"TIME",
                b"", b":", b":x", b": PING y", b":al!a@h1 PING :z"]
 BROKEN = [b"\0", b"\xff", b" ", b":", b",", b"@", b"\x01", b"  ", b"\\", b"\t"]
-# What is said, each as often as it stands here; None is no command that is known.
-SAID = (b"CAP AUTHENTICATE PASS NICK USER PING PONG QUIT JOIN PART KICK INVITE TOPIC MODE PRIVMSG NOTICE TAGMSG AWAY NAMES LIST "
-        b"WHO WHOIS MOTD JOIN PRIVMSG JOIN PRIVMSG JOIN PRIVMSG MODE MODE MODE MODE KICK KICK NOTICE TAGMSG PART INVITE TOPIC "
-        b"AWAY WHOIS NAMES CAP AUTHENTICATE NICK").split() + [None]
 # Milliseconds between two moments, and about those after which something is due.
 SPANS = [1, 999, 10000, 20000, 40000, 60000]
 ABOUT = [119999, 120000, 120001]
@@ -184,18 +180,21 @@ class Script:
         h, s = self.run.h, self.speaker
         return any(h.operator(s, c) for c in h.channels_of(s))
 
+    def command(self):
+        """The name of a command by its share, or None for one that isn't known."""
+        if self.operates() and self.chance(0.35):
+            shares = {name: it.by_operators for name, it in COMMANDS.items()}
+        else:
+            shares = {name: it.share for name, it in COMMANDS.items()} | {None: 10}
+        return self.random.choices(list(shares), list(shares.values()))[0]
+
     def message(self):
         """A command and its parameters."""
-        name = self.random.choice(SAID + [it for it in COMMANDS if it not in SAID])
-        if self.operates() and self.chance(0.35):
-            name = self.pick(b"MODE", b"MODE", b"MODE", b"KICK", b"TOPIC", b"INVITE")
-        if name in (b"QUIT", b"PASS", b"PONG", b"MOTD", b"USER") and self.chance(0.7):
-            name = self.pick(b"PRIVMSG", b"JOIN", b"MODE")
-        word = name or b"other"
-        command = word if self.chance(0.9) else word.lower() if self.chance(0.7) else word.swapcase().title()
+        name = self.command()
         if name is None:
             return self.random.choice(OTHER_LINES)
-        return (command + b" " + COMMANDS[name].draws(self)).rstrip(b" ")
+        word = name if self.chance(0.9) else name.lower() if self.chance(0.7) else name.swapcase().title()
+        return (word + b" " + COMMANDS[name].draws(self)).rstrip(b" ")
 
     def target(self):
         return self.channel() if self.chance(0.55) else self.nick()

@@ -98,7 +98,7 @@ def a_login(script):
     return lines
 
 
-COMMANDS = {b"AUTHENTICATE": Command(authenticate, draws, least=1, is_early=True)}
+COMMANDS = {b"AUTHENTICATE": Command(authenticate, draws, least=1, is_early=True, share=20)}
 TEXTS = {
     903: b"SASL authentication successful", 904: b"SASL authentication failed", 905: b"SASL message too long",
     906: b"SASL authentication aborted", 907: b"You have already authenticated using SASL",

@@ -30,7 +30,7 @@ def draws(script):
     return script.words(script.maybe(script.long_text, 0.7))
 
 
-COMMANDS = {b"AWAY": Command(away, draws)}
+COMMANDS = {b"AWAY": Command(away, draws, share=20)}
 TEXTS = {305: b"You are no longer marked as being away", 306: b"You have been marked as being away"}
 ROWS = r"""
 == who joins and who is away

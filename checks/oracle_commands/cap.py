@@ -54,7 +54,7 @@ def draws(script):
     return sub + b" " + script.words(names(script)) if sub.upper() == b"REQ" else sub
 
 
-COMMANDS = {b"CAP": Command(cap, draws, refuses=refuses, is_early=True)}
+COMMANDS = {b"CAP": Command(cap, draws, refuses=refuses, is_early=True, share=20)}
 TEXTS = {410: b"Invalid CAP command"}
 ROWS = r"""
 == capabilities are listed and asked for

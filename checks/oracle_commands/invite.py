@@ -23,7 +23,7 @@ def draws(script):
     return script.words(script.nick(), script.channel())
 
 
-COMMANDS = {b"INVITE": Command(invite, draws, least=2)}
+COMMANDS = {b"INVITE": Command(invite, draws, least=2, share=20, by_operators=10)}
 TEXTS = {443: b"is already on channel"}
 ROWS = r"""
 == invitations

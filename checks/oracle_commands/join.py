@@ -71,7 +71,7 @@ def draws(script):
     return script.words(script.list_of(script.other_channel), script.maybe(lambda: script.list_of(script.key), 0.3))
 
 
-COMMANDS = {b"JOIN": Command(join, draws, least=1)}
+COMMANDS = {b"JOIN": Command(join, draws, least=1, share=50)}
 TEXTS = {
     405: b"You have joined too many channels", 471: b"Cannot join channel (+l)", 473: b"Cannot join channel (+i)",
     474: b"Cannot join channel (+b)", 475: b"Cannot join channel (+k)",

@@ -29,7 +29,7 @@ def draws(script):
     return script.words(script.channel(), script.list_of(script.nick, 7), script.maybe(script.long_text))
 
 
-COMMANDS = {b"KICK": Command(kick, draws, least=2)}
+COMMANDS = {b"KICK": Command(kick, draws, least=2, share=30, by_operators=10)}
 ROWS = r"""
 == two channels shared
 al starts

@@ -178,7 +178,7 @@ def draws(script):
     return script.words(script.channel(), letters, *middles, *params[-1:])
 
 
-COMMANDS = {b"MODE": Command(mode, draws, least=1)}
+COMMANDS = {b"MODE": Command(mode, draws, least=1, share=60, by_operators=30)}
 TEXTS = {
     368: b"End of channel ban list", 501: b"Unknown MODE flag", 502: b"Cannot change mode for other users",
 }

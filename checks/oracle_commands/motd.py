@@ -19,7 +19,7 @@ def draws(script):
     return script.words(script.maybe(lambda: script.pick(b"irc.example", b"IRC.example", b"other", b"", b"a b"), 0.7))
 
 
-COMMANDS = {b"MOTD": Command(motd, draws)}
+COMMANDS = {b"MOTD": Command(motd, draws, share=3)}
 TEXTS = {376: b"End of MOTD command", 402: b"No such server", 422: b"MOTD File is missing"}
 ROWS = r"""
 == a message of the day

@@ -34,7 +34,7 @@ def many_members():
             "al < :~ 366 al #a :End of NAMES list\nal .\n")
 
 
-COMMANDS = {b"NAMES": Command(names, draws)}
+COMMANDS = {b"NAMES": Command(names, draws, share=20)}
 TEXTS = {366: b"End of NAMES list"}
 ROWS = r"""
 == a secret channel

@@ -26,7 +26,7 @@ def draws(script):
     return script.words(script.nick() if script.chance(0.3) else script.any_nick())
 
 
-COMMANDS = {b"NICK": Command(nick, draws, refuses=refuses, is_early=True)}
+COMMANDS = {b"NICK": Command(nick, draws, refuses=refuses, is_early=True, share=20)}
 TEXTS = {432: b"Erroneous nickname", 433: b"Nickname is already in use"}
 ROWS = r"""
 == nicknames

@@ -17,7 +17,7 @@ def draws(script):
     return script.words(script.list_of(script.channel), script.maybe(script.text))
 
 
-COMMANDS = {b"PART": Command(part, draws, least=1)}
+COMMANDS = {b"PART": Command(part, draws, least=1, share=20)}
 ROWS = r"""
 == channels are left
 al starts

@@ -24,7 +24,7 @@ def draws(script):
 
 COMMANDS = {
     b"PING": Command(ping, draws, refuses=refuses, is_early=True),
-    b"PONG": Command(pong, draws, is_early=True),
+    b"PONG": Command(pong, draws, is_early=True, share=3),
 }
 TEXTS = {409: b"No origin specified"}
 ROWS = r"""

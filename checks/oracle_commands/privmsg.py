@@ -73,9 +73,9 @@ def draws_tags(script):
 
 
 COMMANDS = {
-    b"PRIVMSG": Command(message, draws, refuses=lacks_text),
-    b"NOTICE": Command(message, draws, refuses=lacks_text, is_quiet=True),
-    b"TAGMSG": Command(message, draws_tags, refuses=lacks_target),
+    b"PRIVMSG": Command(message, draws, refuses=lacks_text, share=50),
+    b"NOTICE": Command(message, draws, refuses=lacks_text, is_quiet=True, share=20),
+    b"TAGMSG": Command(message, draws_tags, refuses=lacks_target, share=20),
 }
 TEXTS = {404: b"Cannot send to channel", 412: b"No text to send"}
 ROWS = r"""

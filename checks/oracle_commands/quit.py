@@ -10,7 +10,7 @@ def draws(script):
     return script.words(script.maybe(script.text, 0.7))
 
 
-COMMANDS = {b"QUIT": Command(leave, draws, is_early=True)}
+COMMANDS = {b"QUIT": Command(leave, draws, is_early=True, share=3)}
 ROWS = r"""
 == a quit
 al starts

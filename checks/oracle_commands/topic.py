@@ -24,7 +24,7 @@ def draws(script):
     return script.words(script.channel(), script.maybe(script.long_text, 0.6))
 
 
-COMMANDS = {b"TOPIC": Command(topic, draws, least=1)}
+COMMANDS = {b"TOPIC": Command(topic, draws, least=1, share=20, by_operators=10)}
 TEXTS = {331: b"No topic is set"}
 ROWS = r"""
 == topics

@@ -38,8 +38,8 @@ def draws_password(script):
 
 
 COMMANDS = {
-    b"PASS": Command(password, draws_password, least=1, is_early=True),
-    b"USER": Command(user, draws, least=4, refuses=refuses, is_early=True),
+    b"PASS": Command(password, draws_password, least=1, is_early=True, share=3),
+    b"USER": Command(user, draws, least=4, refuses=refuses, is_early=True, share=3),
 }
 TEXTS = {462: b"Unauthorized command (already registered)"}
 ROWS = r"""

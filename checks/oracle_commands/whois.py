@@ -30,7 +30,7 @@ def draws(script):
     return script.words(script.maybe(script.nick, 0.15), script.nick())
 
 
-COMMANDS = {b"WHOIS": Command(whois, draws, refuses=refuses)}
+COMMANDS = {b"WHOIS": Command(whois, draws, refuses=refuses, share=20)}
 TEXTS = {318: b"End of WHOIS list"}
 ROWS = r"""
 == a question about a user
