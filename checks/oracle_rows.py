@@ -2,10 +2,12 @@
 
 `== NAME` begins a run. `al starts with CAPS` connects al, as the next session, from a host hS, names it, and drains it; `al: X`
 feeds X as a line and does it; `al < Y` is the next line that al takes; `al .` says that nothing is left for al. Another line
-is a line of the script, and those below it with four spaces are its notes. `~` is irc.example and {N x} is N times x.
+is a line of the script, and those below it with four spaces are its notes. `~` is irc.example and {N x} is N times x. What shows
+one command stands in its file of oracle_commands/.
 """
 import re
 
+from oracle_registry import FILES
 from oracle_run import Run
 from oracle_words import TOKENS, is_utf8, lines_of, matches, tags_of, time_text
 
@@ -30,20 +32,6 @@ drain 1
     1> :~ 005 al TOKENS :are supported by this server
     1> :~ 422 al :MOTD File is missing
     empty
-== a message of the day
-motd hello
-connect h1 0
-al: NICK al
-al: USER a 0 * :Al
-al < :~ 001 al :Welcome to the Internet Relay Network al!a@h1
-al < :~ 002 al :Your host is ~, running version halld-1
-al < :~ 003 al :This server was created 1970-01-01T00:00:00.000Z
-al < :~ 004 al ~ halld-1 i biklmnostv
-al < :~ 005 al TOKENS :are supported by this server
-al < :~ 375 al :- ~ Message of the day - 
-al < :~ 372 al :- hello
-al < :~ 376 al :End of MOTD command
-al .
 == long lines
 al starts
 al: PING {505 x}
@@ -57,15 +45,6 @@ al: @k={4092 v} PING x
 al < :~ PONG ~ x
 al: @label=q;k={4085 v} PING x
 al < :~ 417 al :Input line was too long
-== tags sent on
-al starts with message-tags
-bo starts with message-tags
-al: @+k=a;+k=b\\:\\b\\ PRIVMSG bo :hi
-bo < @+k=b\x5c:b :al!a@h1 PRIVMSG bo :hi
-al: @+x=1;y=2 TAGMSG bo
-bo < @+x=1 :al!a@h1 TAGMSG bo
-bo .
-al .
 == labels
 al starts with batch labeled-response
 al: @label=7 PING x
@@ -87,74 +66,12 @@ al < @batch=10 :~ 353 al = #a :@bo al
 al < @batch=10 :~ 366 al #a :End of NAMES list
 al < :~ BATCH -10
 al .
-== an echo and a copy
-al starts with batch echo-message labeled-response
-al: @label=s PRIVMSG al :hi
-take 1
-    1> @label=s :al!a@h1 PRIVMSG al :hi
-    1> :al!a@h1 PRIVMSG al :hi
-al .
 == labels of what fails
 al starts with batch labeled-response
 al: @label=n NOTICE nobody :x
 al < @label=n :~ ACK
 al: @label=p PRIVMSG nobody :x
 al < @label=p :~ 401 al nobody :No such nick/channel
-== who joins and who is away
-al starts
-bo starts with away-notify extended-join
-cy starts
-bo: JOIN #a
-bo < :bo!b@h2 JOIN #a * :Bo
-bo < :~ 353 bo = #a :@bo
-bo < :~ 366 bo #a :End of NAMES list
-al: JOIN #a
-bo < :al!a@h1 JOIN #a * :Al
-al < :al!a@h1 JOIN #a
-al < :~ 353 al = #a :@bo al
-al < :~ 366 al #a :End of NAMES list
-cy: JOIN #a
-bo < :cy!c@h3 JOIN #a * :Cy
-al: AWAY :out
-al < :cy!c@h3 JOIN #a
-al < :~ 306 al :You have been marked as being away
-bo < :al!a@h1 AWAY :out
-al: AWAY :out
-al < :~ 306 al :You have been marked as being away
-bo .
-bo: JOIN #b
-bo < :bo!b@h2 JOIN #b * :Bo
-bo < :~ 353 bo = #b :@bo
-bo < :~ 366 bo #b :End of NAMES list
-al: JOIN #b
-take 2
-    2> :al!a@h1 JOIN #b * :Al
-    2> :al!a@h1 AWAY :out
-al < :al!a@h1 JOIN #b
-al < :~ 353 al = #b :@bo al
-al < :~ 366 al #b :End of NAMES list
-al: AWAY
-bo < :al!a@h1 AWAY
-bo .
-al < :~ 305 al :You are no longer marked as being away
-al .
-cy < :cy!c@h3 JOIN #a
-cy < :~ 353 cy = #a :@bo al cy
-cy < :~ 366 cy #a :End of NAMES list
-cy .
-== a join with an account
-account Al a ba7816bf8f01cfea414140de5dae2223b00361a396177a9cb410ff61f20015ad
-dee starts with extended-join sasl
-dee: AUTHENTICATE PLAIN
-dee < AUTHENTICATE +
-dee: AUTHENTICATE AGFsAGJj
-dee < :~ 900 dee dee!d@h1 Al :You are now logged in as Al
-dee < :~ 903 dee :SASL authentication successful
-dee: JOIN #a
-dee < :dee!d@h1 JOIN #a Al :Dee
-dee < :~ 353 dee = #a :@dee
-dee < :~ 366 dee #a :End of NAMES list
-dee .
 == labels that don't count
 al starts with batch labeled-response
 al: @label={65 l} PING x
@@ -208,111 +125,6 @@ take 2
     2> :~ 366 bo #a :End of NAMES list
 put 1
     put 2
-== a quit
-al starts
-bo starts
-al: JOIN #a
-bo: JOIN #a
-drain 1
-drain 2
-al: PRIVMSG #a :hi
-bo: QUIT :bye
-feed 2 "PING x\n"
-    read 1
-do 2 0
-    refused Shut
-drain 2
-    2> :al!a@h1 PRIVMSG #a :hi
-    2> ERROR :Closing Link: h2 (Client Quit)
-    empty
-tidy 0
-    sweep 11
-al < :bo!b@h2 QUIT :bye
-al .
-== two channels shared
-al starts
-bo starts
-cy starts
-al: JOIN #a,#b
-bo: JOIN #a,#b
-cy: JOIN #a,#b
-drain 1
-drain 2
-drain 3
-al: KICK #a bo :out
-al < :al!a@h1 KICK #a bo :out
-bo < :al!a@h1 KICK #a bo :out
-cy < :al!a@h1 KICK #a bo :out
-al: QUIT
-tidy 0
-    sweep 15
-bo < :al!a@h1 QUIT :Client Quit
-bo .
-cy < :al!a@h1 QUIT :Client Quit
-cy .
-== names that are the same
-al starts
-al: JOIN #A[1],#a{1}
-al < :al!a@h1 JOIN #A[1]
-al < :~ 353 al = #A[1] :@al
-al < :~ 366 al #A[1] :End of NAMES list
-al .
-al: JOIN #1,#2,#3,#4,#5,#6,#7,#8,#9,#10,#11,#12,#13,#14,#15,#16,#17,#18,#19
-drain 1
-al: JOIN #20
-al < :~ 405 al #20 :You have joined too many channels
-al .
-== a login
-account al a ba7816bf8f01cfea414140de5dae2223b00361a396177a9cb410ff61f20015ad
-connect h1 0
-al: CAP REQ sasl
-al < :~ CAP * ACK :sasl
-al: AUTHENTICATE PLAIN
-al < AUTHENTICATE +
-al: AUTHENTICATE AGFsAGJj
-al < :~ 900 * *!*@h1 al :You are now logged in as al
-al < :~ 903 * :SASL authentication successful
-== logins that fail
-account al a ba7816bf8f01cfea414140de5dae2223b00361a396177a9cb410ff61f20015ad
-connect h1 0
-al: CAP REQ sasl
-al < :~ CAP * ACK :sasl
-al: AUTHENTICATE PLAIN
-al < AUTHENTICATE +
-al: AUTHENTICATE AGFsAGJk
-al < :~ 904 * :SASL authentication failed
-al: AUTHENTICATE PLAIN
-al < AUTHENTICATE +
-al: AUTHENTICATE *
-al < :~ 906 * :SASL authentication aborted
-al: AUTHENTICATE PLAIN
-al < AUTHENTICATE +
-al: AUTHENTICATE {400 A}
-al .
-al: AUTHENTICATE +
-al < :~ 904 * :SASL authentication failed
-al: AUTHENTICATE PLAIN
-al < AUTHENTICATE +
-al: AUTHENTICATE {400 A}
-al: AUTHENTICATE {400 A}
-al: AUTHENTICATE {400 A}
-al .
-al: AUTHENTICATE A
-al < :~ 905 * :SASL message too long
-al: AUTHENTICATE PLAIN
-al < AUTHENTICATE +
-al: NICK al
-al: USER a 0 * :Al
-al .
-al: CAP END
-al < :~ 906 al :SASL authentication aborted
-al < :~ 001 al :Welcome to the Internet Relay Network al!a@h1
-al < :~ 002 al :Your host is ~, running version halld-1
-al < :~ 003 al :This server was created 1970-01-01T00:00:00.000Z
-al < :~ 004 al ~ halld-1 i biklmnostv
-al < :~ 005 al TOKENS :are supported by this server
-al < :~ 422 al :MOTD File is missing
-al .
 == a full journal
 limit 4
 connect h1 0
@@ -431,42 +243,6 @@ connect h1 0
     session 1
 connect h1 0
     refused TooManySessions
-== modes and bans
-al starts
-bo starts
-al: JOIN #a
-bo: JOIN #a
-drain 1
-drain 2
-al: MODE #a +ov-t bo bo
-al < :al!a@h1 MODE #a +ov-t bo bo
-bo < :al!a@h1 MODE #a +ov-t bo bo
-al: MODE #a +b cy
-al < :al!a@h1 MODE #a +b cy!*@*
-bo < :al!a@h1 MODE #a +b cy!*@*
-cy starts
-cy: JOIN #a
-cy < :~ 474 cy #a :Cannot join channel (+b)
-al: INVITE cy #a
-cy < :al!a@h1 INVITE cy #a
-cy: JOIN #a
-cy < :cy!c@h3 JOIN #a
-== questions
-al starts
-al: JOIN #a
-drain 1
-al: WHOIS al
-al < :~ 311 al al a h1 * :Al
-al < :~ 319 al al :@#a
-al < :~ 312 al al ~ :halld
-al < :~ 318 al al :End of WHOIS list
-al: WHO #a
-al < :~ 352 al #a a h1 ~ al H@ :0 Al
-al < :~ 315 al #a :End of WHO list
-al: LIST
-al < :~ 322 al #a 1 :
-al < :~ 323 al :End of LIST
-al .
 == before registration
 connect h1 0
 al: JOIN #a
@@ -476,61 +252,6 @@ al < :~ 461 * JOIN :Not enough parameters
 al: FOO
 al < :~ 421 * FOO :Unknown command
 al .
-== names that are the same, of two
-al starts
-bo starts
-al: JOIN #A[1]
-drain 1
-bo: JOIN #a{1}
-al < :bo!b@h2 JOIN #A[1]
-== nicknames
-al starts
-bo starts
-al: JOIN #a
-bo: JOIN #a
-drain 1
-drain 2
-al: NICK alf
-al < :al!a@h1 NICK alf
-bo < :al!a@h1 NICK alf
-bo: NICK ALF
-bo < :~ 433 bo ALF :Nickname is already in use
-== invitations
-al starts
-bo starts
-al: JOIN #a
-drain 1
-bo: PRIVMSG #a :x
-bo < :~ 404 bo #a :Cannot send to channel
-bo: NOTICE #a :x
-bo .
-al: MODE #a +i
-drain 1
-bo: JOIN #a
-bo < :~ 473 bo #a :Cannot join channel (+i)
-al: INVITE bo #a
-al < :~ 341 al bo #a
-bo < :al!a@h1 INVITE bo #a
-bo: JOIN #a
-bo < :bo!b@h2 JOIN #a
-bo < :~ 353 bo = #a :@al bo
-bo < :~ 366 bo #a :End of NAMES list
-bo: PART #a
-bo < :bo!b@h2 PART #a
-bo: JOIN #a
-bo < :~ 473 bo #a :Cannot join channel (+i)
-== a secret channel
-al starts
-bo starts
-al: JOIN #a
-al: MODE #a +s
-bo: NAMES #a
-bo < :~ 366 bo #a :End of NAMES list
-bo: NAMES
-bo < :~ 366 bo * :End of NAMES list
-bo: LIST
-bo < :~ 323 bo :End of LIST
-bo .
 == who is quiet is pinged, and then ended
 al starts
 beat 119999
@@ -567,15 +288,6 @@ beat 370000
     tick none
     hung 7
 """
-
-
-def many_members():
-    """A channel whose names take two lines."""
-    nicks = [f"n{at:09d}" for at in range(1, 45)]
-    starts = "\n".join(f"{nick} starts\n{nick}: JOIN #a" for nick in nicks)
-    return (f"== many members\nal starts\nal: JOIN #a\n{starts}\ndrain 1\nal: NAMES #a\n"
-            f"al < :~ 353 al = #a :@al {' '.join(nicks[:43])}\nal < :~ 353 al = #a :n000000044\n"
-            "al < :~ 366 al #a :End of NAMES list\nal .\n")
 
 
 def script_line(text):
@@ -635,11 +347,12 @@ class Row:
 def rows():
     """The runs, each played by the oracle."""
     found = []
-    for text in (ROWS + many_members()).strip("\n").split("\n"):
-        if text.startswith("== "):
-            found.append(Row(text[3:]))
-        else:
-            found[-1].read(text)
+    for text in [ROWS, *(file.ROWS for file in FILES.values())]:
+        for line in text.strip("\n").split("\n"):
+            if line.startswith("== "):
+                found.append(Row(line[3:]))
+            else:
+                found[-1].read(line)
     return found
 
 

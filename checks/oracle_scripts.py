@@ -2,12 +2,13 @@
 
 A script is made with the oracle's run beside it, so that it can name sessions, nicks and workers that are there.
 """
-import base64
 import hashlib
 import random
 
+from oracle_commands.authenticate import PASSWORDS, a_login
+from oracle_registry import COMMANDS
 from oracle_run import BadLine, BadSettings, Run
-from oracle_words import CAPABILITIES, COMMANDS, LAST_MOMENT, REASONS
+from oracle_words import CAPABILITIES, LAST_MOMENT, REASONS
 
 OTHER = bytes.maketrans(b"[]\\~{}|^", b"{}|^[]\\~")
 
@@ -20,11 +21,7 @@ TEXTS = [b"hi", b"hi there", b"", b"", b":x", b" a  b ", b"\xff\xfe", b"\xc3\xa9
          b"~%~", b"x,y", b"*", b"t" * 90, b"u" * 199, b"u" * 201, b"v" * 310, b"w" * 440, b"irc.example"]
 LONG = [b"".join(b"%04d " % at for at in range(count // 5)) + b"." * it for count in (100, 200, 300) for it in range(3)]
 USERS = [b"a", b"b", b"c", b"u!v@w", b"!", b"@@!", b"!:a", b"a\x01b", b"u" * 17, b"~u", b"\xff", b"\x1f", b":"]
-MASKS = [b"al", b"*", b"*!*@*", b"bo!*@*", b"*@h1", b"a?", b"?o!*", b"x!y", b"x@y", b"a@b!c", b"*!b@*", b"A[*", b"a{*!*@*",
-         b"", b":m", b"m n", b"!", b"@", b"*!*@h2", b"cy!*@*", b"CY!*@*", b"n" * 60, b"**?", b"\xff"]
 KEYS = [b"k", b"key", b"KEY", b"", b"k,l", b":k", b"k l", b"q" * 23, b"q" * 30, b"\xfe"]
-NUMBERS = [b"1", b"2", b"3", b"0", b"007", b"65535", b"65536", b"-1", b"+2", b"x", b"", b"99999999999999999999999", b"1 ",
-           b"10"]
 LABELS = [b"1", b"x", b"", b"a\\sb", b"a\\:b", b"\\", b"\\\\", b"l" * 64, b"l" * 65, b"\xc3\xa9", b"\xff", b"a=b",
           b"\\s" * 64, b"\\b", b"q", b"a\\r\\nb", b"\xc3\xa9" * 32, b"\xc3\xa9" * 33]
 VALUES = [b"", b"1", b"a\\:b", b"a\\sb\\", b"\\r\\n", b"\\q", b"\xc3\xa9", b"\xff", b"v=w", b"v" * 60, b"x\\\\y",
@@ -32,21 +29,9 @@ VALUES = [b"", b"1", b"a\\:b", b"a\\sb\\", b"\\r\\n", b"\\q", b"\xc3\xa9", b"\xf
 TAGS = [b"+k", b"+k", b"+x", b"+v.w/k", b"k", b"+", b"+a_b", b"++k", b"+v/", b"/k", b"time", b"batch", b"+label", b"+k/l/m",
         b"a/label", b"Label", b""]
 HOSTS = [b"h1", b"h2", b"h3", b"h4", b"10.0.0.7", b"0::1", b"a-b.c", b"H2", b"h" * 63]
-PASSWORDS = {b"al": (b"a", b"bc"), b"Bo[": (b"salt", b"\xffpass word"), b"x": (b":s", b"p"), b"two": (b"s", b"w" * 295),
-             b"long": (b"s", b"w" * 600)}
-CAP_LISTS = [b"nothing", b"sasl=PLAIN", b"BATCH", b"-", b"", b"batch batch", b"-batch batch", b"batch nothing", b"--sasl",
-             b"echo-message -echo-message"]
-CAP_WORDS = [b"LS", b"ls", b"LS 302", b"LS 301", b"LS 0302", b"LS x", b"LS 302x", b"LS +302", b"LS " + b"9" * 40, b"LIST",
-             b"LIST", b"END", b"END", b"REQ", b"REQ", b"REQ", b"Req", b"ACK", b"FOO", b":", b""]
-PIECES = [b"PLAIN", b"PLAIN", b"plain", b"PLAIN", b"EXTERNAL", b"*", b"+", b"", b"A" * 400, b"A" * 401, b"B" * 400, b"A" * 399,
-          b"AGFsAGJk", b"AGFsAGJ=", b"AGFsAGJ", b"AGFsAGJjZB==", b"AGFs AGJj"]
 OTHER_LINES = [b"FOO", b"OPER a b", b"VERSION", b"123", b"12", b"1234", b"F00", b"lusers", b"USERHOST al", b"KILL al x", b"TIME",
                b"", b":", b":x", b": PING y", b":al!a@h1 PING :z"]
-USER_MODES = [b"+i", b"-i", b"i", b"+x", b"+i-i", b"-i+i", b"+ix", b"", b"+", b"ii-x:i", b"+w"]
-ASKED_MODES = [b"b", b"+b", b"-b", b"+", b"", b"-", b"be"]
 BROKEN = [b"\0", b"\xff", b" ", b":", b",", b"@", b"\x01", b"  ", b"\\", b"\t"]
-COMMONER = (["JOIN", "PRIVMSG"] * 3 + ["MODE"] * 4 + ["KICK"] * 2 +
-            ["NOTICE", "TAGMSG", "PART", "INVITE", "TOPIC", "AWAY", "WHOIS", "NAMES", "CAP", "AUTHENTICATE", "NICK", "other"])
 # Milliseconds between two moments, and about those after which something is due.
 SPANS = [1, 999, 10000, 20000, 40000, 60000]
 ABOUT = [119999, 120000, 120001]
@@ -129,7 +114,13 @@ class Script:
         here = [self.run.h.nick(s) for s in self.run.h.sessions() if self.run.h.nick(s) and not self.run.h.gone(s)]
         if here and self.chance(0.8):
             return self.spelled_otherwise(self.random.choice(here))
+        return self.any_nick()
+
+    def any_nick(self):
         return self.random.choice(NICKS)
+
+    def user(self):
+        return self.random.choice(USERS)
 
     def channel(self):
         """A channel's name: of the speaker's, of all that are there, or any."""
@@ -150,17 +141,14 @@ class Script:
 
     def key(self):
         keys = [it for it in (self.run.h.of_channel("k", c) for c in self.run.h.channels()) if it]
-        return self.random.choice(keys if keys and self.chance(0.6) else KEYS)
+        return self.random.choice(keys) if keys and self.chance(0.6) else self.any_key()
+
+    def any_key(self):
+        return self.random.choice(KEYS)
 
     def list_of(self, make, most=3):
         count = 1 if self.chance(0.6) else self.random.randint(1, most)
         return self.pick(b",", b",", b",", b",,").join(make() for _ in range(count))
-
-    def caps(self):
-        if self.chance(0.1):
-            return self.random.choice(CAP_LISTS)
-        words = self.random.sample(CAPABILITIES, self.random.randint(1, len(CAPABILITIES)))
-        return self.pick(b" ", b" ", b"  ").join((b"-" if self.chance(0.15) else b"") + it for it in words)
 
     # Lines.
 
@@ -192,132 +180,24 @@ class Script:
         h, s = self.run.h, self.speaker
         return any(h.operator(s, c) for c in h.channels_of(s))
 
+    def command(self):
+        """The name of a command by its share, or None for one that isn't known."""
+        if self.operates() and self.chance(0.35):
+            shares = {name: it.by_operators for name, it in COMMANDS.items()}
+        else:
+            shares = {name: it.share for name, it in COMMANDS.items()} | {None: 10}
+        return self.random.choices(list(shares), list(shares.values()))[0]
+
     def message(self):
         """A command and its parameters."""
-        names = [it.decode() for it in COMMANDS] + COMMONER
-        name = self.random.choice(names)
-        if self.operates() and self.chance(0.35):
-            name = self.pick("MODE", "MODE", "MODE", "KICK", "TOPIC", "INVITE")
-        if name in ("QUIT", "PASS", "PONG", "MOTD", "USER") and self.chance(0.7):
-            name = self.pick("PRIVMSG", "JOIN", "MODE")
-        word = name.encode()
-        command = word if self.chance(0.9) else word.lower() if self.chance(0.7) else word.swapcase().title()
-        made = getattr(self, "make_" + name.lower(), None)
-        if name == "other":
+        name = self.command()
+        if name is None:
             return self.random.choice(OTHER_LINES)
-        return (command + b" " + made()).rstrip(b" ") if made else command
+        word = name if self.chance(0.9) else name.lower() if self.chance(0.7) else name.swapcase().title()
+        return (word + b" " + COMMANDS[name].draws(self)).rstrip(b" ")
 
     def target(self):
         return self.channel() if self.chance(0.55) else self.nick()
-
-    def make_cap(self):
-        sub = self.random.choice(CAP_WORDS)
-        return sub + b" " + self.words(self.caps()) if sub.upper() == b"REQ" else sub
-
-    def login(self):
-        name = self.random.choice(list(PASSWORDS))
-        identity = self.pick(b"", b"", name, name.swapcase(), b"zz")
-        password = PASSWORDS[name if self.chance(0.8) else self.random.choice(list(PASSWORDS))][1]
-        raw = b"\0".join([identity, name if self.chance(0.8) else name.swapcase(), password])
-        raw = raw if self.chance(0.9) else self.pick(b"", b"\0", b"\0\0", b"\0al\0", b"al\0bc", b"\0al\0bc\0")
-        return base64.b64encode(raw)
-
-    def make_authenticate(self):
-        return self.words(self.random.choice(PIECES) if self.chance(0.7) else self.login())
-
-    def a_login(self):
-        """The lines of a login, with odd ones between."""
-        lines = [b"CAP REQ sasl", b"AUTHENTICATE PLAIN"]
-        lines += [b"AUTHENTICATE " + b"A" * 400] * self.pick(0, 0, 0, 0, 0, 0, 1, 2, 3)
-        if self.chance(0.7):
-            login = self.login()
-            pieces = [login[at:at + 400] for at in range(0, len(login), 400)] + [b"+"] * (len(login) % 400 == 0)
-            lines += [b"AUTHENTICATE " + it for it in pieces]
-        else:
-            lines += [b"AUTHENTICATE " + self.pick(b"+", b"*", b":", b"A", b"A" * 400, b"AGFs")]
-        if self.chance(0.3):
-            between = self.pick(b"CAP REQ -sasl", b"CAP END", b"PING x", b"NICK zz", self.a_line())
-            lines.insert(self.random.randint(1, len(lines)), between)
-        if self.chance(0.2):
-            lines.pop()
-        return lines
-
-    def make_pass(self):
-        return self.words(self.text())
-
-    def make_nick(self):
-        return self.words(self.nick() if self.chance(0.3) else self.random.choice(NICKS))
-
-    def make_user(self):
-        return self.words(self.random.choice(USERS), b"0", b"*", self.text())
-
-    def make_ping(self):
-        return self.words(self.text(), self.maybe(self.text, 0.2))
-
-    make_pong = make_ping
-
-    def make_quit(self):
-        return self.words(self.maybe(self.text, 0.7))
-
-    def make_join(self):
-        if self.chance(0.03):
-            start = self.random.randint(1, 10)
-            return b",".join(b"#%d" % at for at in range(start, start + self.random.randint(5, 21)))
-        return self.words(self.list_of(self.other_channel), self.maybe(lambda: self.list_of(self.key), 0.3))
-
-    def make_part(self):
-        return self.words(self.list_of(self.channel), self.maybe(self.text))
-
-    def make_kick(self):
-        return self.words(self.channel(), self.list_of(self.nick, 7), self.maybe(self.long_text))
-
-    def make_invite(self):
-        return self.words(self.nick(), self.channel())
-
-    def make_topic(self):
-        return self.words(self.channel(), self.maybe(self.long_text, 0.6))
-
-    def make_mode(self):
-        if self.chance(0.15):
-            mine = self.run.h.nick(self.speaker) if self.chance(0.6) else None
-            return self.words(mine or self.nick(), self.maybe(lambda: self.random.choice(USER_MODES), 0.8))
-        if self.chance(0.15):
-            return self.words(self.channel(), self.maybe(lambda: self.random.choice(ASKED_MODES), 0.6))
-        letters, params = b"", []
-        for _ in range(self.pick(1, 1, 1, 2, 2, 3, 4, 5, 6, 7, 8)):
-            letter = self.random.choice(b"iiimnsttoooovvvbbbbkkkllqx+-:" if self.chance(0.98) else b" \xff\x01#aIOB")
-            letters += self.pick(b"", b"", b"+", b"-") + b"%c" % letter
-            makers = dict(zip(b"ovbkl", (self.nick, self.nick, lambda: self.random.choice(MASKS), lambda: self.random.choice(KEYS),
-                                         lambda: self.random.choice(NUMBERS))))
-            if letter in makers and self.chance(0.9):
-                params.append(makers[letter]())
-        middles = [it for it in params[:-1] if it and b" " not in it and it[:1] != b":"]
-        return self.words(self.channel(), letters, *middles, *params[-1:])
-
-    def make_privmsg(self):
-        return self.words(self.list_of(self.target, 6), self.text())
-
-    make_notice = make_privmsg
-
-    def make_tagmsg(self):
-        return self.words(self.list_of(self.target, 6), self.maybe(self.text, 0.1))
-
-    def make_away(self):
-        return self.words(self.maybe(self.long_text, 0.7))
-
-    def make_names(self):
-        return self.words(self.maybe(lambda: self.list_of(self.channel), 0.8))
-
-    make_list = make_names
-
-    def make_who(self):
-        return self.words(self.maybe(self.target, 0.9))
-
-    def make_whois(self):
-        return self.words(self.maybe(self.nick, 0.15), self.nick())
-
-    def make_motd(self):
-        return self.words(self.maybe(lambda: self.pick(b"irc.example", b"IRC.example", b"other", b"", b"a b"), 0.7))
 
     def tags(self):
         tags = []
@@ -397,7 +277,7 @@ class Script:
             s = self.random.choice(operators)
         self.speaker = s
         if self.chance(0.05):
-            lines = self.a_login()
+            lines = a_login(self)
         else:
             lines = [self.a_line() for _ in range(self.pick(1, 1, 1, 2, 2, 3, 4))]
         self.feed(s, self.ended(lines))
@@ -505,7 +385,7 @@ class Script:
         if self.flavour == "crowd":
             nick = b"n%d" % s + b"z" * self.pick(3, 20, 25)
         is_odd = self.chance(0.2)
-        user, real = (self.random.choice(USERS), self.long_text()) if is_odd else (nick[:1], nick.title())
+        user, real = (self.user(), self.long_text()) if is_odd else (nick[:1], nick.title())
         lines = [b"NICK " + nick, b"USER %s 0 * :%s" % (user, real)]
         if self.chance(0.75):
             count = 6 if self.chance(0.3) else self.random.randint(1, 6)
@@ -515,7 +395,7 @@ class Script:
         if self.chance(0.15):
             lines.insert(self.random.randint(0, len(lines)), self.a_line())
         if self.chance(0.2):
-            lines[1:1] = self.a_login()
+            lines[1:1] = a_login(self)
         if self.chance(0.1):
             self.random.shuffle(lines)
         if self.chance(0.1):

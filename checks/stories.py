@@ -16,7 +16,7 @@ def read(path):
 
 
 def files():
-    """The files in the order in which they are played: first those of parts."""
+    """The files, those of parts first."""
     return sorted(os.listdir(f"{FOLDER}/data"), key=lambda it: (not it.endswith(".parts"), it))
 
 
@@ -42,12 +42,10 @@ def alone(file):
 
 
 def printed():
-    """What the program is to print: a line for each scenario."""
-    lines = []
-    for file in files():
-        for name, rows in stories(file):
-            lines.append(f"passed {file}: {name}" + (f" ({rows} rows)" if rows else "") + "\n")
-    return "".join(lines)
+    """What the program is to print where each scenario passes. One with rows is played once for each."""
+    found = [rows for file in files() for _, rows in stories(file)]
+    plays = sum(1 if rows is None else rows for rows in found)
+    return f"{len(files())} files\n{plays} plays\n{len(found)} stories passed\n0 stories failed\n"
 
 
 def youngest():

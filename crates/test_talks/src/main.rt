@@ -1,5 +1,5 @@
 //! Plays stories that stand in files: talks, what sessions say and what each is told, and scripts, steps with their
-//! notes.
+//! notes. The files are those that the command line names, or else all of the folder in which it runs.
 #![tactic(auto)]
 
 mod block;
@@ -27,6 +27,7 @@ const UNREAD: u8 = 2;
 /// Why no more is played.
 #[derive(Drop)]
 enum Ended {
+    Unlisted,
     Unreadable(String),
     Unwritten,
     Memory,
@@ -50,21 +51,33 @@ impl From<io::Error> for Ended {
     }
 }
 
-/// Tells a story, each of whose differences has a line.
-fn tell_story(
+/// How many plays there were, a story's or those of its rows, and how many stories passed and differ.
+#[derive(Clone, Copy)]
+struct Counts {
+    plays: usize,
+    passed: u32,
+    failed: u32,
+}
+
+impl Counts {
+    /// Counts a story of so many plays.
+    fn add(&mut self, plays: usize, passed: bool) {
+        self.plays = self.plays.wrapping_add(plays);
+        if passed {
+            self.passed = self.passed.wrapping_add(1);
+        } else {
+            self.failed = self.failed.wrapping_add(1);
+        }
+    }
+}
+
+/// Tells a story that differs, each of whose differences has a line.
+fn tell_failed(
     rt: &impl Print,
     file: &str,
     name: &str,
-    rows: usize,
     differences: &[Difference],
 ) -> io::Result<()> {
-    if differences.is_empty() {
-        return if rows == 1 {
-            println!(rt; "passed {file}: {name}")
-        } else {
-            println!(rt; "passed {file}: {name} ({rows} rows)")
-        };
-    }
     println!(rt; "FAILED {file}: {name}")?;
     for it in differences {
         let (line, wanted, came) = (it.line, it.wanted.as_str(), it.came.as_str());
@@ -84,34 +97,31 @@ fn differences_of(alloc: Global, stories: &[Story<'_>]) -> Result<Vec<Difference
     Ok(found)
 }
 
-/// Plays a story with its rows, and returns whether all is as it is to be.
+/// Plays a story with its rows, and tells where it differs.
 fn play_story<R: Print + Alloc<A = Global>>(
     rt: &R,
-    file: &str,
-    form: Form,
+    file: &File,
     part: &Part<'_>,
     parts: &[Part<'_>],
-) -> Result<bool, Ended> {
-    let name = part.name;
-    match read_story(rt.alloc(), form, part, parts) {
+    counts: &mut Counts,
+) -> Result<(), Ended> {
+    let (name, story) = (file.name.as_str(), part.name);
+    match read_story(rt.alloc(), file.form, part, parts) {
         Ok(stories) => {
             let differences = differences_of(rt.alloc(), &stories)?;
-            tell_story(rt, file, name, stories.len(), &differences)?;
-            Ok(differences.is_empty())
+            counts.add(stories.len(), differences.is_empty());
+            if !differences.is_empty() {
+                tell_failed(rt, name, story, &differences)?;
+            }
+            Ok(())
         }
         Err(Wrong::NoPart(line)) => {
-            println!(rt; "FAILED {file}: {name}\n  {file}:{line}: there is no such part")?;
-            Ok(false)
+            counts.add(0, false);
+            println!(rt; "FAILED {name}: {story}\n  {name}:{line}: there is no such part")?;
+            Ok(())
         }
         Err(Wrong::Memory) => Err(Ended::Memory),
     }
-}
-
-/// How many stories passed, and how many differ.
-#[derive(Clone, Copy)]
-struct Counts {
-    passed: u32,
-    failed: u32,
 }
 
 /// Plays the stories of a file. Its parts are left for its own stories, and those of a file of parts for later
@@ -122,15 +132,12 @@ fn play_file<'a, R: Print + Alloc<A = Global>>(
     parts: &mut Vec<Part<'a>>,
     counts: &mut Counts,
 ) -> Result<(), Ended> {
-    let name = file.name.as_str();
     let before = parts.len();
     for block in blocks(rt.alloc(), file.text.as_str())? {
         if block.is_part {
             parts.push(block.part)?;
-        } else if play_story(rt, name, file.form, &block.part, parts)? {
-            counts.passed = counts.passed.wrapping_add(1);
         } else {
-            counts.failed = counts.failed.wrapping_add(1);
+            play_story(rt, file, &block.part, parts, counts)?;
         }
     }
     if file.form != Form::Parts {
@@ -139,13 +146,62 @@ fn play_file<'a, R: Print + Alloc<A = Global>>(
     Ok(())
 }
 
-/// The files that the command line names.
-fn files_of<R: Files + Alloc<A = Global>>(
+/// Plays those files that are of parts, or those that aren't, in turn.
+fn play_files<'a, R: Print + Alloc<A = Global>>(
     rt: &R,
-    names: env::Args<Global>,
-) -> Result<Vec<File>, Ended> {
+    files: &'a [File],
+    are_parts: bool,
+    parts: &mut Vec<Part<'a>>,
+    counts: &mut Counts,
+) -> Result<(), Ended> {
+    for file in files {
+        if (file.form == Form::Parts) == are_parts {
+            play_file(rt, file, parts, counts)?;
+        }
+    }
+    Ok(())
+}
+
+/// Why the folder isn't listed.
+fn unlisted(error: io::Error) -> Ended {
+    if error.kind() == io::ErrorKind::OutOfMemory {
+        Ended::Memory
+    } else {
+        Ended::Unlisted
+    }
+}
+
+/// The names of all files of the folder, in order.
+fn names_here<R: Files + Alloc<A = Global> + Clone + Drop>(rt: &R) -> Result<Vec<String>, Ended> {
+    let mut names = Vec::new(rt.alloc());
+    for entry in fs::read_dir(rt, ".").map_err(unlisted)? {
+        let entry = entry.map_err(unlisted)?;
+        names.push(String::from_str(rt.alloc(), entry.file_name())?)?;
+    }
+    names.sort_unstable();
+    Ok(names)
+}
+
+/// The names that the command line has, or else those of all files of the folder.
+fn names_of<R: Files + Alloc<A = Global> + Clone + Drop>(
+    rt: &R,
+    args: env::Args<Global>,
+) -> Result<Vec<String>, Ended> {
+    let mut names = Vec::new(rt.alloc());
+    for name in args.skip(1) {
+        names.push(name)?;
+    }
+    if names.is_empty() {
+        names_here(rt)
+    } else {
+        Ok(names)
+    }
+}
+
+/// The files of these names.
+fn files_of<R: Files + Alloc<A = Global>>(rt: &R, names: Vec<String>) -> Result<Vec<File>, Ended> {
     let mut files = Vec::new(rt.alloc());
-    for name in names.skip(1) {
+    for name in names {
         let form = Form::of(name.as_str());
         match fs::read_to_string(rt, name.as_str()) {
             Ok(text) => files.push(File { name, form, text })?,
@@ -156,26 +212,45 @@ fn files_of<R: Files + Alloc<A = Global>>(
     Ok(files)
 }
 
-/// Plays the files that the command line names, in turn.
-fn play_all<R: Files + Print + Alloc<A = Global>>(
-    rt: &R,
-    names: env::Args<Global>,
-) -> Result<Counts, Ended> {
-    let files = files_of(rt, names)?;
+/// Plays all files, those of parts first.
+fn play_all<R: Print + Alloc<A = Global>>(rt: &R, files: &[File]) -> Result<Counts, Ended> {
     let mut parts = Vec::new(rt.alloc());
     let mut counts = Counts {
+        plays: 0,
         passed: 0,
         failed: 0,
     };
-    for file in &files {
-        play_file(rt, file, &mut parts, &mut counts)?;
-    }
+    play_files(rt, files, true, &mut parts, &mut counts)?;
+    play_files(rt, files, false, &mut parts, &mut counts)?;
     Ok(counts)
+}
+
+/// Tells how many files there are, and what their stories gave.
+fn tell_counts(rt: &impl Print, files: usize, counts: Counts) -> io::Result<()> {
+    let Counts {
+        plays,
+        passed,
+        failed,
+    } = counts;
+    println!(rt; "{files} files\n{plays} plays\n{passed} stories passed\n{failed} stories failed")
+}
+
+/// Plays all files and tells the counts. Returns whether all stories passed.
+fn run<R: Files + Print + Alloc<A = Global> + Clone + Drop>(
+    rt: &R,
+    args: env::Args<Global>,
+) -> Result<bool, Ended> {
+    let names = names_of(rt, args)?;
+    let files = files_of(rt, names)?;
+    let counts = play_all(rt, &files)?;
+    tell_counts(rt, files.len(), counts)?;
+    Ok(counts.failed == 0)
 }
 
 /// Tells why no more is played.
 fn tell_ended(rt: &impl Eprint, ended: &Ended) -> ExitCode {
     let _ = match ended {
+        Ended::Unlisted => eprintln!(rt; "test_talks: cannot read the folder"),
         Ended::Unreadable(name) => eprintln!(rt; "test_talks: cannot read {name}"),
         Ended::Unwritten => eprintln!(rt; "test_talks: output failed"),
         Ended::Memory => eprintln!(rt; "test_talks: out of memory"),
@@ -184,14 +259,12 @@ fn tell_ended(rt: &impl Eprint, ended: &Ended) -> ExitCode {
 }
 
 fn main(rt: HostRuntime) -> ExitCode {
-    let Ok(names) = env::args(&rt) else {
+    let Ok(args) = env::args(&rt) else {
         return tell_ended(&rt, &Ended::Memory);
     };
-    match play_all(&rt, names) {
-        Ok(Counts { passed, failed }) => {
-            let _ = eprintln!(&rt; "{passed} stories passed, {failed} failed");
-            ExitCode::from(if failed == 0 { 0 } else { DIFFERS })
-        }
+    match run(&rt, args) {
+        Ok(true) => ExitCode::from(0),
+        Ok(false) => ExitCode::from(DIFFERS),
         Err(ended) => tell_ended(&rt, &ended),
     }
 }
