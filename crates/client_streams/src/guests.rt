@@ -54,15 +54,12 @@ impl Guest {
         let Ok(read) = WebStream::of(alloc, &stream, &is_request) else {
             return None;
         };
-        match Greeting::new(alloc, read) {
-            Ok(greeting) => Some(Guest {
-                greeting,
-                stream,
-                peer,
-                is_request,
-            }),
-            Err(_) => None,
-        }
+        Some(Guest {
+            greeting: Greeting::new(alloc, read),
+            stream,
+            peer,
+            is_request,
+        })
     }
 
     /// Goes on with the handshake. Whose request opens no WebSocket is told so, by one write.
@@ -81,17 +78,19 @@ impl Guest {
                 peer,
                 is_request,
             }),
-            Err(GreetFault::Io) => Came::Out(stream),
-            Err(GreetFault::Memory) => Came::Refused(stream, peer),
-            // A whole request has its shape, so there was no memory to take it apart.
-            Err(GreetFault::Head) if is_request.load(Ordering::SeqCst) => {
-                answer(&stream, UNAVAILABLE);
-                Came::Refused(stream, peer)
-            }
-            Err(GreetFault::Head | GreetFault::Handshake) => {
-                answer(&stream, REFUSAL);
-                Came::Out(stream)
-            }
+            Err(why) => match why.fault() {
+                GreetFault::Io => Came::Out(stream),
+                GreetFault::Memory => Came::Refused(stream, peer),
+                // A whole request has its shape, so there was no memory to take it apart.
+                GreetFault::Head if is_request.load(Ordering::SeqCst) => {
+                    answer(&stream, UNAVAILABLE);
+                    Came::Refused(stream, peer)
+                }
+                GreetFault::Head | GreetFault::Handshake => {
+                    answer(&stream, REFUSAL);
+                    Came::Out(stream)
+                }
+            },
         }
     }
 }

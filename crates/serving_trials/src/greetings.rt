@@ -87,7 +87,7 @@ const REFUSED: &[&[u8]] = &[
 fn fault_of(alloc: Global, stream: Memory) -> Option<GreetFault> {
     match greet(alloc, stream) {
         Ok(_) => None,
-        Err(fault) => Some(fault),
+        Err(why) => Some(why.fault()),
     }
 }
 
@@ -168,10 +168,7 @@ fn is_heard_when_cut(alloc: Global, cut: usize) -> Result<bool, Fail> {
     let mut stream = request(alloc, b"", HELLO)?;
     stream.cut = cut;
     stream.most = 7;
-    let Ok(greeting) = Greeting::new(alloc, stream) else {
-        return Ok(false);
-    };
-    let Some(mut front) = greeted(greeting) else {
+    let Some(mut front) = greeted(Greeting::new(alloc, stream)) else {
         return Ok(false);
     };
     Ok(hears_hello(&mut front) && is_nothing(&front.next()))

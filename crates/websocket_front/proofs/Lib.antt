@@ -6,3 +6,4 @@ pub mod Growing
 pub mod Steps
 pub mod Passing
 pub mod Naming
+pub mod Unasked

@@ -1,10 +1,10 @@
 //! What a request asks for, by the octets of its head.
-ghost use Rattle.std.specs.Prelude.{◌≡◌, length, All, IfOk};
+ghost use Rattle.std.specs.Prelude.{◌≡◌, length, All, IfOk, IfErr};
 ghost use Rattle.httparse.specs.Spans.{IsHeaderWithin, IsRequestWithin, IsRequestOf};
 ghost use Rattle.tungstenite.specs.Heads.{IsAccepted};
 ghost use Rattle.websocket.specs.Headers.{eq_ignore_case, fields_of};
 ghost use Rattle.std.specs.Prelude.{codes};
-ghost use Rattle.websocket_front.specs.Asked.{offers, Asks};
+ghost use Rattle.websocket_front.specs.Asked.{offers, Asks, AsksNone, IsUnasked};
 ghost use Rattle.websocket_front.specs.Offers.{chosen};
 
 use crate::subprotocol::{Subprotocol, first_named};
@@ -47,14 +47,16 @@ fn check_head(
 ) -> Result<[u8; 28], HandshakeError>
     requires within { IsRequestWithin head.now spans.now found.now }
     requires parsed { IsRequestOf head.now spans.now found.now }
-    ensures { IfOk result (λ _. IsAccepted head.now) }
+    ensures accepted { IfOk result (λ _. IsAccepted head.now) }
+    ensures refused { IfErr result (AsksNone head.now) }
 {
     check_request(head, found, spans)
 }
 
 /// The subprotocol that is served to the client of this request.
 pub(crate) fn asked(head: &[u8]) -> Result<Subprotocol, HandshakeError>
-    ensures { IfOk result (Asks head.now) }
+    ensures asks { IfOk result (Asks head.now) }
+    ensures unasked { IfErr result (IsUnasked head.now) }
 {
     let mut spans = [EMPTY_HEADER_SPAN; HEADERS];
     let Ok(Status::Complete(found)) = parse_request(head, &mut spans) else {

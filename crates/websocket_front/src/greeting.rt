@@ -7,17 +7,16 @@ ghost use Rattle.std.specs.Prelude.{◌≡◌, IfOk, IfErr};
 ghost use Rattle.std.specs.IoError.{error_kind};
 ghost use Rattle.websocket_front.specs.Faults.{is_shortage, greet_fault_of};
 ghost use Rattle.websocket_front.specs.Fronted.{IsGreeted};
-ghost use Rattle.websocket_front.specs.Greetings.{IfDone};
+ghost use Rattle.websocket_front.specs.Greetings.{IsRefused, IsUngreeted};
 
 use crate::asking::asked;
 use crate::front::{Front, limits};
 use crate::heard::Heard;
-use crate::subprotocol::Chooser;
-use std::alloc::{AllocError, Global};
+use crate::shaken::{Greeting, Ungreeted};
+use std::alloc::Global;
 use std::io;
 use std::io::{ErrorKind, Read, Write};
-use tungstenite::handshake::server::start;
-use tungstenite::{Error, HandshakeError, MidHandshake, NoMask, Role, ServerHandshake, WebSocket};
+use tungstenite::{Error, NoMask, Role, WebSocket};
 use websocket::handshake::HandshakeError as HeadError;
 
 /// How often `greet` goes on where the stream has or takes nothing.
@@ -34,24 +33,6 @@ pub enum GreetFault {
     Io,
     /// There was no memory.
     Memory,
-}
-
-impl From<AllocError> for GreetFault {
-    ghost use Rattle.std.specs.Prelude.{◌≡◌};
-    ghost use Rattle.websocket_front.specs.declared.greeting.GreetFault.TheVariants.{Memory};
-
-    ghost from_gives = { λ _ fault. fault ≡ Memory };
-
-    fn from(_error: AllocError) -> GreetFault {
-        GreetFault::Memory
-    }
-}
-
-/// A handshake that isn't done.
-#[derive(Drop)]
-pub struct Greeting<S: Read + Write + Drop> {
-    alloc: Global,
-    handshake: MidHandshake<ServerHandshake<Heard<S>, Chooser>>,
 }
 
 /// How far a handshake came.
@@ -74,7 +55,7 @@ fn is_shortage(error: &io::Error) -> bool
 }
 
 /// Why a handshake that ended by an error came to nothing.
-fn fault_of(error: &Error) -> GreetFault
+pub(crate) fn fault_of(error: &Error) -> GreetFault
     ensures { result ≡ greet_fault_of error.now }
 {
     match error {
@@ -95,61 +76,34 @@ fn fault_of(error: &Error) -> GreetFault
 }
 
 /// The front of a client whose request was answered, which is all that was heard of it.
-fn front_of<S: Read + Write + Drop>(alloc: Global, heard: Heard<S>) -> Result<Front<S>, GreetFault>
-    ensures { IfOk result IsGreeted }
+pub(crate) fn front_of<S: Read + Write + Drop>(
+    alloc: Global,
+    heard: Heard<S>,
+) -> Result<Front<S>, Error>
+    ensures greeted { IfOk result IsGreeted }
+    ensures refused { IfErr result (IsRefused heard.octets.items) }
 {
     let Heard { stream, octets } = heard;
-    let Ok(subprotocol) = asked(&octets) else {
-        return Err(GreetFault::Handshake);
+    let subprotocol = match asked(&octets) {
+        Ok(subprotocol) => subprotocol,
+        Err(error) => return Err(Error::Handshake(error)),
     };
     let socket = WebSocket::from_raw_socket(alloc, stream, NoMask, Role::Server, Some(limits()));
     Ok(Front::new(alloc, socket, subprotocol))
 }
 
-impl<S: Read + Write + Drop> Greeting<S> {
-    /// A handshake on a stream of which nothing was read.
-    pub fn new(alloc: Global, stream: S) -> Result<Greeting<S>, GreetFault>
-        ensures { IfErr result (λ e. e ≡ GreetFault.Memory) }
-    {
-        let heard = Heard::new(alloc, stream)?;
-        let chooser = Chooser::new(alloc);
-        Ok(Greeting {
-            alloc,
-            handshake: start(alloc, heard, chooser, Some(limits())),
-        })
-    }
-
-    /// The stream.
-    pub fn stream(&self) -> &S {
-        &self.handshake.get_ref().stream
-    }
-
-    /// Reads and writes until the handshake is done or the stream would block.
-    pub fn go_on(self) -> Result<Greeted<S>, GreetFault>
-        ensures { IfOk result (λ greeted. IfDone greeted IsGreeted) }
-    {
-        let Greeting { alloc, handshake } = self;
-        match handshake.handshake() {
-            Ok(socket) => Ok(Greeted::Done(front_of(alloc, socket.into_inner())?)),
-            Err(HandshakeError::Interrupted(handshake)) => {
-                Ok(Greeted::Later(Greeting { alloc, handshake }))
-            }
-            Err(HandshakeError::Failure(error)) => Err(fault_of(&error)),
-        }
-    }
-}
-
 /// Greets the client of a stream whose reads wait. Where the stream has or takes nothing it tries again, 1,024 times
 /// in all; then it is a fault of the stream.
-pub fn greet<S: Read + Write + Drop>(alloc: Global, stream: S) -> Result<Front<S>, GreetFault>
-    ensures { IfOk result IsGreeted }
+pub fn greet<S: Read + Write + Drop>(alloc: Global, stream: S) -> Result<Front<S>, Ungreeted>
+    ensures greeted { IfOk result IsGreeted }
+    ensures cause { IfErr result IsUngreeted }
 {
-    let mut greeting = Greeting::new(alloc, stream)?;
-    for _ in 0..TRIES {
+    let mut greeting = Greeting::new(alloc, stream);
+    for turn in 0..TRIES {
         match greeting.go_on()? {
             Greeted::Done(front) => return Ok(front),
             Greeted::Later(later) => greeting = later,
         }
     }
-    Err(GreetFault::Io)
+    Err(greeting.give_up())
 }

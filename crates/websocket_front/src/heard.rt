@@ -1,12 +1,7 @@
 //! A client's stream during its handshake, and what was read of it.
-ghost use Rattle.std.specs.Prelude.{◌≡◌, IfOk};
-
-use std::alloc::{AllocError, Global};
+use std::alloc::Global;
 use std::io;
 use std::io::{Read, Write};
-
-/// How many octets of a request there is room for at first.
-const ROOM: usize = 1024;
 
 /// A stream, and the octets that were read of it.
 #[derive(Drop)]
@@ -17,13 +12,11 @@ pub(crate) struct Heard<S: Read + Write + Drop> {
 
 impl<S: Read + Write + Drop> Heard<S> {
     /// A stream of which nothing was read.
-    pub(crate) fn new(alloc: Global, stream: S) -> Result<Heard<S>, AllocError>
-        ensures { IfOk result (λ h. h.stream ≡ stream) }
-    {
-        Ok(Heard {
+    pub(crate) fn new(alloc: Global, stream: S) -> Heard<S> {
+        Heard {
             stream,
-            octets: Vec::with_capacity(alloc, ROOM)?,
-        })
+            octets: Vec::new(alloc),
+        }
     }
 }
 

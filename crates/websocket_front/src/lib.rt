@@ -9,11 +9,13 @@ mod greeting;
 mod heard;
 mod laws;
 mod sending;
+mod shaken;
 mod subprotocol;
 
 pub use counted::Causes;
 pub use front::{Front, FrontFault, Got, close_for_memory};
-pub use greeting::{GreetFault, Greeted, Greeting, greet};
+pub use greeting::{GreetFault, Greeted, greet};
 pub use laws::lines_stay;
+pub use shaken::{Greeting, Ungreeted};
 pub use subprotocol::Subprotocol;
 pub use tungstenite::CloseCode;
