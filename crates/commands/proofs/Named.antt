@@ -1,7 +1,6 @@
 -- What is read by a name has it.
-use Rattle.std.proofs.Common.{◌≡◌, ℕ, Bool, true, false, cond, ◌||◌, List, [], ◌∷◌, codes, Result, Ok, Err, refl}
+use Rattle.std.proofs.Common.{ℕ, Bool, true, false, cond, ◌||◌, List, [], ◌∷◌, codes, Result, refl}
 use Rattle.std.specs.Str.{str_eq_ignore_ascii_case}
-use Rattle.line_grammar.specs.declared.message.Message.{Message}
 use Rattle.line_grammar.specs.Parts.{is_empty}
 use Rattle.command_params.specs.declared.name.CommandName.{CommandName}
 use Rattle.command_params.specs.declared.name.CommandName.TheVariants as name
@@ -9,7 +8,7 @@ use Rattle.command_params.specs.declared.fault.ReadFault.{ReadFault}
 use Rattle.command_params.specs.Params.{first_or_empty}
 use Rattle.commands.specs.declared.command.Command.{Command}
 use Rattle.commands.specs.declared.command.Command.TheVariants.{Session, Channel, Mode, Talk, Query}
-use Rattle.session_commands.specs.Session.{authenticate_command, cap_command, cap_req, cap_subcommand, pass_command}
+use Rattle.session_commands.specs.Session.{authenticate_command, cap_command, cap_req, pass_command}
 use Rattle.session_commands.specs.Session.{user_command, user_name}
 use Rattle.channel_commands.specs.Channel.{invite_command, join_command, kick_command, part_command, topic_command}
 use Rattle.mode_commands.specs.Modes.{mode_command}

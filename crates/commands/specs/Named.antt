@@ -10,7 +10,6 @@ use Rattle.channel_commands.specs.declared.channel.ChannelCommand.{ChannelComman
 use Rattle.channel_commands.specs.declared.channel.ChannelCommand.TheVariants as channel
 use Rattle.talk_commands.specs.declared.talk.TalkCommand.{TalkCommand}
 use Rattle.talk_commands.specs.declared.talk.TalkCommand.TheVariants as talk
-use Rattle.talk_commands.specs.declared.verb.Verb.{Verb}
 use Rattle.talk_commands.specs.Lines.{verb_name}
 use Rattle.query_commands.specs.declared.query.Query.{Query}
 use Rattle.query_commands.specs.declared.query.Query.TheVariants as query

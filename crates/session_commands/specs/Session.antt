@@ -1,8 +1,8 @@
 -- The commands of a session's own: how each is read, and what it does. RFC 2812, sections 3.1.1 to 3.1.3,
 -- 3.1.7, 3.7.2 and 3.7.3, IRCv3 Capability Negotiation and SASL 3.1.
-use Rattle.std.specs.Prelude.{◌≡◌, ℕ, ◌+◌, ◌-◌, ◌*◌, ◌==◌, nat_le, Bool, not, ◌&&◌, cond, List, [], ◌∷◌}
-use Rattle.std.specs.Prelude.{filter, fold, take, codes, Result, Ok, Err, Option, Some, None}
-use Rattle.std.specs.List.{find, list_all}
+use Rattle.std.specs.Prelude.{ℕ, ◌+◌, ◌-◌, ◌*◌, ◌==◌, nat_le, Bool, not, ◌&&◌, cond, List, [], ◌∷◌}
+use Rattle.std.specs.Prelude.{filter, fold, take, codes, Result, Ok, Err}
+use Rattle.std.specs.List.{list_all}
 use Rattle.std.specs.Str.{str_eq_ignore_ascii_case}
 use Rattle.casemapping.specs.Names.{is_digit}
 use Rattle.session_commands.specs.declared.session.CapSubcommand.TheVariants as cap

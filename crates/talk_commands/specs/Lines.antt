@@ -1,5 +1,5 @@
 -- The lines that carry texts and tags: RFC 2812, sections 3.3.1 and 3.3.2, and IRCv3 message-tags (TAGMSG).
-use Rattle.std.specs.Prelude.{ℕ, List, [], ◌∷◌, Option, is_some, option_to_list}
+use Rattle.std.specs.Prelude.{ℕ, List, ◌∷◌, Option, is_some, option_to_list}
 use Rattle.command_params.specs.declared.name.CommandName.{CommandName}
 use Rattle.command_params.specs.declared.name.CommandName.TheVariants as name
 use Rattle.command_params.specs.Names.{name_text}

@@ -1,6 +1,6 @@
 -- What PRIVMSG, NOTICE and TAGMSG do: RFC 2812, sections 3.3.1 and 3.3.2, IRCv3 message-tags and IRCv3 echo-message;
 -- and who may speak on a channel: RFC 2811, sections 4.2.3, 4.2.4 and 4.3.1.
-use Rattle.std.specs.Prelude.{ℕ, Bool, true, false, not, ◌&&◌, ◌||◌, ◌==◌, nat_lt, List, [], ◌∷◌, ◌++◌}
+use Rattle.std.specs.Prelude.{ℕ, Bool, true, not, ◌&&◌, ◌||◌, ◌==◌, nat_lt, List, [], ◌∷◌, ◌++◌}
 use Rattle.std.specs.Prelude.{filter, length, slice_index_or, Option, Some, None, if◌then◌else◌}
 use Rattle.std.specs.List.{flat_map}
 use Rattle.channel_state.specs.State.{State, among, is_banned, without}

@@ -1,6 +1,5 @@
-use Rattle.std.proofs.Common.{◌≡◌, ℕ, Bool, List, ◌+◌, ◌≤◌, ◌<◌, ◌∷◌, ◌++◌, [], ap, sym, ◌∙◌, length}
+use Rattle.std.proofs.Common.{◌≡◌, ℕ, Bool, List, ◌+◌, ◌<◌, ◌∷◌, ◌++◌, [], ap, sym, ◌∙◌, length}
 use Rattle.std.proofs.Common.{arith, drop, length-append, map}
-use Rattle.numerics.specs.declared.numeric.Numeric.{Numeric}
 use Rattle.numerics.specs.declared.numeric.Numeric.TheVariants.{NamReply}
 use Rattle.numerics.specs.Cut.{filled}
 use Rattle.channel_state.specs.declared.modes.Modes.{Modes}
