@@ -1,6 +1,6 @@
 -- What is read of a clean message: a command whose texts are clean, or a fault that names a text.
 use Rattle.std.proofs.Common.{◌≡◌, ℕ, ◌==◌, ◌≤◌, Bool, true, not, ◌&&◌, nat_le, nat_lt, List, []}
-use Rattle.std.proofs.Common.{◌∷◌, filter, length, IfSome, Some, Result, Ok, Err, refl, inl, inr}
+use Rattle.std.proofs.Common.{◌∷◌, filter, length, IfSome, Result, Ok, Err, refl, inl, inr}
 use Rattle.std.proofs.Common.{arith}
 use Rattle.std.specs.List.{AllByRecursion, list_all, slice_split}
 use Rattle.std.proofs.lemmas.Bool.{and_from, and_parts, leb-true, or_cases}

@@ -1,5 +1,5 @@
 -- What a clean message asks for is clean.
-use Rattle.std.proofs.Common.{◌≡◌, List, Option, Some, None, Result, Ok, Err, refl, subst}
+use Rattle.std.proofs.Common.{◌≡◌, Option, Some, None, Result, Ok, Err, refl, subst}
 use Rattle.line_grammar.specs.declared.message.Message.{Message}
 use Rattle.command_params.specs.declared.name.CommandName.{CommandName}
 use Rattle.command_params.specs.declared.name.CommandName.TheVariants as name

@@ -1,6 +1,6 @@
 -- What every effect keeps: its line is no BATCH, its hearers stand once each, and it opens no session.
 use Rattle.std.proofs.Common.{◌≡◌, ℕ, ◌+◌, ◌==◌, Bool, true, false, cond, List, [], ◌∷◌, ◌++◌}
-use Rattle.std.proofs.Common.{codes, length, map, Option, Some, None, refl}
+use Rattle.std.proofs.Common.{codes, length, Option, Some, None, refl}
 use Rattle.std.specs.Bool.{if◌then◌else◌}
 use Rattle.std.specs.List.{flat_map}
 use Rattle.std.specs.Str.{bytes_eq}

@@ -1,6 +1,6 @@
 -- What the effects of any record show, and to whom.
 use Rattle.std.proofs.Common.{◌≡◌, ◌≢◌, ℕ, true, false, not, ◌&&◌, ◌==◌, List, [], ◌∷◌}
-use Rattle.std.proofs.Common.{codes, map, filter, Option, Some, None, refl, sym, ap, ◌∙◌, arith}
+use Rattle.std.proofs.Common.{codes, map, filter, Option, Some, None, refl, sym, ◌∙◌, arith}
 use Rattle.std.specs.List.{All}
 use Rattle.std.proofs.lemmas.List.Elements.{All-cons, All-append}
 use Rattle.std.proofs.lemmas.Slice.Eq.{bytes_eq-Decides}
@@ -11,7 +11,7 @@ use Rattle.numerics.specs.declared.outgoing.Out.{Out}
 use Rattle.registration.specs.declared.settings.Settings.{Settings}
 use Rattle.roster.specs.declared.deed.Deed.{Deed}
 use Rattle.roster.specs.declared.deed.Deed.TheVariants as deed
-use Rattle.roster.specs.LookBack.{after, opened, registered, sharers}
+use Rattle.roster.specs.LookBack.{after, opened, registered}
 use Rattle.commands.specs.Asked.{asked_of}
 use Rattle.commands.specs.declared.asked.Asked.{Asked}
 use Rattle.commands.specs.declared.asked.Asked.TheVariants.{Nothing, TooLong, Command as Asks, Fault as Fails}
