@@ -1,5 +1,5 @@
-//! The parameters of a command: those that may be left out, lists in one, and the fault of their shape (RFC 2812,
-//! sections 2.3 and 2.3.1).
+//! The names of commands, and their parameters: those that may be left out, lists in one, and the fault of their shape
+//! (RFC 2812, sections 2.3 and 2.3.1).
 #![tactic(auto)]
 
 mod fault;
