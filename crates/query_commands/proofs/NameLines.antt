@@ -77,10 +77,6 @@ told_full t told room most line name names left next short full =
 
 -- ---- the first of them, and none
 
-pub no_members : (members : List ℕ) → length members ≡ 0 → members ≡ []
-no_members [] none = refl
-no_members (m ∷ ms) none = cc
-
 pub nothing_told : (t : Telling) (told : List (List ℕ) → Numeric) (room : ℕ) (f : ℕ → List ℕ) (members : List ℕ)
     → members ≡ [] → t ≡ telling_more t (map told (cut room (length (map f members)) (map f members)))
 unfolding cut

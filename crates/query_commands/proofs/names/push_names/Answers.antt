@@ -1,5 +1,6 @@
 use Rattle.std.proofs.Common.{◌≡◌, ℕ, Bool, List, ◌+◌, ◌<◌, ◌∷◌, ◌++◌, [], ap, sym, ◌∙◌, length}
 use Rattle.std.proofs.Common.{arith, drop, length-append, map}
+use Rattle.std.proofs.lemmas.List.{nil_from_length}
 use Rattle.numerics.specs.declared.numeric.Numeric.TheVariants.{NamReply}
 use Rattle.numerics.specs.Cut.{filled}
 use Rattle.channel_state.specs.declared.modes.Modes.{Modes}
@@ -7,7 +8,7 @@ use Rattle.drafts.specs.Seen.{Seen}
 use Rattle.drafts.proofs.Turns.{dropped}
 use Rattle.query_commands.specs.Names.{member_name}
 use Rattle.query_commands.specs.Telling.{Telling, telling_more}
-use Rattle.query_commands.proofs.NameLines.{first_told, no_members, nothing_told, told_full, told_more}
+use Rattle.query_commands.proofs.NameLines.{first_told, nothing_told, told_full, told_more}
 use Rattle.query_commands.proofs.names.push_names.Goals as goal
 use Rattle.query_commands.proofs.names.push_names.Goals.{then-takes+in_ok-line-2, else-takes+in_ok-next+in_ok-push_names}
 
@@ -16,7 +17,7 @@ returns-in_default c =
     let k = c.args.listed.now in
     nothing_told c.args.telling.now (NamReply k.state.modes.secret k.name) c.args.room
     (member_name c.args.roster.now.facts k.state) c.args.members.now
-    (no_members c.args.members.now c.in_default.ensures.cases)
+    (nil_from_length c.args.members.now c.in_default.ensures.cases)
 
 pub loop-member-init : goal.loop-member-init
 loop-member-init c =
