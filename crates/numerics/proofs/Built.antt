@@ -1,6 +1,6 @@
 -- A line that was spelled word by word is spelled as its parts say.
-use Rattle.std.proofs.Common.{◌≡◌, ◌∙◌, ℕ, ◌-◌, List, [], ◌∷◌, ◌++◌, map, length, take, true, false, Option, Some}
-use Rattle.std.proofs.Common.{None, option_to_list, ap, sym, append_assoc, append-nil, arith, length-append}
+use Rattle.std.proofs.Common.{◌≡◌, ◌∙◌, ℕ, ◌-◌, List, [], ◌∷◌, ◌++◌, map, length, take, drop, true, false, Option}
+use Rattle.std.proofs.Common.{Some, None, option_to_list, ap, sym, append_assoc, append-nil, arith, length-append}
 use Rattle.std.specs.List.{flat_map}
 use Rattle.std.proofs.Math.Seq.{take-length, drop-length, take-append_seam, drop-append_seam}
 use Rattle.std.proofs.lemmas.List.{length-take, map-append}
@@ -41,31 +41,37 @@ pub built_nameless : (c w : List ℕ) → c ++ 32 ∷ w ≡ spelled (nameless c 
 unfolding untagged
 built_nameless c w = ap (λ x. c ++ x) (sym (plain_params (w ∷ []) ∙ ap (λ x. 32 ∷ x) (append-nil w)))
 
--- a numeric's line: whom it goes to, words, more words, and a text where there is one
-words_of_row : (front to : List ℕ) (ws more : List (List ℕ)) → ((front ++ 32 ∷ to) ++ after_spaces (map shown ws))
-    ++ after_spaces (map shown more) ≡ front ++ after_spaces (to ∷ map shown (ws ++ more))
-words_of_row front to ws more =
-    let a = after_spaces (map shown ws) in let b = after_spaces (map shown more) in
-    append_assoc (front ++ 32 ∷ to) a b
-    ∙ append_assoc front (32 ∷ to) (a ++ b)
-    ∙ ap (λ x. front ++ 32 ∷ (to ++ x)) (sym (flat_map-append (λ w. 32 ∷ w) (map shown ws) (map shown more))
-    ∙ ap after_spaces (sym (map-append shown ws more)))
+-- a numeric's line: whom it goes to, words, and a text where there is one
+pub shown_append : (xs ys : List (List ℕ)) → after_spaces (map shown (xs ++ ys))
+    ≡ after_spaces (map shown xs) ++ after_spaces (map shown ys)
+shown_append xs ys =
+    ap after_spaces (map-append shown xs ys) ∙ flat_map-append (λ w. 32 ∷ w) (map shown xs) (map shown ys)
 
-pub built_row : (server to code : List ℕ) (ws more : List (List ℕ)) (text : Option (List ℕ)) →
-    ((((spelled_source (Some server) ++ code) ++ 32 ∷ to) ++ after_spaces (map shown ws))
-    ++ after_spaces (map shown more)) ++ flat_map (λ t. 32 ∷ 58 ∷ t) (option_to_list text)
-    ≡ spelled (row_line server to (record { code = code; words = ws ++ more; text = text }))
+words_of_row : (front to : List ℕ) (ws : List (List ℕ)) → (front ++ 32 ∷ to) ++ after_spaces (map shown ws)
+    ≡ front ++ after_spaces (to ∷ map shown ws)
+words_of_row front to ws = append_assoc front (32 ∷ to) (after_spaces (map shown ws))
+
+pub built_row : (server to code : List ℕ) (ws : List (List ℕ)) (text : Option (List ℕ)) →
+    (((spelled_source (Some server) ++ code) ++ 32 ∷ to) ++ after_spaces (map shown ws))
+    ++ flat_map (λ t. 32 ∷ 58 ∷ t) (option_to_list text)
+    ≡ spelled (row_line server to (record { code = code; words = ws; text = text }))
 unfolding row_line
-built_row server to code ws more None =
-    append-nil _ ∙ words_of_row (spelled_source (Some server) ++ code) to ws more
-    ∙ ap (λ x. (spelled_source (Some server) ++ code) ++ after_spaces (to ∷ x))
-    (sym (append-nil (map shown (ws ++ more))))
-    ∙ built_words server code (to ∷ (map shown (ws ++ more) ++ []))
-built_row server to code ws more (Some t) =
-    ap (λ x. x ++ 32 ∷ 58 ∷ (t ++ [])) (words_of_row (spelled_source (Some server) ++ code) to ws more)
-    ∙ ap (λ x. ((spelled_source (Some server) ++ code) ++ after_spaces (to ∷ map shown (ws ++ more))) ++ 32 ∷ 58
-    ∷ x) (append-nil t)
-    ∙ built_text server code (to ∷ map shown (ws ++ more)) t
+built_row server to code ws None =
+    append-nil _ ∙ words_of_row (spelled_source (Some server) ++ code) to ws
+    ∙ ap (λ x. (spelled_source (Some server) ++ code) ++ after_spaces (to ∷ x)) (sym (append-nil (map shown ws)))
+    ∙ built_words server code (to ∷ (map shown ws ++ []))
+built_row server to code ws (Some t) =
+    ap (λ x. x ++ 32 ∷ 58 ∷ (t ++ [])) (words_of_row (spelled_source (Some server) ++ code) to ws)
+    ∙ ap (λ x. ((spelled_source (Some server) ++ code) ++ after_spaces (to ∷ map shown ws)) ++ 32 ∷ 58 ∷ x)
+    (append-nil t)
+    ∙ built_text server code (to ∷ map shown ws) t
+
+-- what was added after a start, and the start
+pub after_start : (xs ys : List ℕ) → drop (length xs) (xs ++ ys) ≡ ys
+after_start = drop-append_seam
+
+pub only_start : (xs ys : List ℕ) → take (length xs) (xs ++ ys) ≡ xs
+only_start = take-append_seam
 
 -- how many octets more a line may have, by what goes out of it
 pub room_left : (o : Out) → 512 - length (octets o) ≡ room o

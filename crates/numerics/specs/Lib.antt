@@ -3,4 +3,4 @@ pub mod Numerics
 pub mod Support
 pub mod Cut
 pub mod CivilTime
-pub mod Trailing
+pub mod Borrowed

@@ -2,9 +2,9 @@
 //! moments as texts (RFC 3339, section 5.6).
 #![tactic(auto)]
 
+mod borrowed;
 mod civil_time;
 mod cut;
-mod heading;
 mod laws;
 mod line;
 mod numeric;

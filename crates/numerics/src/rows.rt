@@ -1,8 +1,13 @@
-//! The numerics as lines (RFC 2812, section 5; IRCv3).
+//! The numerics as rows (RFC 2812, section 5; IRCv3).
 ghost use Rattle.std.specs.Prelude.{◌≡◌, IfOk};
-ghost use Rattle.numerics.specs.Numerics.{numeric, row, row_line};
+ghost use Rattle.numerics.specs.Numerics.{numeric, row};
+ghost use Rattle.numerics.specs.Borrowed.{row_of};
 
-use crate::heading::Heading;
+use crate::Numeric::*;
+use crate::borrowed::Text::{Ending, Given, Joined, Said, Spaced, Without};
+use crate::borrowed::Word::{Flags, Letter, Number, Of, Plain, Sign};
+use crate::borrowed::Words::{Before, Each, Four, No, One, Six, Two};
+use crate::borrowed::{Row, line_of};
 use crate::{Line, Numeric};
 use std::alloc::{AllocError, Global};
 
@@ -12,114 +17,191 @@ impl Numeric {
     pub fn line(&self, alloc: Global, server: &[u8], to: &[u8]) -> Result<Line, AllocError>
         ensures { IfOk result (λ o. o ≡ numeric server.now to.now self.now) }
     {
-        line_of(self, &Heading { alloc, server, to })
+        line_of(alloc, server, to, &row_of(self, server))
     }
 }
 
-/// The table: the line of each numeric, one after the other.
-fn line_of(numeric: &Numeric, from: &Heading) -> Result<Line, AllocError>
-    ensures { IfOk result (λ o. o
-        ≡ row_line from.now.server.now from.now.to.now (row from.now.server.now numeric.now)) }
+/// The table: the row of each numeric, one after the other.
+fn row_of<'a>(numeric: &'a Numeric, server: &'a [u8]) -> Row<'a>
+    ensures { row_of result ≡ row server.now numeric.now }
 {
     match numeric {
-        Numeric::Welcome(source) => from.welcome(source),
-        Numeric::YourHost(version) => from.your_host(version),
-        Numeric::Created(time) => from.ending(b"003", b"This server was created ", time),
-        Numeric::MyInfo(version) => from.my_info(version),
-        Numeric::ISupport(tokens) => from.isupport(tokens),
-        Numeric::UModeIs(modes) => from.listing(b"221", &[modes.as_slice()]),
-        Numeric::Away { nick, text } => from.about(b"301", nick, text.as_slice()),
-        Numeric::UnAway => from.saying(b"305", b"You are no longer marked as being away"),
-        Numeric::NowAway => from.saying(b"306", b"You have been marked as being away"),
-        Numeric::WhoisUser {
+        Welcome(source) => Row(
+            b"001",
+            No,
+            Ending(b"Welcome to the Internet Relay Network ", source),
+        ),
+        YourHost(version) => Row(
+            b"002",
+            No,
+            Joined(
+                Plain(b"Your host is "),
+                Plain(server),
+                Plain(b", running version "),
+                Of(version),
+            ),
+        ),
+        Created(time) => Row(b"003", No, Ending(b"This server was created ", time)),
+        MyInfo(version) => Row(
+            b"004",
+            Four(
+                Plain(server),
+                Of(version),
+                Plain(b"i"),
+                Plain(b"biklmnostv"),
+            ),
+            Without,
+        ),
+        ISupport(tokens) => Row(b"005", Each(tokens), Said(b"are supported by this server")),
+        UModeIs(modes) => Row(b"221", One(Of(modes)), Without),
+        Away { nick, text } => Row(b"301", One(Of(nick)), Given(text)),
+        UnAway => Row(b"305", No, Said(b"You are no longer marked as being away")),
+        NowAway => Row(b"306", No, Said(b"You have been marked as being away")),
+        WhoisUser {
             nick,
             user,
             host,
             real,
-        } => from.whois_user(nick, user, host, real),
-        Numeric::WhoisServer { nick, info } => from.whois_server(nick, info),
-        Numeric::EndOfWho(name) => from.about(b"315", name, b"End of WHO list"),
-        Numeric::EndOfWhois(name) => from.about(b"318", name, b"End of WHOIS list"),
-        Numeric::WhoisChannels { nick, channels } => from.whois_channels(nick, channels),
-        Numeric::ListReply {
+        } => Row(
+            b"311",
+            Four(Of(nick), Of(user), Of(host), Plain(b"*")),
+            Given(real),
+        ),
+        WhoisServer { nick, info } => Row(b"312", Two(Of(nick), Plain(server)), Given(info)),
+        EndOfWho(name) => Row(b"315", One(Of(name)), Said(b"End of WHO list")),
+        EndOfWhois(nick) => Row(b"318", One(Of(nick)), Said(b"End of WHOIS list")),
+        WhoisChannels { nick, channels } => Row(b"319", One(Of(nick)), Spaced(channels)),
+        ListReply {
             channel,
             members,
             topic,
-        } => from.list_reply(channel, *members, topic),
-        Numeric::ListEnd => from.saying(b"323", b"End of LIST"),
-        Numeric::ChannelModeIs {
+        } => Row(b"322", Two(Of(channel), Number(*members)), Given(topic)),
+        ListEnd => Row(b"323", No, Said(b"End of LIST")),
+        ChannelModeIs {
             channel,
             modes,
             params,
-        } => from.channel_modes(channel, modes, params),
-        Numeric::NoTopic(name) => from.about(b"331", name, b"No topic is set"),
-        Numeric::Topic { channel, topic } => from.about(b"332", channel, topic.as_slice()),
-        Numeric::Inviting { nick, channel } => from.two(b"341", nick, channel),
-        Numeric::WhoReply(who) => from.who_reply(who),
-        Numeric::NamReply {
+        } => Row(b"324", Before(Of(channel), Of(modes), params), Without),
+        NoTopic(channel) => Row(b"331", One(Of(channel)), Said(b"No topic is set")),
+        Topic { channel, topic } => Row(b"332", One(Of(channel)), Given(topic)),
+        Inviting { nick, channel } => Row(b"341", Two(Of(nick), Of(channel)), Without),
+        WhoReply(who) => Row(
+            b"352",
+            Six(
+                Of(&who.channel),
+                Of(&who.user),
+                Of(&who.host),
+                Plain(server),
+                Of(&who.nick),
+                Flags(who.away, who.prefix),
+            ),
+            Ending(b"0 ", &who.real),
+        ),
+        NamReply {
             secret,
             channel,
             names,
-        } => from.names_reply(*secret, channel, names),
-        Numeric::EndOfNames(name) => from.about(b"366", name, b"End of NAMES list"),
-        Numeric::BanList { channel, mask } => from.two(b"367", channel, mask),
-        Numeric::EndOfBanList(name) => from.about(b"368", name, b"End of channel ban list"),
-        Numeric::Motd(text) => from.ending(b"372", b"- ", text),
-        Numeric::MotdStart => from.motd_start(),
-        Numeric::EndOfMotd => from.saying(b"376", b"End of MOTD command"),
-        Numeric::NoSuchNick(name) => from.about(b"401", name, b"No such nick/channel"),
-        Numeric::NoSuchServer(name) => from.about(b"402", name, b"No such server"),
-        Numeric::NoSuchChannel(name) => from.about(b"403", name, b"No such channel"),
-        Numeric::CannotSendToChan(name) => from.about(b"404", name, b"Cannot send to channel"),
-        Numeric::TooManyChannels(name) => from.about(
+        } => Row(b"353", Two(Sign(*secret), Of(channel)), Spaced(names)),
+        EndOfNames(channel) => Row(b"366", One(Of(channel)), Said(b"End of NAMES list")),
+        BanList { channel, mask } => Row(b"367", Two(Of(channel), Of(mask)), Without),
+        EndOfBanList(channel) => Row(b"368", One(Of(channel)), Said(b"End of channel ban list")),
+        Motd(text) => Row(b"372", No, Ending(b"- ", text)),
+        MotdStart => Row(
+            b"375",
+            No,
+            Joined(
+                Plain(b"- "),
+                Plain(server),
+                Plain(b" Message of the day - "),
+                Plain(b""),
+            ),
+        ),
+        EndOfMotd => Row(b"376", No, Said(b"End of MOTD command")),
+        NoSuchNick(name) => Row(b"401", One(Of(name)), Said(b"No such nick/channel")),
+        NoSuchServer(name) => Row(b"402", One(Of(name)), Said(b"No such server")),
+        NoSuchChannel(channel) => Row(b"403", One(Of(channel)), Said(b"No such channel")),
+        CannotSendToChan(channel) => Row(b"404", One(Of(channel)), Said(b"Cannot send to channel")),
+        TooManyChannels(channel) => Row(
             b"405",
-            name,
-            b"You have joined too many channels",
+            One(Of(channel)),
+            Said(b"You have joined too many channels"),
         ),
-        Numeric::TooManyTargets(name) => from.about(b"407", name, b"Too many targets"),
-        Numeric::NoOrigin => from.saying(b"409", b"No origin specified"),
-        Numeric::InvalidCapCmd(name) => from.about(b"410", name, b"Invalid CAP command"),
-        Numeric::NoRecipient(command) => from.no_recipient(command),
-        Numeric::NoTextToSend => from.saying(b"412", b"No text to send"),
-        Numeric::InputTooLong => from.saying(b"417", b"Input line was too long"),
-        Numeric::UnknownCommand(name) => from.about(b"421", name, b"Unknown command"),
-        Numeric::NoMotd => from.saying(b"422", b"MOTD File is missing"),
-        Numeric::NoNicknameGiven => from.saying(b"431", b"No nickname given"),
-        Numeric::ErroneousNickname(name) => from.about(b"432", name, b"Erroneous nickname"),
-        Numeric::NicknameInUse(name) => from.about(b"433", name, b"Nickname is already in use"),
-        Numeric::UserNotInChannel { nick, channel } => from.about_two(
+        TooManyTargets(target) => Row(b"407", One(Of(target)), Said(b"Too many targets")),
+        NoOrigin => Row(b"409", No, Said(b"No origin specified")),
+        InvalidCapCmd(subcommand) => Row(b"410", One(Of(subcommand)), Said(b"Invalid CAP command")),
+        NoRecipient(command) => Row(
+            b"411",
+            No,
+            Joined(
+                Plain(b"No recipient given ("),
+                Of(command),
+                Plain(b")"),
+                Plain(b""),
+            ),
+        ),
+        NoTextToSend => Row(b"412", No, Said(b"No text to send")),
+        InputTooLong => Row(b"417", No, Said(b"Input line was too long")),
+        UnknownCommand(command) => Row(b"421", One(Of(command)), Said(b"Unknown command")),
+        NoMotd => Row(b"422", No, Said(b"MOTD File is missing")),
+        NoNicknameGiven => Row(b"431", No, Said(b"No nickname given")),
+        ErroneousNickname(nick) => Row(b"432", One(Of(nick)), Said(b"Erroneous nickname")),
+        NicknameInUse(nick) => Row(b"433", One(Of(nick)), Said(b"Nickname is already in use")),
+        UserNotInChannel { nick, channel } => Row(
             b"441",
-            nick,
-            channel,
-            b"They aren't on that channel",
+            Two(Of(nick), Of(channel)),
+            Said(b"They aren't on that channel"),
         ),
-        Numeric::NotOnChannel(name) => from.about(b"442", name, b"You're not on that channel"),
-        Numeric::UserOnChannel { nick, channel } => from.about_two(
+        NotOnChannel(channel) => Row(
+            b"442",
+            One(Of(channel)),
+            Said(b"You're not on that channel"),
+        ),
+        UserOnChannel { nick, channel } => Row(
             b"443",
-            nick,
-            channel,
-            b"is already on channel",
+            Two(Of(nick), Of(channel)),
+            Said(b"is already on channel"),
         ),
-        Numeric::NotRegistered => from.saying(b"451", b"You have not registered"),
-        Numeric::NeedMoreParams(name) => from.about(b"461", name, b"Not enough parameters"),
-        Numeric::AlreadyRegistered => from.saying(
+        NotRegistered => Row(b"451", No, Said(b"You have not registered")),
+        NeedMoreParams(command) => Row(b"461", One(Of(command)), Said(b"Not enough parameters")),
+        AlreadyRegistered => Row(
             b"462",
-            b"Unauthorized command (already registered)",
+            No,
+            Said(b"Unauthorized command (already registered)"),
         ),
-        Numeric::ChannelIsFull(name) => from.about(b"471", name, b"Cannot join channel (+l)"),
-        Numeric::UnknownMode { letter, channel } => from.unknown_mode(*letter, channel),
-        Numeric::InviteOnlyChan(name) => from.about(b"473", name, b"Cannot join channel (+i)"),
-        Numeric::BannedFromChan(name) => from.about(b"474", name, b"Cannot join channel (+b)"),
-        Numeric::BadChannelKey(name) => from.about(b"475", name, b"Cannot join channel (+k)"),
-        Numeric::ChanOPrivsNeeded(name) => from.about(b"482", name, b"You're not channel operator"),
-        Numeric::UModeUnknownFlag => from.saying(b"501", b"Unknown MODE flag"),
-        Numeric::UsersDontMatch => from.saying(b"502", b"Cannot change mode for other users"),
-        Numeric::LoggedIn { source, account } => from.logged_in(source, account),
-        Numeric::SaslSuccess => from.saying(b"903", b"SASL authentication successful"),
-        Numeric::SaslFail => from.saying(b"904", b"SASL authentication failed"),
-        Numeric::SaslTooLong => from.saying(b"905", b"SASL message too long"),
-        Numeric::SaslAborted => from.saying(b"906", b"SASL authentication aborted"),
-        Numeric::SaslAlready => from.saying(b"907", b"You have already authenticated using SASL"),
-        Numeric::SaslMechs => from.telling(b"908", &[b"PLAIN"], b"are available SASL mechanisms"),
+        ChannelIsFull(channel) => Row(b"471", One(Of(channel)), Said(b"Cannot join channel (+l)")),
+        UnknownMode { letter, channel } => Row(
+            b"472",
+            One(Letter(*letter)),
+            Ending(b"is unknown mode char to me for ", channel),
+        ),
+        InviteOnlyChan(channel) => Row(b"473", One(Of(channel)), Said(b"Cannot join channel (+i)")),
+        BannedFromChan(channel) => Row(b"474", One(Of(channel)), Said(b"Cannot join channel (+b)")),
+        BadChannelKey(channel) => Row(b"475", One(Of(channel)), Said(b"Cannot join channel (+k)")),
+        ChanOPrivsNeeded(channel) => Row(
+            b"482",
+            One(Of(channel)),
+            Said(b"You're not channel operator"),
+        ),
+        UModeUnknownFlag => Row(b"501", No, Said(b"Unknown MODE flag")),
+        UsersDontMatch => Row(b"502", No, Said(b"Cannot change mode for other users")),
+        LoggedIn { source, account } => Row(
+            b"900",
+            Two(Of(source), Of(account)),
+            Ending(b"You are now logged in as ", account),
+        ),
+        SaslSuccess => Row(b"903", No, Said(b"SASL authentication successful")),
+        SaslFail => Row(b"904", No, Said(b"SASL authentication failed")),
+        SaslTooLong => Row(b"905", No, Said(b"SASL message too long")),
+        SaslAborted => Row(b"906", No, Said(b"SASL authentication aborted")),
+        SaslAlready => Row(
+            b"907",
+            No,
+            Said(b"You have already authenticated using SASL"),
+        ),
+        SaslMechs => Row(
+            b"908",
+            One(Plain(b"PLAIN")),
+            Said(b"are available SASL mechanisms"),
+        ),
     }
 }

@@ -1,5 +1,5 @@
 //! Texts put together.
-ghost use Rattle.std.specs.Prelude.{◌≡◌, ◌∷◌, ◌++◌, decimal, IfOk, OnOk};
+ghost use Rattle.std.specs.Prelude.{◌≡◌, ◌∷◌, ◌++◌, IfOk, OnOk};
 ghost use Rattle.std.specs.List.{flat_map};
 ghost use Rattle.numerics.specs.Numerics.{spaced};
 
@@ -56,11 +56,4 @@ pub fn spaced(alloc: Global, words: &[Octets]) -> Result<Vec<u8>, AllocError>
     let mut text = Vec::new(alloc);
     push_spaced(&mut text, words)?;
     Ok(text)
-}
-
-/// A number in decimal.
-pub(crate) fn decimal(alloc: Global, number: usize) -> Result<Octets, AllocError>
-    ensures { IfOk result (λ t. t ≡ decimal number) }
-{
-    Octets::copied(alloc, format!(in alloc; "{number}")?.as_bytes())
 }

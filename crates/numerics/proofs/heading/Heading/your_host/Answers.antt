@@ -1,4 +1,0 @@
-use Rattle.numerics.proofs.heading.Heading.your_host.Goals as goal
-
-pub returns : goal.returns
-returns c = rw (← c.as_slice.ensures) c.joining.ensures
