@@ -1,12 +1,14 @@
--- The day number of a date tells the date.
+-- The day number of a date tells the date, and so does a moment.
 use Rattle.std.proofs.Common.{◌≡◌, ℕ, zero, suc, ◌+◌, ◌-◌, ◌<◌, ◌≤◌, inl, inr, nat_lt, true, false, refl}
-use Rattle.std.proofs.Common.{ap, sym, subst, ◌∙◌, arith, ℤ, pos, negsuc, neg_ℤ, ◌≤ℤ◌}
+use Rattle.std.proofs.Common.{ap, sym, subst, ◌∙◌, arith, ℤ, pos, negsuc, neg_ℤ, ◌≤ℤ◌, ◌*ℤ◌, ◌/◌}
 use Rattle.std.proofs.lemmas.Bool.{cases_lt}
 use Rattle.std.proofs.lemmas.Bool.Decides.{nat_tests}
 use Rattle.jiff_core.specs.Calendar.{days_in_year, days_in_month, days_of_months, day_of_year}
 use Rattle.jiff_core.specs.Calendar.{day_count, days_from_civil, IsCivilDate}
 use Rattle.jiff_core.specs.Date.{epoch_day}
+use Rattle.jiff_core.specs.DateTime.{civil_nanos}
 use Rattle.jiff_core.specs.declared.civil.date.Date.{Date}
+use Rattle.jiff_core.specs.declared.civil.datetime.DateTime.{DateTime}
 use Rattle.jiff_core.proofs.SignedLemmas.{signed_arith}
 use Rattle.jiff_core.proofs.CalendarLemmas.{day_count-epoch, days_from_civil-day_count}
 use Rattle.jiff_core.proofs.CalendarLemmas.{days_in_year_bounds, days_in_month_bounds}
@@ -14,6 +16,7 @@ use Rattle.jiff_core.proofs.CalendarLemmas.{days_of_months-zero, days_of_months_
 use Rattle.jiff_core.proofs.CalendarLemmas.{day_of_year_bound, day_count-day_of_year}
 use Rattle.jiff_core.proofs.CalendarLemmas.{day_count-next_year, day_count-later_year}
 use Rattle.jiff_core.proofs.DateLemmas.{civil}
+use Rattle.jiff_core.proofs.DateTimeLemmas.{civil_nanos-parts, time_nanos_bound}
 use Rattle.numerics.specs.CivilTime.{falls_in, CivilDate, year_of, month_of, civil_date, IsDateOf}
 
 -- ---- periods in a row
@@ -160,7 +163,13 @@ date_at number year month day is e =
     (omega (arith, count, day_count-day_of_year year month day is.2.0)) (day_of_year_bound year month day is) in
     date_since number since.0 year month day since.1 is count
 
-pub date_of_day : (number : ℕ) (d : Date) → epoch_day d ≡ pos number → IsDateOf (civil_date number) d
+date_of_day : (number : ℕ) (d : Date) → epoch_day d ≡ pos number → IsDateOf (civil_date number) d
 date_of_day number d e =
     let parts = date_at number d.year d.month d.day (civil d) e in
     record { year = parts.0; month = parts.1; day = parts.2 }
+
+pub date_of_moment : (milliseconds : ℕ) (dt : DateTime) → civil_nanos dt ≡ pos milliseconds *ℤ pos 1_000_000
+    → IsDateOf (civil_date (milliseconds / 86_400_000)) dt.date
+date_of_moment milliseconds dt e =
+    date_of_day (milliseconds / 86_400_000) dt.date
+    (omega (arith, signed_arith, e, civil_nanos-parts dt, time_nanos_bound dt.time))

@@ -4,7 +4,9 @@ ghost use Rattle.numerics.specs.CivilTime.{IsDateOf, LiesOutside, civil_date, cl
 ghost use Rattle.numerics.specs.declared.civil_time.TimeFault.TheVariants.{Memory};
 
 use crate::texts::joined;
-use jiff_core::civil::Date;
+use jiff::Timestamp;
+use jiff::civil::Date;
+use jiff::tz::Offset;
 use line_grammar::Octets;
 use std::alloc::{AllocError, Global};
 
@@ -41,19 +43,19 @@ pub fn time_text(alloc: Global, milliseconds: i64) -> Result<Octets, TimeFault>
         return Err(TimeFault::OutOfRange);
     }
     let milliseconds = milliseconds.unsigned_abs();
-    let date = date_octets(date_of(milliseconds / MILLISECONDS_OF_DAY));
+    let date = date_octets(date_of(milliseconds));
     let clock = clock_octets(milliseconds % MILLISECONDS_OF_DAY);
     let text = joined(alloc, &[&date, b"T", &clock, b"Z"])?;
     Ok(Octets::from_vec(text))
 }
 
-/// The date of a day number, where day 0 is 1970-01-01.
-#[tactic(auto, using(crate::proofs::Dates::date_of_day))]
-fn date_of(day: u64) -> Date
-    requires { day ≤ 2_932_896 }
-    ensures { IsDateOf (civil_date day) result }
+/// The date of a moment that has a text.
+fn date_of(milliseconds: u64) -> Date
+    requires { milliseconds ≤ 253370764799999 }
+    ensures { IsDateOf (civil_date (milliseconds / 86_400_000)) result }
 {
-    Date::from_unix_epoch_day(day as i64).unwrap()
+    let moment = Timestamp::from_millisecond(milliseconds as i64).unwrap();
+    Offset::UTC.to_datetime(moment).date()
 }
 
 /// `YYYY-MM-DD`.
@@ -61,9 +63,9 @@ fn date_octets(date: Date) -> [u8; 10]
     ensures { result
         ≡ date_text (record { year = unsigned_abs date.year; month = date.month; day = date.day }) }
 {
-    let year = u64::from(date.year.unsigned_abs());
-    let month = u64::from(date.month);
-    let day = u64::from(date.day);
+    let year = u64::from(date.year().unsigned_abs());
+    let month = u64::from(date.month().unsigned_abs());
+    let day = u64::from(date.day().unsigned_abs());
     [
         tens(year / 100),
         ones(year / 100),
