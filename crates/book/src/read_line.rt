@@ -1,8 +1,7 @@
 //! A line that was read before it is begun.
 ghost use Rattle.std.specs.Prelude.{◌≡◌, IfOk};
 
-use commands::{Asked, read_piece};
-use labels_batches::piece_label;
+use commands::{Asked, ReadPiece, read_piece};
 use line_grammar::{Octets, Piece};
 use std::alloc::{AllocError, Global};
 use std::marker::Model;
@@ -34,8 +33,7 @@ impl ReadLine {
         ensures { IfOk result (λ r. r ≡ piece.now) }
     {
         let own = piece.copy()?;
-        let label = piece_label(alloc, piece)?;
-        let asked = read_piece(alloc, piece)?;
+        let ReadPiece { asked, label } = read_piece(alloc, piece)?;
         Ok(ReadLine {
             piece: own,
             asked,

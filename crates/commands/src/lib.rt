@@ -5,7 +5,7 @@ mod asked;
 mod command;
 mod reading;
 
-pub use asked::{Asked, read_message, read_piece};
+pub use asked::{Asked, ReadPiece, read_message, read_piece};
 pub use channel_commands;
 pub use command::Command;
 pub use mode_commands;

@@ -60,8 +60,8 @@ fn open(alloc: Global, roster: &mut Roster, host: &[u8]) -> Result<(), AllocErro
 /// What a piece asks for, read once more where a growth was refused.
 fn asked_of(alloc: Global, piece: &Piece) -> Result<Asked, AllocError> {
     match read_piece(alloc, piece) {
-        Ok(asked) => Ok(asked),
-        Err(_) => read_piece(alloc, piece),
+        Ok(read) => Ok(read.asked),
+        Err(_) => Ok(read_piece(alloc, piece)?.asked),
     }
 }
 

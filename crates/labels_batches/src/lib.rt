@@ -11,7 +11,7 @@ mod text;
 mod texts;
 
 pub use answers::{AnswerTag, Tagged, wrap};
-pub use labels::{piece_label, takes_labels};
+pub use labels::{label_in, takes_labels};
 pub use laws::{label_stands_first, lone_line_opens_no_batch, several_lines_are_a_closed_batch};
 pub use numerics::{TimeFault, time_text};
 pub use rendering::render;

@@ -69,20 +69,6 @@ pub fn parse(alloc: Global, line: &[u8]) -> Result<LineMessage<'_>, LineFault>
     })
 }
 
-/// The tag data of a line that is a message, as [`parse`] gives it. Nothing is copied.
-#[tactic(auto, unfolding(crate::specs::Reading::reading, crate::specs::Reading::with_command))]
-pub fn tag_data(line: &[u8]) -> Option<&[u8]>
-    ensures { option_map (λ t. t.now) result ≡ option_map (λ m. m.tags) (reading line.now) }
-{
-    let (tags, rest) = split_tags(line);
-    let (_, rest) = split_source(rest);
-    let (command, _) = split_word(rest);
-    if has_nul(line) || !is_command(command) {
-        return None;
-    }
-    Some(tags)
-}
-
 fn has_nul(line: &[u8]) -> bool
     ensures any { result ≡ list_any (λ b. b == 0) line.now }
     ensures there { IsTrue result ↔ Contains line.now 0 }

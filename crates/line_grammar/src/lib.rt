@@ -12,7 +12,7 @@ mod spelling;
 mod splitter;
 mod words;
 
-pub use grammar::{LineFault, parse, tag_data};
+pub use grammar::{LineFault, parse};
 pub use laws::{any_cutting, one_message_a_line, reads_what_is_spelled};
 pub use line_message::{LineMessage, LineParameters};
 pub use message::Message;

@@ -15,4 +15,4 @@ quits piece (Err x) e = tt
 
 pub returns-in-Line-clause-quit : goal.returns-in-Line-clause-quit
 unfolding asked_of
-returns-in-Line-clause-quit c = quits c.args.piece.now c.asked_by_line.result (grind (arith, common_steps))
+returns-in-Line-clause-quit c = quits c.args.piece.now c.read_line.result (grind (arith, common_steps))
