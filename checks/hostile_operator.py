@@ -137,6 +137,9 @@ def log_of_all_that_happens(program):
     refuses, and each roll."""
     with Server(program, "--log", "--limit", "7") as server:
         al, bo, ca = Client(server, "al"), Client(server, "bo"), Client(server)
+        # it has its place before the fourth comes
+        ca.send("PING x")
+        ca.hear(" PONG ")
         port = al.socket.getsockname()[1]
         over = Client(server)
         over.rest()
