@@ -146,6 +146,8 @@ def log_of_all_that_happens(program):
         al.send("QUIT :bye")
         al.rest()
         bo.reset()
+        # its end is told before a roll drops the record
+        assert wait_until(lambda: server.descriptors() == server.descriptors_at_rest + 1)
         ca.send(*["PING x"] * 30)
         for _ in range(30):
             ca.hear(" PONG ")
