@@ -1,9 +1,12 @@
-//! Trials of outboxes and wires: what comes out of one is what was put into it, over both kinds of outbox, in one
-//! thread and in two; and what goes out of a delivery and on a wire.
+//! Trials of what a line does, of outboxes and of wires: decisions on a line that does much; what comes out of an
+//! outbox is what was put into it, over both kinds of outbox, in one thread and in two; and what goes out of a delivery
+//! and on a wire.
 #![tactic(auto)]
 
 #[cfg(test)]
 mod bells;
+#[cfg(test)]
+mod deciding;
 #[cfg(test)]
 mod feeding;
 #[cfg(test)]

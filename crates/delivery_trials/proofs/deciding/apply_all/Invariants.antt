@@ -1,7 +1,7 @@
 use Rattle.std.proofs.Common.{◌≡◌}
 use Rattle.std.specs.Vec.Iter.{into_iter_items}
 use Rattle.roster.specs.LookBack.{after}
-use Rattle.deeds_trials.proofs.deciding.apply_all.Given as goal
+use Rattle.delivery_trials.proofs.deciding.apply_all.Given as goal
 
 -- what is left is what the roster is ready for
 abbrev pub invariant-loop-deed : goal.invariant-loop-deed
