@@ -62,7 +62,7 @@ pub struct ReadPiece {
 
 /// What has no label.
 fn unlabelled(asked: Asked) -> ReadPiece
-    ensures asked { result.asked ≡ asked.entry }
+    ensures asked { result.asked ≡ asked }
     ensures label { result.label ≡ None }
 {
     ReadPiece { asked, label: None }
