@@ -1,6 +1,6 @@
 //! Trials of what a line does, of outboxes and of wires: decisions on a line that does much; what comes out of an
-//! outbox is what was put into it, over both kinds of outbox, in one thread and in two; and what goes out of a delivery
-//! and on a wire.
+//! outbox is what was put into it, over both kinds of outbox, in one thread and in two; and what goes out of a
+//! delivery and on a wire.
 #![tactic(auto)]
 
 #[cfg(test)]
