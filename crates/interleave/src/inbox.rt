@@ -222,7 +222,7 @@ impl<L: Naming> Inbox<L> {
         let Some(tokens) = self.tokens.take() else {
             unreachable!();
         };
-        let mut left = copied(self.alloc, &self.left);
+        let mut left = copied(&self.left);
         let session = tokens.session();
         apply::<LeftIn, LinkedList<Delivery>, (&Book<L, Ring>, SessionId)>(
             &mut left,

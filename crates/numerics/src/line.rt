@@ -4,7 +4,7 @@ ghost use Rattle.numerics.specs.Outgoing.{line, nameless, octets, room, spelled}
 
 use crate::Out;
 use crate::pushing::{length_of, push_params, push_start, push_text, push_word, push_words};
-use ghosts::{Change, Copies, Snapshot, apply};
+use ghosts::{Change, Snapshot, apply, copied};
 use line_grammar::{Octets, OctetsList};
 use std::alloc::{AllocError, Global};
 use std::marker::Model;
@@ -293,13 +293,10 @@ impl Clone for Line {
     ghost is_clone = { λ a b. b ≡ a };
 
     fn clone(&self) -> Result<Line, AllocError> {
-        let text = self.text.clone()?.into_vec();
-        let mut out = any_line(*text.allocator());
-        apply::<Copies, Out, Snapshot<Out>>(&mut out, &self.out);
         Ok(Line {
             tags: self.tags.clone()?,
-            text: Octets::from_vec(text),
-            out,
+            text: self.text.clone()?,
+            out: copied(&self.out),
         })
     }
 }

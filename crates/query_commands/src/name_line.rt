@@ -121,7 +121,7 @@ impl NameLine {
     pub(crate) fn names(&self) -> Snapshot<LinkedList<Octets>>
         ensures { result.value ≡ self.now }
     {
-        copied(*self.text.allocator(), &self.names)
+        copied(&self.names)
     }
 
     /// The line that tells somebody the names of a channel: it spells the text as one name.

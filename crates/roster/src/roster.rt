@@ -140,7 +140,7 @@ impl Roster {
             channels: self.channels.copied()?,
             stock: Stock::new(self.alloc),
             fresh: Stock::new(self.alloc),
-            facts: copied(self.alloc, &self.facts),
+            facts: copied(&self.facts),
             ready: blank(self.alloc),
         })
     }
