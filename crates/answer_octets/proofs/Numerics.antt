@@ -8,23 +8,7 @@ use Rattle.std.proofs.lemmas.List.Folds.{list_all-append}
 use Rattle.line_grammar.specs.Reading.{is_command}
 use Rattle.line_grammar.specs.Spelling.{is_text_octet, needs_colon}
 use Rattle.numerics.specs.declared.numeric.Numeric.{Numeric}
-use Rattle.numerics.specs.declared.numeric.Numeric.TheVariants.{Welcome, YourHost, Created, MyInfo, ISupport, UModeIs}
-use Rattle.numerics.specs.declared.numeric.Numeric.TheVariants.{Away, UnAway, NowAway, WhoisUser, WhoisServer}
-use Rattle.numerics.specs.declared.numeric.Numeric.TheVariants.{EndOfWho, EndOfWhois, WhoisChannels, ListReply}
-use Rattle.numerics.specs.declared.numeric.Numeric.TheVariants.{ListEnd, ChannelModeIs, NoTopic, Topic, Inviting}
-use Rattle.numerics.specs.declared.numeric.Numeric.TheVariants.{WhoReply, NamReply, EndOfNames, BanList, EndOfBanList}
-use Rattle.numerics.specs.declared.numeric.Numeric.TheVariants.{Motd, MotdStart, EndOfMotd, NoSuchNick, NoSuchServer}
-use Rattle.numerics.specs.declared.numeric.Numeric.TheVariants.{NoSuchChannel, CannotSendToChan, TooManyChannels}
-use Rattle.numerics.specs.declared.numeric.Numeric.TheVariants.{TooManyTargets, NoOrigin, InvalidCapCmd, NoRecipient}
-use Rattle.numerics.specs.declared.numeric.Numeric.TheVariants.{NoTextToSend, InputTooLong, UnknownCommand, NoMotd}
-use Rattle.numerics.specs.declared.numeric.Numeric.TheVariants.{NoNicknameGiven, ErroneousNickname, NicknameInUse}
-use Rattle.numerics.specs.declared.numeric.Numeric.TheVariants.{UserNotInChannel, NotOnChannel, UserOnChannel}
-use Rattle.numerics.specs.declared.numeric.Numeric.TheVariants.{NotRegistered, NeedMoreParams, AlreadyRegistered}
-use Rattle.numerics.specs.declared.numeric.Numeric.TheVariants.{ChannelIsFull, UnknownMode, InviteOnlyChan}
-use Rattle.numerics.specs.declared.numeric.Numeric.TheVariants.{BannedFromChan, BadChannelKey, ChanOPrivsNeeded}
-use Rattle.numerics.specs.declared.numeric.Numeric.TheVariants.{UModeUnknownFlag, UsersDontMatch, LoggedIn}
-use Rattle.numerics.specs.declared.numeric.Numeric.TheVariants.{SaslSuccess, SaslFail, SaslTooLong, SaslAborted}
-use Rattle.numerics.specs.declared.numeric.Numeric.TheVariants.{SaslAlready, SaslMechs}
+use Rattle.numerics.specs.declared.numeric.Numeric.TheVariants.{Welcome}
 use Rattle.numerics.specs.Numerics.{Row, numeric, row, row_line, shown}
 use Rattle.answer_octets.specs.Clean.{IsClean, IsServer, IsTextRow}
 use Rattle.answer_octets.specs.Laws.{LineIsClean, NumericIsClean}
@@ -65,70 +49,7 @@ record IsCode (code : List ℕ) : Type 0 where
 
 code-is : (server : List ℕ) (n : Numeric) → IsCode (row server n).code
 code-is server (Welcome source) = record { command = refl; short = omega arith }
-code-is server (YourHost version) = record { command = refl; short = omega arith }
-code-is server (Created time) = record { command = refl; short = omega arith }
-code-is server (MyInfo version) = record { command = refl; short = omega arith }
-code-is server (ISupport tokens) = record { command = refl; short = omega arith }
-code-is server (UModeIs modes) = record { command = refl; short = omega arith }
-code-is server (Away nick text) = record { command = refl; short = omega arith }
-code-is server UnAway = record { command = refl; short = omega arith }
-code-is server NowAway = record { command = refl; short = omega arith }
-code-is server (WhoisUser nick user host real) = record { command = refl; short = omega arith }
-code-is server (WhoisServer nick info) = record { command = refl; short = omega arith }
-code-is server (EndOfWho name) = record { command = refl; short = omega arith }
-code-is server (EndOfWhois nick) = record { command = refl; short = omega arith }
-code-is server (WhoisChannels nick channels) = record { command = refl; short = omega arith }
-code-is server (ListReply channel members topic) = record { command = refl; short = omega arith }
-code-is server ListEnd = record { command = refl; short = omega arith }
-code-is server (ChannelModeIs channel modes params) = record { command = refl; short = omega arith }
-code-is server (NoTopic channel) = record { command = refl; short = omega arith }
-code-is server (Topic channel topic) = record { command = refl; short = omega arith }
-code-is server (Inviting nick channel) = record { command = refl; short = omega arith }
-code-is server (WhoReply who) = record { command = refl; short = omega arith }
-code-is server (NamReply secret channel names) = record { command = refl; short = omega arith }
-code-is server (EndOfNames channel) = record { command = refl; short = omega arith }
-code-is server (BanList channel mask) = record { command = refl; short = omega arith }
-code-is server (EndOfBanList channel) = record { command = refl; short = omega arith }
-code-is server (Motd text) = record { command = refl; short = omega arith }
-code-is server MotdStart = record { command = refl; short = omega arith }
-code-is server EndOfMotd = record { command = refl; short = omega arith }
-code-is server (NoSuchNick name) = record { command = refl; short = omega arith }
-code-is server (NoSuchServer name) = record { command = refl; short = omega arith }
-code-is server (NoSuchChannel channel) = record { command = refl; short = omega arith }
-code-is server (CannotSendToChan channel) = record { command = refl; short = omega arith }
-code-is server (TooManyChannels channel) = record { command = refl; short = omega arith }
-code-is server (TooManyTargets target) = record { command = refl; short = omega arith }
-code-is server NoOrigin = record { command = refl; short = omega arith }
-code-is server (InvalidCapCmd subcommand) = record { command = refl; short = omega arith }
-code-is server (NoRecipient command) = record { command = refl; short = omega arith }
-code-is server NoTextToSend = record { command = refl; short = omega arith }
-code-is server InputTooLong = record { command = refl; short = omega arith }
-code-is server (UnknownCommand command) = record { command = refl; short = omega arith }
-code-is server NoMotd = record { command = refl; short = omega arith }
-code-is server NoNicknameGiven = record { command = refl; short = omega arith }
-code-is server (ErroneousNickname nick) = record { command = refl; short = omega arith }
-code-is server (NicknameInUse nick) = record { command = refl; short = omega arith }
-code-is server (UserNotInChannel nick channel) = record { command = refl; short = omega arith }
-code-is server (NotOnChannel channel) = record { command = refl; short = omega arith }
-code-is server (UserOnChannel nick channel) = record { command = refl; short = omega arith }
-code-is server NotRegistered = record { command = refl; short = omega arith }
-code-is server (NeedMoreParams command) = record { command = refl; short = omega arith }
-code-is server AlreadyRegistered = record { command = refl; short = omega arith }
-code-is server (ChannelIsFull channel) = record { command = refl; short = omega arith }
-code-is server (UnknownMode letter channel) = record { command = refl; short = omega arith }
-code-is server (InviteOnlyChan channel) = record { command = refl; short = omega arith }
-code-is server (BannedFromChan channel) = record { command = refl; short = omega arith }
-code-is server (BadChannelKey channel) = record { command = refl; short = omega arith }
-code-is server (ChanOPrivsNeeded channel) = record { command = refl; short = omega arith }
-code-is server UModeUnknownFlag = record { command = refl; short = omega arith }
-code-is server UsersDontMatch = record { command = refl; short = omega arith }
-code-is server (LoggedIn source account) = record { command = refl; short = omega arith }
-code-is server SaslSuccess = record { command = refl; short = omega arith }
-code-is server SaslFail = record { command = refl; short = omega arith }
-code-is server SaslTooLong = record { command = refl; short = omega arith }
-code-is server SaslAborted = record { command = refl; short = omega arith }
-code-is server SaslAlready = record { command = refl; short = omega arith }
-code-is server SaslMechs = record { command = refl; short = omega arith }
+code-is server _ = record { command = refl; short = omega arith }
 
 clean-row : (server to : List ℕ) (r : Row) → IsServer server → list_all is_text_octet to ≡ true → IsTextRow r
     → IsCode r.code → IsClean (row_line server to r)

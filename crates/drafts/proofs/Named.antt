@@ -52,28 +52,18 @@ same_there law fs k c e h = ap (λ (st : State). is_some_one st.members) (sym (l
 pub told : ChannelsHaveOneName → (fs : List Deed) (d : Deed) (c : List ℕ) (o : Option (List ℕ))
     → IsNext fs d → (has_member fs c ≡ true → o ≡ Some (name fs c)) → has_member (d ∷ fs) c ≡ true
     → option_or (tells_name c d) o ≡ Some (name (d ∷ fs) c)
-told law fs (Opened t x) c o may h e = h e
-told law fs (NickSet t n) c o may h e = h e
-told law fs (UserSet t u r) c o may h e = h e
-told law fs (HoldSet t x) c o may h e = h e
-told law fs (CapsSet t x) c o may h e = h e
-told law fs (ExchangeSet t x) c o may h e = h e
-told law fs (LoggedIn t x) c o may h e = h e
-told law fs (Enrolled t) c o may h e = h e
-told law fs (Ended t w x) c o may h e = h e
 told law fs (ChannelMade t k) c o may h e = elim (either (is_same k c)) [
   | inl same ↦ rw same refl
   | inr other ↦ let was : has_member fs c
       ≡ true = sym (ap (λ b. is_some_one (cond b (made_by t) (state fs c)).members) other) ∙ e in rw other (h was)
 ]
-told law fs (AwaySet t x) c o may h e = h e
-told law fs (InvisibleSet t x) c o may h e = h e
 told law fs (Changed k x) c o may h e = elim (either (is_same k c)) [
   | inl same ↦ h (same_there law fs k c same may.0)
   | inr other ↦ h
       (sym (ap (λ b. is_some_one (cond b (lasting (changed x (state fs c))) (state fs c)).members) other) ∙ e)
 ]
 told law fs (Gone t) c o may h e = h (left_some t (state fs c) e)
+told law fs _ c o may h e = h e
 
 -- ---- a channel that is seen
 
@@ -91,22 +81,12 @@ seen_alike fs gs c st named =
 
 -- a fact that doesn't tell of it leaves it as it is
 pub untouched : (fs : List Deed) (d : Deed) (c : List ℕ) → touches c d ≡ false → seen (d ∷ fs) c ≡ seen fs c
-untouched fs (Opened t x) c e = refl
-untouched fs (NickSet t n) c e = refl
-untouched fs (UserSet t u r) c e = refl
-untouched fs (HoldSet t x) c e = refl
-untouched fs (CapsSet t x) c e = refl
-untouched fs (ExchangeSet t x) c e = refl
-untouched fs (LoggedIn t x) c e = refl
-untouched fs (Enrolled t) c e = refl
-untouched fs (Ended t w x) c e = refl
 untouched fs (ChannelMade t k) c e = seen_alike fs (ChannelMade t k ∷ fs) c
     (ap (λ b. cond b (made_by t) (state fs c)) e) (ap (λ b. unwrap_or (cond b (Some k) None) (name fs c)) e)
-untouched fs (AwaySet t x) c e = refl
-untouched fs (InvisibleSet t x) c e = refl
 untouched fs (Changed k x) c e = seen_alike fs (Changed k x ∷ fs) c
     (ap (λ b. cond b (lasting (changed x (state fs c))) (state fs c)) e) refl
 untouched fs (Gone t) c e = absurd (let f : true ≡ false = e in cc)
+untouched fs _ c e = refl
 
 -- a channel that is seen is known, and one whose name isn't known isn't there
 pub known : ChannelsHaveOneName → SpelledNamesAreNames → (fs : List Deed) (c : List ℕ) → IfSome (seen fs c) (IsSeen fs)

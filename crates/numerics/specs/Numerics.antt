@@ -1,6 +1,6 @@
 -- The numerics: RFC 2812, section 5, and those of IRCv3 (capability negotiation, SASL 3.1). Where a standard has no
 -- text, or many servers have another, the text is this project's own.
-use Rattle.std.specs.Prelude.{ℕ, Bool, true, false, List, [], ◌∷◌, ◌++◌, map, cond, codes}
+use Rattle.std.specs.Prelude.{ℕ, Bool, List, [], ◌∷◌, ◌++◌, map, cond, codes}
 use Rattle.std.specs.Prelude.{decimal, Option, Some, None, is_some, option_to_list}
 use Rattle.std.specs.List.{concat, join_by}
 use Rattle.line_grammar.specs.Spelling.{needs_colon}

@@ -48,7 +48,8 @@ use Rattle.mode_commands.specs.Steps.{agree, all_shown, steps}
 use Rattle.mode_commands.specs.UserModes.{hides, invisible_after, is_known, modes_text}
 use Rattle.mode_commands.specs.UserModes.{own_modes, tells_unknown}
 use Rattle.record_laws.specs.Laws.{IsEachOnce}
-use Rattle.record_laws.proofs.Times.{once-changed, once-filter, once-one, once-without}
+use Rattle.roster.proofs.OnceLaws.{eq, distinct-one, once_changed}
+use Rattle.record_laws.proofs.Once.{once-filter, once-without}
 use Rattle.record_laws.proofs.Fits.{Fit, SeenOnce, either, found_once, in_turn, in_turn_counted, is_batch, joined}
 use Rattle.record_laws.proofs.Fits.{more, none, only, seen_once, some_shown, told, told_all, told_only}
 
@@ -91,7 +92,7 @@ making : (g : Settings) (fs0 fs : List Deed) (s : ℕ) (from c : List ℕ) → F
 making g fs0 fs s from c =
     let k : Seen = record { name = c; state = made_by s } in
     more (Establish (ChannelMade s c)) (entered g fs0 (ChannelMade s c ∷ fs) s from k) refl
-    (entry g fs0 (ChannelMade s c ∷ fs) s from k (once-one s))
+    (entry g fs0 (ChannelMade s c ∷ fs) s from k (distinct-one eq s))
 
 entering : (g : Settings) (fs0 fs : List Deed) (s : ℕ) (from : List ℕ) (k : Seen) → IsEachOnce k.state.members
     → Fit (enters g fs0 fs s from k)
@@ -99,7 +100,7 @@ entering g fs0 fs s from k once =
     let joined_now : Seen = record { name = k.name; state = changed (Joined s) k.state } in
     let d = Changed k.name (Joined s) in
     more (Establish d) (entered g fs0 (d ∷ fs) s from joined_now) refl
-    (entry g fs0 (d ∷ fs) s from joined_now (once-changed (Joined s) k.state once))
+    (entry g fs0 (d ∷ fs) s from joined_now (once_changed (Joined s) k.state once))
 
 unless_barred : (g : Settings) (fs0 fs : List Deed) (s : ℕ) (from : List ℕ) (k : Seen) (bar : Option Denial)
     → IsEachOnce k.state.members → Fit (enters_unless g fs0 fs s from k bar)
@@ -203,7 +204,7 @@ inviting_user g fs s t n k =
     let d = Establish (Changed k.name (Invited t (among s k.state.operators))) in
     let rest = away_told g fs s n (away fs t) in
     more (Show (t ∷ []) (invite_line (prefix fs s) n k.name)) (d ∷ tells g fs s (Inviting n k.name) ∷ rest)
-    (once-one t, refl)
+    (distinct-one eq t, refl)
     (more d (tells g fs s (Inviting n k.name) ∷ rest) refl (more (tells g fs s (Inviting n k.name)) rest
     (told g fs s (Inviting n k.name)) (away_fits g fs s n (away fs t))))
 

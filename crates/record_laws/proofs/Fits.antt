@@ -22,7 +22,7 @@ use Rattle.drafts.specs.Seen.{Seen, seen}
 use Rattle.channel_commands.specs.Each.{each, each_counted}
 use Rattle.channel_commands.specs.Found.{channel_of}
 use Rattle.record_laws.specs.Laws.{IsEachOnce}
-use Rattle.record_laws.proofs.Times.{once-state}
+use Rattle.roster.proofs.OnceLaws.{members_once}
 
 abbrev pub is_batch : Out → Bool
 is_batch l = bytes_eq l.command (codes "BATCH")
@@ -111,7 +111,7 @@ SeenOnce (Some k) = IsEachOnce k.state.members
 pub seen_once : (fs : List Deed) (c : List ℕ) → SeenOnce (seen fs c)
 seen_once fs c =
     let k : Seen = record { name = name fs c; state = state fs c } in
-    elim (has_member fs c) as (λ b. SeenOnce (cond b (Some k) None)) [ true ↦ once-state fs c | false ↦ tt ]
+    elim (has_member fs c) as (λ b. SeenOnce (cond b (Some k) None)) [ true ↦ members_once fs c | false ↦ tt ]
 
 pub found_once : (fs : List Deed) (c : List ℕ) → SeenOnce (channel_of fs c)
 unfolding channel_of

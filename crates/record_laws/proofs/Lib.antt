@@ -1,4 +1,4 @@
-pub mod Times
+pub mod Once
 pub mod Fits
 pub mod Channels
 pub mod Talks

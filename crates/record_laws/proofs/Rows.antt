@@ -38,7 +38,7 @@ use Rattle.deeds.specs.Rows.{asked, fault_numeric, is_for_registered, is_silent}
 use Rattle.deeds.specs.Rows.{of_asked, of_command, refused, served, turned_away}
 use Rattle.record_laws.specs.Laws.{AllShowOnce, HearersStandOnce, IsEachOnce}
 use Rattle.record_laws.specs.Laws.{NoLineOpensABatch, RecordsOpenNoOthers, ShowsOnce}
-use Rattle.record_laws.proofs.Times.{once-sharers}
+use Rattle.record_laws.proofs.Once.{once-sharers}
 use Rattle.record_laws.proofs.Fits.{AllFit, Fit, Fits, either, is_batch, joined, more, none}
 use Rattle.record_laws.proofs.Fits.{only, opens_session, told_all, told_only}
 use Rattle.record_laws.proofs.Sessions.{authenticating, completing, introducing}

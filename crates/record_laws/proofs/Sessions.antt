@@ -20,7 +20,7 @@ use Rattle.session_commands.specs.declared.session.CapSubcommand.{CapSubcommand}
 use Rattle.session_commands.specs.declared.session.CapSubcommand.TheVariants.{Ls, List as ListCaps, Req, End}
 use Rattle.roster.specs.declared.deed.Deed.{Deed}
 use Rattle.roster.specs.declared.deed.Deed.TheVariants as deed
-use Rattle.roster.specs.LookBack.{after, caps, enrol, exchange, opened, registered, sharers}
+use Rattle.roster.specs.LookBack.{after, caps, enrol, exchange, opened, registered}
 use Rattle.drafts.specs.declared.effect.Effect.TheVariants.{Establish, Answer}
 use Rattle.drafts.specs.Effects.{deeds_of}
 use Rattle.drafts.specs.Lines.{go_on_line, prefix}
@@ -31,7 +31,7 @@ use Rattle.session_commands.specs.Registration.{aborts, completed, enrolls, intr
 use Rattle.session_commands.specs.Registration.{quits, registers, renames, shows_nick, takes_nick, user_answered}
 use Rattle.session_commands.specs.Welcome.{welcome_numerics}
 use Rattle.record_laws.specs.Laws.{IsEachOnce}
-use Rattle.record_laws.proofs.Times.{once-last, once-sharers, sharers-others}
+use Rattle.record_laws.proofs.Once.{once-with_self}
 use Rattle.record_laws.proofs.Fits.{Fit, Fits, either, joined, more, none, only, told, told_all, told_only}
 
 -- ---- CAP
@@ -80,7 +80,7 @@ authenticating g fs s piece = answering g fs s (sasl_answer g.accounts (enrol fs
 -- ---- NICK, USER, PASS and QUIT
 
 shown_nick : (fs : List Deed) (s : ℕ) (n : List ℕ) → IsEachOnce (opened fs) → Fits (shows_nick fs s n)
-shown_nick fs s n once = (once-last (sharers fs s) s (once-sharers fs s once) (sharers-others fs s), refl)
+shown_nick fs s n once = (once-with_self fs s once, refl)
 
 renaming : (fs : List Deed) (s : ℕ) (n : List ℕ) → IsEachOnce (opened fs) → Fit (renames fs s n)
 renaming fs s n once =

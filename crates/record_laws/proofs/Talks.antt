@@ -26,7 +26,8 @@ use Rattle.talk_commands.specs.Talking.{answers, delivers, echoes, keeps, may_sp
 use Rattle.talk_commands.specs.Talking.{shows, tells_away, to_channel, to_one, to_open, to_user}
 use Rattle.talk_commands.specs.Away.{away_answer, goes_away, is_same_text, kept, notified}
 use Rattle.record_laws.specs.Laws.{IsEachOnce}
-use Rattle.record_laws.proofs.Times.{once-filter, once-none, once-one, once-sharers, once-state, once-without}
+use Rattle.roster.proofs.OnceLaws.{eq, distinct-none, distinct-one, members_once}
+use Rattle.record_laws.proofs.Once.{once-filter, once-sharers, once-without}
 use Rattle.record_laws.proofs.Fits.{Fit, either, is_batch, joined, more, none}
 use Rattle.record_laws.proofs.Fits.{of_all, only, some_shown, told, told_only}
 
@@ -64,7 +65,7 @@ to_an_open_one g fs s b n k once =
 to_a_channel : (g : Settings) (fs : List Deed) (s : ℕ) (b : Sent) (c : List ℕ) (o : Option (List ℕ))
     → Fit (to_channel g fs s b c o)
 to_a_channel g fs s b c None = answered g fs s b.verb (NoSuchChannel c)
-to_a_channel g fs s b c (Some n) = to_an_open_one g fs s b n (state fs c) (once-state fs c)
+to_a_channel g fs s b c (Some n) = to_an_open_one g fs s b n (state fs c) (members_once fs c)
 
 copied : (fs : List Deed) (s : ℕ) (b : Sent) (l : Out) → is_batch l ≡ false → Fit (keeps fs s b l)
 copied fs s b l p = either (reaches fs b s) (Copy l ∷ []) [] (only (Copy l) p) none
@@ -72,7 +73,7 @@ copied fs s b l p = either (reaches fs b s) (Copy l ∷ []) [] (only (Copy l) p)
 delivered : (fs : List Deed) (s : ℕ) (b : Sent) (t : ℕ) (l : Out) → is_batch l ≡ false → Fit (delivers fs s b t l)
 delivered fs s b t l p =
     let show = Show (filter (reaches fs b) (t ∷ [])) l in
-    let one = only show (once-filter (reaches fs b) (t ∷ []) (once-one t), p) in
+    let one = only show (once-filter (reaches fs b) (t ∷ []) (distinct-one eq t), p) in
     joined (if t == s then keeps fs s b l else show ∷ []) (echoes fs s b l)
     (either (t == s) (keeps fs s b l) (show ∷ []) (copied fs s b l p) one) (echoed fs s b l p)
 
@@ -111,7 +112,7 @@ notified_once : (fs : List Deed) (s : ℕ) (text : Option (List ℕ)) → IsEach
 notified_once fs s text once =
     elim (is_same_text (away fs s) text) as
     (λ b. IsEachOnce (cond b [] (filter (takes fs AwayNotify) (sharers fs s)))) [
-      | true ↦ once-none
+      | true ↦ distinct-none eq
       | false ↦ once-filter (takes fs AwayNotify) (sharers fs s) (once-sharers fs s once)
     ]
 

@@ -1,6 +1,6 @@
 -- What follows from the definitions of what records do, for whoever is told of them: this project's own promise.
-use Rattle.std.specs.Prelude.{◌≡◌, ◌≢◌, ℕ, suc, ◌≤◌, ◌==◌, Bool, true, false, cond, List, [], ◌∷◌, codes}
-use Rattle.std.specs.List.{All}
+use Rattle.std.specs.Prelude.{◌≡◌, ◌≢◌, ℕ, ◌==◌, Bool, true, false, List, codes}
+use Rattle.std.specs.List.{All, IsDistinct}
 use Rattle.chronicle.specs.declared.record.Kind.{Kind}
 use Rattle.chronicle.specs.declared.record.Kind.TheVariants as kind
 use Rattle.registration.specs.declared.settings.Settings.{Settings}
@@ -13,14 +13,9 @@ use Rattle.drafts.specs.Effects.{reply}
 use Rattle.deeds.specs.Rows.{of_asked}
 use Rattle.deeds.specs.Deeds.{deeds, effects}
 
--- how often a session stands in a list
-abbrev pub times : List ℕ → ℕ → ℕ
-times [] t = 0
-times (u ∷ ts) t = cond (u == t) (suc (times ts t)) (times ts t)
-
 -- each session of a list stands there once
 abbrev pub IsEachOnce : List ℕ → Type 0
-IsEachOnce ts = (t : ℕ) → times ts t ≤ 1
+IsEachOnce ts = IsDistinct (λ s t. s == t) ts
 
 -- the line of an effect is shown to each of its hearers once
 abbrev pub ShowsOnce : Effect → Type 0

@@ -3,9 +3,7 @@ use Rattle.std.proofs.Common.{◌≡◌, inl, inr, ℕ, Bool, true, false, cond,
 use Rattle.std.proofs.Common.{unwrap_or, Option, Some, None, refl, sym, ap, ◌∙◌, subst}
 use Rattle.std.specs.Option.{is_some, option_map, option_map_or}
 use Rattle.roster.specs.declared.deed.Deed.{Deed}
-use Rattle.roster.specs.declared.deed.Deed.TheVariants.{Opened, NickSet, UserSet, HoldSet, CapsSet}
-use Rattle.roster.specs.declared.deed.Deed.TheVariants.{ExchangeSet, LoggedIn, Enrolled, AwaySet}
-use Rattle.roster.specs.declared.deed.Deed.TheVariants.{InvisibleSet, ChannelMade, Changed, Ended, Gone}
+use Rattle.roster.specs.declared.deed.Deed.TheVariants.{ChannelMade, Changed, Gone}
 use Rattle.roster.specs.declared.tables.Channel.{Channel}
 use Rattle.casemapping.specs.Fold.{is_same}
 use Rattle.channel_state.specs.declared.change.Change.{Change}
@@ -24,86 +22,16 @@ use Rattle.roster.proofs.ChannelNames.{names_of-push, names_of-with, names_of-po
 -- a fact that tells of no channel
 pub channels_plain : (d : Deed) (ks : List Channel) (fs : List Deed) → is_tame d ≡ true → HoldChannels ks fs
     → HoldChannels ks (d ∷ fs)
-channels_plain (Opened u h) ks fs p i = record {
-  states = i.states;
-  names = i.names;
-  channels = i.channels;
-  apart = i.apart;
-  held = i.held;
-}
-channels_plain (NickSet u n) ks fs p i = record {
-  states = i.states;
-  names = i.names;
-  channels = i.channels;
-  apart = i.apart;
-  held = i.held;
-}
-channels_plain (UserSet u n r) ks fs p i = record {
-  states = i.states;
-  names = i.names;
-  channels = i.channels;
-  apart = i.apart;
-  held = i.held;
-}
-channels_plain (HoldSet u x) ks fs p i = record {
-  states = i.states;
-  names = i.names;
-  channels = i.channels;
-  apart = i.apart;
-  held = i.held;
-}
-channels_plain (CapsSet u x) ks fs p i = record {
-  states = i.states;
-  names = i.names;
-  channels = i.channels;
-  apart = i.apart;
-  held = i.held;
-}
-channels_plain (ExchangeSet u x) ks fs p i = record {
-  states = i.states;
-  names = i.names;
-  channels = i.channels;
-  apart = i.apart;
-  held = i.held;
-}
-channels_plain (LoggedIn u x) ks fs p i = record {
-  states = i.states;
-  names = i.names;
-  channels = i.channels;
-  apart = i.apart;
-  held = i.held;
-}
-channels_plain (Enrolled u) ks fs p i = record {
-  states = i.states;
-  names = i.names;
-  channels = i.channels;
-  apart = i.apart;
-  held = i.held;
-}
-channels_plain (AwaySet u x) ks fs p i = record {
-  states = i.states;
-  names = i.names;
-  channels = i.channels;
-  apart = i.apart;
-  held = i.held;
-}
-channels_plain (InvisibleSet u x) ks fs p i = record {
-  states = i.states;
-  names = i.names;
-  channels = i.channels;
-  apart = i.apart;
-  held = i.held;
-}
 channels_plain (ChannelMade u k) ks fs p i = absurd (let f : false ≡ true = p in cc)
 channels_plain (Changed k x) ks fs p i = absurd (let f : false ≡ true = p in cc)
-channels_plain (Ended u w x) ks fs p i = record {
+channels_plain (Gone u) ks fs p i = absurd (let f : false ≡ true = p in cc)
+channels_plain _ ks fs p i = record {
   states = i.states;
   names = i.names;
   channels = i.channels;
   apart = i.apart;
   held = i.held;
 }
-channels_plain (Gone u) ks fs p i = absurd (let f : false ≡ true = p in cc)
 
 -- ---- a channel
 

@@ -7,17 +7,15 @@ use Rattle.std.specs.List.{list_any}
 use Rattle.casemapping.specs.Fold.{is_same}
 use Rattle.casemapping.proofs.SameNames.{is_same-left, is_same-sym}
 use Rattle.channel_state.specs.declared.change.Change.{Change}
-use Rattle.channel_state.specs.declared.change.Change.TheVariants.{Joined, Left, RankSet, FlagSet, KeySet, LimitSet}
-use Rattle.channel_state.specs.declared.change.Change.TheVariants.{TopicSet, BanSet, BanLifted, Invited}
+use Rattle.channel_state.specs.declared.change.Change.TheVariants.{Joined, Left, RankSet, FlagSet}
+use Rattle.channel_state.specs.declared.change.Change.TheVariants.{BanSet, BanLifted, Invited}
 use Rattle.channel_state.specs.declared.change.Rank.TheVariants.{Operator, Voice}
 use Rattle.channel_state.specs.declared.modes.Flag.{Flag}
 use Rattle.channel_state.specs.declared.modes.Flag.TheVariants.{InviteOnly, Moderated, NoOutside, Secret, TopicLocked}
 use Rattle.channel_state.specs.State.{State, among, without, with_last, ranked, is_some_one, is_set}
 use Rattle.channel_state.specs.State.{flagged, nothing, made_by, changed, departed, lasting}
 use Rattle.roster.specs.declared.deed.Deed.{Deed}
-use Rattle.roster.specs.declared.deed.Deed.TheVariants.{Opened, NickSet, UserSet, HoldSet, CapsSet}
-use Rattle.roster.specs.declared.deed.Deed.TheVariants.{ExchangeSet, LoggedIn, Enrolled, AwaySet}
-use Rattle.roster.specs.declared.deed.Deed.TheVariants.{InvisibleSet, ChannelMade, Changed, Ended, Gone}
+use Rattle.roster.specs.declared.deed.Deed.TheVariants.{ChannelMade, Changed, Gone}
 use Rattle.roster.specs.LookBack.{newest, state, has_member}
 use Rattle.roster.specs.Legal.{IsFit, AreLegal}
 use Rattle.roster.specs.Told.{tells_of, topic_told, flag_made, flag_told, key_told, limit_told, ban_told}
@@ -100,13 +98,8 @@ ranks_changed (Left t) k r f u = (
 )
 ranks_changed (RankSet t Operator on) k r f u = (ranked_of t u on k.operators k.members f (r u).0, (r u).1, (r u).2)
 ranks_changed (RankSet t Voice on) k r f u = ((r u).0, ranked_of t u on k.voices k.members f (r u).1, (r u).2)
-ranks_changed (FlagSet g on) k r f u = r u
-ranks_changed (KeySet key) k r f u = r u
-ranks_changed (LimitSet limit) k r f u = r u
-ranks_changed (TopicSet topic) k r f u = r u
-ranks_changed (BanSet b) k r f u = r u
-ranks_changed (BanLifted b) k r f u = r u
 ranks_changed (Invited t op) k r f u = ((r u).0, (r u).1, pardoned_of t u op k.pardoned k.invited (r u).2)
+ranks_changed _ k r f u = r u
 
 ranks_departed : (t : ℕ) (k : State) → HaveRanks k → HaveRanks (departed t k)
 ranks_departed t k r u = (
@@ -135,23 +128,13 @@ ranks_if false k l r q = q
 
 pub ranks : (fs : List Deed) (c : List ℕ) → AreLegal fs → HaveRanks (state fs c)
 ranks [] c l = ranks_nothing
-ranks (Opened t h ∷ fs) c l = ranks fs c l.1
-ranks (NickSet t n ∷ fs) c l = ranks fs c l.1
-ranks (UserSet t u r ∷ fs) c l = ranks fs c l.1
-ranks (HoldSet t v ∷ fs) c l = ranks fs c l.1
-ranks (CapsSet t k ∷ fs) c l = ranks fs c l.1
-ranks (ExchangeSet t x ∷ fs) c l = ranks fs c l.1
-ranks (LoggedIn t a ∷ fs) c l = ranks fs c l.1
-ranks (Enrolled t ∷ fs) c l = ranks fs c l.1
-ranks (AwaySet t x ∷ fs) c l = ranks fs c l.1
-ranks (InvisibleSet t v ∷ fs) c l = ranks fs c l.1
-ranks (Ended t w x ∷ fs) c l = ranks fs c l.1
 ranks (ChannelMade t k ∷ fs) c l = ranks_by (is_same k c) (made_by t) (state fs c)
     (λ u. ((λ e. e), none_true, none_true)) (ranks fs c l.1)
 ranks (Changed k x ∷ fs) c l = ranks_if (is_same k c) (lasting (changed x (state fs c))) (state fs c)
     (λ same. ranks_lasting (changed x (state fs c))
     (ranks_changed x (state fs c) (ranks fs c l.1) (fit_there fs k c x same l.0.1))) (ranks fs c l.1)
 ranks (Gone t ∷ fs) c l = ranks_lasting (departed t (state fs c)) (ranks_departed t (state fs c) (ranks fs c l.1))
+ranks (_ ∷ fs) c l = ranks fs c l.1
 
 -- ---- each thing that a channel has
 
@@ -165,17 +148,6 @@ module _ {A : Type 0} (field : State → A) (made : ℕ → A) (told : Change �
   last : (fs : List Deed) (c : List ℕ) → AreLegal fs → has_member fs c ≡ true
       → field (state fs c) ≡ newest (tells_of made told gone c) none fs
   last [] c l e = none_true e
-  last (Opened t h ∷ fs) c l e = last fs c l.1 e
-  last (NickSet t n ∷ fs) c l e = last fs c l.1 e
-  last (UserSet t u r ∷ fs) c l e = last fs c l.1 e
-  last (HoldSet t v ∷ fs) c l e = last fs c l.1 e
-  last (CapsSet t k ∷ fs) c l e = last fs c l.1 e
-  last (ExchangeSet t x ∷ fs) c l e = last fs c l.1 e
-  last (LoggedIn t a ∷ fs) c l e = last fs c l.1 e
-  last (Enrolled t ∷ fs) c l e = last fs c l.1 e
-  last (AwaySet t x ∷ fs) c l e = last fs c l.1 e
-  last (InvisibleSet t v ∷ fs) c l e = last fs c l.1 e
-  last (Ended t w x ∷ fs) c l e = last fs c l.1 e
   last (ChannelMade t k ∷ fs) c l e =
       let before = newest (tells_of made told gone c) none fs in
       elim (either (is_same k c)) [
@@ -211,22 +183,15 @@ module _ {A : Type 0} (field : State → A) (made : ℕ → A) (told : Change �
         | inr was_not ↦ none_true (sym (someone-without t was.members was_not) ∙ some)
       ] in
       ap field (lasts now e) ∙ at_going was t ∙ ap (unwrap_or (gone t)) (last fs c l.1 there)
+  last (_ ∷ fs) c l e = last fs c l.1 e
 
 -- ---- topic, flags, key and limit
 
 topic_step : (k : State) (x : Change) → HaveRanks k → IsFit k x → (changed x k).topic
     ≡ unwrap_or (topic_told x) k.topic
-topic_step k (Joined t) r x = refl
-topic_step k (Left t) r x = refl
 topic_step k (RankSet t Operator on) r x = refl
 topic_step k (RankSet t Voice on) r x = refl
-topic_step k (FlagSet g on) r x = refl
-topic_step k (KeySet key) r x = refl
-topic_step k (LimitSet limit) r x = refl
-topic_step k (TopicSet topic) r x = refl
-topic_step k (BanSet b) r x = refl
-topic_step k (BanLifted b) r x = refl
-topic_step k (Invited t op) r x = refl
+topic_step k _ r x = refl
 
 pub topics : TopicsAreTheLast
 topics = last (λ k. k.topic) (λ t. None) topic_told (λ t. None) None (λ t. refl) topic_step (λ k t. refl)
@@ -258,56 +223,21 @@ flag_step TopicLocked k (FlagSet Moderated on) r x = refl
 flag_step TopicLocked k (FlagSet NoOutside on) r x = refl
 flag_step TopicLocked k (FlagSet Secret on) r x = refl
 flag_step TopicLocked k (FlagSet TopicLocked on) r x = refl
-flag_step InviteOnly k (Joined t) r x = refl
-flag_step InviteOnly k (Left t) r x = refl
 flag_step InviteOnly k (RankSet t Operator on) r x = refl
 flag_step InviteOnly k (RankSet t Voice on) r x = refl
-flag_step InviteOnly k (KeySet key) r x = refl
-flag_step InviteOnly k (LimitSet limit) r x = refl
-flag_step InviteOnly k (TopicSet topic) r x = refl
-flag_step InviteOnly k (BanSet b) r x = refl
-flag_step InviteOnly k (BanLifted b) r x = refl
-flag_step InviteOnly k (Invited t op) r x = refl
-flag_step Moderated k (Joined t) r x = refl
-flag_step Moderated k (Left t) r x = refl
 flag_step Moderated k (RankSet t Operator on) r x = refl
 flag_step Moderated k (RankSet t Voice on) r x = refl
-flag_step Moderated k (KeySet key) r x = refl
-flag_step Moderated k (LimitSet limit) r x = refl
-flag_step Moderated k (TopicSet topic) r x = refl
-flag_step Moderated k (BanSet b) r x = refl
-flag_step Moderated k (BanLifted b) r x = refl
-flag_step Moderated k (Invited t op) r x = refl
-flag_step NoOutside k (Joined t) r x = refl
-flag_step NoOutside k (Left t) r x = refl
 flag_step NoOutside k (RankSet t Operator on) r x = refl
 flag_step NoOutside k (RankSet t Voice on) r x = refl
-flag_step NoOutside k (KeySet key) r x = refl
-flag_step NoOutside k (LimitSet limit) r x = refl
-flag_step NoOutside k (TopicSet topic) r x = refl
-flag_step NoOutside k (BanSet b) r x = refl
-flag_step NoOutside k (BanLifted b) r x = refl
-flag_step NoOutside k (Invited t op) r x = refl
-flag_step Secret k (Joined t) r x = refl
-flag_step Secret k (Left t) r x = refl
 flag_step Secret k (RankSet t Operator on) r x = refl
 flag_step Secret k (RankSet t Voice on) r x = refl
-flag_step Secret k (KeySet key) r x = refl
-flag_step Secret k (LimitSet limit) r x = refl
-flag_step Secret k (TopicSet topic) r x = refl
-flag_step Secret k (BanSet b) r x = refl
-flag_step Secret k (BanLifted b) r x = refl
-flag_step Secret k (Invited t op) r x = refl
-flag_step TopicLocked k (Joined t) r x = refl
-flag_step TopicLocked k (Left t) r x = refl
 flag_step TopicLocked k (RankSet t Operator on) r x = refl
 flag_step TopicLocked k (RankSet t Voice on) r x = refl
-flag_step TopicLocked k (KeySet key) r x = refl
-flag_step TopicLocked k (LimitSet limit) r x = refl
-flag_step TopicLocked k (TopicSet topic) r x = refl
-flag_step TopicLocked k (BanSet b) r x = refl
-flag_step TopicLocked k (BanLifted b) r x = refl
-flag_step TopicLocked k (Invited t op) r x = refl
+flag_step InviteOnly k _ r x = refl
+flag_step Moderated k _ r x = refl
+flag_step NoOutside k _ r x = refl
+flag_step Secret k _ r x = refl
+flag_step TopicLocked k _ r x = refl
 
 flag_at_making : (f : Flag) (t : ℕ) → is_set f (made_by t).modes ≡ flag_made f
 flag_at_making InviteOnly t = refl
@@ -336,34 +266,20 @@ limit_flag TopicLocked on k = refl
 
 key_step : (k : State) (x : Change) → HaveRanks k → IsFit k x → (changed x k).modes.key
     ≡ unwrap_or (key_told x) k.modes.key
-key_step k (Joined t) r x = refl
-key_step k (Left t) r x = refl
 key_step k (RankSet t Operator on) r x = refl
 key_step k (RankSet t Voice on) r x = refl
 key_step k (FlagSet g on) r x = key_flag g on k
-key_step k (KeySet key) r x = refl
-key_step k (LimitSet limit) r x = refl
-key_step k (TopicSet topic) r x = refl
-key_step k (BanSet b) r x = refl
-key_step k (BanLifted b) r x = refl
-key_step k (Invited t op) r x = refl
+key_step k _ r x = refl
 
 pub keys : KeysAreTheLast
 keys = last (λ k. k.modes.key) (λ t. None) key_told (λ t. None) None (λ t. refl) key_step (λ k t. refl)
 
 limit_step : (k : State) (x : Change) → HaveRanks k → IsFit k x → (changed x k).modes.limit
     ≡ unwrap_or (limit_told x) k.modes.limit
-limit_step k (Joined t) r x = refl
-limit_step k (Left t) r x = refl
 limit_step k (RankSet t Operator on) r x = refl
 limit_step k (RankSet t Voice on) r x = refl
 limit_step k (FlagSet g on) r x = limit_flag g on k
-limit_step k (KeySet key) r x = refl
-limit_step k (LimitSet limit) r x = refl
-limit_step k (TopicSet topic) r x = refl
-limit_step k (BanSet b) r x = refl
-limit_step k (BanLifted b) r x = refl
-limit_step k (Invited t op) r x = refl
+limit_step k _ r x = refl
 
 pub limits : LimitsAreTheLast
 limits = last (λ k. k.modes.limit) (λ t. None) limit_told (λ t. None) None (λ t. refl) limit_step (λ k t. refl)
@@ -418,17 +334,11 @@ lifted_told false p = refl
 
 ban_step : (m : List ℕ) (k : State) (x : Change) → HaveRanks k → IsFit k x → banned m (changed x k).bans
     ≡ unwrap_or (ban_told m x) (banned m k.bans)
-ban_step m k (Joined t) r x = refl
-ban_step m k (Left t) r x = refl
 ban_step m k (RankSet t Operator on) r x = refl
 ban_step m k (RankSet t Voice on) r x = refl
-ban_step m k (FlagSet g on) r x = refl
-ban_step m k (KeySet key) r x = refl
-ban_step m k (LimitSet limit) r x = refl
-ban_step m k (TopicSet topic) r x = refl
 ban_step m k (BanSet b) r x = banned_set m b k.bans
 ban_step m k (BanLifted b) r x = banned_lifted m b k.bans ∙ lifted_told (is_same b m) (banned m k.bans)
-ban_step m k (Invited t op) r x = refl
+ban_step m k _ r x = refl
 
 pub bans_last : BansAreTheLast
 bans_last m = last (λ k. banned m k.bans) (λ t. false) (ban_told m) (λ t. None) false (λ t. refl) (ban_step m)
@@ -474,13 +384,7 @@ operator_step s k (Joined t) r x = joined_told s t k.operators k.members (r s).0
 operator_step s k (Left t) r x = left_told s t k.operators
 operator_step s k (RankSet t Operator on) r x = ranked_told s t on k.operators
 operator_step s k (RankSet t Voice on) r x = refl
-operator_step s k (FlagSet g on) r x = refl
-operator_step s k (KeySet key) r x = refl
-operator_step s k (LimitSet limit) r x = refl
-operator_step s k (TopicSet topic) r x = refl
-operator_step s k (BanSet b) r x = refl
-operator_step s k (BanLifted b) r x = refl
-operator_step s k (Invited t op) r x = refl
+operator_step s k _ r x = refl
 
 pub operators : OperatorsAreTheLast
 operators s = last (λ k. among s k.operators) (λ t. t == s) (operator_told s) (gone_told s) false
@@ -492,13 +396,7 @@ voice_step s k (Joined t) r x = joined_told s t k.voices k.members (r s).1 x
 voice_step s k (Left t) r x = left_told s t k.voices
 voice_step s k (RankSet t Operator on) r x = refl
 voice_step s k (RankSet t Voice on) r x = ranked_told s t on k.voices
-voice_step s k (FlagSet g on) r x = refl
-voice_step s k (KeySet key) r x = refl
-voice_step s k (LimitSet limit) r x = refl
-voice_step s k (TopicSet topic) r x = refl
-voice_step s k (BanSet b) r x = refl
-voice_step s k (BanLifted b) r x = refl
-voice_step s k (Invited t op) r x = refl
+voice_step s k _ r x = refl
 
 pub voices : VoicesAreTheLast
 voices s = last (λ k. among s k.voices) (λ t. false) (voice_told s) (gone_told s) false (λ t. refl) (voice_step s)
@@ -509,30 +407,18 @@ voices s = last (λ k. among s k.voices) (λ t. false) (voice_told s) (gone_told
 invited_step : (s : ℕ) (k : State) (x : Change) → HaveRanks k → IsFit k x → among s (changed x k).invited
     ≡ unwrap_or (invited_told s x) (among s k.invited)
 invited_step s k (Joined t) r x = left_told s t k.invited
-invited_step s k (Left t) r x = refl
 invited_step s k (RankSet t Operator on) r x = refl
 invited_step s k (RankSet t Voice on) r x = refl
-invited_step s k (FlagSet g on) r x = refl
-invited_step s k (KeySet key) r x = refl
-invited_step s k (LimitSet limit) r x = refl
-invited_step s k (TopicSet topic) r x = refl
-invited_step s k (BanSet b) r x = refl
-invited_step s k (BanLifted b) r x = refl
 invited_step s k (Invited t op) r x = put_told s t k.invited
+invited_step s k _ r x = refl
 
 pardoned_step : (s : ℕ) (k : State) (x : Change) → HaveRanks k → IsFit k x → among s (changed x k).pardoned
     ≡ unwrap_or (pardoned_told s x) (among s k.pardoned)
 pardoned_step s k (Joined t) r x = left_told s t k.pardoned
-pardoned_step s k (Left t) r x = refl
 pardoned_step s k (RankSet t Operator on) r x = refl
 pardoned_step s k (RankSet t Voice on) r x = refl
-pardoned_step s k (FlagSet g on) r x = refl
-pardoned_step s k (KeySet key) r x = refl
-pardoned_step s k (LimitSet limit) r x = refl
-pardoned_step s k (TopicSet topic) r x = refl
-pardoned_step s k (BanSet b) r x = refl
-pardoned_step s k (BanLifted b) r x = refl
 pardoned_step s k (Invited t op) r x = ranked_told s t op k.pardoned
+pardoned_step s k _ r x = refl
 
 pub invitations : InvitationsAreTheLast
 invitations s fs c l e = (

@@ -11,9 +11,8 @@ use Rattle.channel_state.specs.Held.{Held}
 use Rattle.channel_state.specs.State.{departed}
 use Rattle.chronicle.specs.declared.why.Why.{Why}
 use Rattle.roster.specs.declared.deed.Deed.{Deed}
-use Rattle.roster.specs.declared.deed.Deed.TheVariants.{Opened, NickSet, UserSet, HoldSet, CapsSet}
-use Rattle.roster.specs.declared.deed.Deed.TheVariants.{ExchangeSet, LoggedIn, Enrolled, AwaySet}
-use Rattle.roster.specs.declared.deed.Deed.TheVariants.{InvisibleSet, ChannelMade, Changed, Ended, Gone}
+use Rattle.roster.specs.declared.deed.Deed.TheVariants.{NickSet}
+use Rattle.roster.specs.declared.deed.Deed.TheVariants.{ChannelMade, Changed, Ended, Gone}
 use Rattle.roster.specs.declared.tables.Person.{Person}
 use Rattle.roster.specs.declared.tables.Card.{Card}
 use Rattle.roster.specs.declared.tables.Channel.{Channel}
@@ -89,52 +88,25 @@ module _ (d e : Deed) (is : d ≡ e) (fs ds : List Deed) (es : Table (ℕ × Car
 -- ---- the tables of sessions
 
 plain_tame : (d : Deed) → is_plain d ≡ true → is_tame d ≡ true
-plain_tame (Opened u h) p = refl
 plain_tame (NickSet u n) p = absurd (let f : false ≡ true = p in cc)
-plain_tame (UserSet u n r) p = refl
-plain_tame (HoldSet u x) p = refl
-plain_tame (CapsSet u x) p = refl
-plain_tame (ExchangeSet u x) p = refl
-plain_tame (LoggedIn u x) p = refl
-plain_tame (Enrolled u) p = refl
-plain_tame (AwaySet u x) p = refl
-plain_tame (InvisibleSet u x) p = refl
 plain_tame (ChannelMade u k) p = absurd (let f : false ≡ true = p in cc)
 plain_tame (Changed k x) p = absurd (let f : false ≡ true = p in cc)
-plain_tame (Ended u w x) p = refl
 plain_tame (Gone u) p = absurd (let f : false ≡ true = p in cc)
+plain_tame _ p = refl
 
 plain_unmade : (d : Deed) → is_plain d ≡ true → is_making d ≡ false
-plain_unmade (Opened u h) p = refl
 plain_unmade (NickSet u n) p = absurd (let f : false ≡ true = p in cc)
-plain_unmade (UserSet u n r) p = refl
-plain_unmade (HoldSet u x) p = refl
-plain_unmade (CapsSet u x) p = refl
-plain_unmade (ExchangeSet u x) p = refl
-plain_unmade (LoggedIn u x) p = refl
-plain_unmade (Enrolled u) p = refl
-plain_unmade (AwaySet u x) p = refl
-plain_unmade (InvisibleSet u x) p = refl
 plain_unmade (ChannelMade u k) p = absurd (let f : false ≡ true = p in cc)
 plain_unmade (Changed k x) p = absurd (let f : false ≡ true = p in cc)
-plain_unmade (Ended u w x) p = refl
 plain_unmade (Gone u) p = absurd (let f : false ≡ true = p in cc)
+plain_unmade _ p = refl
 
 plain_unkeyed : (d : Deed) → is_plain d ≡ true → keyed_name d ≡ []
-plain_unkeyed (Opened u h) p = refl
 plain_unkeyed (NickSet u n) p = absurd (let f : false ≡ true = p in cc)
-plain_unkeyed (UserSet u n r) p = refl
-plain_unkeyed (HoldSet u x) p = refl
-plain_unkeyed (CapsSet u x) p = refl
-plain_unkeyed (ExchangeSet u x) p = refl
-plain_unkeyed (LoggedIn u x) p = refl
-plain_unkeyed (Enrolled u) p = refl
-plain_unkeyed (AwaySet u x) p = refl
-plain_unkeyed (InvisibleSet u x) p = refl
 plain_unkeyed (ChannelMade u k) p = absurd (let f : false ≡ true = p in cc)
 plain_unkeyed (Changed k x) p = absurd (let f : false ≡ true = p in cc)
-plain_unkeyed (Ended u w x) p = refl
 plain_unkeyed (Gone u) p = absurd (let f : false ≡ true = p in cc)
+plain_unkeyed _ p = refl
 
 module _ (es : List (ℕ × Card)) (ws : List Why) (hs : List (List ℕ × ℕ)) (fs : List Deed)
     (i : HoldPeople es ws hs fs) where

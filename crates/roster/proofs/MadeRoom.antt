@@ -13,9 +13,7 @@ use Rattle.std.proofs.lemmas.List.{take_more, take_all, length-append}
 use Rattle.std.proofs.lemmas.List.Folds.{list_any-append}
 use Rattle.casemapping.specs.Fold.{is_same}
 use Rattle.casemapping.proofs.SameNames.{is_same-left, is_same-sym}
-use Rattle.roster.specs.declared.deed.Deed.TheVariants.{Opened, NickSet, UserSet, HoldSet, CapsSet}
-use Rattle.roster.specs.declared.deed.Deed.TheVariants.{ExchangeSet, LoggedIn, Enrolled, AwaySet}
-use Rattle.roster.specs.declared.deed.Deed.TheVariants.{InvisibleSet, ChannelMade, Changed, Ended, Gone}
+use Rattle.roster.specs.declared.deed.Deed.TheVariants.{Changed}
 use Rattle.roster.specs.Tables.{channel_of, with_held}
 use Rattle.roster.specs.Lists.{keyed_name, BeginWith}
 use Rattle.roster.specs.Stands.{HaveSeats, KeepsSeats, AreSpare, Alike, AreApart, ReservesBy}
@@ -148,20 +146,8 @@ seats_for_with n ds c d w m (k ∷ ks) a l h = elim (either (is_same k.name c)) 
 ]
 
 is_change_of : (c : List ℕ) (d : Deed) → is_change c d ≡ option_map_or (λ k. is_same k c) (changed_name d) false
-is_change_of c (Opened t x) = refl
-is_change_of c (NickSet t x) = refl
-is_change_of c (UserSet t x y) = refl
-is_change_of c (HoldSet t x) = refl
-is_change_of c (CapsSet t x) = refl
-is_change_of c (ExchangeSet t x) = refl
-is_change_of c (LoggedIn t x) = refl
-is_change_of c (Enrolled t) = refl
-is_change_of c (AwaySet t x) = refl
-is_change_of c (InvisibleSet t x) = refl
-is_change_of c (ChannelMade t k) = refl
 is_change_of c (Changed k x) = refl
-is_change_of c (Ended t w x) = refl
-is_change_of c (Gone t) = refl
+is_change_of c _ = refl
 
 -- a deed more
 seats_for_next : (n : ℕ) (ds : List Deed) (d : Deed) (o : Option (List ℕ)) (ks ls : List Channel) → changed_name d
@@ -243,20 +229,8 @@ one_at_most true = omega arith
 one_at_most false = omega arith
 
 keyed_once : (c : List ℕ) (d : Deed) → cond (is_change c d) 1 0 ≤ length (keyed_name d)
-keyed_once c (Opened t x) = omega arith
-keyed_once c (NickSet t x) = omega arith
-keyed_once c (UserSet t x y) = omega arith
-keyed_once c (HoldSet t x) = omega arith
-keyed_once c (CapsSet t x) = omega arith
-keyed_once c (ExchangeSet t x) = omega arith
-keyed_once c (LoggedIn t x) = omega arith
-keyed_once c (Enrolled t) = omega arith
-keyed_once c (AwaySet t x) = omega arith
-keyed_once c (InvisibleSet t x) = omega arith
-keyed_once c (ChannelMade t k) = omega arith
 keyed_once c (Changed k x) = one_at_most (is_same k c)
-keyed_once c (Ended t w x) = omega arith
-keyed_once c (Gone t) = omega arith
+keyed_once c _ = omega arith
 
 changes_named : (c : List ℕ) (ds : List Deed) → changes c ds ≤ length (flat_map keyed_name ds)
 changes_named c [] = omega arith

@@ -7,14 +7,12 @@ use Rattle.std.proofs.Common.{cond, List, [], ◌∷◌, filter, sym, ap, ◌∙
 use Rattle.casemapping.specs.Fold.{is_same}
 use Rattle.casemapping.proofs.SameNames.{is_same-sym, is_same-left}
 use Rattle.channel_state.specs.declared.change.Change.{Change}
-use Rattle.channel_state.specs.declared.change.Change.TheVariants.{Joined, Left, RankSet, FlagSet, KeySet, LimitSet}
-use Rattle.channel_state.specs.declared.change.Change.TheVariants.{TopicSet, BanSet, BanLifted, Invited}
+use Rattle.channel_state.specs.declared.change.Change.TheVariants.{Joined, RankSet}
+use Rattle.channel_state.specs.declared.change.Change.TheVariants.{Invited}
 use Rattle.channel_state.specs.declared.change.Rank.TheVariants.{Operator, Voice}
 use Rattle.channel_state.specs.State.{State, among, without, is_some_one, nothing, made_by, changed, departed, lasting}
 use Rattle.roster.specs.declared.deed.Deed.{Deed}
-use Rattle.roster.specs.declared.deed.Deed.TheVariants.{Opened, NickSet, UserSet, HoldSet, CapsSet}
-use Rattle.roster.specs.declared.deed.Deed.TheVariants.{ExchangeSet, LoggedIn, Enrolled, AwaySet}
-use Rattle.roster.specs.declared.deed.Deed.TheVariants.{InvisibleSet, ChannelMade, Changed, Ended, Gone}
+use Rattle.roster.specs.declared.deed.Deed.TheVariants.{ChannelMade, Changed, Gone}
 use Rattle.roster.specs.LookBack.{state, without_name, with_last_name}
 use Rattle.roster.specs.Lists.{seat_of, noted, renoted}
 use Rattle.roster.specs.Tables.{state_in, holds_name}
@@ -74,15 +72,8 @@ noted_new : (x : Change) (s : ℕ) (k : State) (n c : List ℕ) (ns : List (List
     → (among s k.invited ≡ true → holds_name c ns ≡ true) → among s (changed x k).invited ≡ true
     → holds_name c (noted s n (seat_of x) ns) ≡ true
 noted_new (Joined t) s k n c ns same h e = h (was_there t s k.invited e)
-noted_new (Left t) s k n c ns same h e = h e
 noted_new (RankSet t Operator on) s k n c ns same h e = h e
 noted_new (RankSet t Voice on) s k n c ns same h e = h e
-noted_new (FlagSet g on) s k n c ns same h e = h e
-noted_new (KeySet x) s k n c ns same h e = h e
-noted_new (LimitSet x) s k n c ns same h e = h e
-noted_new (TopicSet x) s k n c ns same h e = h e
-noted_new (BanSet x) s k n c ns same h e = h e
-noted_new (BanLifted x) s k n c ns same h e = h e
 noted_new (Invited t op) s k n c ns same h e = elim (eqb_tells t s) [
   | inl it ↦ ap (λ b. holds_name c (cond b (with_last_name n ns) ns)) it.0 ∙ has_new c n ns same
   | inr other ↦
@@ -90,35 +81,18 @@ noted_new (Invited t op) s k n c ns same h e = elim (eqb_tells t s) [
       (λ b. among s (without t k.invited) || b) other.0) ∙ sym (among-push s t (without t k.invited)) ∙ e) in
       ap (λ b. holds_name c (cond b (with_last_name n ns) ns)) other.0 ∙ h was
 ]
+noted_new _ s k n c ns same h e = h e
 
 noted_still : (x : Change) (s : ℕ) (n c : List ℕ) (ns : List (List ℕ)) → holds_name c ns ≡ true
     → holds_name c (noted s n (seat_of x) ns) ≡ true
-noted_still (Joined t) s n c ns e = e
-noted_still (Left t) s n c ns e = e
-noted_still (RankSet t rank on) s n c ns e = e
-noted_still (FlagSet g on) s n c ns e = e
-noted_still (KeySet x) s n c ns e = e
-noted_still (LimitSet x) s n c ns e = e
-noted_still (TopicSet x) s n c ns e = e
-noted_still (BanSet x) s n c ns e = e
-noted_still (BanLifted x) s n c ns e = e
 noted_still (Invited t op) s n c ns e = elim (t == s) as
     (λ b. holds_name c (cond b (with_last_name n ns) ns) ≡ true) [ true ↦ has_still c n ns e | false ↦ e ]
+noted_still _ s n c ns e = e
 
 -- each channel that invites s after a fact is noted then
 pub noted_after : (d : Deed) (fs : List Deed) (s : ℕ) (c : List ℕ) (ns : List (List ℕ))
     → (among s (state fs c).invited ≡ true → holds_name c ns ≡ true) → among s (state (d ∷ fs) c).invited ≡ true
     → holds_name c (renoted s d ns) ≡ true
-noted_after (Opened t h) fs s c ns i e = i e
-noted_after (NickSet t n) fs s c ns i e = i e
-noted_after (UserSet t u r) fs s c ns i e = i e
-noted_after (HoldSet t v) fs s c ns i e = i e
-noted_after (CapsSet t k) fs s c ns i e = i e
-noted_after (ExchangeSet t x) fs s c ns i e = i e
-noted_after (LoggedIn t a) fs s c ns i e = i e
-noted_after (Enrolled t) fs s c ns i e = i e
-noted_after (AwaySet t x) fs s c ns i e = i e
-noted_after (InvisibleSet t v) fs s c ns i e = i e
 noted_after (ChannelMade t k) fs s c ns i e = i (not_made (is_same k c) t s (state fs c) e)
 noted_after (Changed k x) fs s c ns i e = elim (either (is_same k c)) [
   | inl same ↦
@@ -130,7 +104,6 @@ noted_after (Changed k x) fs s c ns i e = elim (either (is_same k c)) [
       (ap (λ b. among s (cond b (lasting (changed x (state fs c))) (state fs c)).invited) other) ∙ e in
       noted_still x s k c ns (i was)
 ]
-noted_after (Ended t w x) fs s c ns i e = i e
 noted_after (Gone t) fs s c ns i e =
     let kept = invited_lasting (departed t (state fs c)) s e in
     elim (eqb_tells t s) [
@@ -138,3 +111,4 @@ noted_after (Gone t) fs s c ns i e =
           ∙ sym (among-without s t (state fs c).invited) ∙ kept in cc)
       | inr other ↦ ap (λ b. holds_name c (cond b [] ns)) other.0 ∙ i (was_there t s (state fs c).invited kept)
     ]
+noted_after _ fs s c ns i e = i e

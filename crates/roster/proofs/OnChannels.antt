@@ -7,14 +7,11 @@ use Rattle.casemapping.specs.Fold.{is_same}
 use Rattle.casemapping.proofs.SameNames.{is_same-right}
 use Rattle.channel_state.specs.declared.change.Rank.TheVariants.{Operator, Voice}
 use Rattle.channel_state.specs.declared.change.Change.{Change}
-use Rattle.channel_state.specs.declared.change.Change.TheVariants.{Joined, Left, RankSet, FlagSet, KeySet, LimitSet}
-use Rattle.channel_state.specs.declared.change.Change.TheVariants.{TopicSet, BanSet, BanLifted, Invited}
+use Rattle.channel_state.specs.declared.change.Change.TheVariants.{Joined, Left, RankSet}
 use Rattle.channel_state.specs.State.{State, among, without, with_last, is_some_one, nothing}
 use Rattle.channel_state.specs.State.{made_by, changed, departed, lasting}
 use Rattle.roster.specs.declared.deed.Deed.{Deed}
-use Rattle.roster.specs.declared.deed.Deed.TheVariants.{Opened, NickSet, UserSet, HoldSet, CapsSet}
-use Rattle.roster.specs.declared.deed.Deed.TheVariants.{ExchangeSet, LoggedIn, Enrolled, AwaySet}
-use Rattle.roster.specs.declared.deed.Deed.TheVariants.{InvisibleSet, ChannelMade, Changed, Ended, Gone}
+use Rattle.roster.specs.declared.deed.Deed.TheVariants.{ChannelMade, Changed, Gone}
 use Rattle.roster.specs.LookBack.{tells_seat, on, state, members, reshaped}
 use Rattle.roster.proofs.Bools.{or-true, or-false}
 
@@ -62,13 +59,7 @@ among-changed (Joined u) t k = joined (u == t) t u k.members refl
 among-changed (Left u) t k = gone (u == t) t u k.members refl
 among-changed (RankSet u Operator is) t k = refl
 among-changed (RankSet u Voice is) t k = refl
-among-changed (FlagSet f is) t k = refl
-among-changed (KeySet x) t k = refl
-among-changed (LimitSet x) t k = refl
-among-changed (TopicSet x) t k = refl
-among-changed (BanSet x) t k = refl
-among-changed (BanLifted x) t k = refl
-among-changed (Invited u x) t k = refl
+among-changed _ t k = refl
 
 -- a channel that ends had no member
 members_of_none : (ms : List ℕ) (k : State) → (cond (is_some_one ms) k nothing).members
@@ -91,41 +82,20 @@ changes_to false x t k = refl
 -- a session is on a channel exactly where it is among the members
 pub among-members : (fs : List Deed) (t : ℕ) (c : List ℕ) → among t (members fs c) ≡ on fs t c
 among-members [] t c = refl
-among-members (Opened u h ∷ fs) t c = among-members fs t c
-among-members (NickSet u n ∷ fs) t c = among-members fs t c
-among-members (UserSet u n r ∷ fs) t c = among-members fs t c
-among-members (HoldSet u n ∷ fs) t c = among-members fs t c
-among-members (CapsSet u n ∷ fs) t c = among-members fs t c
-among-members (ExchangeSet u n ∷ fs) t c = among-members fs t c
-among-members (LoggedIn u n ∷ fs) t c = among-members fs t c
-among-members (Enrolled u ∷ fs) t c = among-members fs t c
-among-members (AwaySet u x ∷ fs) t c = among-members fs t c
-among-members (InvisibleSet u x ∷ fs) t c = among-members fs t c
-among-members (Ended u w x ∷ fs) t c = among-members fs t c
 among-members (ChannelMade u k ∷ fs) t c = made (is_same k c) t u (state fs c)
     ∙ ap (unwrap_or (cond (is_same k c) (Some (u == t)) None)) (among-members fs t c)
 among-members (Changed k x ∷ fs) t c = changes_to (is_same k c) x t (state fs c)
     ∙ ap (unwrap_or (cond (is_same k c) (tells_seat t x) None)) (among-members fs t c)
 among-members (Gone u ∷ fs) t c = ap (among t) (members-lasting (departed u (state fs c))) ∙ gone (u == t) t u
     (members fs c) refl ∙ ap (unwrap_or (cond (u == t) (Some false) None)) (among-members fs t c)
+among-members (_ ∷ fs) t c = among-members fs t c
 
 -- ---- one name is one channel
 
 reshaped-same : (d : Deed) (c e : List ℕ) (k : State) → is_same c e ≡ true → reshaped d c k ≡ reshaped d e k
-reshaped-same (Opened u h) c e k s = refl
-reshaped-same (NickSet u n) c e k s = refl
-reshaped-same (UserSet u n r) c e k s = refl
-reshaped-same (HoldSet u n) c e k s = refl
-reshaped-same (CapsSet u n) c e k s = refl
-reshaped-same (ExchangeSet u n) c e k s = refl
-reshaped-same (LoggedIn u n) c e k s = refl
-reshaped-same (Enrolled u) c e k s = refl
-reshaped-same (AwaySet u x) c e k s = refl
-reshaped-same (InvisibleSet u x) c e k s = refl
-reshaped-same (Ended u w x) c e k s = refl
 reshaped-same (ChannelMade u n) c e k s = ap (λ b. cond b (made_by u) k) (is_same-right c e n s)
 reshaped-same (Changed n x) c e k s = ap (λ b. cond b (lasting (changed x k)) k) (is_same-right c e n s)
-reshaped-same (Gone u) c e k s = refl
+reshaped-same _ c e k s = refl
 
 pub state-same : (fs : List Deed) (c e : List ℕ) → is_same c e ≡ true → state fs c ≡ state fs e
 state-same [] c e s = refl
@@ -155,21 +125,11 @@ lasts_by false new k e f = f
 
 pub state-lasts : (fs : List Deed) (c : List ℕ) → lasting (state fs c) ≡ state fs c
 state-lasts [] c = refl
-state-lasts (Opened u h ∷ fs) c = state-lasts fs c
-state-lasts (NickSet u n ∷ fs) c = state-lasts fs c
-state-lasts (UserSet u n r ∷ fs) c = state-lasts fs c
-state-lasts (HoldSet u n ∷ fs) c = state-lasts fs c
-state-lasts (CapsSet u n ∷ fs) c = state-lasts fs c
-state-lasts (ExchangeSet u n ∷ fs) c = state-lasts fs c
-state-lasts (LoggedIn u n ∷ fs) c = state-lasts fs c
-state-lasts (Enrolled u ∷ fs) c = state-lasts fs c
-state-lasts (AwaySet u x ∷ fs) c = state-lasts fs c
-state-lasts (InvisibleSet u x ∷ fs) c = state-lasts fs c
-state-lasts (Ended u w x ∷ fs) c = state-lasts fs c
 state-lasts (ChannelMade u k ∷ fs) c = lasts_by (is_same k c) (made_by u) (state fs c) refl (state-lasts fs c)
 state-lasts (Changed k x ∷ fs) c = lasts_by (is_same k c) (lasting (changed x (state fs c))) (state fs c)
     (lasting-lasting (changed x (state fs c))) (state-lasts fs c)
 state-lasts (Gone u ∷ fs) c = lasting-lasting (departed u (state fs c))
+state-lasts (_ ∷ fs) c = state-lasts fs c
 
 -- ---- somebody who is among them is somebody
 

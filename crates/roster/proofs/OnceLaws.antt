@@ -6,14 +6,12 @@ use Rattle.std.proofs.Common.{ap, ◌∙◌, ne_eqb, eq-eqb, length-append, subs
 use Rattle.std.specs.List.{IsDistinct, AllByRecursion}
 use Rattle.casemapping.specs.Fold.{is_same}
 use Rattle.channel_state.specs.declared.change.Change.{Change}
-use Rattle.channel_state.specs.declared.change.Change.TheVariants.{Joined, Left, RankSet, FlagSet, KeySet, LimitSet}
-use Rattle.channel_state.specs.declared.change.Change.TheVariants.{TopicSet, BanSet, BanLifted, Invited}
+use Rattle.channel_state.specs.declared.change.Change.TheVariants.{Joined, Left, RankSet}
 use Rattle.channel_state.specs.declared.change.Rank.TheVariants.{Operator, Voice}
 use Rattle.channel_state.specs.State.{State, among, made_by, changed, departed, lasting}
 use Rattle.roster.specs.declared.deed.Deed.{Deed}
-use Rattle.roster.specs.declared.deed.Deed.TheVariants.{Opened, NickSet, UserSet, HoldSet, CapsSet}
-use Rattle.roster.specs.declared.deed.Deed.TheVariants.{ExchangeSet, LoggedIn, Enrolled, AwaySet}
-use Rattle.roster.specs.declared.deed.Deed.TheVariants.{InvisibleSet, ChannelMade, Changed, Ended, Gone}
+use Rattle.roster.specs.declared.deed.Deed.TheVariants.{Opened}
+use Rattle.roster.specs.declared.deed.Deed.TheVariants.{ChannelMade, Changed, Gone}
 use Rattle.roster.specs.LookBack.{opened, on, state, members, is_join, joins, with_last_name, share}
 use Rattle.roster.specs.Legal.{AreLegal}
 use Rattle.roster.specs.Laws.{MembersAreThereOnce, SharersAreThereOnce, OwnChannelsAreThereOnce}
@@ -32,7 +30,7 @@ module _ {A : Type 0} (e : A → A → Bool) where
         | false ↦ all-filter p x ys a.1
       ]
 
-  distinct-filter : (p : A → Bool) (xs : List A) → IsDistinct e xs → IsDistinct e (filter p xs)
+  pub distinct-filter : (p : A → Bool) (xs : List A) → IsDistinct e xs → IsDistinct e (filter p xs)
   unfolding IsDistinct
   distinct-filter p [] d = d
   distinct-filter p (x ∷ xs) d = elim (p x) as (λ b. IsDistinct e (cond b (x ∷ filter p xs) (filter p xs))) [
@@ -45,17 +43,17 @@ module _ {A : Type 0} (e : A → A → Bool) where
   all-push x z [] a f = (f, tt)
   all-push x z (y ∷ ys) a f = (a.0, all-push x z ys a.1 f)
 
-  distinct-push : (z : A) (xs : List A) → IsDistinct e xs → AllByRecursion (λ y. e y z ≡ false) xs
+  pub distinct-push : (z : A) (xs : List A) → IsDistinct e xs → AllByRecursion (λ y. e y z ≡ false) xs
       → IsDistinct e (xs ++ z ∷ [])
   unfolding IsDistinct
   distinct-push z [] d a = (tt, d)
   distinct-push z (x ∷ xs) d a = (all-push x z xs d.0 a.0, distinct-push z xs d.1 a.1)
 
-  distinct-one : (x : A) → IsDistinct e (x ∷ [])
+  pub distinct-one : (x : A) → IsDistinct e (x ∷ [])
   unfolding IsDistinct
   distinct-one x = (tt, tt)
 
-  distinct-none : IsDistinct e []
+  pub distinct-none : IsDistinct e []
   unfolding IsDistinct
   distinct-none = tt
 
@@ -77,21 +75,15 @@ module _ {A : Type 0} (e : A → A → Bool) where
 
 -- ---- members
 
-abbrev eq : ℕ → ℕ → Bool
+abbrev pub eq : ℕ → ℕ → Bool
 eq s t = s == t
 
-once_changed : (x : Change) (k : State) → IsDistinct eq k.members → IsDistinct eq (changed x k).members
+pub once_changed : (x : Change) (k : State) → IsDistinct eq k.members → IsDistinct eq (changed x k).members
 once_changed (Joined t) k d = distinct-last eq t k.members d
 once_changed (Left t) k d = distinct-filter eq (λ y. not (y == t)) k.members d
 once_changed (RankSet t Operator on) k d = d
 once_changed (RankSet t Voice on) k d = d
-once_changed (FlagSet g on) k d = d
-once_changed (KeySet key) k d = d
-once_changed (LimitSet limit) k d = d
-once_changed (TopicSet topic) k d = d
-once_changed (BanSet b) k d = d
-once_changed (BanLifted b) k d = d
-once_changed (Invited t op) k d = d
+once_changed _ k d = d
 
 once_lasting : (k : State) → IsDistinct eq k.members → IsDistinct eq (lasting k).members
 once_lasting k d = subst (IsDistinct eq) (sym (members-lasting k)) d
@@ -103,44 +95,23 @@ once_by false k l d f = f
 
 pub members_once : MembersAreThereOnce
 members_once [] c = distinct-none eq
-members_once (Opened t h ∷ fs) c = members_once fs c
-members_once (NickSet t n ∷ fs) c = members_once fs c
-members_once (UserSet t u r ∷ fs) c = members_once fs c
-members_once (HoldSet t v ∷ fs) c = members_once fs c
-members_once (CapsSet t k ∷ fs) c = members_once fs c
-members_once (ExchangeSet t x ∷ fs) c = members_once fs c
-members_once (LoggedIn t a ∷ fs) c = members_once fs c
-members_once (Enrolled t ∷ fs) c = members_once fs c
-members_once (AwaySet t x ∷ fs) c = members_once fs c
-members_once (InvisibleSet t v ∷ fs) c = members_once fs c
-members_once (Ended t w x ∷ fs) c = members_once fs c
 members_once (ChannelMade t k ∷ fs) c = once_by (is_same k c) (made_by t) (state fs c) (distinct-one eq t)
     (members_once fs c)
 members_once (Changed k x ∷ fs) c = once_by (is_same k c) (lasting (changed x (state fs c))) (state fs c)
     (once_lasting (changed x (state fs c)) (once_changed x (state fs c) (members_once fs c))) (members_once fs c)
 members_once (Gone t ∷ fs) c = once_lasting (departed t (state fs c))
     (distinct-filter eq (λ y. not (y == t)) (members fs c) (members_once fs c))
+members_once (_ ∷ fs) c = members_once fs c
 
 -- ---- a session's channels
 
 pub joins_once : (fs : List Deed) (s : ℕ) → IsDistinct is_same (joins fs s)
 joins_once [] s = distinct-none is_same
-joins_once (Opened t h ∷ fs) s = joins_once fs s
-joins_once (NickSet t n ∷ fs) s = joins_once fs s
-joins_once (UserSet t u r ∷ fs) s = joins_once fs s
-joins_once (HoldSet t v ∷ fs) s = joins_once fs s
-joins_once (CapsSet t k ∷ fs) s = joins_once fs s
-joins_once (ExchangeSet t x ∷ fs) s = joins_once fs s
-joins_once (LoggedIn t a ∷ fs) s = joins_once fs s
-joins_once (Enrolled t ∷ fs) s = joins_once fs s
-joins_once (AwaySet t x ∷ fs) s = joins_once fs s
-joins_once (InvisibleSet t v ∷ fs) s = joins_once fs s
-joins_once (Ended t w x ∷ fs) s = joins_once fs s
 joins_once (ChannelMade t k ∷ fs) s = distinct-by is_same (t == s) (with_last_name k (joins fs s)) (joins fs s)
     (distinct-last is_same k (joins fs s) (joins_once fs s)) (joins_once fs s)
 joins_once (Changed k x ∷ fs) s = distinct-by is_same (is_join s x) (with_last_name k (joins fs s)) (joins fs s)
     (distinct-last is_same k (joins fs s) (joins_once fs s)) (joins_once fs s)
-joins_once (Gone t ∷ fs) s = joins_once fs s
+joins_once (_ ∷ fs) s = joins_once fs s
 
 pub own_once : OwnChannelsAreThereOnce
 own_once fs s = distinct-filter is_same (on fs s) (joins fs s) (joins_once fs s)
@@ -169,19 +140,7 @@ opened_below (Opened t h ∷ fs) l =
     let more : length (opened fs ++ t ∷ []) ≡ n + 1 = length-append (opened fs) (t ∷ []) in let is : t ≡ suc n = l.0 in
     below-push (length (opened fs ++ t ∷ [])) (opened fs) t
     (below-more n (length (opened fs ++ t ∷ [])) (opened fs) (omega arith) (opened_below fs l.1)) (omega arith)
-opened_below (NickSet t n ∷ fs) l = opened_below fs l.1
-opened_below (UserSet t u r ∷ fs) l = opened_below fs l.1
-opened_below (HoldSet t v ∷ fs) l = opened_below fs l.1
-opened_below (CapsSet t k ∷ fs) l = opened_below fs l.1
-opened_below (ExchangeSet t x ∷ fs) l = opened_below fs l.1
-opened_below (LoggedIn t a ∷ fs) l = opened_below fs l.1
-opened_below (Enrolled t ∷ fs) l = opened_below fs l.1
-opened_below (AwaySet t x ∷ fs) l = opened_below fs l.1
-opened_below (InvisibleSet t v ∷ fs) l = opened_below fs l.1
-opened_below (Ended t w x ∷ fs) l = opened_below fs l.1
-opened_below (ChannelMade t k ∷ fs) l = opened_below fs l.1
-opened_below (Changed k x ∷ fs) l = opened_below fs l.1
-opened_below (Gone t ∷ fs) l = opened_below fs l.1
+opened_below (_ ∷ fs) l = opened_below fs l.1
 
 opened_once : (fs : List Deed) → AreLegal fs → IsDistinct eq (opened fs)
 opened_once [] l = distinct-none eq
@@ -189,19 +148,7 @@ opened_once (Opened t h ∷ fs) l =
     let is : t ≡ suc (length (opened fs)) = l.0 in
     distinct-push eq t (opened fs) (opened_once fs l.1)
     (below-apart (length (opened fs)) t (opened fs) (omega arith) (opened_below fs l.1))
-opened_once (NickSet t n ∷ fs) l = opened_once fs l.1
-opened_once (UserSet t u r ∷ fs) l = opened_once fs l.1
-opened_once (HoldSet t v ∷ fs) l = opened_once fs l.1
-opened_once (CapsSet t k ∷ fs) l = opened_once fs l.1
-opened_once (ExchangeSet t x ∷ fs) l = opened_once fs l.1
-opened_once (LoggedIn t a ∷ fs) l = opened_once fs l.1
-opened_once (Enrolled t ∷ fs) l = opened_once fs l.1
-opened_once (AwaySet t x ∷ fs) l = opened_once fs l.1
-opened_once (InvisibleSet t v ∷ fs) l = opened_once fs l.1
-opened_once (Ended t w x ∷ fs) l = opened_once fs l.1
-opened_once (ChannelMade t k ∷ fs) l = opened_once fs l.1
-opened_once (Changed k x ∷ fs) l = opened_once fs l.1
-opened_once (Gone t ∷ fs) l = opened_once fs l.1
+opened_once (_ ∷ fs) l = opened_once fs l.1
 
 -- whoever fails the test isn't among those who pass it
 not_among : (p : ℕ → Bool) (s : ℕ) → p s ≡ false → (xs : List ℕ) → among s (filter p xs) ≡ false
@@ -214,7 +161,7 @@ not_among p s fails (x ∷ xs) = elim (eqb_tells x s) [
   ]
 ]
 
-not_self : (b : Bool) (s : ℕ) → (b && not (s == s)) ≡ false
+pub not_self : (b : Bool) (s : ℕ) → (b && not (s == s)) ≡ false
 not_self true s = ap not (eq-eqb s s refl)
 not_self false s = refl
 

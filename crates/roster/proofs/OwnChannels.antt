@@ -6,13 +6,10 @@ use Rattle.std.specs.List.{list_any, IsDistinct, AllByRecursion}
 use Rattle.casemapping.specs.Fold.{is_same}
 use Rattle.casemapping.proofs.SameNames.{is_same-refl, is_same-sym, is_same-right}
 use Rattle.channel_state.specs.declared.change.Change.{Change}
-use Rattle.channel_state.specs.declared.change.Change.TheVariants.{Joined, Left, RankSet, FlagSet, KeySet, LimitSet}
-use Rattle.channel_state.specs.declared.change.Change.TheVariants.{TopicSet, BanSet, BanLifted, Invited}
+use Rattle.channel_state.specs.declared.change.Change.TheVariants.{Joined, Left, FlagSet}
 use Rattle.channel_state.specs.State.{State, among}
 use Rattle.roster.specs.declared.deed.Deed.{Deed}
-use Rattle.roster.specs.declared.deed.Deed.TheVariants.{Opened, NickSet, UserSet, HoldSet, CapsSet}
-use Rattle.roster.specs.declared.deed.Deed.TheVariants.{ExchangeSet, LoggedIn, Enrolled, AwaySet}
-use Rattle.roster.specs.declared.deed.Deed.TheVariants.{InvisibleSet, ChannelMade, Changed, Ended, Gone}
+use Rattle.roster.specs.declared.deed.Deed.TheVariants.{ChannelMade, Changed, Gone}
 use Rattle.roster.specs.declared.tables.Channel.{Channel}
 use Rattle.roster.specs.LookBack.{numbers, opened, on, members, has_member, channels, tells_seat, is_join, joins}
 use Rattle.roster.specs.LookBack.{channels_on, channel_count, without_name, with_last_name, share, sharers}
@@ -80,37 +77,21 @@ joins_by s (Left t) e = elim (either (t == s)) [
       let g = some_same false true f in let h : false ≡ true = g in cc)
   | inr miss ↦ absurd (let f : None ≡ Some true = sym (ap (λ b. cond b (Some false) None) miss) ∙ e in cc)
 ]
-joins_by s (RankSet t rank is) e = absurd (let f : ◌≡◌ {A = Option Bool} None (Some true) = e in cc)
 joins_by s (FlagSet f is) e = absurd (let f : ◌≡◌ {A = Option Bool} None (Some true) = e in cc)
-joins_by s (KeySet x) e = absurd (let f : ◌≡◌ {A = Option Bool} None (Some true) = e in cc)
-joins_by s (LimitSet x) e = absurd (let f : ◌≡◌ {A = Option Bool} None (Some true) = e in cc)
-joins_by s (TopicSet x) e = absurd (let f : ◌≡◌ {A = Option Bool} None (Some true) = e in cc)
-joins_by s (BanSet x) e = absurd (let f : ◌≡◌ {A = Option Bool} None (Some true) = e in cc)
-joins_by s (BanLifted x) e = absurd (let f : ◌≡◌ {A = Option Bool} None (Some true) = e in cc)
-joins_by s (Invited t x) e = absurd (let f : ◌≡◌ {A = Option Bool} None (Some true) = e in cc)
+joins_by s _ e = absurd (let f : ◌≡◌ {A = Option Bool} None (Some true) = e in cc)
 
 joined_on : (fs : List Deed) (s : ℕ) (c : List ℕ) → on fs s c ≡ true → has c (joins fs s) ≡ true
 joined_on [] s c e = absurd (let f : false ≡ true = e in cc)
-joined_on (Opened u h ∷ fs) s c e = joined_on fs s c e
-joined_on (NickSet u y ∷ fs) s c e = joined_on fs s c e
-joined_on (UserSet u y r ∷ fs) s c e = joined_on fs s c e
-joined_on (HoldSet u y ∷ fs) s c e = joined_on fs s c e
-joined_on (CapsSet u y ∷ fs) s c e = joined_on fs s c e
-joined_on (ExchangeSet u y ∷ fs) s c e = joined_on fs s c e
-joined_on (LoggedIn u y ∷ fs) s c e = joined_on fs s c e
-joined_on (Enrolled u ∷ fs) s c e = joined_on fs s c e
-joined_on (AwaySet u y ∷ fs) s c e = joined_on fs s c e
-joined_on (InvisibleSet u y ∷ fs) s c e = joined_on fs s c e
 joined_on (ChannelMade t k ∷ fs) s c e = joined_by fs s c k (Some (t == s)) (t == s)
     (λ f. some_same (t == s) true f) e (joined_on fs s c)
 joined_on (Changed k x ∷ fs) s c e = joined_by fs s c k (tells_seat s x) (is_join s x) (joins_by s x) e
     (joined_on fs s c)
-joined_on (Ended u w y ∷ fs) s c e = joined_on fs s c e
 joined_on (Gone t ∷ fs) s c e = elim (either (t == s)) [
   | inl it ↦ absurd
       (let f : false ≡ true = sym (ap (λ b. unwrap_or (cond b (Some false) None) (on fs s c)) it) ∙ e in cc)
   | inr miss ↦ joined_on fs s c (sym (ap (λ b. unwrap_or (cond b (Some false) None) (on fs s c)) miss) ∙ e)
 ]
+joined_on (_ ∷ fs) s c e = joined_on fs s c e
 
 and_true : (a b : Bool) → (a ≡ true → b ≡ true) → (a && b) ≡ a
 and_true true b h = h refl

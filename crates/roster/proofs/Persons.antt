@@ -59,71 +59,29 @@ opened_after (Opened u h) fs n m e x c =
     let last : u ≡ 1 + n = (let y = x in omega arith) in let more : m ≡ suc n = omega arith in
     ap (λ xs. xs ++ u ∷ []) e ∙ ap (λ (j : ℕ). numbers 1 n ++ j ∷ []) last ∙ sym (numbers_push 1 n)
     ∙ ap (numbers 1) (sym more)
-opened_after (NickSet u y) fs n m e x c = let same : n ≡ m = omega arith in e ∙ ap (numbers 1) same
-opened_after (UserSet u y r) fs n m e x c = let same : n ≡ m = omega arith in e ∙ ap (numbers 1) same
-opened_after (HoldSet u z) fs n m e x c = let same : n ≡ m = omega arith in e ∙ ap (numbers 1) same
-opened_after (CapsSet u z) fs n m e x c = let same : n ≡ m = omega arith in e ∙ ap (numbers 1) same
-opened_after (ExchangeSet u z) fs n m e x c = let same : n ≡ m = omega arith in e ∙ ap (numbers 1) same
-opened_after (LoggedIn u z) fs n m e x c = let same : n ≡ m = omega arith in e ∙ ap (numbers 1) same
-opened_after (Enrolled u) fs n m e x c = let same : n ≡ m = omega arith in e ∙ ap (numbers 1) same
-opened_after (AwaySet u z) fs n m e x c = let same : n ≡ m = omega arith in e ∙ ap (numbers 1) same
-opened_after (InvisibleSet u z) fs n m e x c = let same : n ≡ m = omega arith in e ∙ ap (numbers 1) same
-opened_after (ChannelMade u k) fs n m e x c = let same : n ≡ m = omega arith in e ∙ ap (numbers 1) same
-opened_after (Changed k z) fs n m e x c = let same : n ≡ m = omega arith in e ∙ ap (numbers 1) same
-opened_after (Ended u w z) fs n m e x c = let same : n ≡ m = omega arith in e ∙ ap (numbers 1) same
-opened_after (Gone u) fs n m e x c = let same : n ≡ m = omega arith in e ∙ ap (numbers 1) same
+opened_after _ fs n m e x c = let same : n ≡ m = omega arith in e ∙ ap (numbers 1) same
 
 -- a fact that tells why a session ended tells it of one that was opened
 pub of_next : (d : Deed) (fs : List Deed) (n : ℕ) → opened fs ≡ numbers 1 n → IsNext fs d → IsOf n d
 of_next (Opened u h) fs n e x = let many = ap length e ∙ length-numbers 1 n in x ∙ ap suc many
-of_next (NickSet u y) fs n e x = tt
-of_next (UserSet u y r) fs n e x = tt
-of_next (HoldSet u z) fs n e x = tt
-of_next (CapsSet u z) fs n e x = tt
-of_next (ExchangeSet u z) fs n e x = tt
-of_next (LoggedIn u z) fs n e x = tt
-of_next (Enrolled u) fs n e x = tt
-of_next (AwaySet u z) fs n e x = tt
-of_next (InvisibleSet u z) fs n e x = tt
-of_next (ChannelMade u k) fs n e x = tt
-of_next (Changed k z) fs n e x = tt
 of_next (Ended u w z) fs n e x = let many = ap length e ∙ length-numbers 1 n in (x.0, (let to = x.1 in omega arith))
 of_next (Gone u) fs n e x = let many = ap length e ∙ length-numbers 1 n in (x.0, (let to = x.1 in omega arith))
+of_next _ fs n e x = tt
 
 -- who was opened still is
 pub still_opened : (d : Deed) (fs : List Deed) (s : ℕ) → IsOpened fs s → IsOpened (d ∷ fs) s
 still_opened (Opened u h) fs s o = (o.0, (let e = length-append (opened fs) (u ∷ []) in let to = o.1 in omega arith))
-still_opened (NickSet u n) fs s o = o
-still_opened (UserSet u n r) fs s o = o
-still_opened (HoldSet u x) fs s o = o
-still_opened (CapsSet u x) fs s o = o
-still_opened (ExchangeSet u x) fs s o = o
-still_opened (LoggedIn u x) fs s o = o
-still_opened (Enrolled u) fs s o = o
-still_opened (AwaySet u x) fs s o = o
-still_opened (InvisibleSet u x) fs s o = o
-still_opened (ChannelMade u k) fs s o = o
-still_opened (Changed k x) fs s o = o
-still_opened (Ended u w x) fs s o = o
-still_opened (Gone u) fs s o = o
+still_opened _ fs s o = o
 
 -- a plain fact that opens no session leaves nicknames
 pub nick_still : (d : Deed) (fs : List Deed) (s : ℕ) → is_plain d ≡ true → is_opening d ≡ false
     → nick (d ∷ fs) s ≡ nick fs s
 nick_still (Opened u h) fs s p o = absurd (let f : true ≡ false = o in cc)
 nick_still (NickSet u n) fs s p o = absurd (let f : false ≡ true = p in cc)
-nick_still (UserSet u n r) fs s p o = refl
-nick_still (HoldSet u x) fs s p o = refl
-nick_still (CapsSet u x) fs s p o = refl
-nick_still (ExchangeSet u x) fs s p o = refl
-nick_still (LoggedIn u x) fs s p o = refl
-nick_still (Enrolled u) fs s p o = refl
-nick_still (AwaySet u x) fs s p o = refl
-nick_still (InvisibleSet u x) fs s p o = refl
 nick_still (ChannelMade u k) fs s p o = absurd (let f : false ≡ true = p in cc)
 nick_still (Changed k x) fs s p o = absurd (let f : false ≡ true = p in cc)
-nick_still (Ended u w x) fs s p o = refl
 nick_still (Gone u) fs s p o = absurd (let f : false ≡ true = p in cc)
+nick_still _ fs s p o = refl
 
 -- ---- who holds a nickname
 
@@ -213,19 +171,7 @@ module _ (hs : List (List ℕ × ℕ)) (fs : List Deed) (i : AreHolders hs fs) w
           | inr other ↦ still_opened (Opened u h) fs s (i.opened s n (sym (unnamed u h s n other.1) ∙ e))
         ];
       }
-      opening (NickSet u n) new x = absurd (let f : false ≡ true = new in cc)
-      opening (UserSet u n r) new x = absurd (let f : false ≡ true = new in cc)
-      opening (HoldSet u y) new x = absurd (let f : false ≡ true = new in cc)
-      opening (CapsSet u y) new x = absurd (let f : false ≡ true = new in cc)
-      opening (ExchangeSet u y) new x = absurd (let f : false ≡ true = new in cc)
-      opening (LoggedIn u y) new x = absurd (let f : false ≡ true = new in cc)
-      opening (Enrolled u) new x = absurd (let f : false ≡ true = new in cc)
-      opening (AwaySet u y) new x = absurd (let f : false ≡ true = new in cc)
-      opening (InvisibleSet u y) new x = absurd (let f : false ≡ true = new in cc)
-      opening (ChannelMade u k) new x = absurd (let f : false ≡ true = new in cc)
-      opening (Changed k y) new x = absurd (let f : false ≡ true = new in cc)
-      opening (Ended u w y) new x = absurd (let f : false ≡ true = new in cc)
-      opening (Gone u) new x = absurd (let f : false ≡ true = new in cc)
+      opening _ new x = absurd (let f : false ≡ true = new in cc)
 
   -- ---- a nickname is given back
 

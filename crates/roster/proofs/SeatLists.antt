@@ -14,9 +14,8 @@ use Rattle.channel_state.specs.declared.change.Change.TheVariants.{Joined, Left,
 use Rattle.channel_state.specs.declared.change.Change.TheVariants.{TopicSet, BanSet, BanLifted, Invited}
 use Rattle.chronicle.specs.declared.why.Why.{Why}
 use Rattle.roster.specs.declared.deed.Deed.{Deed}
-use Rattle.roster.specs.declared.deed.Deed.TheVariants.{Opened, NickSet, UserSet, HoldSet, CapsSet}
-use Rattle.roster.specs.declared.deed.Deed.TheVariants.{ExchangeSet, LoggedIn, Enrolled, AwaySet}
-use Rattle.roster.specs.declared.deed.Deed.TheVariants.{InvisibleSet, ChannelMade, Changed, Ended, Gone}
+use Rattle.roster.specs.declared.deed.Deed.TheVariants.{NickSet}
+use Rattle.roster.specs.declared.deed.Deed.TheVariants.{ChannelMade, Changed, Ended, Gone}
 use Rattle.roster.specs.LookBack.{on, state, members, has_member, tells_seat, joins}
 use Rattle.roster.specs.LookBack.{channels_on, without_name, with_last_name}
 use Rattle.roster.specs.Legal.{IsNext, AreNext}
@@ -214,20 +213,10 @@ after_going fs t s = elim (eqb_tells t s) [
 -- the channels of a session after each fact that may come
 pub channels_after : (fs : List Deed) (s : ℕ) (d : Deed) → IsNext fs d → channels_on (d ∷ fs) s
     ≡ relisted s d (channels_on fs s)
-channels_after fs s (Opened t h) n = refl
-channels_after fs s (NickSet t m) n = refl
-channels_after fs s (UserSet t u r) n = refl
-channels_after fs s (HoldSet t v) n = refl
-channels_after fs s (CapsSet t k) n = refl
-channels_after fs s (ExchangeSet t x) n = refl
-channels_after fs s (LoggedIn t a) n = refl
-channels_after fs s (Enrolled t) n = refl
-channels_after fs s (AwaySet t x) n = refl
-channels_after fs s (InvisibleSet t v) n = refl
 channels_after fs s (ChannelMade t k) n = after_making fs t s k n
 channels_after fs s (Changed k x) n = after_change fs s k x
-channels_after fs s (Ended t w x) n = refl
 channels_after fs s (Gone t) n = after_going fs t s
+channels_after fs s _ n = refl
 
 -- ---- the lists
 
@@ -345,52 +334,25 @@ listed_ended rs qs ns fs ds t w x i v = record {
 
 -- a plain fact says nothing of channels
 plain_relisted : (d : Deed) → is_plain d ≡ true → (s : ℕ) (cs : List (List ℕ)) → relisted s d cs ≡ cs
-plain_relisted (Opened u h) p s cs = refl
 plain_relisted (NickSet u n) p s cs = absurd (let f : false ≡ true = p in cc)
-plain_relisted (UserSet u n r) p s cs = refl
-plain_relisted (HoldSet u x) p s cs = refl
-plain_relisted (CapsSet u x) p s cs = refl
-plain_relisted (ExchangeSet u x) p s cs = refl
-plain_relisted (LoggedIn u x) p s cs = refl
-plain_relisted (Enrolled u) p s cs = refl
-plain_relisted (AwaySet u x) p s cs = refl
-plain_relisted (InvisibleSet u x) p s cs = refl
 plain_relisted (ChannelMade u k) p s cs = absurd (let f : false ≡ true = p in cc)
 plain_relisted (Changed k x) p s cs = absurd (let f : false ≡ true = p in cc)
-plain_relisted (Ended u w x) p s cs = refl
 plain_relisted (Gone u) p s cs = absurd (let f : false ≡ true = p in cc)
+plain_relisted _ p s cs = refl
 
 plain_renoted : (d : Deed) → is_plain d ≡ true → (s : ℕ) (cs : List (List ℕ)) → renoted s d cs ≡ cs
-plain_renoted (Opened u h) p s cs = refl
 plain_renoted (NickSet u n) p s cs = absurd (let f : false ≡ true = p in cc)
-plain_renoted (UserSet u n r) p s cs = refl
-plain_renoted (HoldSet u x) p s cs = refl
-plain_renoted (CapsSet u x) p s cs = refl
-plain_renoted (ExchangeSet u x) p s cs = refl
-plain_renoted (LoggedIn u x) p s cs = refl
-plain_renoted (Enrolled u) p s cs = refl
-plain_renoted (AwaySet u x) p s cs = refl
-plain_renoted (InvisibleSet u x) p s cs = refl
 plain_renoted (ChannelMade u k) p s cs = absurd (let f : false ≡ true = p in cc)
 plain_renoted (Changed k x) p s cs = absurd (let f : false ≡ true = p in cc)
-plain_renoted (Ended u w x) p s cs = refl
 plain_renoted (Gone u) p s cs = absurd (let f : false ≡ true = p in cc)
+plain_renoted _ p s cs = refl
 
 plain_unmade : (d : Deed) → is_plain d ≡ true → made_name d ≡ []
-plain_unmade (Opened u h) p = refl
 plain_unmade (NickSet u n) p = absurd (let f : false ≡ true = p in cc)
-plain_unmade (UserSet u n r) p = refl
-plain_unmade (HoldSet u x) p = refl
-plain_unmade (CapsSet u x) p = refl
-plain_unmade (ExchangeSet u x) p = refl
-plain_unmade (LoggedIn u x) p = refl
-plain_unmade (Enrolled u) p = refl
-plain_unmade (AwaySet u x) p = refl
-plain_unmade (InvisibleSet u x) p = refl
 plain_unmade (ChannelMade u k) p = absurd (let f : false ≡ true = p in cc)
 plain_unmade (Changed k x) p = absurd (let f : false ≡ true = p in cc)
-plain_unmade (Ended u w x) p = refl
 plain_unmade (Gone u) p = absurd (let f : false ≡ true = p in cc)
+plain_unmade _ p = refl
 
 -- rows that are as wide stand where a fact says nothing of channels
 pub relists_wide : (rs qs : List (ℕ × Card)) (d : Deed) → ((s : ℕ) (cs : List (List ℕ)) → relisted s d cs ≡ cs)
@@ -414,20 +376,10 @@ copies_plain d ds copies p b = subst (λ (cs : List (List ℕ)). BeginWith (cs +
 -- where no deed that follows gives a name, nobody joins by one
 unkeyed_joining : (d : Deed) (s : ℕ) (cs : List (List ℕ)) → BeginWith (keyed_name d ++ cs) []
     → (is_joining s d ≡ false) × BeginWith cs []
-unkeyed_joining (Opened u h) s cs b = (refl, b)
 unkeyed_joining (NickSet u n) s cs b = absurd b
-unkeyed_joining (UserSet u n r) s cs b = (refl, b)
-unkeyed_joining (HoldSet u x) s cs b = (refl, b)
-unkeyed_joining (CapsSet u x) s cs b = (refl, b)
-unkeyed_joining (ExchangeSet u x) s cs b = (refl, b)
-unkeyed_joining (LoggedIn u x) s cs b = (refl, b)
-unkeyed_joining (Enrolled u) s cs b = (refl, b)
-unkeyed_joining (AwaySet u x) s cs b = (refl, b)
-unkeyed_joining (InvisibleSet u x) s cs b = (refl, b)
 unkeyed_joining (ChannelMade u k) s cs b = absurd b
 unkeyed_joining (Changed k x) s cs b = absurd b
-unkeyed_joining (Ended u w x) s cs b = (refl, b)
-unkeyed_joining (Gone u) s cs b = (refl, b)
+unkeyed_joining _ s cs b = (refl, b)
 
 pub none_keyed : (s : ℕ) (ds : List Deed) → BeginWith (flat_map keyed_name ds) [] → joinings s ds ≡ 0
 none_keyed s [] b = refl
