@@ -1,312 +1,190 @@
-//! The book: the journal and, for each session, its outbox.
-ghost use Rattle.std.specs.Prelude.{◌≡◌, ◌≢◌, ◌<◌, ◌≤◌, ◌+◌, ◌-◌, ◌^◌, ◌++◌, ◌↔◌, ◌==◌, [], ℕ, cond};
-ghost use Rattle.std.specs.Prelude.{sum_by, Some, None, true, false, length, slice_get, slice_set, IsTrue};
-ghost use Rattle.std.specs.Prelude.{IfOk, IfErr, IfSome, OnOk, OnErr, option_copied};
-ghost use Rattle.std.specs.List.{list_any};
+//! A book whose sessions have tokens.
+//!
+//! A book is made with an empty register, since of rows that another left in it nothing could be said. A tick goes by
+//! the book's own calls: its record is of no session, so no token changes.
+ghost use Rattle.std.specs.Prelude.{◌≡◌, ◌<◌, ◌+◌, ◌++◌, [], Some, None, true, false, length, IfOk};
+ghost use Rattle.std.specs.Prelude.{IfErr, IfSome, IsSome, OnOk, OnErr, slice_get};
 ghost use Rattle.casemapping.specs.Names.{host_shape};
 ghost use Rattle.chronicle.specs.declared.record.Kind.TheVariants as kind;
-ghost use Rattle.chronicle.specs.History.{sessions, last_moment, shut, gone, misses};
-ghost use Rattle.chronicle.specs.Journal.{IsRoomier, most, numbered, record_at};
-ghost use Rattle.roster.specs.Legal.{AreLegal};
-ghost use Rattle.roster.specs.LookBack.{nick, on};
-ghost use Rattle.deeds.specs.Deeds.{facts};
-ghost use Rattle.book.specs.Settings.{IsWellSet};
-ghost use Rattle.book.specs.Book.{box_at, outbox_at};
-ghost use Rattle.book.specs.Seats.{IsSeat};
+ghost use Rattle.chronicle.specs.History.{accepted, shut};
+ghost use Rattle.register.specs.Rows.{pieces_at};
+ghost use Rattle.register.specs.Shown.{with_done, longer_mark};
+ghost use Rattle.ledger.specs.Settings.{IsWellSet};
+ghost use Rattle.ledger.specs.Ledger.{outbox_at};
+ghost use Rattle.book.specs.Reaping.{turn_of, newest_said, MayReap, IsReapRefusal, IsAllOwed, AreAllAccepted};
+ghost use Rattle.book.specs.Telling.{TellsOf};
+ghost use Rattle.book.specs.Tied.{newest_line, IsTied};
 
-use crate::base::{Base, forget_counts};
 use crate::baton::Baton;
-use crate::last_heard::LastHeard;
-use crate::out::{Done, Hung, Left, Plan, Rolled, Step};
-use crate::outboxes::Outboxes;
-use crate::plan::{Planning, Prepared, commit, moment_of_record, prepare_gone};
-use crate::read_line::ReadLine;
-use crate::refusals::{
-    BookFault, HangRefusal, LineRefusal, OpenRefusal, ReapRefusal, RollRefusal, SweepRefusal,
-    TakeRefusal,
+use crate::lasting::Lasting;
+use crate::left::Left;
+use crate::namesake::Namesake;
+use crate::told::Told;
+use chronicle::{Kind, Moment, RecordNumber, SessionId, Why};
+use deliveries::Item;
+use ghosts::Snapshot;
+use ledger::{
+    BookFault, Done, HangRefusal, Hung, Ledger, LineRefusal, OpenRefusal, Plan, ReadLine,
+    ReapRefusal, RollRefusal, Rolled, Step, SweepRefusal, TakeRefusal, TickRefusal,
 };
-use crate::seat::Seat;
-use crate::seats::Seats;
-use crate::settings::is_well_set;
-use crate::to_put::ToPut;
-use chronicle::{Journal, Kind, Moment, Record, RecordNumber, SessionId, Why};
-use deliveries::{Delivery, Item};
 use line_grammar::{Octets, Piece};
 use outbox::{Outbox, Ring};
+use register::{Mark, Naming, Register, Stub};
 use registration::Settings;
-use roster::{Deed, Roster, Sessions};
-use std::alloc::{AllocError, Global};
+use std::alloc::Global;
 use std::hash::RandomState;
-use std::marker::Model;
-use std::slice;
+use std::marker::{Model, PhantomData};
 
-/// The journal, what is known at its end, and the sessions' outboxes.
+/// A book, and the register of its sessions' tokens, which `L` names. A clause sees the book.
 #[derive(Drop)]
-pub struct Book<O: Outbox> {
-    pub(crate) alloc: Global,
-    pub(crate) journal: Journal,
-    pub(crate) roster: Roster,
-    pub(crate) seats: Seats,
-    pub(crate) outboxes: Outboxes<O>,
-    pub(crate) plan: ToPut,
-    pub(crate) busy: bool,
-    /// What is known of the records that were dropped.
-    pub(crate) base: Option<Base>,
-    pub(crate) last_heard: LastHeard,
+pub struct Book<L: Naming, O: Outbox> {
+    pub(crate) ledger: Ledger<O>,
+    register: Register<O::Name>,
+    of: PhantomData<L>,
 }
 
-impl<O: Outbox> Model for Book<O> {
-    ghost use Rattle.book.specs.Book.{Shown};
-    ghost use Rattle.book.specs.Kept.{Keeps};
+impl<L: Naming, O: Outbox> Model for Book<L, O> {
+    ghost use Rattle.std.specs.Prelude.{◌≡◌};
+    ghost use Rattle.ledger.specs.Ledger.{Shown};
+    ghost use Rattle.book.specs.Tied.{IsTied};
 
     ghost Value = { Shown O };
 
-    ghost view = { λ a. record {
-      history = a.journal.history;
-      limit = a.journal.limit;
-      settings = a.roster.settings;
-      outboxes = a.outboxes.boxes;
-      plan = a.plan;
-      busy = a.busy;
-    } };
+    ghost view = { λ a. a.ledger };
 
-    ghost invariant = { λ a. Keeps O.sent a.journal a.roster.settings a.roster.facts a.seats
-        a.outboxes.boxes a.plan a.busy a.base a.last_heard };
+    ghost invariant = { λ a. (a.register.table ≡ L.table) × IsTied O.name a.ledger a.register.rows };
 }
 
-/// Makes room for so many more records, which are within the journal's limit, and for so many sessions that miss the
-/// next.
-pub(crate) fn reserve(
-    journal: &mut Journal,
-    records: usize,
-    missed: usize,
-) -> Result<(), AllocError>
-    requires { length journal.old.history + records ≤ most journal.old.limit }
-    ensures same { IsRoomier journal.old journal.new }
-    ensures ok { OnOk result ((records ≤ journal.new.room) × (missed ≤ journal.new.prepared)) }
+/// Has the line done that the newest record says, whose number this is.
+fn advance<L: Naming, O: Outbox>(
+    ledger: &Ledger<O>,
+    register: &mut Register<O::Name>,
+    mark: &mut Mark<L, O::Name>,
+    number: RecordNumber,
+)
+    requires named { register.old.table ≡ L.table }
+    requires newest { number ≡ length ledger.now.history }
+    requires kept { ledger.now.limit.dropped < length ledger.now.history }
+    requires line { IsSome (newest_line ledger.now.history) }
+    ensures knew { pieces_at register.old.rows mark.old.session ≡ Some mark.old.pieces }
+    ensures register { IfSome (newest_line ledger.now.history)
+        (λ l. register.new ≡ with_done register.old mark.old.session l.1) }
+    ensures mark { IfSome (newest_line ledger.now.history)
+        (λ l. mark.new ≡ longer_mark mark.old l.1) }
 {
-    journal.reserve(records, missed).map_err(|_| AllocError)
+    let Some(record) = ledger.record(number) else {
+        unreachable!();
+    };
+    let Kind::Said { piece, .. } = &record.kind else {
+        unreachable!();
+    };
+    register.advance(mark, piece);
 }
 
-impl<O: Outbox> Book<O> {
-    ghost use Rattle.book.specs.Book.{empty_book, opened, begun, finished, reaped, IsPutNext, IsPutAll};
-    ghost use Rattle.book.specs.Book.{IsDone, IsLeft, to_sweep, IsKnown, IsTurn, MayOpen, MayBegin, MayHang};
-    ghost use Rattle.book.specs.Book.{MaySweep, MayReap, IsOpenRefusal, IsLineRefusal, IsHangRefusal};
-    ghost use Rattle.book.specs.Book.{IsSweepRefusal, IsReapRefusal, IsSound, IsOut, newest_missed, held};
-    ghost use Rattle.book.specs.Book.{is_here, rolled, base_of, IsRollRefusal};
-    ghost use Rattle.book.specs.Noted.{base_by, is_noted};
+impl<L: Naming, O: Lasting> Book<L, O> {
+    ghost use Rattle.book.specs.Outcomes.{IsLineOutcome, IsOpenOutcome, IsReapOutcome};
+    ghost use Rattle.book.specs.Outcomes.{IsHangOutcome, IsLineBegun, IsRollOutcome, IsSweepBegun, IsSweepOutcome};
+    ghost use Rattle.book.specs.Outcomes.{IsTickBegun, IsTickOutcome};
+    ghost use Rattle.ledger.specs.Ledger.{empty_ledger, finished, late, newest_missed, reaped, IsOut, IsPutAll};
+    ghost use Rattle.ledger.specs.Ledger.{IsPutNext};
 
-    /// An empty book for at most `limit` records. Names are hashed by keys that everybody knows.
-    pub fn new(alloc: Global, settings: Settings, limit: usize) -> Result<Book<O>, BookFault>
-        ensures ok { IfOk result (λ b. (b ≡ empty_book limit settings) × IsWellSet settings limit) }
-        ensures bad { IfErr result (λ e. e ≡ BookFault.BadSettings → IsWellSet settings limit → ⊥) }
-        ensures memory { IfErr result (λ e. e ≡ BookFault.Memory → IsWellSet settings limit) }
-    {
-        if !is_well_set(&settings, limit) {
-            return Err(BookFault::BadSettings);
-        }
-        Book::empty(alloc, Roster::new(alloc, settings), limit)
-    }
-
-    /// An empty book for at most `limit` records. Names are hashed by the keys of a state.
-    pub fn with_hasher(
+    /// An empty book for at most `limit` records, whose tokens a register has that is named by `L` and has no
+    /// session yet.
+    pub fn new(
         alloc: Global,
+        register: Register<O::Name>,
         settings: Settings,
         limit: usize,
-        state: RandomState,
-    ) -> Result<Book<O>, BookFault>
-        ensures ok { IfOk result (λ b. (b ≡ empty_book limit settings) × IsWellSet settings limit) }
+    ) -> Result<Book<L, O>, BookFault>
+        requires named { register.table ≡ L.table }
+        requires empty { register.rows ≡ [] }
+        ensures ok { IfOk result
+            (λ b. (b ≡ empty_ledger limit settings) × IsWellSet settings limit) }
         ensures bad { IfErr result (λ e. e ≡ BookFault.BadSettings → IsWellSet settings limit → ⊥) }
         ensures memory { IfErr result (λ e. e ≡ BookFault.Memory → IsWellSet settings limit) }
     {
-        if !is_well_set(&settings, limit) {
-            return Err(BookFault::BadSettings);
-        }
-        Book::empty(alloc, Roster::with_hasher(alloc, settings, state), limit)
-    }
-
-    /// An empty book, with a roster of no facts.
-    fn empty(alloc: Global, roster: Roster, limit: usize) -> Result<Book<O>, BookFault>
-        requires set { IsWellSet roster.settings limit }
-        requires none { roster.facts ≡ [] }
-        ensures ok { IfOk result (λ b. b ≡ empty_book limit roster.settings) }
-        ensures memory { IfErr result (λ e. e ≡ BookFault.Memory) }
-    {
-        let Ok(journal) = Journal::with_limit(alloc, limit) else {
-            return Err(BookFault::Memory);
-        };
-        let Ok(last_heard) = LastHeard::new(alloc) else {
-            return Err(BookFault::Memory);
-        };
+        let ledger = Ledger::new(alloc, settings, limit)?;
         Ok(Book {
-            alloc,
-            journal,
-            roster,
-            seats: Seats::new(alloc),
-            outboxes: Outboxes::new(alloc),
-            plan: ToPut::nothing(alloc),
-            busy: false,
-            base: None,
-            last_heard,
+            ledger,
+            register,
+            of: PhantomData,
         })
     }
 
-    /// How many more records there may be beside those that are kept free.
-    pub(crate) fn free(&self) -> usize
-        ensures room { result + length self.now.history + held self.now.history
-            ≡ most self.now.limit }
-        ensures fits { most self.now.limit < 2 ^ 64 }
+    /// An empty book for at most `limit` records, as `new` makes one. Names are hashed by the keys of a state.
+    pub fn with_hasher(
+        alloc: Global,
+        register: Register<O::Name>,
+        settings: Settings,
+        limit: usize,
+        state: RandomState,
+    ) -> Result<Book<L, O>, BookFault>
+        requires named { register.table ≡ L.table }
+        requires empty { register.rows ≡ [] }
+        ensures ok { IfOk result
+            (λ b. (b ≡ empty_ledger limit settings) × IsWellSet settings limit) }
+        ensures bad { IfErr result (λ e. e ≡ BookFault.BadSettings → IsWellSet settings limit → ⊥) }
+        ensures memory { IfErr result (λ e. e ≡ BookFault.Memory → IsWellSet settings limit) }
     {
-        self.journal.most() - self.journal.newest() - self.seats.held()
+        let ledger = Ledger::with_hasher(alloc, settings, limit, state)?;
+        Ok(Book {
+            ledger,
+            register,
+            of: PhantomData,
+        })
     }
 
-    /// How many records are kept free.
-    pub(crate) fn held(&self) -> usize
-        ensures kept { result ≡ held self.now.history }
-        ensures fits { most self.now.limit < 2 ^ 64 }
+    /// The ledger, for every look at it.
+    pub fn ledger(&self) -> &Ledger<O>
+        ensures { result.now ≡ self.now }
     {
-        self.journal.most() - self.journal.newest() - self.free()
+        &self.ledger
     }
 
-    /// The seat of a session that was opened and isn't reaped.
-    fn seat(&self, session: SessionId) -> Option<Seat>
-        ensures known { IfSome result
-            (λ seat. IsKnown self.now session × IsSeat seat true self.now.history session) }
-        ensures unknown { result ≡ None → IsKnown self.now session → ⊥ }
+    /// The register, whose rows stand for the book.
+    pub fn register(&self) -> &Register<O::Name>
+        ensures named { result.now.table ≡ L.table }
+        ensures tied { IsTied O.name self.now result.now.rows }
     {
-        let seat = self.seats.seat(session)?;
-        Some(seat)
+        &self.register
     }
 
-    /// Whether a session may be opened now, memory apart.
-    fn check_open(&self, moment: Moment) -> Result<(), OpenRefusal>
-        ensures ok { OnOk result (MayOpen self.now moment) }
-        ensures fits { OnOk result (most self.now.limit < 2 ^ 64) }
-        ensures err { IfErr result (λ e. IsOpenRefusal self.now moment e) }
-        ensures no_memory { IfErr result (λ e. e ≢ OpenRefusal.Memory) }
-    {
-        let free = self.free();
-        if self.busy {
-            return Err(OpenRefusal::Busy);
-        }
-        if self.roster.settings().sessions <= self.outboxes.here() {
-            return Err(OpenRefusal::TooManySessions);
-        }
-        if free < 3 {
-            return Err(OpenRefusal::JournalFull);
-        }
-        if !moment.may_follow(self.journal.last_moment()) {
-            return Err(OpenRefusal::BadMoment);
-        }
-        Ok(())
-    }
-
-    /// Whether a session may be opened at a moment: what `open` would answer, want of memory apart. It takes no
-    /// memory.
-    pub fn may_open(&self, moment: Moment) -> Result<(), OpenRefusal>
-        ensures ok { OnOk result (MayOpen self.now moment) }
-        ensures refusal { IfErr result (λ e. IsOpenRefusal self.now moment e) }
-        ensures no_memory { IfErr result (λ e. e ≢ OpenRefusal.Memory) }
-    {
-        self.check_open(moment)
-    }
-
-    /// Opens a session whose host has the shape of one. A refusal gives the outbox back, and changes nothing.
+    /// Opens a session whose host has the shape of one, and gives its baton and its stub. A refusal gives the outbox
+    /// back, and changes nothing.
     pub fn open(
         &mut self,
         host: Octets,
         moment: Moment,
         outbox: O,
-    ) -> Result<(SessionId, Baton), (OpenRefusal, O)>
+    ) -> Result<(SessionId, Baton<L, O>, Stub<L, O::Name>), (OpenRefusal, O)>
         requires host { host_shape host ≡ true }
         requires fresh { O.sent outbox ≡ [] }
-        ensures ok { OnOk result (self.new ≡ opened self.old host moment outbox) }
-        ensures may { OnOk result (MayOpen self.old moment) }
-        ensures session { IfOk result (λ r. (r.0 ≡ sessions self.old.history + 1)
-            × (r.1 ≡ record { session = sessions self.old.history + 1; next = 0 })) }
-        ensures refusal { IfErr result (λ e. IsOpenRefusal self.old moment e.0) }
-        ensures err { IfErr result (λ e. (self.new ≡ self.old) × (e.1 ≡ outbox)) }
+        ensures outcome { IsOpenOutcome O.name self.old self.new host moment outbox result }
     {
-        match self.check_open(moment) {
-            Ok(()) => {}
-            Err(refusal) => return Err((refusal, outbox)),
+        self.ledger.sound();
+        if let Err(refusal) = self.ledger.may_open(moment) {
+            return Err((refusal, outbox));
         }
-        let Ok(told) = host.clone() else {
-            return Err((OpenRefusal::Memory, outbox));
-        };
-        let room = self.held() + 3;
-        let session = SessionId::new(self.seats.opened() + 1);
-        let deed = Deed::Opened { session, host };
-        if self.roster.prepare(slice::from_ref(&deed)).is_err()
-            || reserve(&mut self.journal, room, 0).is_err()
-            || self.outboxes.make_room().is_err()
-            || self.last_heard.open(session, moment).is_err()
-        {
-            return Err((OpenRefusal::Memory, outbox));
-        }
-        if self.seats.open(session).is_err() {
-            self.last_heard.forget(session);
-            return Err((OpenRefusal::Memory, outbox));
-        }
-        self.outboxes.open(session, outbox);
-        self.journal.append(
-            moment,
-            Kind::Opened {
-                session,
-                host: told,
-            },
-        );
-        self.roster.apply(deed);
-        Ok((session, Baton { session, next: 0 }))
+        let namesake = Namesake::of(&outbox);
+        let (session, turn) = self.ledger.open(host, moment, outbox)?;
+        let (mark, stub) = self.register.admit::<L, Namesake<O>>(session, &namesake);
+        let front = Snapshot::of(&self.ledger);
+        Ok((session, Baton { turn, mark, front }, stub))
     }
 
-    /// Whether a line of the session whose baton it is may be accepted now, memory apart.
-    pub(crate) fn check_line(&self, baton: &Baton, moment: Moment) -> Result<(), LineRefusal>
-        ensures ok { OnOk result (MayBegin self.now baton.now moment) }
-        ensures fits { OnOk result (most self.now.limit < 2 ^ 64) }
-        ensures err { IfErr result (λ e. IsLineRefusal self.now baton.now moment e) }
-    {
-        if self.busy {
-            return Err(LineRefusal::Busy);
-        }
-        let Some(seat) = self.seat(baton.session) else {
-            return Err(LineRefusal::WrongTurn);
-        };
-        if seat.accepted != baton.next {
-            return Err(LineRefusal::WrongTurn);
-        }
-        if seat.shut {
-            return Err(LineRefusal::Shut);
-        }
-        if self.free() < 1 {
-            return Err(LineRefusal::JournalFull);
-        }
-        if !moment.may_follow(self.journal.last_moment()) {
-            return Err(LineRefusal::BadMoment);
-        }
-        Ok(())
-    }
-
-    /// Begins the next line of a session: its piece is read, its record is appended, and a plan of its deliveries is
-    /// handed out. All memory is taken here; a refusal changes nothing.
+    /// Begins the next line of the baton's session: its record is appended, and a plan of its deliveries is handed
+    /// out. All memory is taken here; a refusal changes nothing. The line isn't done until the plan is given back.
     pub fn begin(
         &mut self,
-        baton: &Baton,
+        baton: &Baton<L, O>,
         piece: &Piece,
         moment: Moment,
     ) -> Result<Plan, LineRefusal>
-        ensures ok { OnOk result (self.new
-            ≡ begun self.old (kind.Said baton.now.session baton.now.next piece.now) moment) }
-        ensures out { IfOk result (λ p. IsOut self.new p) }
-        ensures line { IfOk result
-            (λ p. (p.session ≡ baton.now.session) × (p.next ≡ Some (baton.now.next + 1))) }
-        ensures may { OnOk result (MayBegin self.old baton.now moment) }
-        ensures refusal { IfErr result (λ e. IsLineRefusal self.old baton.now moment e) }
-        ensures err { OnErr result (self.new ≡ self.old) }
+        ensures begun { IsLineBegun self.old self.new (turn_of baton.now) piece.now moment result }
     {
-        self.check_line(baton, moment)?;
-        let line = ReadLine::read(self.alloc, piece)?;
-        Ok(self.begin_checked(baton, line, moment)?)
+        self.ledger.may_line(&baton.turn, moment)?;
+        let line = ReadLine::read(self.ledger.allocator(), piece)?;
+        self.begin_read(baton, line, moment)
     }
 
     /// Puts the first delivery of the plan that is out into its session's outbox, or notes that the session missed
@@ -320,94 +198,88 @@ impl<O: Outbox> Book<O> {
         ensures session { plan.new.session ≡ plan.old.session }
         ensures next { plan.new.next ≡ plan.old.next }
     {
-        let put = self.plan.take_first()?;
-        let hearer = put.session;
-        let settings = self.roster.settings();
-        let item = Item::new(put.delivery, hearer, &self.journal, settings);
-        if self.outboxes.offer(item) {
-            return Some(Step::Put(hearer));
-        }
-        self.seats.shut(hearer);
-        self.journal.miss(hearer);
-        plan.note(hearer);
-        Some(Step::Missed(hearer))
+        self.ledger.put_next(plan)
     }
 
-    /// Gives back the plan of a line, with nothing left in it, and the turn to the next line. It takes no memory.
-    pub fn finish(&mut self, plan: Plan, baton: &mut Baton) -> Done
+    /// Puts or misses the first delivery of the plan that is out, and notes whose it is where it was put.
+    fn put_noted(&mut self, plan: &mut Plan, told: &mut Told) -> Option<Step>
+        requires out { IsOut self.old plan.old }
+        ensures put { IsPutNext O.accepts O.refuses self.old self.old.plan result self.new }
+        ensures none { result ≡ None → self.new.plan ≡ [] }
+        ensures out { IsOut self.new plan.new }
+        ensures number { plan.new.number ≡ plan.old.number }
+        ensures session { plan.new.session ≡ plan.old.session }
+        ensures next { plan.new.next ≡ plan.old.next }
+        ensures told { TellsOf told.old told.new self.old.outboxes self.new.outboxes }
+    {
+        self.ledger().sound();
+        match self.put_next(plan)? {
+            Step::Put(session) => {
+                told.note(session);
+                Some(Step::Put(session))
+            }
+            Step::Missed(session) => Some(Step::Missed(session)),
+        }
+    }
+
+    /// Puts or misses all that is left of a plan, and notes who got something.
+    pub(crate) fn put_rest(&mut self, plan: &mut Plan, told: &mut Told)
+        requires out { IsOut self.old plan.old }
+        ensures put { IsPutAll O.accepts O.refuses self.old self.old.plan self.new }
+        ensures out { IsOut self.new plan.new }
+        ensures none { self.new.plan ≡ [] }
+        ensures number { plan.new.number ≡ plan.old.number }
+        ensures session { plan.new.session ≡ plan.old.session }
+        ensures next { plan.new.next ≡ plan.old.next }
+        ensures told { TellsOf told.old told.new self.old.outboxes self.new.outboxes }
+    {
+        while let Some(_) = self.put_noted(plan, told) {}
+    }
+
+    /// Gives back the plan of a line, with nothing left in it: now the line is done, and the turn goes on to the
+    /// next. It takes no memory.
+    pub fn finish(&mut self, plan: Plan, baton: &mut Baton<L, O>) -> Done
         requires out { IsOut self.old plan }
         requires none { self.old.plan ≡ [] }
         requires line { (plan.session ≡ baton.old.session)
             × (plan.next ≡ Some (baton.old.next + 1)) }
         ensures book { self.new ≡ finished self.old }
-        ensures baton { baton.new
-            ≡ record { session = baton.old.session; next = baton.old.next + 1 } }
+        ensures session { baton.new.session ≡ baton.old.session }
+        ensures next { baton.new.next ≡ baton.old.next + 1 }
+        ensures grown { baton.new.pieces
+            ≡ baton.old.pieces ++ newest_said self.old.history baton.old.session }
+        ensures accepted { baton.new.pieces ≡ accepted self.new.history baton.old.session }
+        ensures front { baton.new.front ≡ self.new.history }
         ensures number { result.number ≡ length self.old.history }
         ensures missed { result.missed ≡ newest_missed self.old.history }
         ensures shut { result.shut ≡ shut self.old.history baton.old.session }
     {
-        self.sound();
-        if let Some(next) = plan.next {
-            baton.next = next;
-        }
-        self.give_back(plan)
+        self.ledger.sound();
+        let number = plan.number();
+        baton.turn.go_on(&plan);
+        let done = self.ledger.finish(plan);
+        advance(&self.ledger, &mut self.register, &mut baton.mark, number);
+        baton.front = Snapshot::of(&self.ledger);
+        done
     }
 
-    /// Gives back the plan of a sweep, with nothing left in it. It takes no memory.
-    pub fn finish_sweep(&mut self, plan: Plan) -> Done
-        requires out { IsOut self.old plan }
-        requires none { self.old.plan ≡ [] }
-        requires sweep { (plan.next ≡ None) × (0 < plan.session) }
-        ensures book { self.new ≡ finished self.old }
-        ensures number { result.number ≡ length self.old.history }
-        ensures missed { result.missed ≡ newest_missed self.old.history }
-        ensures shut { result.shut ≡ shut self.old.history plan.session }
+    /// Accepts the next line of the baton's session: begins it, puts or misses all that it owes, and finishes it,
+    /// when the line is done. Whoever got something is told of it. A refusal changes nothing.
+    pub fn line(
+        &mut self,
+        baton: &mut Baton<L, O>,
+        piece: &Piece,
+        moment: Moment,
+        told: &mut Told,
+    ) -> Result<Done, LineRefusal>
+        ensures outcome { IsLineOutcome O.accepts O.refuses self.old self.new baton.old baton.new
+            piece.now moment result }
+        ensures told { OnOk result (TellsOf told.old told.new self.old.outboxes self.new.outboxes) }
+        ensures untold { OnErr result (told.new ≡ told.old) }
     {
-        self.give_back(plan)
-    }
-
-    fn give_back(&mut self, plan: Plan) -> Done
-        requires out { IsOut self.old plan }
-        requires none { self.old.plan ≡ [] }
-        requires session { 0 < plan.session }
-        ensures book { self.new ≡ finished self.old }
-        ensures number { result.number ≡ length self.old.history }
-        ensures missed { result.missed ≡ newest_missed self.old.history }
-        ensures shut { result.shut ≡ shut self.old.history plan.session }
-    {
-        let Plan {
-            number,
-            session,
-            next: _,
-            missed,
-        } = plan;
-        let shut = self.is_shut(session);
-        self.busy = false;
-        Done {
-            number,
-            missed: Sessions::from_small_vec(missed),
-            shut,
-        }
-    }
-
-    /// Whether a session may be hung now.
-    fn check_hang(&self, session: SessionId, moment: Moment) -> Result<(), HangRefusal>
-        ensures ok { OnOk result (MayHang self.now session moment) }
-        ensures err { IfErr result (λ e. IsHangRefusal self.now session moment e) }
-    {
-        if self.busy {
-            return Err(HangRefusal::Busy);
-        }
-        let Some(found) = self.seat(session) else {
-            return Err(HangRefusal::NoSession);
-        };
-        if found.shut {
-            return Err(HangRefusal::Shut);
-        }
-        if !moment.may_follow(self.journal.last_moment()) {
-            return Err(HangRefusal::BadMoment);
-        }
-        Ok(())
+        self.ledger.may_line(&baton.turn, moment)?;
+        let line = ReadLine::read(self.ledger.allocator(), piece)?;
+        self.line_read(baton, line, moment, told)
     }
 
     /// Ends a session: one record is appended, and its last item is put, or missed where its outbox doesn't take it.
@@ -418,296 +290,183 @@ impl<O: Outbox> Book<O> {
         why: Why,
         moment: Moment,
     ) -> Result<Hung, HangRefusal>
-        ensures ok { OnOk result
-            (IsDone O.accepts O.refuses self.old (kind.Hung session why) moment self.new) }
-        ensures may { OnOk result (MayHang self.old session moment) }
-        ensures number { IfOk result (λ d. d.number ≡ length self.old.history + 1) }
-        ensures missed { IfOk result
-            (λ d. d.missed ≡ list_any (λ u. u == session) (newest_missed self.new.history)) }
-        ensures refusal { IfErr result (λ e. IsHangRefusal self.old session moment e) }
-        ensures err { OnErr result (self.new ≡ self.old) }
+        ensures outcome { IsHangOutcome O.accepts O.refuses self.old self.new
+            session why moment result }
     {
-        self.check_hang(session, moment)?;
-        let number = self.journal.append(moment, Kind::Hung { session, why });
-        self.roster.end(session, why);
-        self.seats.shut(session);
-        let last = Delivery::Last { number, why };
-        let item = Item::new(last, session, &self.journal, self.roster.settings());
-        if self.outboxes.offer(item) {
-            return Ok(Hung {
-                number,
-                missed: false,
-            });
-        }
-        self.journal.miss(session);
-        Ok(Hung {
-            number,
-            missed: true,
-        })
+        self.ledger.hang(session, why, moment)
     }
 
-    /// The shut session of the lowest number that isn't gone.
-    fn next_to_sweep(&self) -> Option<SessionId>
-        ensures { result ≡ to_sweep self.now.history }
+    /// Ends a session, as `hang` does, and notes it where it got its last item. A refusal changes nothing.
+    pub fn hang_told(
+        &mut self,
+        session: SessionId,
+        why: Why,
+        moment: Moment,
+        told: &mut Told,
+    ) -> Result<Hung, HangRefusal>
+        ensures outcome { IsHangOutcome O.accepts O.refuses self.old self.new
+            session why moment result }
+        ensures told { OnOk result (TellsOf told.old told.new self.old.outboxes self.new.outboxes) }
+        ensures untold { OnErr result (told.new ≡ told.old) }
     {
-        self.seats.next_to_sweep()
+        let hung = self.hang(session, why, moment)?;
+        if !hung.missed {
+            told.note_in_room(session);
+        }
+        Ok(hung)
     }
 
     /// Begins to sweep the shut session of the lowest number that isn't gone: its record is appended, and a plan is
     /// handed out of what others are told. It answers `None` where there is no such session. All memory is taken
     /// here; a refusal changes nothing.
     pub fn begin_sweep(&mut self, moment: Moment) -> Result<Option<Plan>, SweepRefusal>
-        ensures some { IfOk result (λ o. IfSome o (λ p. (to_sweep self.old.history ≡ Some p.session)
-            × (self.new ≡ begun self.old (kind.Gone p.session) moment) × IsOut self.new p
-            × (p.next ≡ None))) }
-        ensures none { IfOk result
-            (λ o. o ≡ None → (to_sweep self.old.history ≡ None) × (self.new ≡ self.old)) }
-        ensures may { OnOk result (MaySweep self.old moment) }
-        ensures refusal { IfErr result (λ e. IsSweepRefusal self.old moment e) }
-        ensures err { OnErr result (self.new ≡ self.old) }
+        ensures begun { IsSweepBegun self.old self.new moment result }
     {
-        if self.busy {
-            return Err(SweepRefusal::Busy);
-        }
-        if !moment.may_follow(self.journal.last_moment()) {
-            return Err(SweepRefusal::BadMoment);
-        }
-        match self.next_to_sweep() {
-            Some(session) => Ok(Some(self.sweep_one(session, moment)?)),
-            None => Ok(None),
-        }
+        self.ledger.begin_sweep(moment)
     }
 
-    /// Begins to sweep a session, which is the one to sweep.
-    fn sweep_one(&mut self, session: SessionId, moment: Moment) -> Result<Plan, AllocError>
-        requires may { MaySweep self.old moment }
-        requires next { to_sweep self.old.history ≡ Some session }
-        ensures ok { OnOk result (self.new ≡ begun self.old (kind.Gone session) moment) }
-        ensures out { IfOk result (λ p. IsOut self.new p) }
-        ensures line { IfOk result (λ p. (p.session ≡ session) × (p.next ≡ None)) }
-        ensures err { OnErr result (self.new ≡ self.old) }
+    /// Gives back the plan of a sweep, with nothing left in it. It takes no memory.
+    pub fn finish_sweep(&mut self, sweep: Plan) -> Done
+        requires out { IsOut self.old sweep }
+        requires none { self.old.plan ≡ [] }
+        requires sweep { (sweep.next ≡ None) × (0 < sweep.session) }
+        ensures book { self.new ≡ finished self.old }
+        ensures number { result.number ≡ length self.old.history }
+        ensures missed { result.missed ≡ newest_missed self.old.history }
+        ensures shut { result.shut ≡ shut self.old.history sweep.session }
     {
-        let room = self.held();
-        let number = RecordNumber::new(self.journal.newest() as u64 + 1);
-        let by = Planning {
-            alloc: self.alloc,
-            roster: &self.roster,
-            seats: &self.seats,
-            actor: session,
-            number,
-            moment: moment_of_record(moment),
+        self.ledger.finish(sweep)
+    }
+
+    /// Sweeps up to one session: begins, puts or misses all that it owes, and finishes. Whoever got something is
+    /// told of it. A refusal changes nothing.
+    #[tactic(auto, using(ledger::proofs::Sweeps::swept_is))]
+    pub fn sweep(&mut self, moment: Moment, told: &mut Told) -> Result<Option<Done>, SweepRefusal>
+        ensures outcome { IsSweepOutcome O.accepts O.refuses self.old self.new moment result }
+        ensures told { OnOk result (TellsOf told.old told.new self.old.outboxes self.new.outboxes) }
+        ensures untold { OnErr result (told.new ≡ told.old) }
+    {
+        let Some(mut plan) = self.begin_sweep(moment)? else {
+            return Ok(None);
         };
-        let prepared = prepare_gone(&by)?;
-        let Prepared {
-            deeds,
-            plan,
-            missed,
-        } = prepared;
-        self.roster.prepare(&deeds)?;
-        reserve(&mut self.journal, room, plan.len())?;
-        self.journal.append(moment, Kind::Gone { session });
-        commit(&mut self.roster, deeds);
-        self.seats.leave(session);
-        self.plan = plan;
-        self.busy = true;
-        Ok(Plan {
-            number,
-            session,
-            next: None,
-            missed,
-        })
+        self.put_rest(&mut plan, told);
+        Ok(Some(self.finish_sweep(plan)))
     }
 
-    /// Whether a session may be reaped now: what `reap` would answer. It takes no memory.
-    pub fn may_reap(&self, session: SessionId) -> Result<(), ReapRefusal>
-        ensures ok { OnOk result (MayReap self.now session) }
-        ensures refusal { IfErr result (λ e. IsReapRefusal self.now session e) }
+    /// Begins a tick: its record is appended, and a plan is handed out of the PING that it owes each session that is
+    /// quiet for long enough and wasn't pinged since it was heard of. It answers `None` where there is no such
+    /// session. All memory is taken here; a refusal changes nothing.
+    pub fn begin_tick(&mut self, moment: Moment) -> Result<Option<Plan>, TickRefusal>
+        ensures begun { IsTickBegun self.old self.new moment result }
     {
-        if self.busy {
-            return Err(ReapRefusal::Busy);
-        }
-        let Some(seat) = self.seat(session) else {
-            return Err(ReapRefusal::Stranger);
+        self.ledger.begin_tick(moment)
+    }
+
+    /// Gives back the plan of a tick, with nothing left in it. It takes no memory.
+    pub fn finish_tick(&mut self, tick: Plan) -> Done
+        requires out { IsOut self.old tick }
+        requires none { self.old.plan ≡ [] }
+        requires tick { tick.session ≡ 0 }
+        ensures book { self.new ≡ finished self.old }
+        ensures number { result.number ≡ length self.old.history }
+        ensures missed { result.missed ≡ newest_missed self.old.history }
+        ensures shut { result.shut ≡ false }
+    {
+        self.ledger.sound();
+        self.ledger.finish(tick)
+    }
+
+    /// Pings whoever is quiet for long enough: begins, puts or misses all that the tick owes, and finishes. Whoever
+    /// got something is told of it. It answers `None` where nobody is to be pinged. A refusal changes nothing.
+    pub fn tick(&mut self, moment: Moment, told: &mut Told) -> Result<Option<Done>, TickRefusal>
+        ensures outcome { IsTickOutcome O.accepts O.refuses self.old self.new moment result }
+        ensures told { OnOk result (TellsOf told.old told.new self.old.outboxes self.new.outboxes) }
+        ensures untold { OnErr result (told.new ≡ told.old) }
+    {
+        let Some(mut plan) = self.begin_tick(moment)? else {
+            return Ok(None);
         };
-        if !seat.gone {
-            return Err(ReapRefusal::NotGone);
-        }
-        Ok(())
+        self.put_rest(&mut plan, told);
+        Ok(Some(self.finish_tick(plan)))
     }
 
-    /// Gives up a session that is gone, with what is left in its outbox, whose taker is given up with it. It takes
-    /// no memory; a refusal gives the baton and the taker back, and changes nothing.
-    pub fn reap(
-        &mut self,
-        baton: Baton,
-        taker: O::Taker,
-    ) -> Result<Left, (ReapRefusal, Baton, O::Taker)>
-        requires own { IfSome (box_at self.old.outboxes baton.session)
-            (λ o. O.name o ≡ O.taker_of taker) }
-        ensures ok { OnOk result (self.new ≡ reaped self.old baton.session) }
-        ensures session { IfOk result (λ l. l.session ≡ baton.session) }
-        ensures left { IfOk result
-            (λ l. IsLeft O.sent O.taken (box_at self.old.outboxes baton.session) taker l.count) }
-        ensures may { OnOk result (MayReap self.old baton.session) }
-        ensures refusal { IfErr result (λ e. IsReapRefusal self.old baton.session e.0) }
-        ensures err { IfErr result (λ e. (self.new ≡ self.old) × (e.1 ≡ baton) × (e.2 ≡ taker)) }
+    /// The session of the lowest number that isn't shut and is quiet for too long at a moment. It takes no memory.
+    pub fn late(&self, moment: Moment) -> Option<SessionId>
+        ensures { result ≡ late self.now.history moment }
     {
-        match self.may_reap(baton.session) {
-            Ok(()) => {
-                self.seats.give_up(baton.session);
-                self.last_heard.forget(baton.session);
-                forget_counts(&mut self.base, baton.session);
-                let count = self.outboxes.give_up(baton.session, taker);
-                Ok(Left {
-                    session: baton.session,
-                    count,
-                })
-            }
-            Err(refusal) => Err((refusal, baton, taker)),
-        }
-    }
-
-    /// The base of all records. No plan is out.
-    fn note_base(&self) -> Result<Base, AllocError>
-        requires idle { self.now.busy ≡ false }
-        ensures front { IfOk result
-            (λ b. (b.front ≡ self.now.history) × (b.settings ≡ self.now.settings)) }
-        ensures noted { IfOk result (λ b. (t : ℕ) → 0 < t → t ≤ sessions self.now.history
-            → is_noted b t ≡ is_here self.now.outboxes t) }
-        ensures opened { IfOk result
-            (λ b. (t : ℕ) → is_noted b t ≡ true → (0 < t) × (t ≤ sessions self.now.history)) }
-    {
-        let roster = self.roster.copy()?;
-        let counts = self
-            .outboxes
-            .counts(self.alloc, &self.seats, &self.last_heard)?;
-        Ok(Base::new(roster, counts, &self.journal))
+        self.ledger.late(moment)
     }
 
     /// Drops all records, and keeps what has to be known of them. Numbers go on, and there is room for as many
     /// records as at the start. A refusal changes nothing.
     pub fn roll(&mut self) -> Result<Rolled, RollRefusal>
-        ensures ok { OnOk result (self.new ≡ rolled self.old) }
-        ensures dropped { IfOk result
-            (λ r. r.dropped + self.old.limit.dropped ≡ length self.old.history) }
-        ensures next { IfOk result (λ r. r.next ≡ length self.old.history + 1) }
-        ensures idle { OnOk result (self.old.busy ≡ false) }
-        ensures refusal { IfErr result (λ e. IsRollRefusal self.old e) }
-        ensures err { OnErr result (self.new ≡ self.old) }
+        ensures outcome { IsRollOutcome self.old self.new result }
     {
-        if self.busy {
-            return Err(RollRefusal::Busy);
+        self.ledger.roll()
+    }
+
+    /// Whether tokens of these sessions may be given up now.
+    fn check_reap(&self, baton: SessionId, stub: SessionId) -> Result<(), ReapRefusal>
+        ensures ok { OnOk result (MayReap self.now baton stub) }
+        ensures err { IfErr result (λ e. IsReapRefusal self.now baton stub e) }
+    {
+        match self.ledger.may_reap(baton) {
+            Err(ReapRefusal::Busy) => Err(ReapRefusal::Busy),
+            Err(ReapRefusal::Stranger) => Err(ReapRefusal::Stranger),
+            Err(ReapRefusal::NotGone) if stub == baton => Err(ReapRefusal::NotGone),
+            Ok(()) if stub == baton => Ok(()),
+            _ => Err(ReapRefusal::Stranger),
         }
-        let base = self.note_base()?;
-        let dropped = self.journal.len();
-        let next = RecordNumber::new(self.journal.newest() as u64 + 1);
-        self.journal.cut();
-        self.base = Some(base);
-        Ok(Rolled { dropped, next })
     }
 
-    /// What is known of the records that were dropped. `None` where none was.
-    pub fn base(&self) -> Option<&Base>
-        ensures base { IfSome result (λ b. base_by b.now ≡ base_of self.now) }
-        ensures noted { IfSome result (λ b. (t : ℕ) → 0 < t → t ≤ (base_of self.now).sessions
-            → is_noted b.now t ≡ is_here self.now.outboxes t) }
-        ensures opened { IfSome result
-            (λ b. (t : ℕ) → is_noted b.now t ≡ true → (0 < t) × (t ≤ (base_of self.now).sessions)) }
-        ensures none { result ≡ None → self.now.limit.dropped ≡ 0 }
-        ensures some { IfSome result (λ b. 0 < self.now.limit.dropped) }
+    /// Gives up a session that is gone, with its tokens and with what is left in its outbox, whose taker is given up
+    /// with it. The taker is that of the outbox for which the stub was given. It takes no memory; a refusal gives
+    /// all three back, and changes nothing.
+    pub fn reap(
+        &mut self,
+        baton: Baton<L, O>,
+        stub: Stub<L, O::Name>,
+        taker: O::Taker,
+    ) -> Result<Left<L>, (ReapRefusal, Baton<L, O>, Stub<L, O::Name>, O::Taker)>
+    where
+        O::Taker: Drop,
+        requires own { stub.outbox ≡ Some (O.taker_of taker) }
+        ensures outcome { IsReapOutcome O.sent O.taken self.old self.new baton stub taker result }
     {
-        if self.journal.newest() == self.journal.len() {
-            return None;
+        match self.check_reap(baton.session(), stub.session()) {
+            Ok(()) => Ok(self.give_up(baton, stub, taker)),
+            Err(refusal) => Err((refusal, baton, stub, taker)),
         }
-        self.base.as_ref()
     }
 
-    /// The record of this number, if there is one that wasn't dropped.
-    pub fn record(&self, number: RecordNumber) -> Option<&Record>
-        ensures { record_at result ≡ numbered self.now.history self.now.limit.dropped number }
+    /// Gives up a session whose tokens these are.
+    fn give_up(&mut self, baton: Baton<L, O>, stub: Stub<L, O::Name>, taker: O::Taker) -> Left<L>
+    where
+        O::Taker: Drop,
+        requires own { stub.outbox ≡ Some (O.taker_of taker) }
+        requires may { MayReap self.old baton.session stub.session }
+        ensures book { self.new ≡ reaped self.old baton.session }
+        ensures session { result.session ≡ baton.session }
+        ensures left { IsAllOwed O.sent O.taken self.old baton.session taker result.count }
+        ensures pieces { AreAllAccepted self.old baton.session baton.pieces }
     {
-        self.journal.get(number)
-    }
-
-    /// How many records are kept.
-    pub fn len(&self) -> usize
-        ensures { result + self.now.limit.dropped ≡ length self.now.history }
-    {
-        self.journal.len()
-    }
-
-    /// The moment of the newest record, 0 before the first.
-    pub fn last_moment(&self) -> Moment
-        ensures { result ≡ last_moment self.now.history }
-    {
-        self.journal.last_moment()
-    }
-
-    /// Whether a session was opened and isn't shut.
-    pub fn is_open(&self, session: SessionId) -> bool
-        ensures { IsTrue result ↔ ((0 < session) × (session ≤ sessions self.now.history)
-            × (shut self.now.history session ≡ false)) }
-    {
-        self.seats.is_listening(session)
-    }
-
-    /// How many deliveries of the plan that is out aren't put yet, 0 where none is out.
-    pub fn puts_left(&self) -> usize
-        ensures { result ≡ length self.now.plan }
-    {
-        self.plan.len()
-    }
-
-    /// The server's settings.
-    pub fn settings(&self) -> &Settings
-        ensures { result.now ≡ self.now.settings }
-    {
-        self.roster.settings()
-    }
-
-    /// The nickname that a session has by the history.
-    pub fn nick_of(&self, session: SessionId) -> Option<&Octets>
-        ensures opened { 0 < session → session ≤ sessions self.now.history
-            → option_copied result ≡ nick (facts self.now.settings self.now.history) session }
-        ensures none { (0 < session → session ≤ sessions self.now.history → ⊥) → result ≡ None }
-    {
-        self.roster.nick_of(session)
-    }
-
-    /// Whether a session is on a channel by the history.
-    pub fn is_on(&self, session: SessionId, channel: &Octets) -> bool
-        ensures { result ≡ on (facts self.now.settings self.now.history) session channel.now }
-    {
-        self.roster.is_on(session, channel.as_slice())
-    }
-
-    /// Whether a session that was opened is shut.
-    fn is_shut(&self, session: SessionId) -> bool
-        requires { (0 < session) × (session ≤ sessions self.now.history) }
-        ensures { result ≡ shut self.now.history session }
-    {
-        !self.seats.is_listening(session)
-    }
-
-    /// What holds of every book: its history is legal, and what was put into each session's outbox, with what is
-    /// still in the plan, is what the history owes it.
-    pub fn sound(&self)
-        ensures { IsSound O.sent self.now }
-    {
-        let _ = &self.plan;
-    }
-
-    /// Each fact of the history might come when it did, so what follows of legal lists of facts holds of it.
-    pub fn facts_are_legal(&self)
-        ensures { AreLegal (facts self.now.settings self.now.history) }
-    {
-        self.roster.sound();
+        self.ledger.sound();
+        let Baton { turn, mark, .. } = baton;
+        let session = turn.session();
+        self.register.retire(mark, stub);
+        let Ok(left) = self.ledger.reap(turn, taker) else {
+            unreachable!();
+        };
+        Left {
+            left,
+            of: PhantomData,
+        }
     }
 }
 
-impl Book<Ring> {
-    ghost use Rattle.book.specs.Book.{taken, IsKnown};
-    ghost use Rattle.book.specs.Told.{IsTakeRefusal};
+impl<L: Naming> Book<L, Ring> {
+    ghost use Rattle.ledger.specs.Ledger.{taken, IsKnown};
+    ghost use Rattle.ledger.specs.Told.{IsTakeRefusal};
 
     /// Takes the item that waits longest for a session. It takes no memory.
     pub fn take(&mut self, session: SessionId) -> Result<Item, TakeRefusal>
@@ -718,12 +477,6 @@ impl Book<Ring> {
         ensures refusal { IfErr result (λ e. IsTakeRefusal self.old session e) }
         ensures err { OnErr result (self.new ≡ self.old) }
     {
-        if !self.outboxes.is_here(session) {
-            return Err(TakeRefusal::NoSession);
-        }
-        match self.outboxes.take(session) {
-            Some(item) => Ok(item),
-            None => Err(TakeRefusal::Empty),
-        }
+        self.ledger.take(session)
     }
 }

@@ -1,38 +1,24 @@
-//! The book: the journal and, for each session, its outbox.
+//! The book: sessions with tokens, which come together when a session is reaped, over the journal and the outboxes.
 #![tactic(auto)]
 
-mod base;
 mod baton;
 mod book;
-mod counting;
-mod heard;
-mod last_heard;
-mod laws;
+mod lasting;
+mod left;
 mod lines;
-mod out;
-mod outboxes;
-mod places;
-mod plan;
-mod read_line;
-mod refusals;
-mod seat;
-mod seats;
-mod settings;
-mod ticks;
-mod to_put;
+mod namesake;
+mod rings;
+mod told;
 
-pub use base::Base;
 pub use baton::Baton;
 pub use book::Book;
-pub use deliveries::{Delivery, Item, Text};
-pub use laws::{rings_take_each_record, rings_take_what_fits};
-pub use out::{Done, Hung, Left, Plan, Rolled, Step};
-pub use outbox::{Outbox, PutFault, Ring};
-pub use read_line::ReadLine;
-pub use refusals::{
-    BookFault, HangRefusal, LineRefusal, OpenRefusal, ReapRefusal, RollRefusal, SweepRefusal,
+pub use lasting::Lasting;
+pub use ledger::{
+    Base, BookFault, Done, HangRefusal, Hung, Ledger, LineRefusal, OpenRefusal, Outbox, Plan,
+    PutFault, ReadLine, ReapRefusal, Ring, RollRefusal, Rolled, Settings, Step, SweepRefusal,
     TakeRefusal, TickRefusal,
 };
-pub use registration::{MAX_SESSIONS, Settings};
-pub use roster::Sessions;
-pub use settings::MAX_RECORDS;
+pub use left::Left;
+pub use outbox;
+pub use register::{Naming, Register, Stub};
+pub use told::Told;

@@ -1,3 +1,2 @@
 pub mod LinesRead
 pub mod Moments
-pub mod Pinged

@@ -1,10 +1,7 @@
 -- At which moment a record is, and who was shut by it.
 use Rattle.std.proofs.Common.{◌≡◌, ℕ, ℤ, ◌+◌, true, List, [], ◌∷◌, length, All, Option}
 use Rattle.std.proofs.Common.{Some, None, refl, ap, sym, ◌∙◌, subst, add-one}
-use Rattle.std.specs.Prelude.{Result, OnOk, OnErr, IfErr}
-use Rattle.chronicle.specs.declared.why.Why.{Why}
 use Rattle.chronicle.specs.declared.record.Kind.{Kind}
-use Rattle.chronicle.specs.declared.record.Kind.TheVariants.{Hung}
 use Rattle.chronicle.specs.History.{Rec, last_moment, shut}
 use Rattle.chronicle.specs.Journal.{miss}
 use Rattle.session_ends.specs.Ends.{Puttings, accepts, refuses}
@@ -13,12 +10,9 @@ use Rattle.session_ends.specs.Planned.{Planned}
 use Rattle.session_ends.specs.Step.{Step}
 use Rattle.session_ends.specs.Step.TheVariants.{Put, Missed}
 use Rattle.session_ends.specs.Done.{Done}
-use Rattle.session_ends.specs.Hung.{Hung as Ended}
-use Rattle.session_ends.specs.HangRefusal.{HangRefusal}
-use Rattle.session_ends.specs.Book.{Shown, begun, plan_of, newest_missed, IsPutNext, IsPutAll, IsDone, IsHangRefusal}
+use Rattle.session_ends.specs.Ledger.{Shown, begun, plan_of, newest_missed, IsPutNext, IsPutAll, IsDone}
 use Rattle.session_ends.specs.Timing.{IsLater, older, IsAt, IsNext}
 use Rattle.crew.specs.Doing.{TellsOf, IsSeenTo}
-use Rattle.session_ends.specs.Hanging.{Hangs}
 
 -- two histories with the same records but for who missed the newest
 record AreLike (h k : List Rec) : Type 0 where
@@ -101,12 +95,3 @@ seen_to shows shuts b clock d session whose shown at told missed own = record {
     own = λ e. subst shuts (sym whose) (own (told.shut ∙ e));
   };
 }
-
--- what came of ending a session, by what was kept of the hall
-pub hangs_as : (m k old new : Shown Puttings) (s : ℕ) (why : Why) (moment : ℤ) (hung : Result Ended HangRefusal)
-    → old ≡ m → new ≡ k
-    → OnOk hung (IsDone accepts refuses m (Hung s why) moment k) → IfErr hung (λ e. IsHangRefusal m s moment e)
-    → OnErr hung (k ≡ m) → Hangs old new s why moment hung
-hangs_as m k old new s why moment hung is becomes ok refusal err =
-    subst (λ (x : Shown Puttings). Hangs x new s why moment hung) (sym is) (subst (λ (y : Shown Puttings). Hangs m y
-    s why moment hung) (sym becomes) (record { ok = ok; refusal = refusal; err = err }))

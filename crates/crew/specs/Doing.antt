@@ -6,7 +6,7 @@ use Rattle.line_grammar.specs.Lines.{lines, left_by}
 use Rattle.chronicle.specs.History.{Rec, shut}
 use Rattle.session_ends.specs.Turn.{Turn}
 use Rattle.session_ends.specs.Done.{Done as Told}
-use Rattle.session_ends.specs.Book.{newest_missed}
+use Rattle.session_ends.specs.Ledger.{newest_missed}
 use Rattle.session_ends.specs.Timing.{IsAt}
 use Rattle.intakes.specs.Taking.{Taken}
 use Rattle.crew.specs.declared.reading.Next.{Next}

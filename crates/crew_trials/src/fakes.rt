@@ -189,16 +189,23 @@ impl Backlog for Heap<'_> {
     }
 }
 
-/// A client's input, which comes in parts of so many octets at most, and then ends or fails.
+/// A client's input, which comes in parts of so many octets at most, and then ends or fails. Where it waits nothing is
+/// there at each other read, the first of them too.
 #[derive(Drop)]
-pub(crate) struct Torn<'a> {
+pub(crate) struct Input<'a> {
     pub(crate) octets: &'a [u8],
     pub(crate) most: usize,
     pub(crate) ends: bool,
+    pub(crate) waits: bool,
+    pub(crate) is_there: bool,
 }
 
-impl Read for Torn<'_> {
+impl Read for Input<'_> {
     fn read(&mut self, buf: &mut [u8]) -> io::Result<usize> {
+        self.is_there = !self.is_there;
+        if self.waits && self.is_there {
+            return Err(io::Error::from(ErrorKind::WouldBlock));
+        }
         if self.octets.is_empty() && !self.ends {
             return Err(io::Error::from(ErrorKind::ConnectionReset));
         }
@@ -207,41 +214,6 @@ impl Read for Torn<'_> {
         buf[..count].copy_from_slice(front);
         self.octets = rest;
         Ok(count)
-    }
-}
-
-/// A client's input that has nothing now at each second read, and ends after what it has.
-#[derive(Drop)]
-pub(crate) struct Waits<'a> {
-    pub(crate) octets: &'a [u8],
-    pub(crate) is_there: bool,
-}
-
-impl Read for Waits<'_> {
-    fn read(&mut self, buf: &mut [u8]) -> io::Result<usize> {
-        self.is_there = !self.is_there;
-        if self.is_there {
-            return Err(io::Error::from(ErrorKind::WouldBlock));
-        }
-        let count = self.octets.len().min(buf.len());
-        let (front, rest) = self.octets.split_at(count);
-        buf[..count].copy_from_slice(front);
-        self.octets = rest;
-        Ok(count)
-    }
-}
-
-/// A stream that fails.
-#[derive(Drop)]
-pub(crate) struct Broken;
-
-impl Write for Broken {
-    fn write(&mut self, _buf: &[u8]) -> io::Result<usize> {
-        Err(io::Error::from(ErrorKind::BrokenPipe))
-    }
-
-    fn flush(&mut self) -> io::Result<()> {
-        Ok(())
     }
 }
 
@@ -267,52 +239,45 @@ impl Write for Wanted<'_> {
     }
 }
 
-/// A stream that takes everything and counts its octets.
+/// How often a stream was written to, and how many octets it took.
 #[derive(Drop)]
-pub(crate) struct Tally<'a> {
-    written: &'a AtomicU64,
+pub(crate) struct Tally {
+    pub(crate) writes: AtomicU64,
+    pub(crate) octets: AtomicU64,
 }
 
-impl<'a> Tally<'a> {
-    /// A stream that counts here.
-    pub(crate) fn new(written: &'a AtomicU64) -> Tally<'a> {
-        Tally { written }
-    }
-}
-
-impl Write for Tally<'_> {
-    fn write(&mut self, buf: &[u8]) -> io::Result<usize> {
-        self.written.fetch_add(buf.len() as u64, Ordering::SeqCst);
-        Ok(buf.len())
-    }
-
-    fn flush(&mut self) -> io::Result<()> {
-        Ok(())
-    }
-}
-
-/// A stream that takes nothing so many times, and then everything, and counts its writes.
-#[derive(Drop)]
-pub(crate) struct Stuck<'a> {
-    left: u64,
-    writes: &'a AtomicU64,
-}
-
-impl<'a> Stuck<'a> {
-    /// A stream that takes nothing so many times, and counts here.
-    pub(crate) fn new(left: u64, writes: &'a AtomicU64) -> Stuck<'a> {
-        Stuck { left, writes }
-    }
-}
-
-impl Write for Stuck<'_> {
-    fn write(&mut self, buf: &[u8]) -> io::Result<usize> {
-        self.writes.fetch_add(1, Ordering::SeqCst);
-        if self.left == 0 {
-            return Ok(buf.len());
+impl Tally {
+    /// Nothing was written.
+    pub(crate) fn new() -> Tally {
+        Tally {
+            writes: AtomicU64::new(0),
+            octets: AtomicU64::new(0),
         }
-        self.left -= 1;
-        Err(io::Error::from(ErrorKind::WouldBlock))
+    }
+}
+
+/// A stream that takes nothing so many times, and then everything; or that fails.
+#[derive(Drop)]
+pub(crate) struct Stream<'a> {
+    pub(crate) tally: &'a Tally,
+    pub(crate) left: u64,
+    pub(crate) is_broken: bool,
+}
+
+impl Write for Stream<'_> {
+    fn write(&mut self, buf: &[u8]) -> io::Result<usize> {
+        self.tally.writes.fetch_add(1, Ordering::SeqCst);
+        if self.is_broken {
+            return Err(io::Error::from(ErrorKind::BrokenPipe));
+        }
+        if self.left > 0 {
+            self.left -= 1;
+            return Err(io::Error::from(ErrorKind::WouldBlock));
+        }
+        self.tally
+            .octets
+            .fetch_add(buf.len() as u64, Ordering::SeqCst);
+        Ok(buf.len())
     }
 
     fn flush(&mut self) -> io::Result<()> {

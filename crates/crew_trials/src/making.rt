@@ -1,9 +1,9 @@
 //! Sessions, each with all that is held of it.
-ghost use Rattle.std.specs.Prelude.{◌≡◌, Some, IfSome, true};
+ghost use Rattle.std.specs.Prelude.{◌≡◌, [], Some, IfSome, true};
 ghost use Rattle.std.specs.Option.{ForSome};
 ghost use Rattle.casemapping.specs.Names.{host_shape};
 
-use crate::fakes::{Open, Turnstile, Wanted};
+use crate::fakes::{Input, Open, Stream, Turnstile, Wanted};
 use crate::scene::Scene;
 use casemapping::is_host;
 use chronicle::{Moment, SessionId, Why};
@@ -17,7 +17,7 @@ use hall::{Baton, Hall, Left, LineRefusal, Naming, ReapRefusal, Stub, Told};
 use line_grammar::{Octets, Piece};
 use outbox::{Bell, ChannelName, Sender, Writer, pair};
 use std::alloc::Global;
-use std::io::{Read, Write};
+use std::io::Write;
 use std::sync::atomic::Ordering;
 use std::sync::{Mutex, Wait};
 use std::thread::{Threads, join};
@@ -74,16 +74,45 @@ fn intake(alloc: Global) -> Option<Intake> {
     }
 }
 
+impl<L: Naming, R: Wait + Drop> Guest<L, R> {
+    /// Nothing is held of it yet. Memory is asked for again where there was none.
+    pub(crate) fn new(alloc: Global) -> Guest<L, R> {
+        Guest {
+            session: SessionId::new(0),
+            told: Told::new(alloc),
+            intake: intake(alloc),
+            baton: None,
+            ends: None,
+        }
+    }
+}
+
+/// The two ends of an outbox for sixteen items. Memory is asked for again where there was none.
+fn outbox<R: Wait + Drop + Copy>(rt: &R, alloc: Global) -> Option<(Sender<R>, Writer)>
+    ensures sent { IfSome result (λ p. p.0.sent ≡ []) }
+    ensures channel { IfSome result (λ p. p.0.channel ≡ p.1.channel) }
+{
+    match pair(*rt, alloc, 16) {
+        Ok(ends) => Some(ends),
+        Err(_) => pair(*rt, alloc, 16).ok(),
+    }
+}
+
 impl<L: Naming, R: Wait + Drop + Copy> Guest<L, R> {
     /// Opens a session with an outbox for sixteen items, and answers whether it is opened.
-    fn comes(&mut self, rt: &R, alloc: Global, hall: &Mutex<Hall<L, Sender<R>>>) -> bool {
-        let Some(host) = host(alloc) else {
+    fn opens_once(&mut self, scene: &Scene<'_, L, R>) -> bool {
+        let Some(host) = host(scene.alloc) else {
             return false;
         };
-        let Ok((sender, writer)) = pair(*rt, alloc, 16) else {
+        let Some((sender, writer)) = outbox(scene.rt, scene.alloc) else {
             return false;
         };
-        match hall.lock(rt).open(host, Moment::new(0), sender) {
+        match scene
+            .stage
+            .hall
+            .lock(scene.rt)
+            .open(host, Moment::new(0), sender)
+        {
             Ok((session, baton, stub)) => {
                 self.session = session;
                 self.baton = Some(baton);
@@ -94,29 +123,13 @@ impl<L: Naming, R: Wait + Drop + Copy> Guest<L, R> {
         }
     }
 
-    /// A session that is opened, or that has no tokens where it can't be. Memory is asked for again where there was
-    /// none.
-    pub(crate) fn opened(rt: &R, alloc: Global, hall: &Mutex<Hall<L, Sender<R>>>) -> Guest<L, R> {
-        let mut guest = Guest {
-            session: SessionId::new(0),
-            told: Told::new(alloc),
-            intake: intake(alloc),
-            baton: None,
-            ends: None,
-        };
-        if !guest.comes(rt, alloc, hall) {
-            guest.comes(rt, alloc, hall);
-        }
-        guest
+    /// Whether a session is opened, which has an intake. Memory is asked for again where there was none.
+    pub(crate) fn comes(&mut self, scene: &Scene<'_, L, R>) -> bool {
+        self.intake.is_some() && (self.opens_once(scene) || self.opens_once(scene))
     }
 }
 
 impl<L: Naming, R: Wait + Drop> Guest<L, R> {
-    /// Whether it is opened, and has an intake.
-    pub(crate) fn is_in(&self) -> bool {
-        self.baton.is_some() && self.ends.is_some() && self.intake.is_some()
-    }
-
     /// Has lines done in turn under a slot, and answers whether all were.
     pub(crate) fn works(&mut self, scene: &Scene<'_, L, R>, pieces: &[Piece]) -> bool {
         match self.baton.take() {
@@ -136,15 +149,6 @@ impl<L: Naming, R: Wait + Drop> Guest<L, R> {
             Some(piece) => self.works(scene, &[piece]),
             None => false,
         }
-    }
-
-    /// Has lines done one by one, and answers whether all were.
-    pub(crate) fn says_all(&mut self, scene: &Scene<'_, L, R>, lines: &[&[u8]]) -> bool {
-        let mut all = true;
-        for octets in lines {
-            all = self.says(scene, octets) && all;
-        }
-        all
     }
 
     /// Does a line by itself.
@@ -175,11 +179,11 @@ impl<L: Naming, R: Wait + Drop> Guest<L, R> {
     }
 
     /// Does what is left of the intake or reads once, and answers whether all was done, and how the reading goes on.
-    pub(crate) fn reads<I: Read, B: Backlog>(
+    pub(crate) fn reads<B: Backlog>(
         &mut self,
         scene: &Scene<'_, L, R>,
         backlog: &B,
-        input: &mut I,
+        input: &mut Input<'_>,
     ) -> (bool, Next) {
         let Some(baton) = self.baton.take() else {
             return (false, Next::Nothing);
@@ -202,7 +206,7 @@ impl<L: Naming, R: Wait + Drop> Guest<L, R> {
     }
 
     /// Reads until its reading is over, and answers whether all lines were done.
-    pub(crate) fn reads_on<I: Read>(&mut self, scene: &Scene<'_, L, R>, input: &mut I) -> bool {
+    pub(crate) fn reads_on(&mut self, scene: &Scene<'_, L, R>, input: &mut Input<'_>) -> bool {
         match self.baton.take() {
             Some(baton) => {
                 let desk = &scene.around.desk;
@@ -233,9 +237,25 @@ impl<L: Naming, R: Wait + Drop> Guest<L, R> {
         }
     }
 
-    /// Takes an item, and answers whether one was there.
-    pub(crate) fn hears(&mut self, rt: &R) -> bool {
-        self.takes(rt).is_some()
+    /// Takes so many items, and answers whether each was there.
+    pub(crate) fn hears(&mut self, rt: &R, count: u32) -> bool {
+        let mut all = true;
+        for _ in 0..count {
+            all = self.takes(rt).is_some() && all;
+        }
+        all
+    }
+
+    /// Takes as many items as there are texts, and answers whether each is just its text, and none is left.
+    pub(crate) fn takes_all(&mut self, rt: &R, texts: &[&[u8]]) -> bool {
+        let mut all = true;
+        for text in texts {
+            all = match self.takes(rt) {
+                Some(item) => is_text(&item, text) && all,
+                None => false,
+            };
+        }
+        self.takes(rt).is_none() && all
     }
 
     /// Once more the bell that is rung where something is put.
@@ -258,11 +278,11 @@ impl<L: Naming, R: Wait + Drop> Guest<L, R> {
     }
 
     /// Gives an outlet a wire to this stream, and answers whether it did.
-    pub(crate) fn opens<W: Write + Drop>(
+    pub(crate) fn opens<'a>(
         &mut self,
         scene: &Scene<'_, L, R>,
-        stream: W,
-        outlet: &Outlet<L, W>,
+        stream: Stream<'a>,
+        outlet: &Outlet<L, Stream<'a>>,
     ) -> bool {
         match self.wire(scene.alloc, stream) {
             Some(wire) => {
@@ -274,11 +294,7 @@ impl<L: Naming, R: Wait + Drop> Guest<L, R> {
     }
 
     /// Writes to this stream until its writing is over, and answers whether its wire comes back.
-    pub(crate) fn writes_on<W: Write + Drop>(
-        &mut self,
-        scene: &Scene<'_, L, R>,
-        stream: W,
-    ) -> bool {
+    pub(crate) fn writes_on(&mut self, scene: &Scene<'_, L, R>, stream: Stream<'_>) -> bool {
         match self.wire(scene.alloc, stream) {
             Some(wire) => {
                 let wire = write_on(scene.rt, scene.alloc, &scene.stage, wire);

@@ -1,82 +1,66 @@
 //! Who misses a delivery is shut, and a journal that is full is rolled.
-use crate::making::Guest;
-use crate::scene::Scene;
-use crate::trial::{Both, Meeting, Trial, try_out};
-use hall::Naming;
-use std::sync::Wait;
+use crate::acts::Act;
+use crate::trial::{Step, Story, Who, try_out};
 
-/// What two people say to be on one channel.
-const AL: [&[u8]; 3] = [b"NICK al", b"USER a 0 * :Al", b"JOIN #a"];
+/// Two come, and are on one channel.
+const MEET: [Step; 8] = [
+    (Who::Al, Act::Comes),
+    (Who::Bo, Act::Comes),
+    (Who::Al, Act::Says(b"NICK al")),
+    (Who::Al, Act::Says(b"USER a 0 * :Al")),
+    (Who::Al, Act::Says(b"JOIN #a")),
+    (Who::Bo, Act::Says(b"NICK bo")),
+    (Who::Bo, Act::Says(b"USER b 0 * :Bo")),
+    (Who::Bo, Act::Says(b"JOIN #a")),
+];
 
-const BO: [&[u8]; 3] = [b"NICK bo", b"USER b 0 * :Bo", b"JOIN #a"];
+/// A text to the channel, for which bo has room fourteen times.
+const TEXT: [Step; 1] = [(Who::Al, Act::Says(b"PRIVMSG #a :x"))];
 
-/// A text to the channel, fourteen times.
-const TEXT: &[u8] = b"PRIVMSG #a :x";
+/// Bo has an outbox for sixteen and takes nothing: the fifteenth text that it is shown is missed, and it is shut.
+const MISSED: [Step; 4] = [
+    (Who::Bo, Act::IsShut(false)),
+    (Who::Al, Act::Says(b"PRIVMSG #a :x")),
+    (Who::Bo, Act::IsShut(true)),
+    (Who::Al, Act::IsShut(false)),
+];
 
-const TEXTS: [&[u8]; 14] = [TEXT; 14];
+const COMES: [Step; 1] = [(Who::Al, Act::Comes)];
 
-/// What is answered and shown to nobody else, ten times.
-const PINGS: [&[u8]; 10] = [b"PING x"; 10];
+/// Ten lines that are answered and shown to nobody else.
+const PINGS: [Step; 11] = [
+    (Who::Al, Act::Says(b"PING x")),
+    (Who::Al, Act::Says(b"PING x")),
+    (Who::Al, Act::Says(b"PING x")),
+    (Who::Al, Act::Says(b"PING x")),
+    (Who::Al, Act::Says(b"PING x")),
+    (Who::Al, Act::Says(b"PING x")),
+    (Who::Al, Act::Says(b"PING x")),
+    (Who::Al, Act::Says(b"PING x")),
+    (Who::Al, Act::Says(b"PING x")),
+    (Who::Al, Act::Says(b"PING x")),
+    (Who::Al, Act::Hears(10)),
+];
 
-/// One of two has an outbox for sixteen and takes nothing: the fifteenth text that it is shown is
-/// missed, and it is shut.
-struct Missing;
-
-impl<R: Wait + Copy + Drop> Meeting<R> for Missing {
-    fn run<L: Naming>(&self, scene: &Scene<'_, L, R>, al: &mut Guest<L, R>, bo: &mut Guest<L, R>) {
-        scene.note(al.says_all(scene, &AL));
-        scene.note(bo.says_all(scene, &BO));
-        scene.note(al.says_all(scene, &TEXTS));
-        // Fourteen have room.
-        scene.note(!scene.is_shut(bo.session));
-        scene.note(al.says(scene, TEXT));
-        scene.note(scene.is_shut(bo.session));
-        scene.note(!scene.is_shut(al.session));
-    }
-}
-
-/// Takes ten items, and answers whether each was there.
-fn takes_ten<L: Naming, R: Wait + Drop>(rt: &R, guest: &mut Guest<L, R>) -> bool {
-    let mut is_there = true;
-    for _ in 0..10u32 {
-        is_there = guest.hears(rt) && is_there;
-    }
-    is_there
-}
-
-/// Says ten lines twenty times, and answers whether each is answered.
-fn says_often<L: Naming, R: Wait + Drop>(scene: &Scene<'_, L, R>, al: &mut Guest<L, R>) -> bool {
-    let mut all = true;
-    for _ in 0..20u32 {
-        all = al.says_all(scene, &PINGS) && takes_ten(scene.rt, al) && all;
-    }
-    all
-}
-
-/// Two hundred lines of one session, in a journal for sixty-four records: each is done, since it is rolled.
-struct Rolled;
-
-impl<R: Wait + Copy + Drop> Trial<R> for Rolled {
-    fn run<L: Naming>(&self, scene: &Scene<'_, L, R>, al: &mut Guest<L, R>) {
-        scene.note(says_often(scene, al));
-        scene.note(scene.stage.hall.lock(scene.rt).base().is_some());
-        // Each roll was told, and the server goes on.
-        let kept = scene.records() as u64;
-        scene.note(scene.dropped().saturating_add(kept) == 201);
-        scene.note(scene.goes_on());
-    }
-}
+/// Two hundred lines are done in a journal for sixty-four records, since it is rolled; each roll was told.
+const ROLLED: [Step; 3] = [
+    (Who::Al, Act::IsRolled),
+    (Who::Al, Act::HasMade(201)),
+    (Who::Al, Act::ServerGoesOn),
+];
 
 /// One of two on a channel takes nothing of its outbox for sixteen: the fifteenth text is missed, it is shut, and
 /// nobody else is.
 #[test]
 fn who_misses_a_text_is_shut(rt: HostRuntime) {
-    try_out(&rt, rt.alloc(), &Both(Missing));
+    let parts: [(u32, &[Step]); 3] = [(1, &MEET), (14, &TEXT), (1, &MISSED)];
+    try_out(&rt, rt.alloc(), &Story::of(&parts));
 }
 
 /// Two hundred lines of one session in a journal for sixty-four records: each is done and answered, the journal was
 /// rolled, and the server goes on.
 #[test]
 fn a_full_journal_is_rolled(rt: HostRuntime) {
-    try_out(&rt, rt.alloc(), &Rolled);
+    let parts: [(u32, &[Step]); 3] = [(1, &COMES), (20, &PINGS), (1, &ROLLED)];
+    try_out(&rt, rt.alloc(), &Story::of(&parts));
 }

@@ -1,52 +1,20 @@
-//! What all that is tried works with: a server in memory, and the steps that are taken.
-use crate::fakes::{Dial, Noted, Open};
+//! What all that is tried works with: a server in memory.
+use crate::fakes::{Dial, Noted, Open, Stream, Tally};
 use chronicle::{Kind, RecordNumber, SessionId, Why};
 use crew::{Desk, Server, Sockets};
 use hall::{Hall, Naming};
 use outbox::Sender;
 use std::alloc::Global;
-use std::process::Abort;
-use std::sync::atomic::{AtomicU64, Ordering};
+use std::sync::atomic::Ordering;
 use std::sync::{Mutex, Wait};
 
-/// Steps that are taken in turn: how many, and which was the first that wasn't as it is to be, where one wasn't.
-#[derive(Drop)]
-pub(crate) struct Steps {
-    taken: AtomicU64,
-    wrong: AtomicU64,
-}
-
-impl Steps {
-    /// None is taken.
-    fn new() -> Steps {
-        Steps {
-            taken: AtomicU64::new(0),
-            wrong: AtomicU64::new(0),
-        }
-    }
-
-    /// Notes a step, and whether it is as it is to be.
-    pub(crate) fn note(&self, is_right: bool) {
-        let step = self.taken.fetch_add(1, Ordering::SeqCst).wrapping_add(1);
-        if !is_right && self.wrong.load(Ordering::SeqCst) == 0 {
-            self.wrong.store(step, Ordering::SeqCst);
-        }
-    }
-
-    /// Each step was as it is to be.
-    pub(crate) fn assert_right<R: Abort>(&self, rt: &R) {
-        let wrong = self.wrong.load(Ordering::SeqCst);
-        assert_eq!(rt; wrong, 0, "the first step that is wrong");
-    }
-}
-
-/// What stands around a hall: a desk with one slot, connections, a clock, and the steps that are taken.
+/// What stands around a hall: a desk with one slot, connections, a clock, and a count of what streams take.
 #[derive(Drop)]
 pub(crate) struct Surroundings {
     pub(crate) desk: Desk,
     sockets: Noted,
     clock: Dial,
-    pub(crate) steps: Steps,
+    pub(crate) tally: Tally,
 }
 
 impl Surroundings {
@@ -60,7 +28,7 @@ impl Surroundings {
             desk,
             sockets: Noted::new(),
             clock: Dial::new(),
-            steps: Steps::new(),
+            tally: Tally::new(),
         })
     }
 
@@ -99,10 +67,27 @@ pub(crate) struct Scene<'a, L: Naming, R: Wait + Drop> {
     pub(crate) around: &'a Surroundings,
 }
 
+impl<'a, L: Naming, R: Wait + Drop> Scene<'a, L, R> {
+    /// A stream that takes nothing so many times, and then everything; or that fails.
+    pub(crate) fn stream(&self, left: u64, is_broken: bool) -> Stream<'a> {
+        Stream {
+            tally: &self.around.tally,
+            left,
+            is_broken,
+        }
+    }
+}
+
 impl<L: Naming, R: Wait + Drop> Scene<'_, L, R> {
-    /// Notes a step, and whether it is as it is to be.
-    pub(crate) fn note(&self, is_right: bool) {
-        self.around.steps.note(is_right);
+    /// The clock shows this moment.
+    pub(crate) fn sets_clock(&self, moment: i64) -> bool {
+        self.stage.clock.set(moment);
+        true
+    }
+
+    /// Whether the journal was rolled.
+    pub(crate) fn is_rolled(&self) -> bool {
+        self.stage.hall.lock(self.rt).base().is_some()
     }
 
     /// How many records there are.
@@ -118,6 +103,11 @@ impl<L: Naming, R: Wait + Drop> Scene<'_, L, R> {
     /// How many records were dropped.
     pub(crate) fn dropped(&self) -> u64 {
         self.stage.sockets.dropped.load(Ordering::SeqCst)
+    }
+
+    /// Whether so many records were made, of which some may be dropped.
+    pub(crate) fn has_made(&self, count: u64) -> bool {
+        self.dropped().saturating_add(self.records() as u64) == count
     }
 
     /// Whether the server goes on.

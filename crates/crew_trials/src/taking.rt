@@ -1,9 +1,9 @@
 //! A writer takes while the hall is locked.
+use crate::acts::Act;
 use crate::fakes::{TURNS, rest};
 use crate::making::{Guest, is_text};
 use crate::scene::Scene;
-use crate::threads::Threaded;
-use crate::trial::try_with_threads;
+use crate::trial::{Step, Story, Who, try_out};
 use hall::Naming;
 use std::sync::Wait;
 use std::thread::{Threads, join};
@@ -25,18 +25,23 @@ fn hears_soon<L: Naming, R: Wait + Clock + Drop>(
 }
 
 /// Whether a line of a session is done, and just this session is told.
-fn is_told<L: Naming, R: Wait + Drop>(scene: &Scene<'_, L, R>, al: &mut Guest<L, R>) -> bool {
+pub(crate) fn is_told<L: Naming, R: Wait + Drop>(
+    scene: &Scene<'_, L, R>,
+    al: &mut Guest<L, R>,
+) -> bool {
     al.does(scene, b"PING x").is_ok()
         && al.told.sessions() == [al.session].as_slice()
         && !al.told.is_all()
 }
 
-/// Whether these lines are taken by another thread while this one has the hall.
-fn takes_meanwhile<L: Naming + Send + Sync, R: Threads + Wait + Clock + Copy + Drop + Send + Sync>(
-    scene: &Scene<'_, L, R>,
-    al: &mut Guest<L, R>,
-    lines: &[u8],
-) -> bool {
+/// Whether a line is done, and what it owes is taken by another thread while this one has the hall: these lines.
+pub(crate) fn take_meanwhile<
+    L: Naming + Send + Sync,
+    R: Threads + Wait + Clock + Copy + Drop + Send + Sync,
+>(scene: &Scene<'_, L, R>, al: &mut Guest<L, R>, lines: &[u8]) -> bool {
+    if !is_told(scene, al) {
+        return false;
+    }
     let hall = scene.stage.hall.lock(scene.rt);
     let (is_heard, ()) = join(scene.rt, || hears_soon(scene.rt, al, lines), || {});
     drop(hall);
@@ -44,18 +49,17 @@ fn takes_meanwhile<L: Naming + Send + Sync, R: Threads + Wait + Clock + Copy + D
 }
 
 /// An outbox is empty, and what a line owes is taken by another thread while this one has the hall.
-pub(crate) fn take_meanwhile<
-    L: Naming + Send + Sync,
-    R: Threads + Wait + Clock + Copy + Drop + Send + Sync,
->(scene: &Scene<'_, L, R>, al: &mut Guest<L, R>) {
-    scene.note(!al.hears(scene.rt));
-    scene.note(is_told(scene, al));
-    let lines = b":irc.example PONG irc.example x\r\n";
-    scene.note(takes_meanwhile(scene, al, lines));
-}
+const MEANWHILE: [Step; 3] = [
+    (Who::Al, Act::Comes),
+    (Who::Al, Act::HearsNothing),
+    (
+        Who::Al,
+        Act::TakesMeanwhile(b":irc.example PONG irc.example x\r\n"),
+    ),
+];
 
 /// An item is taken by another thread while the hall is locked.
 #[test]
 fn an_item_is_taken_while_the_hall_is_locked(rt: HostRuntime) {
-    try_with_threads(&rt, rt.alloc(), Threaded::Take);
+    try_out(&rt, rt.alloc(), &Story::of(&[(1, &MEANWHILE)]));
 }

@@ -1,9 +1,11 @@
-//! A trial on a server in memory.
+//! A story of sessions on a server in memory.
 ghost use Rattle.std.specs.Prelude.{◌≡◌, []};
 
+use crate::acts::{Act, Props, is_so};
+use crate::fakes::Input;
 use crate::making::Guest;
 use crate::scene::{Scene, Surroundings};
-use crate::threads::{Threaded, run_with_threads};
+use crew::Outlet;
 use crew_apart::hall;
 use hall::{Hall, Naming, Register};
 use outbox::{ChannelName, Sender};
@@ -14,142 +16,176 @@ use std::sync::{Mutex, Wait};
 use std::thread::Threads;
 use std::time::Clock;
 
-/// What is tried in a hall that was just made, with a session that was opened.
-pub(crate) trait Trial<R: Wait + Drop> {
-    /// Takes its steps, and notes each.
-    fn run<L: Naming>(&self, scene: &Scene<'_, L, R>, al: &mut Guest<L, R>);
-}
-
-/// What is tried with two sessions.
-pub(crate) trait Meeting<R: Wait + Drop> {
-    /// Takes its steps, and notes each.
-    fn run<L: Naming>(&self, scene: &Scene<'_, L, R>, al: &mut Guest<L, R>, bo: &mut Guest<L, R>);
-}
-
-/// A meeting, for which another session is opened.
+/// Steps that are taken in turn: how many, and which was the first that wasn't as it is to be, where one wasn't.
 #[derive(Drop)]
-pub(crate) struct Both<X>(pub(crate) X);
+pub(crate) struct Steps {
+    taken: u32,
+    wrong: u32,
+}
 
-impl<X: Meeting<R>, R: Wait + Copy + Drop> Trial<R> for Both<X> {
-    fn run<L: Naming>(&self, scene: &Scene<'_, L, R>, al: &mut Guest<L, R>) {
-        let mut bo = Guest::opened(scene.rt, scene.alloc, scene.stage.hall);
-        scene.note(bo.is_in());
-        self.0.run(scene, al, &mut bo);
+impl Steps {
+    /// Notes a step, and whether it is as it is to be.
+    fn note(&mut self, is_right: bool) {
+        self.taken = self.taken.saturating_add(1);
+        if !is_right && self.wrong == 0 {
+            self.wrong = self.taken;
+        }
     }
 }
 
-/// No trial.
-pub(crate) struct Nothing;
+/// Who acts: the first that is opened, or the second.
+#[derive(Clone, Copy, PartialEq)]
+pub(crate) enum Who {
+    Al,
+    Bo,
+}
 
-impl<R: Wait + Drop> Trial<R> for Nothing {
-    fn run<L: Naming>(&self, scene: &Scene<'_, L, R>, _al: &mut Guest<L, R>) {
-        scene.note(false);
+/// An act of one of two.
+pub(crate) type Step = (Who, Act);
+
+/// What happens: steps in turn, of which each part is repeated so often; and what is fed to a session, what it is told
+/// of that, and by which record it is ended then.
+#[derive(Drop)]
+pub(crate) struct Story<'a> {
+    pub(crate) input: &'a [u8],
+    pub(crate) most: usize,
+    pub(crate) ends: bool,
+    pub(crate) waits: bool,
+    pub(crate) output: &'a [u8],
+    pub(crate) number: u64,
+    pub(crate) parts: &'a [(u32, &'a [Step])],
+}
+
+impl<'a> Story<'a> {
+    /// What nothing is fed in.
+    pub(crate) fn of(parts: &'a [(u32, &'a [Step])]) -> Story<'a> {
+        Story {
+            input: b"",
+            most: 1,
+            ends: true,
+            waits: false,
+            output: b"",
+            number: 0,
+            parts,
+        }
+    }
+
+    /// What is fed, whole.
+    fn input(&self) -> Input<'a> {
+        Input {
+            octets: self.input,
+            most: self.most,
+            ends: self.ends,
+            waits: self.waits,
+            is_there: false,
+        }
     }
 }
 
-/// What is tried: a trial, or something with threads, which a trait's method can't start.
-#[derive(Drop)]
-enum Task<'a, X> {
-    Plain(&'a X),
-    Threaded(Threaded),
-}
-
-/// Runs a task.
-fn run<L: Naming + Send + Sync, X: Trial<R>, R: Threads + Wait + Clock + Copy + Drop + Send + Sync>(
-    scene: &Scene<'_, L, R>,
+/// Takes steps in turn, and notes each.
+fn go<'a, L: Naming + Send + Sync, R: Threads + Wait + Clock + Copy + Drop + Send + Sync>(
+    scene: &Scene<'a, L, R>,
     al: &mut Guest<L, R>,
-    task: &Task<'_, X>,
+    bo: &mut Guest<L, R>,
+    props: &mut Props<'a, L>,
+    acts: &[Step],
+    steps: &mut Steps,
 ) {
-    match task {
-        Task::Plain(trial) => trial.run(scene, al),
-        Task::Threaded(trial) => run_with_threads(scene, al, *trial),
+    for (who, act) in acts {
+        let is_right = match who {
+            Who::Al => is_so(scene, al, bo, props, act),
+            Who::Bo => is_so(scene, bo, al, props, act),
+        };
+        steps.note(is_right);
     }
 }
 
-/// Runs a task over this hall, with a session that is opened.
-fn run_over<
-    L: Naming + Send + Sync,
-    X: Trial<R>,
-    R: Threads + Wait + Clock + Copy + Drop + Send + Sync,
->(
-    rt: &R,
-    alloc: Global,
-    hall: &Mutex<Hall<L, Sender<R>>>,
-    around: &Surroundings,
-    task: &Task<'_, X>,
+/// Plays a story.
+fn play<'a, L: Naming + Send + Sync, R: Threads + Wait + Clock + Copy + Drop + Send + Sync>(
+    scene: &Scene<'a, L, R>,
+    al: &mut Guest<L, R>,
+    bo: &mut Guest<L, R>,
+    props: &mut Props<'a, L>,
+    story: &Story<'_>,
+    steps: &mut Steps,
 ) {
-    let scene = &around.scene(rt, alloc, hall);
-    let mut al = Guest::opened(rt, alloc, hall);
-    scene.note(al.is_in());
-    run(scene, &mut al, task);
+    for (count, acts) in story.parts {
+        for _ in 0..*count {
+            go(scene, al, bo, props, acts, steps);
+        }
+    }
 }
 
-/// Runs a task in a hall whose sessions this register has. It answers whether there was memory for the hall.
-fn run_in<
-    L: Naming + Send + Sync,
-    X: Trial<R>,
-    R: Threads + Wait + Clock + Copy + Drop + Send + Sync,
->(
+/// Plays a story over this hall.
+fn play_over<'a, L: Naming + Send + Sync, R: Threads + Wait + Clock + Copy + Drop + Send + Sync>(
+    rt: &'a R,
+    alloc: Global,
+    hall: &'a Mutex<Hall<L, Sender<R>>>,
+    around: &'a Surroundings,
+    story: &'a Story<'a>,
+    steps: &mut Steps,
+) {
+    let (mut al, mut bo) = (Guest::new(alloc), Guest::new(alloc));
+    let mut props = Props {
+        input: story.input(),
+        output: story.output,
+        number: story.number,
+        outlet: Outlet::new(),
+    };
+    let scene = around.scene(rt, alloc, hall);
+    play(&scene, &mut al, &mut bo, &mut props, story, steps);
+}
+
+/// Plays a story in a hall whose sessions this register has. It answers whether there was memory for the hall.
+fn play_in<L: Naming + Send + Sync, R: Threads + Wait + Clock + Copy + Drop + Send + Sync>(
     rt: &R,
     alloc: Global,
     register: Register<ChannelName>,
     around: &Surroundings,
-    task: &Task<'_, X>,
+    story: &Story<'_>,
+    steps: &mut Steps,
 ) -> bool
     requires named { register.table ≡ L.table }
     requires empty { register.rows ≡ [] }
 {
     match hall::<L, R>(alloc, register) {
         Some(made) => {
-            run_over(rt, alloc, &Mutex::new(made), around, task);
+            play_over(rt, alloc, &Mutex::new(made), around, story, steps);
             true
         }
         None => false,
     }
 }
 
-/// Runs a task in a hall with a register of its own. It answers whether there was memory for both.
-fn run_once<X: Trial<R>, R: Threads + Wait + Clock + Copy + Drop + Send + Sync>(
+/// Plays a story in a hall with a register of its own. It answers whether there was memory for both.
+fn play_once<R: Threads + Wait + Clock + Copy + Drop + Send + Sync>(
     rt: &R,
     alloc: Global,
     around: &Surroundings,
-    task: &Task<'_, X>,
+    story: &Story<'_>,
+    steps: &mut Steps,
 ) -> bool {
     match Register::new(alloc) {
-        Ok(register) => run_in::<Brand, X, R>(rt, alloc, register, around, task),
+        Ok(register) => play_in::<Brand, R>(rt, alloc, register, around, story, steps),
         Err(_) => false,
     }
 }
 
-/// Runs a task in a hall, which is made once more where there was no memory for it. Each of its steps is as it is to
+/// Plays a story in a hall, which is made once more where there was no memory for it. Each of its steps is as it is to
 /// be.
-fn run_all<X: Trial<R>, R: Threads + Wait + Clock + Abort + Copy + Drop + Send + Sync>(
+pub(crate) fn try_out<R: Threads + Wait + Clock + Abort + Copy + Drop + Send + Sync>(
     rt: &R,
     alloc: Global,
-    task: &Task<'_, X>,
+    story: &Story<'_>,
 ) {
-    let Some(around) = Surroundings::new(rt, alloc) else {
-        return assert!(rt; false, "what stands around a hall");
+    let mut steps = Steps { taken: 0, wrong: 0 };
+    let is_played = match Surroundings::new(rt, alloc) {
+        Some(around) => {
+            play_once(rt, alloc, &around, story, &mut steps)
+                || play_once(rt, alloc, &around, story, &mut steps)
+        }
+        None => false,
     };
-    let is_run = run_once(rt, alloc, &around, task) || run_once(rt, alloc, &around, task);
-    around.steps.note(is_run);
-    around.steps.assert_right(rt);
-}
-
-/// A trial.
-pub(crate) fn try_out<X: Trial<R>, R: Threads + Wait + Clock + Abort + Copy + Drop + Send + Sync>(
-    rt: &R,
-    alloc: Global,
-    trial: &X,
-) {
-    run_all(rt, alloc, &Task::Plain(trial));
-}
-
-/// A trial with threads.
-pub(crate) fn try_with_threads<R: Threads + Wait + Clock + Abort + Copy + Drop + Send + Sync>(
-    rt: &R,
-    alloc: Global,
-    trial: Threaded,
-) {
-    run_all::<Nothing, R>(rt, alloc, &Task::Threaded(trial));
+    steps.note(is_played);
+    assert!(rt; steps.wrong == 0, "step {} is wrong", steps.wrong);
 }

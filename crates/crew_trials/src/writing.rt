@@ -1,21 +1,37 @@
 //! What waits for a session is written while the hall is locked.
-use crate::fakes::{Broken, TURNS, Tally, rest};
+use crate::acts::Act;
+use crate::fakes::{Stream, TURNS, rest};
 use crate::making::Guest;
 use crate::scene::Scene;
-use crate::threads::Threaded;
-use crate::trial::{Trial, try_out, try_with_threads};
+use crate::trial::{Step, Story, Who, try_out};
 use chronicle::{SessionId, Why};
 use crew::{Outlet, Sockets, Standing, write_some};
 use hall::{Naming, Told};
 use outbox::Bell;
-use std::io::Write;
 use std::sync::Wait;
-use std::sync::atomic::{AtomicBool, AtomicU64, Ordering};
+use std::sync::atomic::{AtomicBool, Ordering};
 use std::thread::{Threads, join};
 use std::time::Clock;
+use wire::Flow;
 
-/// What a `PING x` is answered.
-const PONG: &[u8; 33] = b":irc.example PONG irc.example x\r\n";
+/// How many octets the answer of a `PING x` has.
+const PONG: u64 = 33;
+
+/// How an outlet's writing stands after it was written to, if it was.
+pub(crate) fn writes<L: Naming, R: Wait>(rt: &R, outlet: &Outlet<L, Stream<'_>>) -> Option<Flow> {
+    match &outlet.write_now(rt)?.flow {
+        Ok(flow) => Some(*flow),
+        Err(_) => None,
+    }
+}
+
+/// The same where its stream is told to take more.
+pub(crate) fn goes_on<L: Naming, R: Wait>(rt: &R, outlet: &Outlet<L, Stream<'_>>) -> Option<Flow> {
+    match &outlet.go_on(rt)?.flow {
+        Ok(flow) => Some(*flow),
+        Err(_) => None,
+    }
+}
 
 /// Looks until this is set, so many times at most.
 fn wait_for<R: Clock>(rt: &R, is_set: &AtomicBool) {
@@ -27,13 +43,13 @@ fn wait_for<R: Clock>(rt: &R, is_set: &AtomicBool) {
     }
 }
 
-/// Looks until so many octets are written, so many times at most, and answers whether they are.
-fn are_written<R: Clock>(rt: &R, written: &AtomicU64, count: u64) -> bool {
+/// Looks until the answer is written, so many times at most, and answers whether it is.
+fn is_written<L: Naming, R: Wait + Clock + Drop>(scene: &Scene<'_, L, R>) -> bool {
     for _ in 0..TURNS {
-        if written.load(Ordering::SeqCst) == count {
+        if scene.around.tally.octets.load(Ordering::SeqCst) == PONG {
             return true;
         }
-        rest(rt);
+        rest(scene.rt);
     }
     false
 }
@@ -43,19 +59,19 @@ fn are_written<R: Clock>(rt: &R, written: &AtomicU64, count: u64) -> bool {
 fn is_written_meanwhile<
     L: Naming + Send + Sync,
     R: Threads + Wait + Clock + Copy + Drop + Send + Sync,
->(scene: &Scene<'_, L, R>, al: &mut Guest<L, R>, bell: &Bell, written: &AtomicU64) -> bool {
+>(scene: &Scene<'_, L, R>, al: &mut Guest<L, R>, bell: &Bell) -> bool {
     let session = al.session;
     let is_held = AtomicBool::new(false);
     let (comes_back, is_written) = join(
         scene.rt,
         || {
             wait_for(scene.rt, &is_held);
-            al.writes_on(scene, Tally::new(written))
+            al.writes_on(scene, scene.stream(0, false))
         },
         || {
             let hall = scene.stage.hall.lock(scene.rt);
             is_held.store(true, Ordering::SeqCst);
-            let is_written = are_written(scene.rt, written, PONG.len() as u64);
+            let is_written = is_written(scene);
             drop(hall);
             scene.stage.sockets.shut(session);
             bell.ring();
@@ -65,25 +81,25 @@ fn is_written_meanwhile<
     comes_back && is_written
 }
 
-/// A line is answered, and its answer is written by the session's own thread while another has the hall.
+/// Whether a line is done, and its answer is written by the session's own thread while another has the hall.
 pub(crate) fn write_alone<
     L: Naming + Send + Sync,
     R: Threads + Wait + Clock + Copy + Drop + Send + Sync,
->(scene: &Scene<'_, L, R>, al: &mut Guest<L, R>) {
-    let written = AtomicU64::new(0);
-    scene.note(al.does(scene, b"PING x").is_ok());
-    match al.bell() {
-        Some(bell) => scene.note(is_written_meanwhile(scene, al, &bell, &written)),
-        None => scene.note(false),
+>(scene: &Scene<'_, L, R>, al: &mut Guest<L, R>) -> bool {
+    if al.does(scene, b"PING x").is_err() {
+        return false;
     }
-    scene.note(written.load(Ordering::SeqCst) == PONG.len() as u64);
+    match al.bell() {
+        Some(bell) => is_written_meanwhile(scene, al, &bell),
+        None => false,
+    }
 }
 
 /// Writes what waits, and answers whether the session's writing is over.
-fn is_over<L: Naming, R: Wait + Drop, W: Write + Drop>(
+pub(crate) fn is_over<L: Naming, R: Wait + Drop>(
     scene: &Scene<'_, L, R>,
     session: SessionId,
-    outlet: &Outlet<L, W>,
+    outlet: &Outlet<L, Stream<'_>>,
     is_shut: bool,
 ) -> bool {
     let mut told = Told::new(scene.alloc);
@@ -92,13 +108,13 @@ fn is_over<L: Naming, R: Wait + Drop, W: Write + Drop>(
 }
 
 /// The same while another thread has the hall.
-fn is_over_meanwhile<
+pub(crate) fn is_over_meanwhile<
     L: Naming + Send + Sync,
     R: Threads + Wait + Clock + Copy + Drop + Send + Sync,
 >(
     scene: &Scene<'_, L, R>,
     session: SessionId,
-    outlet: &Outlet<L, Tally<'_>>,
+    outlet: &Outlet<L, Stream<'_>>,
     is_shut: bool,
 ) -> bool {
     let hall = scene.stage.hall.lock(scene.rt);
@@ -107,64 +123,50 @@ fn is_over_meanwhile<
     is_over
 }
 
-/// Whether an outlet gives its wire to a session.
-fn gives<L: Naming, R: Wait>(rt: &R, outlet: &Outlet<L, Tally<'_>>, session: SessionId) -> bool {
-    outlet.end(rt, session).is_some()
-}
-
 /// A line is answered, and its answer is written by one thread while another has the hall. Once the session is shut
 /// and nothing waits its writing is over. The outlet gives its wire to its own session, once.
-pub(crate) fn write_beside<
-    L: Naming + Send + Sync,
-    R: Threads + Wait + Clock + Copy + Drop + Send + Sync,
->(scene: &Scene<'_, L, R>, al: &mut Guest<L, R>) {
-    let (written, outlet) = (AtomicU64::new(0), Outlet::new());
-    scene.note(al.does(scene, b"PING x").is_ok());
-    scene.note(al.opens(scene, Tally::new(&written), &outlet));
-    scene.note(!is_over_meanwhile(scene, al.session, &outlet, false));
-    scene.note(written.load(Ordering::SeqCst) == PONG.len() as u64);
-    scene.note(is_over_meanwhile(scene, al.session, &outlet, true));
-    scene.note(!gives(scene.rt, &outlet, SessionId::new(2)));
-    scene.note(gives(scene.rt, &outlet, al.session));
-    scene.note(!gives(scene.rt, &outlet, al.session));
-}
+const BESIDE: [Step; 9] = [
+    (Who::Al, Act::Comes),
+    (Who::Al, Act::Does(b"PING x")),
+    (Who::Al, Act::Opens(0, false)),
+    (Who::Al, Act::OverMeanwhile(false, false)),
+    (Who::Al, Act::Took(PONG)),
+    (Who::Al, Act::OverMeanwhile(true, true)),
+    (Who::Al, Act::GivesTo(2, false)),
+    (Who::Al, Act::Gives(true)),
+    (Who::Al, Act::Gives(false)),
+];
 
-/// Whether a session's writing to a stream that fails is over after a worker wrote.
-fn is_over_at_once<L: Naming, R: Wait + Drop>(
-    scene: &Scene<'_, L, R>,
-    al: &mut Guest<L, R>,
-) -> bool {
-    let outlet = Outlet::new();
-    let is_open = al.opens(scene, Broken, &outlet);
-    is_open && is_over(scene, al.session, &outlet, false)
-}
+/// A line is answered, and its answer is written by the session's own thread while another has the hall.
+const ALONE: [Step; 3] = [
+    (Who::Al, Act::Comes),
+    (Who::Al, Act::WritesAlone),
+    (Who::Al, Act::Took(PONG)),
+];
 
 /// A stream fails: the session is ended for that, once, and its connection is shut; by a worker, or
 /// by the session's own thread.
-#[derive(Drop)]
-struct Failing {
-    has_own_thread: bool,
-}
+const BY_A_WORKER: [Step; 5] = [
+    (Who::Al, Act::Comes),
+    (Who::Al, Act::Does(b"PING x")),
+    (Who::Al, Act::Opens(0, true)),
+    (Who::Al, Act::Over(false, true)),
+    (Who::Al, Act::IsEnded(3, Why::WriteFailed)),
+];
 
-impl<R: Wait + Copy + Drop> Trial<R> for Failing {
-    fn run<L: Naming>(&self, scene: &Scene<'_, L, R>, al: &mut Guest<L, R>) {
-        scene.note(al.does(scene, b"PING x").is_ok());
-        if self.has_own_thread {
-            scene.note(al.writes_on(scene, Broken));
-        } else {
-            scene.note(is_over_at_once(scene, al));
-        }
-        scene.note(scene.is_ended(3, al.session, Why::WriteFailed));
-    }
-}
+const BY_ITS_OWN: [Step; 4] = [
+    (Who::Al, Act::Comes),
+    (Who::Al, Act::Does(b"PING x")),
+    (Who::Al, Act::WritesOn),
+    (Who::Al, Act::IsEnded(3, Why::WriteFailed)),
+];
 
 /// A session's stream fails: it is hung with WriteFailed, once, and shut, whether a worker or a thread of its own
 /// writes.
 #[test]
 fn a_session_is_hung_where_its_stream_fails(rt: HostRuntime) {
-    for has_own_thread in [false, true] {
-        try_out(&rt, rt.alloc(), &Failing { has_own_thread });
-    }
+    try_out(&rt, rt.alloc(), &Story::of(&[(1, &BY_A_WORKER)]));
+    try_out(&rt, rt.alloc(), &Story::of(&[(1, &BY_ITS_OWN)]));
 }
 
 /// What waits for a session is written by one thread while another has the hall; once the session is shut and
@@ -172,12 +174,12 @@ fn a_session_is_hung_where_its_stream_fails(rt: HostRuntime) {
 /// has none.
 #[test]
 fn what_waits_is_written_while_the_hall_is_locked(rt: HostRuntime) {
-    try_with_threads(&rt, rt.alloc(), Threaded::WriteBeside);
+    try_out(&rt, rt.alloc(), &Story::of(&[(1, &BESIDE)]));
 }
 
 /// The same by a thread of the session's own, which ends once the session is shut and nothing waits, and gives the
 /// session's wire back.
 #[test]
 fn what_waits_is_written_by_the_sessions_own_thread(rt: HostRuntime) {
-    try_with_threads(&rt, rt.alloc(), Threaded::WriteAlone);
+    try_out(&rt, rt.alloc(), &Story::of(&[(1, &ALONE)]));
 }

@@ -1,26 +1,17 @@
 //! What stands in a lock.
-ghost use Rattle.std.specs.Prelude.{◌≡◌, ◌≢◌, ◌<◌, ◌≤◌, ◌+◌, ◌↔◌, ◌==◌, [], ℕ, Some, None, true, false};
-ghost use Rattle.std.specs.Prelude.{length, IsTrue, IfOk, IfErr, IfSome, OnOk, OnErr, option_copied};
-ghost use Rattle.std.specs.List.{list_any};
+ghost use Rattle.std.specs.Prelude.{◌≡◌, ◌≢◌, ◌<◌, ◌≤◌, ◌+◌, ◌↔◌, [], ℕ, Some, None, true, false};
+ghost use Rattle.std.specs.Prelude.{length, IsTrue, IfOk, IfErr, IfSome, option_copied};
 ghost use Rattle.casemapping.specs.Names.{host_shape};
 ghost use Rattle.chronicle.specs.declared.record.Kind.TheVariants as kind;
 ghost use Rattle.chronicle.specs.History.{sessions, last_moment, accepted, shut};
 ghost use Rattle.chronicle.specs.Journal.{numbered, record_at};
 ghost use Rattle.register.specs.Rows.{outbox_at, pieces_at};
-ghost use Rattle.register.specs.Shown.{new_stub};
-ghost use Rattle.batons.specs.Turn.{new_turn, next_turn};
-ghost use Rattle.book.specs.Settings.{IsWellSet};
-ghost use Rattle.book.specs.Book.{box_at};
-ghost use Rattle.hall.specs.Reaping.{turn_of, MayReap, IsReapRefusal, IsAllOwed, AreAllAccepted};
+ghost use Rattle.ledger.specs.Settings.{IsWellSet};
+ghost use Rattle.ledger.specs.Ledger.{box_at};
 
-use crate::baton::Baton;
-use crate::dispatch::Book;
-use crate::lasting::Lasting;
-use crate::left::Left;
-use crate::told::Told;
 use book::{
-    Base, BookFault, Done, HangRefusal, Hung, LineRefusal, OpenRefusal, ReapRefusal, RollRefusal,
-    Rolled, SweepRefusal, TickRefusal,
+    Base, Baton, Book, BookFault, Done, HangRefusal, Hung, Lasting, Left, LineRefusal, OpenRefusal,
+    ReapRefusal, RollRefusal, Rolled, SweepRefusal, TickRefusal, Told,
 };
 use chronicle::{Moment, Record, RecordNumber, SessionId, Why};
 use line_grammar::{Octets, Piece};
@@ -43,7 +34,7 @@ pub struct Hall<L: Naming, O: Outbox> {
 
 impl<L: Naming, O: Outbox> Model for Hall<L, O> {
     ghost use Rattle.std.specs.Prelude.{◌≡◌, false};
-    ghost use Rattle.book.specs.Book.{Shown};
+    ghost use Rattle.ledger.specs.Ledger.{Shown};
 
     ghost Value = { Shown O };
 
@@ -53,11 +44,11 @@ impl<L: Naming, O: Outbox> Model for Hall<L, O> {
 }
 
 impl<L: Naming, O: Lasting> Hall<L, O> {
-    ghost use Rattle.book.specs.Book.{empty_book, opened, reaped, IsDone, IsSound, to_sweep, to_ping, late, MayOpen};
-    ghost use Rattle.book.specs.Book.{MayBegin, MayHang, MaySweep, MayTick, IsSomebodyQuiet, HasRoom, IsOpenRefusal};
-    ghost use Rattle.book.specs.Book.{IsLineRefusal, IsHangRefusal, IsSweepRefusal, IsTickRefusal, IsRollRefusal};
-    ghost use Rattle.book.specs.Book.{newest_missed, is_here, rolled, base_of, nickname};
-    ghost use Rattle.book.specs.Noted.{base_by, is_noted};
+    ghost use Rattle.book.specs.Outcomes.{IsLineOutcome, IsOpenOutcome, IsReapOutcome};
+    ghost use Rattle.book.specs.Outcomes.{IsHangOutcome, IsRollOutcome, IsSweepOutcome, IsTickOutcome};
+    ghost use Rattle.ledger.specs.Ledger.{empty_ledger, opened, IsSound, late};
+    ghost use Rattle.ledger.specs.Ledger.{is_here, base_of, nickname};
+    ghost use Rattle.ledger.specs.Noted.{base_by, is_noted};
 
     /// An empty hall for at most `limit` records, whose tokens a register has that is named by `L` and has no
     /// session yet.
@@ -69,7 +60,8 @@ impl<L: Naming, O: Lasting> Hall<L, O> {
     ) -> Result<Hall<L, O>, BookFault>
         requires named { register.table ≡ L.table }
         requires empty { register.rows ≡ [] }
-        ensures ok { IfOk result (λ b. (b ≡ empty_book limit settings) × IsWellSet settings limit) }
+        ensures ok { IfOk result
+            (λ b. (b ≡ empty_ledger limit settings) × IsWellSet settings limit) }
         ensures bad { IfErr result (λ e. e ≡ BookFault.BadSettings → IsWellSet settings limit → ⊥) }
         ensures memory { IfErr result (λ e. e ≡ BookFault.Memory → IsWellSet settings limit) }
     {
@@ -90,7 +82,8 @@ impl<L: Naming, O: Lasting> Hall<L, O> {
     ) -> Result<Hall<L, O>, BookFault>
         requires named { register.table ≡ L.table }
         requires empty { register.rows ≡ [] }
-        ensures ok { IfOk result (λ b. (b ≡ empty_book limit settings) × IsWellSet settings limit) }
+        ensures ok { IfOk result
+            (λ b. (b ≡ empty_ledger limit settings) × IsWellSet settings limit) }
         ensures bad { IfErr result (λ e. e ≡ BookFault.BadSettings → IsWellSet settings limit → ⊥) }
         ensures memory { IfErr result (λ e. e ≡ BookFault.Memory → IsWellSet settings limit) }
     {
@@ -111,14 +104,8 @@ impl<L: Naming, O: Lasting> Hall<L, O> {
     ) -> Result<(SessionId, Baton<L, O>, Stub<L, O::Name>), (OpenRefusal, O)>
         requires host { host_shape host ≡ true }
         requires fresh { O.sent outbox ≡ [] }
-        ensures ok { OnOk result (self.new ≡ opened self.old host moment outbox) }
-        ensures may { OnOk result (MayOpen self.old moment) }
-        ensures session { IfOk result (λ r. r.0 ≡ sessions self.old.history + 1) }
-        ensures baton { IfOk result (λ r. r.1 ≡ new_turn r.0 self.new.history) }
-        ensures stub { IfOk result (λ r. r.2 ≡ new_stub r.0 (O.name outbox)) }
-        ensures refusal { IfErr result (λ e. IsOpenRefusal self.old moment e.0) }
+        ensures outcome { IsOpenOutcome O.name self.old self.new host moment outbox result }
         ensures not_busy { IfErr result (λ e. e.0 ≢ OpenRefusal.Busy) }
-        ensures err { IfErr result (λ e. (self.new ≡ self.old) × (e.1 ≡ outbox)) }
     {
         self.book.open(host, moment, outbox)
     }
@@ -131,18 +118,9 @@ impl<L: Naming, O: Lasting> Hall<L, O> {
         piece: &Piece,
         moment: Moment,
     ) -> Result<Done, LineRefusal>
-        ensures ok { OnOk result (IsDone O.accepts O.refuses self.old
-            (kind.Said baton.old.session baton.old.next piece.now) moment self.new) }
-        ensures baton { OnOk result (baton.new ≡ next_turn baton.old piece.now self.new.history) }
-        ensures accepted { OnOk result
-            (baton.new.pieces ≡ accepted self.new.history baton.old.session) }
-        ensures may { OnOk result (MayBegin self.old (turn_of baton.old) moment) }
-        ensures number { IfOk result (λ d. d.number ≡ length self.old.history + 1) }
-        ensures missed { IfOk result (λ d. d.missed ≡ newest_missed self.new.history) }
-        ensures shut { IfOk result (λ d. d.shut ≡ shut self.new.history baton.old.session) }
-        ensures refusal { IfErr result (λ e. IsLineRefusal self.old (turn_of baton.old) moment e) }
+        ensures outcome { IsLineOutcome O.accepts O.refuses self.old self.new baton.old baton.new
+            piece.now moment result }
         ensures not_busy { IfErr result (λ e. e ≢ LineRefusal.Busy) }
-        ensures err { OnErr result ((self.new ≡ self.old) × (baton.new ≡ baton.old)) }
     {
         self.told.clear();
         self.book.line(baton, piece, moment, &mut self.told)
@@ -156,15 +134,9 @@ impl<L: Naming, O: Lasting> Hall<L, O> {
         why: Why,
         moment: Moment,
     ) -> Result<Hung, HangRefusal>
-        ensures ok { OnOk result
-            (IsDone O.accepts O.refuses self.old (kind.Hung session why) moment self.new) }
-        ensures may { OnOk result (MayHang self.old session moment) }
-        ensures number { IfOk result (λ d. d.number ≡ length self.old.history + 1) }
-        ensures missed { IfOk result
-            (λ d. d.missed ≡ list_any (λ u. u == session) (newest_missed self.new.history)) }
-        ensures refusal { IfErr result (λ e. IsHangRefusal self.old session moment e) }
+        ensures outcome { IsHangOutcome O.accepts O.refuses self.old self.new
+            session why moment result }
         ensures not_busy { IfErr result (λ e. e ≢ HangRefusal.Busy) }
-        ensures err { OnErr result (self.new ≡ self.old) }
     {
         self.book.hang(session, why, moment)
     }
@@ -172,16 +144,8 @@ impl<L: Naming, O: Lasting> Hall<L, O> {
     /// Sweeps up to one session: the shut one of the lowest number that isn't gone. Its record is appended, and all
     /// that it owes is put or missed. It answers `None` where there is no such session. A refusal changes nothing.
     pub fn sweep(&mut self, moment: Moment) -> Result<Option<Done>, SweepRefusal>
-        ensures some { IfOk result (λ o. IfSome o (λ d. (s : ℕ)
-            × (to_sweep self.old.history ≡ Some s) × IsDone O.accepts O.refuses self.old
-            (kind.Gone s) moment self.new × (d.number ≡ length self.old.history + 1)
-            × (d.missed ≡ newest_missed self.new.history) × (d.shut ≡ shut self.new.history s))) }
-        ensures none { IfOk result
-            (λ o. o ≡ None → (to_sweep self.old.history ≡ None) × (self.new ≡ self.old)) }
-        ensures may { OnOk result (MaySweep self.old moment) }
-        ensures refusal { IfErr result (λ e. IsSweepRefusal self.old moment e) }
+        ensures outcome { IsSweepOutcome O.accepts O.refuses self.old self.new moment result }
         ensures not_busy { IfErr result (λ e. e ≢ SweepRefusal.Busy) }
-        ensures err { OnErr result (self.new ≡ self.old) }
     {
         self.told.clear();
         self.book.sweep(moment, &mut self.told)
@@ -190,17 +154,8 @@ impl<L: Naming, O: Lasting> Hall<L, O> {
     /// Pings each session that is quiet for long enough and wasn't pinged since it was heard of, by one record. It
     /// answers `None` where there is no such session. A refusal changes nothing.
     pub fn tick(&mut self, moment: Moment) -> Result<Option<Done>, TickRefusal>
-        ensures some { IfOk result (λ o. IfSome o (λ d. IsDone O.accepts O.refuses
-            self.old kind.Ticked moment self.new × (d.number ≡ length self.old.history + 1)
-            × (d.missed ≡ newest_missed self.new.history) × (d.shut ≡ false))) }
-        ensures quiet { IfOk result
-            (λ o. IfSome o (λ d. IsSomebodyQuiet self.old moment × HasRoom self.old)) }
-        ensures none { IfOk result
-            (λ o. o ≡ None → (to_ping self.old.history moment ≡ []) × (self.new ≡ self.old)) }
-        ensures may { OnOk result (MayTick self.old moment) }
-        ensures refusal { IfErr result (λ e. IsTickRefusal self.old moment e) }
+        ensures outcome { IsTickOutcome O.accepts O.refuses self.old self.new moment result }
         ensures not_busy { IfErr result (λ e. e ≢ TickRefusal.Busy) }
-        ensures err { OnErr result (self.new ≡ self.old) }
     {
         self.told.clear();
         self.book.tick(moment, &mut self.told)
@@ -226,17 +181,8 @@ impl<L: Naming, O: Lasting> Hall<L, O> {
     where
         O::Taker: Drop,
         requires own { stub.outbox ≡ Some (O.taker_of taker) }
-        ensures ok { OnOk result (self.new ≡ reaped self.old baton.session) }
-        ensures session { IfOk result (λ l. l.session ≡ baton.session) }
-        ensures left { IfOk result
-            (λ l. IsAllOwed O.sent O.taken self.old baton.session taker l.count) }
-        ensures pieces { OnOk result (AreAllAccepted self.old baton.session baton.pieces) }
-        ensures may { OnOk result (MayReap self.old baton.session stub.session) }
-        ensures refusal { IfErr result
-            (λ e. IsReapRefusal self.old baton.session stub.session e.0) }
+        ensures outcome { IsReapOutcome O.sent O.taken self.old self.new baton stub taker result }
         ensures not_busy { IfErr result (λ e. e.0 ≢ ReapRefusal.Busy) }
-        ensures same { OnErr result (self.new ≡ self.old) }
-        ensures back { IfErr result (λ e. (e.1 ≡ baton) × (e.2 ≡ stub) × (e.3 ≡ taker)) }
     {
         self.book.reap(baton, stub, taker)
     }
@@ -244,13 +190,8 @@ impl<L: Naming, O: Lasting> Hall<L, O> {
     /// Drops all records, and keeps what has to be known of them. Numbers go on, and there is room for as many
     /// records as at the start. A refusal changes nothing.
     pub fn roll(&mut self) -> Result<Rolled, RollRefusal>
-        ensures ok { OnOk result (self.new ≡ rolled self.old) }
-        ensures dropped { IfOk result
-            (λ r. r.dropped + self.old.limit.dropped ≡ length self.old.history) }
-        ensures next { IfOk result (λ r. r.next ≡ length self.old.history + 1) }
-        ensures refusal { IfErr result (λ e. IsRollRefusal self.old e) }
+        ensures outcome { IsRollOutcome self.old self.new result }
         ensures not_busy { IfErr result (λ e. e ≢ RollRefusal.Busy) }
-        ensures err { OnErr result (self.new ≡ self.old) }
     {
         self.book.roll()
     }
@@ -265,7 +206,7 @@ impl<L: Naming, O: Lasting> Hall<L, O> {
         ensures none { result ≡ None → self.now.limit.dropped ≡ 0 }
         ensures some { IfSome result (λ b. 0 < self.now.limit.dropped) }
     {
-        self.book.book().base()
+        self.book.ledger().base()
     }
 
     /// The register of the sessions' tokens: it has a row for each session that was opened, with the pieces that the
@@ -286,21 +227,21 @@ impl<L: Naming, O: Lasting> Hall<L, O> {
     pub fn record(&self, number: RecordNumber) -> Option<&Record>
         ensures { record_at result ≡ numbered self.now.history self.now.limit.dropped number }
     {
-        self.book.book().record(number)
+        self.book.ledger().record(number)
     }
 
     /// How many records are kept.
     pub fn len(&self) -> usize
         ensures { result + self.now.limit.dropped ≡ length self.now.history }
     {
-        self.book.book().len()
+        self.book.ledger().len()
     }
 
     /// The moment of the newest record, 0 before the first.
     pub fn last_moment(&self) -> Moment
         ensures { result ≡ last_moment self.now.history }
     {
-        self.book.book().last_moment()
+        self.book.ledger().last_moment()
     }
 
     /// Whether a session was opened and isn't shut.
@@ -308,7 +249,7 @@ impl<L: Naming, O: Lasting> Hall<L, O> {
         ensures { IsTrue result ↔ ((0 < session) × (session ≤ sessions self.now.history)
             × (shut self.now.history session ≡ false)) }
     {
-        self.book.book().is_open(session)
+        self.book.ledger().is_open(session)
     }
 
     /// The nickname that a session has: none before its first, and none once it is gone.
@@ -318,7 +259,7 @@ impl<L: Naming, O: Lasting> Hall<L, O> {
         ensures none { (0 < session → session ≤ sessions self.now.history → ⊥)
             → result ≡ None }
     {
-        self.book.book().nick_of(session)
+        self.book.ledger().nick_of(session)
     }
 
     /// What holds of every hall: its history is legal, what was put into each session's outbox is what the history
@@ -327,6 +268,6 @@ impl<L: Naming, O: Lasting> Hall<L, O> {
         ensures sound { IsSound O.sent self.now }
         ensures idle { self.now.busy ≡ false }
     {
-        self.book.book().sound();
+        self.book.ledger().sound();
     }
 }

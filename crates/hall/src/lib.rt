@@ -1,27 +1,12 @@
-//! A book whose sessions have tokens, which come together when a session is reaped; and what of it stands in a lock.
+//! What stands in a lock: a book with no plan out.
 #![tactic(auto)]
 
-mod baton;
-mod dispatch;
 mod hall;
-mod lasting;
-mod left;
-mod lines;
-mod namesake;
-mod rings;
 mod telling;
-mod told;
 
-pub use baton::Baton;
 pub use book::{
-    Base, BookFault, Done, HangRefusal, Hung, LineRefusal, OpenRefusal, Outbox, Plan, PutFault,
-    ReadLine, ReapRefusal, Ring, RollRefusal, Rolled, Settings, Step, SweepRefusal, TakeRefusal,
-    TickRefusal,
+    Base, Baton, BookFault, Done, HangRefusal, Hung, Lasting, Left, LineRefusal, Naming,
+    OpenRefusal, Outbox, Plan, PutFault, ReadLine, ReapRefusal, Register, Ring, RollRefusal,
+    Rolled, Settings, Step, Stub, SweepRefusal, TakeRefusal, TickRefusal, Told, outbox,
 };
-pub use dispatch::Book;
 pub use hall::Hall;
-pub use lasting::Lasting;
-pub use left::Left;
-pub use outbox;
-pub use register::{Naming, Register, Stub};
-pub use told::Told;

@@ -1,328 +1,150 @@
 //! A line that was read before it is done is done as one that is read then, and its label counts by the capabilities
 //! that its session has when it is done.
-use crate::again::{copied, line};
-use crate::guests::{Guest, enter};
-use crate::making::{Steps, Trial, over_channels};
-use chronicle::{Kind, Moment, RecordNumber, Why};
-use deliveries::Delivery;
-use hall::{Hall, Lasting, LineRefusal, Naming, ReadLine, Told};
-use line_grammar::{Octets, Piece};
-use outbox::{Sender, Writer};
-use std::alloc::Global;
-use std::sync::Wait;
-use std::test::Fail;
+use crate::acts::Act;
+use crate::making::{Story, over_channels};
+use crate::saying::TOO_LONG;
+use chronicle::Why;
+use hall::LineRefusal;
 
 /// Al asks for labels, and registers, by records 1 to 5.
-const LABELLING: [&str; 4] = [
-    "CAP REQ :batch labeled-response",
-    "NICK al",
-    "USER a 0 * :Al",
-    "CAP END",
+const LABELLING: [Act; 6] = [
+    Act::Come(1, 8),
+    Act::Says(1, "CAP REQ :batch labeled-response", &[]),
+    Act::Says(1, "NICK al", &[]),
+    Act::Says(1, "USER a 0 * :Al", &[]),
+    Act::Says(1, "CAP END", &[]),
+    Act::TakesSome(1, 2),
 ];
 
-/// Lines whose answers say nothing of what was said before.
-const LINES: [&str; 7] = [
-    "PING x",
-    "@label=a PING x",
-    "@label=b PONG x",
-    "FOO",
-    "PRIVMSG al :hi",
-    "WHOIS al",
-    "USER b 0 * :Bo",
+const WHOIS: &str =
+    ":irc.example 311 al al a h1 * :Al\r\n:irc.example 312 al al irc.example :halld\r\n\
+    :irc.example 318 al al :End of WHOIS list\r\n";
+
+const UNKNOWN: &str = ":irc.example 421 al FOO :Unknown command\r\n";
+
+const REGISTERED: &str = ":irc.example 462 al :Unauthorized command (already registered)\r\n";
+
+const LONG: &str = ":irc.example 417 al :Input line was too long\r\n";
+
+/// Lines whose answers say nothing of what was said before: al says each, and then once more, read before.
+const ALIKE: [Act; 40] = [
+    Act::Says(1, "PING x", &[]),
+    Act::Takes(1, &[":irc.example PONG irc.example x\r\n"]),
+    Act::Reads("PING x"),
+    Act::Does(1, "PING x", Ok(7)),
+    Act::Takes(1, &[":irc.example PONG irc.example x\r\n"]),
+    Act::Says(1, "@label=a PING x", &[]),
+    Act::Takes(1, &["@label=a :irc.example PONG irc.example x\r\n"]),
+    Act::Reads("@label=a PING x"),
+    Act::Does(1, "@label=a PING x", Ok(9)),
+    Act::Takes(1, &["@label=a :irc.example PONG irc.example x\r\n"]),
+    Act::Says(1, "@label=b PONG x", &[]),
+    Act::Takes(1, &["@label=b :irc.example ACK\r\n"]),
+    Act::Reads("@label=b PONG x"),
+    Act::Does(1, "@label=b PONG x", Ok(11)),
+    Act::Takes(1, &["@label=b :irc.example ACK\r\n"]),
+    Act::Says(1, "FOO", &[]),
+    Act::Takes(1, &[UNKNOWN]),
+    Act::Reads("FOO"),
+    Act::Does(1, "FOO", Ok(13)),
+    Act::Takes(1, &[UNKNOWN]),
+    Act::Says(1, "PRIVMSG al :hi", &[]),
+    Act::Takes(1, &[":al!a@h1 PRIVMSG al :hi\r\n"]),
+    Act::Reads("PRIVMSG al :hi"),
+    Act::Does(1, "PRIVMSG al :hi", Ok(15)),
+    Act::Takes(1, &[":al!a@h1 PRIVMSG al :hi\r\n"]),
+    Act::Says(1, "WHOIS al", &[]),
+    Act::Takes(1, &[WHOIS]),
+    Act::Reads("WHOIS al"),
+    Act::Does(1, "WHOIS al", Ok(17)),
+    Act::Takes(1, &[WHOIS]),
+    Act::Says(1, "USER b 0 * :Bo", &[]),
+    Act::Takes(1, &[REGISTERED]),
+    Act::Reads("USER b 0 * :Bo"),
+    Act::Does(1, "USER b 0 * :Bo", Ok(19)),
+    Act::Takes(1, &[REGISTERED]),
+    Act::Says(1, TOO_LONG, &[]),
+    Act::Takes(1, &[LONG]),
+    Act::Reads(TOO_LONG),
+    Act::Does(1, TOO_LONG, Ok(21)),
+    Act::Takes(1, &[LONG]),
 ];
 
-/// A piece as it is read, once more where a growth was refused.
-fn read(alloc: Global, piece: &Piece) -> Option<ReadLine> {
-    match ReadLine::read(alloc, piece) {
-        Ok(line) => Some(line),
-        Err(_) => ReadLine::read(alloc, piece).ok(),
-    }
-}
+/// Al's labels are off when the first line is done, and on when the second is.
+const LABELLED: [Act; 10] = [
+    Act::Reads("@label=a PING x"),
+    Act::Says(1, "CAP REQ :-labeled-response", &[]),
+    Act::TakesSome(1, 1),
+    Act::Does(1, "@label=a PING x", Ok(7)),
+    Act::Takes(1, &[":irc.example PONG irc.example x\r\n"]),
+    Act::Reads("@label=a PING x"),
+    Act::Says(1, "CAP REQ :labeled-response", &[]),
+    Act::TakesSome(1, 1),
+    Act::Does(1, "@label=a PING x", Ok(9)),
+    Act::Takes(1, &["@label=a :irc.example PONG irc.example x\r\n"]),
+];
 
-/// What a line that was read is answered: the number of its record, or why there is none. Where a growth is refused
-/// it is read and said once more.
-fn answer_read<L: Naming, O: Lasting<Taker = T>, T: Drop>(
-    alloc: Global,
-    hall: &mut Hall<L, O>,
-    guest: &mut Guest<L, O, T>,
-    line: ReadLine,
-    piece: &Piece,
-) -> Option<Result<u64, LineRefusal>> {
-    let mut told = Told::new(alloc);
-    let first = hall.line_read(&mut guest.baton, line, Moment::new(0), &mut told);
-    let answer = match first {
-        Err(LineRefusal::Memory) => {
-            let again = read(alloc, piece)?;
-            hall.line_read(&mut guest.baton, again, Moment::new(0), &mut told)
-        }
-        answer => answer,
-    };
-    match answer {
-        Ok(done) => Some(Ok(done.number.number())),
-        Err(refusal) => Some(Err(refusal)),
-    }
-}
+/// Al's lines, each read before, come before the newest record, in a full journal, and after al was hung.
+const REFUSED: [Act; 22] = [
+    Act::Come(1, 16),
+    Act::Says(1, "NICK al", &[]),
+    Act::Says(1, "USER a 0 * :Al", &[]),
+    Act::Says(1, "PING x", &[]),
+    Act::Says(1, "PING x", &[]),
+    Act::TakesSome(1, 3),
+    Act::At(-1),
+    Act::Reads(TOO_LONG),
+    Act::Does(1, TOO_LONG, Err(LineRefusal::BadMoment)),
+    Act::Has(5),
+    Act::At(0),
+    Act::Reads("PING x"),
+    Act::Does(1, "PING x", Ok(6)),
+    Act::Reads("PING x"),
+    Act::Does(1, "PING x", Err(LineRefusal::JournalFull)),
+    Act::Has(6),
+    Act::TakesSome(1, 1),
+    Act::Hung(1, Why::Shutdown, false),
+    Act::Reads("PING x"),
+    Act::Does(1, "PING x", Err(LineRefusal::Shut)),
+    Act::Has(7),
+    Act::TakesSome(1, 1),
+];
 
-/// What a line is answered that is read before it is said.
-fn says_read<L: Naming, O: Lasting<Taker = T>, T: Drop>(
-    alloc: Global,
-    hall: &mut Hall<L, O>,
-    guest: &mut Guest<L, O, T>,
-    text: &str,
-) -> Option<Result<u64, LineRefusal>> {
-    let piece = line(alloc, text).ok()?;
-    let line = read(alloc, &piece)?;
-    answer_read(alloc, hall, guest, line, &piece)
-}
+const READ_AND_DONE: Story = Story {
+    size: (1, 32),
+    rounds: 1,
+    parts: &[&LABELLING, &ALIKE],
+};
 
-/// The text of the one item that waits for a guest.
-fn hears<L: Naming, R: Wait + Drop>(
-    rt: &R,
-    alloc: Global,
-    guest: &mut Guest<L, Sender<R>, Writer>,
-) -> Option<Octets> {
-    let item = guest.taker.take_now(rt).ok()?;
-    if guest.taker.take_now(rt).is_ok() {
-        return None;
-    }
-    match item.into_delivery() {
-        Delivery::Lines { number: _, text } => copied(alloc, text.as_slice()).ok(),
-        Delivery::Last { number: _, why: _ } => None,
-    }
-}
+const OFF_AND_ON: Story = Story {
+    size: (1, 16),
+    rounds: 1,
+    parts: &[&LABELLING, &LABELLED],
+};
 
-/// Takes all that waits for a guest.
-fn takes_all<L: Naming, R: Wait + Drop>(rt: &R, guest: &mut Guest<L, Sender<R>, Writer>) {
-    for _ in 0..8 {
-        let _ = guest.taker.take_now(rt);
-    }
-}
-
-/// Whether the newest record says this piece.
-fn is_newest<L: Naming, O: Lasting>(hall: &Hall<L, O>, piece: &Piece) -> bool {
-    let Some(record) = hall.record(RecordNumber::new(hall.len() as u64)) else {
-        return false;
-    };
-    match &record.kind {
-        Kind::Said { piece: said, .. } => *said == *piece,
-        _ => false,
-    }
-}
-
-/// Says a piece that is read when it is done, and gives its text.
-fn heard_of<L: Naming, R: Wait + Drop>(
-    rt: &R,
-    alloc: Global,
-    hall: &mut Hall<L, Sender<R>>,
-    guest: &mut Guest<L, Sender<R>, Writer>,
-    piece: &Piece,
-) -> Option<Octets> {
-    if !guest.says(hall, piece) || !is_newest(hall, piece) {
-        return None;
-    }
-    hears(rt, alloc, guest)
-}
-
-/// Says a piece that was read, and gives its text.
-fn heard_of_read<L: Naming, R: Wait + Drop>(
-    rt: &R,
-    alloc: Global,
-    hall: &mut Hall<L, Sender<R>>,
-    guest: &mut Guest<L, Sender<R>, Writer>,
-    line: ReadLine,
-    piece: &Piece,
-) -> Option<Octets> {
-    let answer = answer_read(alloc, hall, guest, line, piece)?;
-    if answer.is_err() || !is_newest(hall, piece) {
-        return None;
-    }
-    hears(rt, alloc, guest)
-}
-
-/// Whether a piece leaves the same where it was read before: its record, and one item with the same text.
-fn is_alike<L: Naming, R: Wait + Drop>(
-    rt: &R,
-    alloc: Global,
-    hall: &mut Hall<L, Sender<R>>,
-    guest: &mut Guest<L, Sender<R>, Writer>,
-    piece: &Piece,
-) -> bool {
-    let Some(line) = read(alloc, piece) else {
-        return false;
-    };
-    let first = heard_of(rt, alloc, hall, guest, piece);
-    let again = heard_of_read(rt, alloc, hall, guest, line, piece);
-    first.is_some() && first == again
-}
-
-/// Whether each line leaves the same where it was read before, one that is too long too.
-fn are_alike<L: Naming, R: Wait + Drop>(
-    rt: &R,
-    alloc: Global,
-    hall: &mut Hall<L, Sender<R>>,
-    guest: &mut Guest<L, Sender<R>, Writer>,
-) -> bool {
-    for text in LINES {
-        let Ok(piece) = line(alloc, text) else {
-            return false;
-        };
-        if !is_alike(rt, alloc, hall, guest, &piece) {
-            return false;
-        }
-    }
-    is_alike(rt, alloc, hall, guest, &Piece::TooLong)
-}
-
-/// Al says each line twice, once read before.
-struct Alike;
-
-impl<R: Wait + Copy + Drop> Trial<Sender<R>, R, Writer> for Alike {
-    fn run<L: Naming>(
-        &self,
-        rt: &R,
-        alloc: Global,
-        hall: &mut Hall<L, Sender<R>>,
-        steps: &mut Steps,
-    ) {
-        let Some(mut al) = enter(rt, alloc, hall, 8) else {
-            return steps.note(false);
-        };
-        steps.note(al.says_all(alloc, hall, &LABELLING));
-        takes_all(rt, &mut al);
-        steps.note(are_alike(rt, alloc, hall, &mut al));
-    }
-}
+const READ_AND_REFUSED: Story = Story {
+    size: (1, 8),
+    rounds: 1,
+    parts: &[&REFUSED],
+};
 
 /// A line that was read before it is done leaves the same record and the same text as one that is read then: a
 /// PING, one with a label, an ACK, an unknown command, a text to oneself, several lines, a fault, and a line that
 /// is too long.
 #[test]
-fn a_line_that_was_read_leaves_the_same(rt: HostRuntime) -> Result<(), Fail> {
-    over_channels(&rt, rt.alloc(), &Alike, (1, 32))
-}
-
-/// Whether al, who says this between the reading of `@label=a PING x` and its doing, hears this then.
-fn hears_after<L: Naming, R: Wait + Drop>(
-    rt: &R,
-    alloc: Global,
-    hall: &mut Hall<L, Sender<R>>,
-    guest: &mut Guest<L, Sender<R>, Writer>,
-    between: &str,
-    wanted: &str,
-) -> bool {
-    let Ok(piece) = line(alloc, "@label=a PING x") else {
-        return false;
-    };
-    let Some(line) = read(alloc, &piece) else {
-        return false;
-    };
-    let is_said = guest.says_all(alloc, hall, &[between]);
-    takes_all(rt, guest);
-    match heard_of_read(rt, alloc, hall, guest, line, &piece) {
-        Some(text) => is_said && text.as_slice() == wanted.as_bytes(),
-        None => false,
-    }
-}
-
-/// Al's labels are off when the first line is done, and on when the second is.
-struct Labelled;
-
-impl<R: Wait + Copy + Drop> Trial<Sender<R>, R, Writer> for Labelled {
-    fn run<L: Naming>(
-        &self,
-        rt: &R,
-        alloc: Global,
-        hall: &mut Hall<L, Sender<R>>,
-        steps: &mut Steps,
-    ) {
-        let Some(mut al) = enter(rt, alloc, hall, 8) else {
-            return steps.note(false);
-        };
-        steps.note(al.says_all(alloc, hall, &LABELLING));
-        let off = "CAP REQ :-labeled-response";
-        let plain = ":irc.example PONG irc.example x\r\n";
-        steps.note(hears_after(rt, alloc, hall, &mut al, off, plain));
-        let on = "CAP REQ :labeled-response";
-        let labelled = "@label=a :irc.example PONG irc.example x\r\n";
-        steps.note(hears_after(rt, alloc, hall, &mut al, on, labelled));
-    }
+fn a_line_that_was_read_leaves_the_same(rt: HostRuntime) {
+    over_channels(&rt, rt.alloc(), &READ_AND_DONE);
 }
 
 /// A label counts by the capabilities before its line is done, whatever they were when it was read.
 #[test]
-fn a_label_counts_when_its_line_is_done(rt: HostRuntime) -> Result<(), Fail> {
-    over_channels(&rt, rt.alloc(), &Labelled, (1, 16))
-}
-
-/// Whether a line that was read is refused so, as the hall is, which has as many records as before.
-fn is_refused<L: Naming, O: Lasting<Taker = T>, T: Drop>(
-    alloc: Global,
-    hall: &mut Hall<L, O>,
-    guest: &mut Guest<L, O, T>,
-    refusal: LineRefusal,
-) -> bool {
-    let records = hall.len();
-    let answer = says_read(alloc, hall, guest, "PING x");
-    answer == Some(Err(refusal)) && hall.len() == records
-}
-
-/// Whether a line that was read is refused before the moment of the newest record.
-fn is_before<L: Naming, O: Lasting<Taker = T>, T: Drop>(
-    alloc: Global,
-    hall: &mut Hall<L, O>,
-    guest: &mut Guest<L, O, T>,
-) -> bool {
-    let Some(line) = read(alloc, &Piece::TooLong) else {
-        return false;
-    };
-    let records = hall.len();
-    let mut told = Told::new(alloc);
-    let answer = hall.line_read(&mut guest.baton, line, Moment::new(-1), &mut told);
-    answer.err() == Some(LineRefusal::BadMoment) && hall.len() == records
-}
-
-/// A line that was read is done, and then refused in a full journal.
-fn fills<L: Naming, R: Wait + Drop>(
-    rt: &R,
-    alloc: Global,
-    hall: &mut Hall<L, Sender<R>>,
-    al: &mut Guest<L, Sender<R>, Writer>,
-    steps: &mut Steps,
-) {
-    let lines = ["NICK al", "USER a 0 * :Al", "PING x", "PING x"];
-    steps.note(al.says_all(alloc, hall, &lines));
-    takes_all(rt, al);
-    steps.note(is_before(alloc, hall, al));
-    steps.note(says_read(alloc, hall, al, "PING x") == Some(Ok(6)));
-    steps.note(is_refused(alloc, hall, al, LineRefusal::JournalFull));
-    steps.note(al.hears(rt, 1));
-}
-
-/// Al's lines, each read before, come before the newest record, in a full journal, and after al was hung.
-struct Refused;
-
-impl<R: Wait + Copy + Drop> Trial<Sender<R>, R, Writer> for Refused {
-    fn run<L: Naming>(
-        &self,
-        rt: &R,
-        alloc: Global,
-        hall: &mut Hall<L, Sender<R>>,
-        steps: &mut Steps,
-    ) {
-        let Some(mut al) = enter(rt, alloc, hall, 16) else {
-            return steps.note(false);
-        };
-        fills(rt, alloc, hall, &mut al, steps);
-        let hung = hall.hang(al.baton.session(), Why::Shutdown, Moment::new(0));
-        steps.note(hung.is_ok());
-        steps.note(is_refused(alloc, hall, &mut al, LineRefusal::Shut));
-        steps.note(al.hears(rt, 1));
-    }
+fn a_label_counts_when_its_line_is_done(rt: HostRuntime) {
+    over_channels(&rt, rt.alloc(), &OFF_AND_ON);
 }
 
 /// A line that was read is refused before the moment of the newest record, in a full journal, and once its session
 /// is shut; nothing changes, and the next goes where it may.
 #[test]
-fn a_refused_line_that_was_read_changes_nothing(rt: HostRuntime) -> Result<(), Fail> {
-    over_channels(&rt, rt.alloc(), &Refused, (1, 8))
+fn a_refused_line_that_was_read_changes_nothing(rt: HostRuntime) {
+    over_channels(&rt, rt.alloc(), &READ_AND_REFUSED);
 }

@@ -1,39 +1,8 @@
-//! Ends, over both kinds of outbox: who misses an item, who goes, and how many items each leaves.
-use crate::again::line;
-use crate::guests::{Guest, Made, Pair, comes, sweeps, swept, two};
-use crate::making::{Steps, Trial, over_channels, over_rings};
-use chronicle::{Moment, SessionId, Why};
-use hall::{Done, Hall, Lasting, LineRefusal, Naming};
-use outbox::{Sender, Writer};
-use std::alloc::Global;
-use std::sync::Wait;
-use std::test::Fail;
-
-/// A step, with what it is answered. The first number is that of its session.
-enum Act {
-    /// It says a line, whose record these miss.
-    Says(u64, &'static str, &'static [u64]),
-    /// It says a line, which is refused.
-    Refused(u64, &'static str, LineRefusal),
-    /// It is hung, and this says whether it misses its last item.
-    Hung(u64, Why, bool),
-    /// Who is shut and has the lowest number is swept, and these miss the record.
-    Swept(&'static [u64]),
-    /// Nobody is to be swept.
-    NobodyToSweep,
-    /// It is given up, and so many items are left for it.
-    Leaves(u64, u64),
-    /// What takes its items is let go.
-    Cut(u64),
-}
-
-/// How many items may wait for each of those who come, and what happens then.
-#[derive(Drop)]
-struct Story {
-    caps: &'static [usize],
-    meet: &'static [Act],
-    then: &'static [Act],
-}
+//! Ends: who misses an item, who goes, and how many items each leaves.
+use crate::acts::Act;
+use crate::making::{Story, over_both, over_channels};
+use chronicle::Why;
+use hall::LineRefusal;
 
 /// Al and bo meet on a channel, by records 1 to 8: three items are put for al, and two for bo.
 const TWO: [Act; 6] = [
@@ -143,258 +112,111 @@ const KICK_AND_QUIT: [Act; 13] = [
     Act::Leaves(3, 6),
 ];
 
-/// Whether just these sessions missed a record.
-fn are_missed(done: &Done, missed: &[u64]) -> bool {
-    let sessions = done.missed.as_slice();
-    if sessions.len() != missed.len() {
-        return false;
-    }
-    for (session, number) in sessions.iter().zip(missed) {
-        if session.number() != *number {
-            return false;
-        }
-    }
-    true
-}
+/// Al and bo come, for whom so many items may wait.
+const FIVE_AND_EIGHT: [Act; 2] = [Act::Come(1, 5), Act::Come(1, 8)];
 
-/// What is held of a session, which is let go.
-fn let_go<L: Naming, O: Made<R, T>, R, T: Drop>(
-    guests: &mut Vec<Option<Guest<L, O, T>>>,
-    session: u64,
-) -> Option<Guest<L, O, T>> {
-    guests.get_mut(session.checked_sub(1)? as usize)?.take()
-}
+const EIGHT_AND_FOUR: [Act; 2] = [Act::Come(1, 8), Act::Come(1, 4)];
 
-/// What a line of a session is answered.
-fn answer<L: Naming, O: Made<R, T>, R, T: Drop>(
-    alloc: Global,
-    hall: &mut Hall<L, O>,
-    guests: &mut Vec<Option<Guest<L, O, T>>>,
-    session: u64,
-    text: &str,
-) -> Option<Result<Done, LineRefusal>> {
-    let piece = line(alloc, text).ok()?;
-    match guests.get_mut(session.checked_sub(1)? as usize) {
-        Some(Some(guest)) => Some(guest.answer(hall, &piece)),
-        _ => None,
-    }
-}
+const EIGHT_EACH: [Act; 1] = [Act::Come(2, 8)];
 
-/// Whether a session's line is accepted, and these miss its record.
-pub(crate) fn says<L: Naming, O: Made<R, T>, R, T: Drop>(
-    alloc: Global,
-    hall: &mut Hall<L, O>,
-    guests: &mut Vec<Option<Guest<L, O, T>>>,
-    (session, text): (u64, &str),
-    missed: &[u64],
-) -> bool {
-    match answer::<L, O, R, T>(alloc, hall, guests, session, text) {
-        Some(Ok(done)) => are_missed(&done, missed),
-        _ => false,
-    }
-}
-
-/// Whether a session's line is refused so.
-pub(crate) fn is_refused<L: Naming, O: Made<R, T>, R, T: Drop>(
-    alloc: Global,
-    hall: &mut Hall<L, O>,
-    guests: &mut Vec<Option<Guest<L, O, T>>>,
-    (session, text): (u64, &str),
-    refusal: LineRefusal,
-) -> bool {
-    match answer::<L, O, R, T>(alloc, hall, guests, session, text) {
-        Some(Err(other)) => other == refusal,
-        _ => false,
-    }
-}
-
-/// Whether a session is hung, and misses its last item or doesn't.
-pub(crate) fn is_hung<L: Naming, O: Lasting>(
-    hall: &mut Hall<L, O>,
-    session: u64,
-    why: Why,
-    missed: bool,
-) -> bool {
-    match hall.hang(SessionId::new(session), why, Moment::new(0)) {
-        Ok(hung) => hung.missed == missed,
-        Err(_) => false,
-    }
-}
-
-/// Whether somebody is swept, and these miss the record.
-pub(crate) fn is_swept<L: Naming, O: Lasting>(hall: &mut Hall<L, O>, missed: &[u64]) -> bool {
-    match swept(hall) {
-        Some(done) => done.shut && are_missed(&done, missed),
-        None => false,
-    }
-}
-
-/// Whether a session is given up, and so many items are left.
-pub(crate) fn is_left<L: Naming, O: Made<R, T>, R, T: Drop>(
-    hall: &mut Hall<L, O>,
-    guests: &mut Vec<Option<Guest<L, O, T>>>,
-    session: u64,
-    left: u64,
-) -> bool {
-    match let_go::<L, O, R, T>(guests, session) {
-        Some(guest) => guest.leaves(hall) == Some(left),
-        None => false,
-    }
-}
-
-/// Whether what takes a session's items was there, and is let go.
-fn is_cut<L: Naming, O: Made<R, T>, R, T: Drop>(
-    guests: &mut Vec<Option<Guest<L, O, T>>>,
-    session: u64,
-) -> bool {
-    let_go::<L, O, R, T>(guests, session).is_some()
-}
-
-/// Whether a step is answered so.
-fn is_answered<L: Naming, O: Made<R, T>, R, T: Drop>(
-    alloc: Global,
-    hall: &mut Hall<L, O>,
-    guests: &mut Vec<Option<Guest<L, O, T>>>,
-    act: &Act,
-) -> bool {
-    match *act {
-        Act::Says(session, text, missed) => {
-            says::<L, O, R, T>(alloc, hall, guests, (session, text), missed)
-        }
-        Act::Refused(session, text, refusal) => {
-            is_refused::<L, O, R, T>(alloc, hall, guests, (session, text), refusal)
-        }
-        Act::Hung(session, why, missed) => is_hung(hall, session, why, missed),
-        Act::Swept(missed) => is_swept(hall, missed),
-        Act::NobodyToSweep => !sweeps(hall),
-        Act::Leaves(session, left) => is_left::<L, O, R, T>(hall, guests, session, left),
-        Act::Cut(session) => is_cut::<L, O, R, T>(guests, session),
-    }
-}
-
-/// Takes steps in turn, and notes whether each is answered so.
-fn go<L: Naming, O: Made<R, T>, R, T: Drop>(
-    alloc: Global,
-    hall: &mut Hall<L, O>,
-    guests: &mut Vec<Option<Guest<L, O, T>>>,
-    acts: &[Act],
-    steps: &mut Steps,
-) {
-    for act in acts {
-        steps.note(is_answered::<L, O, R, T>(alloc, hall, guests, act));
-    }
-}
-
-impl<O: Made<R, T>, R, T: Drop> Trial<O, R, T> for Story {
-    fn run<L: Naming>(&self, rt: &R, alloc: Global, hall: &mut Hall<L, O>, steps: &mut Steps) {
-        let mut guests: Vec<Option<Guest<L, O, T>>> = Vec::new(alloc);
-        for (place, cap) in self.caps.iter().enumerate() {
-            let number = (place as u64).saturating_add(1);
-            steps.note(0 < *cap && comes(rt, alloc, hall, &mut guests, number, *cap));
-        }
-        go::<L, O, R, T>(alloc, hall, &mut guests, self.meet, steps);
-        go::<L, O, R, T>(alloc, hall, &mut guests, self.then, steps);
-    }
-}
-
-/// A story of two who meet, and for whom so many items may wait.
-fn of_two(caps: &'static [usize], then: &'static [Act]) -> Story {
-    Story {
-        caps,
-        meet: &TWO,
-        then,
-    }
-}
+const TWELVE_EACH: [Act; 1] = [Act::Come(3, 12)];
 
 /// Bo, for whom one item may wait, takes its welcome, and its `JOIN` only after the next record was missed; then it is
 /// shut, and no text came.
-fn misses_one<L: Naming, R: Wait + Drop>(
-    rt: &R,
-    alloc: Global,
-    hall: &mut Hall<L, Sender<R>>,
-    al: &mut Guest<L, Sender<R>, Writer>,
-    bo: &mut Guest<L, Sender<R>, Writer>,
-    steps: &mut Steps,
-) {
-    steps.note(al.says_all(alloc, hall, &["NICK al", "USER a 0 * :Al", "JOIN #a"]));
-    steps.note(bo.says_all(alloc, hall, &["NICK bo", "USER b 0 * :Bo"]));
-    steps.note(bo.hears(rt, 1));
-    steps.note(bo.says_all(alloc, hall, &["JOIN #a"]));
-    steps.note(al.says_all(alloc, hall, &["PRIVMSG #a :hi"]));
-    steps.note(!hall.is_open(bo.baton.session()));
-    steps.note(bo.hears(rt, 1));
-    steps.note(sweeps(hall));
-}
+const ONE_ITEM: [Act; 14] = [
+    Act::Come(1, 8),
+    Act::Come(1, 1),
+    Act::Says(1, "NICK al", &[]),
+    Act::Says(1, "USER a 0 * :Al", &[]),
+    Act::Says(1, "JOIN #a", &[]),
+    Act::Says(2, "NICK bo", &[]),
+    Act::Says(2, "USER b 0 * :Bo", &[]),
+    Act::TakesSome(2, 1),
+    Act::Says(2, "JOIN #a", &[]),
+    Act::Says(1, "PRIVMSG #a :hi", &[2]),
+    Act::IsOpen(2, false),
+    Act::TakesSome(2, 1),
+    Act::Swept(&[]),
+    Act::Leaves(2, 0),
+];
 
-/// Bo misses a text, and nothing is left for it.
-struct One;
+const AN_OUTBOX_FOR_ONE: Story = Story {
+    size: (2, 40),
+    rounds: 1,
+    parts: &[&ONE_ITEM],
+};
 
-impl<R: Wait + Copy + Drop> Trial<Sender<R>, R, Writer> for One {
-    fn run<L: Naming>(
-        &self,
-        rt: &R,
-        alloc: Global,
-        hall: &mut Hall<L, Sender<R>>,
-        steps: &mut Steps,
-    ) {
-        let Some(mut pair) = two(rt, alloc, hall, (8, 1)) else {
-            return steps.note(false);
-        };
-        misses_one(rt, alloc, hall, &mut pair.al, &mut pair.bo, steps);
-        let Pair { al: _, bo } = pair;
-        steps.note(bo.leaves(hall) == Some(0));
-    }
-}
+const A_FULL_OUTBOX: Story = Story {
+    size: (2, 40),
+    rounds: 1,
+    parts: &[&EIGHT_AND_FOUR, &TWO, &TEXTS],
+};
+
+const A_MISSED_SWEEP: Story = Story {
+    size: (2, 40),
+    rounds: 1,
+    parts: &[&FIVE_AND_EIGHT, &TWO, &AT_A_SWEEP],
+};
+
+const A_MISSED_HANG: Story = Story {
+    size: (2, 40),
+    rounds: 1,
+    parts: &[&FIVE_AND_EIGHT, &TWO, &AT_A_HANG],
+};
+
+const A_FULL_JOURNAL: Story = Story {
+    size: (2, 12),
+    rounds: 1,
+    parts: &[&EIGHT_EACH, &TWO, &FULL_JOURNAL],
+};
+
+const A_KICK: Story = Story {
+    size: (3, 40),
+    rounds: 1,
+    parts: &[&TWELVE_EACH, &THREE, &KICK_AND_QUIT],
+};
+
+const CUT_OFF: Story = Story {
+    size: (2, 40),
+    rounds: 1,
+    parts: &[&EIGHT_EACH, &TWO, &CUTS],
+};
 
 /// An outbox of one item is full, its session misses the next record, is swept with the reason, and leaves nothing,
 /// over both outboxes.
 #[test]
-fn an_outbox_for_one_item_is_full(rt: HostRuntime) -> Result<(), Fail> {
-    over_channels(&rt, rt.alloc(), &One, (2, 40))
+fn an_outbox_for_one_item_is_full(rt: HostRuntime) {
+    over_channels(&rt, rt.alloc(), &AN_OUTBOX_FOR_ONE);
 }
 
 /// Who takes no item while another speaks is missed when its outbox is full, and shut; what it was sent before
 /// stands, and nothing comes later, over both outboxes.
 #[test]
-fn who_takes_nothing_is_shut(rt: HostRuntime) -> Result<(), Fail> {
-    let story = of_two(&[8, 4], &TEXTS);
-    over_rings(&rt, rt.alloc(), &story, (2, 40))?;
-    over_channels(&rt, rt.alloc(), &story, (2, 40))
+fn who_takes_nothing_is_shut(rt: HostRuntime) {
+    over_both(&rt, rt.alloc(), &A_FULL_OUTBOX);
 }
 
 /// A full outbox misses the end of another, and its own last item.
 #[test]
-fn an_end_may_be_missed(rt: HostRuntime) -> Result<(), Fail> {
-    for then in [AT_A_SWEEP.as_slice(), AT_A_HANG.as_slice()] {
-        let story = of_two(&[5, 8], then);
-        over_rings(&rt, rt.alloc(), &story, (2, 40))?;
-        over_channels(&rt, rt.alloc(), &story, (2, 40))?;
-    }
-    Ok(())
+fn an_end_may_be_missed(rt: HostRuntime) {
+    over_both(&rt, rt.alloc(), &A_MISSED_SWEEP);
+    over_both(&rt, rt.alloc(), &A_MISSED_HANG);
 }
 
 /// A full journal refuses lines and has room for the ends of all who are there, over both outboxes.
 #[test]
-fn a_full_journal_has_room_for_the_ends(rt: HostRuntime) -> Result<(), Fail> {
-    let story = of_two(&[8, 8], &FULL_JOURNAL);
-    over_rings(&rt, rt.alloc(), &story, (2, 12))?;
-    over_channels(&rt, rt.alloc(), &story, (2, 12))
+fn a_full_journal_has_room_for_the_ends(rt: HostRuntime) {
+    over_both(&rt, rt.alloc(), &A_FULL_JOURNAL);
 }
 
 /// Who is kicked is told, and who shares two channels with one that quits is told of it once, over both outboxes.
 #[test]
-fn a_quit_is_told_once(rt: HostRuntime) -> Result<(), Fail> {
-    let story = Story {
-        caps: &[12, 12, 12],
-        meet: &THREE,
-        then: &KICK_AND_QUIT,
-    };
-    over_rings(&rt, rt.alloc(), &story, (3, 40))?;
-    over_channels(&rt, rt.alloc(), &story, (3, 40))
+fn a_quit_is_told_once(rt: HostRuntime) {
+    over_both(&rt, rt.alloc(), &A_KICK);
 }
 
 /// Whose writer went is missed by the next record that is put for it, and shut.
 #[test]
-fn who_is_cut_off_is_shut(rt: HostRuntime) -> Result<(), Fail> {
-    over_channels(&rt, rt.alloc(), &of_two(&[8, 8], &CUTS), (2, 40))
+fn who_is_cut_off_is_shut(rt: HostRuntime) {
+    over_channels(&rt, rt.alloc(), &CUT_OFF);
 }

@@ -2,19 +2,17 @@
 ghost use Rattle.std.specs.Prelude.{◌≡◌, ◌<◌, [], IfOk, IfSome, IfErr, Some, true};
 ghost use Rattle.casemapping.specs.Names.{host_shape};
 
-use crate::again::{copied, line};
+use crate::again::copied;
 use casemapping::is_host;
-use chronicle::{Moment, SessionId, Why};
-use hall::{
-    Baton, Done, Hall, Lasting, LineRefusal, Naming, OpenRefusal, Outbox, ReapRefusal, Ring, Stub,
-    SweepRefusal,
-};
+use chronicle::{Kind, Moment, RecordNumber, SessionId};
+use deliveries::Item;
+use hall::{Baton, Done, Hall, Lasting, LineRefusal, Naming, OpenRefusal, Outbox, Ring, Stub};
 use line_grammar::{Octets, Piece};
 use outbox::{Sender, Writer, pair};
 use std::alloc::{AllocError, Global};
 use std::sync::Wait;
 
-/// An outbox that trials make.
+/// An outbox that stories make.
 pub(crate) trait Made<R, T>: Lasting<Taker = T> {
     ghost use Rattle.std.specs.Prelude.{◌≡◌, ◌<◌, [], IfOk};
 
@@ -23,11 +21,19 @@ pub(crate) trait Made<R, T>: Lasting<Taker = T> {
         requires { 0 < cap }
         ensures fresh { IfOk result (λ p. Self.sent p.0 ≡ []) }
         ensures own { IfOk result (λ p. Self.name p.0 ≡ Self.taker_of p.1) };
+
+    /// Takes an item. Where none is there, it is waited for or it isn't. Of a ring nobody takes.
+    fn take(rt: &R, taker: &mut T, waits: bool) -> Option<Item>
+        ensures { Self.taker_of taker.new ≡ Self.taker_of taker.old };
 }
 
 impl<R> Made<R, ()> for Ring {
     fn make(_rt: &R, alloc: Global, cap: usize) -> Result<(Ring, ()), AllocError> {
         Ok((Ring::new(alloc, cap)?, ()))
+    }
+
+    fn take(_rt: &R, _taker: &mut (), _waits: bool) -> Option<Item> {
+        None
     }
 }
 
@@ -35,10 +41,18 @@ impl<R: Wait + Drop + Copy> Made<R, Writer> for Sender<R> {
     fn make(rt: &R, alloc: Global, cap: usize) -> Result<(Sender<R>, Writer), AllocError> {
         pair(*rt, alloc, cap)
     }
+
+    fn take(rt: &R, taker: &mut Writer, waits: bool) -> Option<Item> {
+        if waits {
+            taker.take(rt).ok()
+        } else {
+            taker.take_now(rt).ok()
+        }
+    }
 }
 
 /// An empty outbox for so many items, and what takes them. It is made once more where a growth was refused.
-pub(crate) fn outbox_of<O: Made<R, T>, R, T>(rt: &R, alloc: Global, cap: usize) -> Option<(O, T)>
+fn outbox_of<O: Made<R, T>, R, T>(rt: &R, alloc: Global, cap: usize) -> Option<(O, T)>
     requires { 0 < cap }
     ensures fresh { IfSome result (λ p. O.sent p.0 ≡ []) }
     ensures own { IfSome result (λ p. O.name p.0 ≡ O.taker_of p.1) }
@@ -49,24 +63,31 @@ pub(crate) fn outbox_of<O: Made<R, T>, R, T>(rt: &R, alloc: Global, cap: usize) 
     }
 }
 
-/// The tokens of a session, and what takes its items: that of the outbox for which the stub was given.
+/// A session's stub, and what takes its items: that of the outbox for which the stub was given.
 #[derive(Drop)]
-pub(crate) struct Guest<L: Naming, O: Lasting<Taker = T>, T: Drop> {
-    pub(crate) baton: Baton<L, O>,
+pub(crate) struct Ends<L: Naming, O: Lasting<Taker = T>, T: Drop> {
     pub(crate) stub: Stub<L, O::Name>,
     pub(crate) taker: T,
     ghost own: { stub.outbox ≡ Some (O.taker_of taker) },
 }
 
+/// All that is held of a session.
+#[derive(Drop)]
+pub(crate) struct Guest<L: Naming, O: Lasting<Taker = T>, T: Drop> {
+    pub(crate) baton: Baton<L, O>,
+    pub(crate) ends: Ends<L, O, T>,
+}
+
 /// What a hall tells who asks it: how many records there are, and whether each of two sessions is open.
 #[derive(Clone, Copy, PartialEq)]
-struct Seen {
+pub(crate) struct Seen {
     records: usize,
     first: bool,
     second: bool,
 }
 
-fn look<L: Naming, O: Lasting>(hall: &Hall<L, O>) -> Seen {
+/// What a hall tells now.
+pub(crate) fn look<L: Naming, O: Lasting>(hall: &Hall<L, O>) -> Seen {
     Seen {
         records: hall.len(),
         first: hall.is_open(SessionId::new(1)),
@@ -78,15 +99,30 @@ fn look<L: Naming, O: Lasting>(hall: &Hall<L, O>) -> Seen {
 fn host(alloc: Global) -> Option<Octets>
     ensures { IfSome result (λ h. host_shape h ≡ true) }
 {
-    let host = copied(alloc, b"h1").ok()?;
-    if is_host(host.as_slice()) {
-        Some(host)
-    } else {
-        None
+    match copied(alloc, b"h1") {
+        Ok(host) if is_host(host.as_slice()) => Some(host),
+        _ => None,
     }
 }
 
 type Opened<L, O> = (SessionId, Baton<L, O>, Stub<L, <O as Outbox>::Name>);
+
+/// Opens a session.
+fn opened_once<L: Naming, O: Lasting>(
+    alloc: Global,
+    hall: &mut Hall<L, O>,
+    outbox: O,
+    moment: Moment,
+) -> Result<Opened<L, O>, (OpenRefusal, O)>
+    requires fresh { O.sent outbox ≡ [] }
+    ensures stub { IfOk result (λ t. t.2.outbox ≡ Some (O.name outbox)) }
+    ensures back { IfErr result (λ e. e.1 ≡ outbox) }
+{
+    match host(alloc) {
+        Some(host) => hall.open(host, moment, outbox),
+        None => Err((OpenRefusal::Busy, outbox)),
+    }
+}
 
 /// Opens a session. Where a growth is refused the hall answers as before, and opens it with the outbox that came back.
 fn opened<L: Naming, O: Lasting>(
@@ -99,187 +135,111 @@ fn opened<L: Naming, O: Lasting>(
     ensures stub { IfOk result (λ t. t.2.outbox ≡ Some (O.name outbox)) }
     ensures back { IfErr result (λ e. e.1 ≡ outbox) }
 {
-    let (Some(first), Some(again)) = (host(alloc), host(alloc)) else {
-        return Err((OpenRefusal::Busy, outbox));
-    };
     let before = look(hall);
-    match hall.open(first, moment, outbox) {
+    match opened_once(alloc, hall, outbox, moment) {
         Err((OpenRefusal::Memory, outbox)) if look(hall) == before => {
-            hall.open(again, moment, outbox)
+            opened_once(alloc, hall, outbox, moment)
         }
         answer => answer,
     }
 }
 
 /// Opens a session at a moment, with an outbox for so many items.
-pub(crate) fn enter_at<L: Naming, O: Made<R, T>, R, T: Drop>(
-    rt: &R,
-    alloc: Global,
-    hall: &mut Hall<L, O>,
-    cap: usize,
-    moment: Moment,
-) -> Option<Guest<L, O, T>>
-    requires { 0 < cap }
-{
-    let (outbox, taker) = outbox_of(rt, alloc, cap)?;
-    match opened(alloc, hall, outbox, moment) {
-        Ok((_, baton, stub)) => Some(Guest { baton, stub, taker }),
-        Err(_) => None,
-    }
-}
-
-/// Opens a session with an outbox for so many items.
 pub(crate) fn enter<L: Naming, O: Made<R, T>, R, T: Drop>(
     rt: &R,
     alloc: Global,
     hall: &mut Hall<L, O>,
     cap: usize,
-) -> Option<Guest<L, O, T>>
-    requires { 0 < cap }
-{
-    enter_at(rt, alloc, hall, cap, Moment::new(0))
-}
-
-/// Why no session is opened, and how many items were put into the outbox that came back; nothing where one is.
-pub(crate) fn turned_away<L: Naming, O: Made<R, T>, R, T: Drop>(
-    rt: &R,
-    alloc: Global,
-    hall: &mut Hall<L, O>,
-) -> Option<(OpenRefusal, u64)> {
-    let (outbox, taker) = outbox_of::<O, R, T>(rt, alloc, 4)?;
-    match opened(alloc, hall, outbox, Moment::new(0)) {
-        Ok(_) => None,
-        Err((refusal, outbox)) => Some((refusal, outbox.close(taker))),
+    moment: Moment,
+) -> Option<Guest<L, O, T>> {
+    if cap == 0 {
+        return None;
     }
-}
-
-/// Sweeps one session, if there is one to sweep. Where a growth is refused the hall answers as before, and sweeps
-/// then.
-pub(crate) fn swept<L: Naming, O: Lasting>(hall: &mut Hall<L, O>) -> Option<Done> {
-    let before = look(hall);
-    match hall.sweep(Moment::new(0)) {
-        Ok(swept) => swept,
-        Err(SweepRefusal::Memory) if look(hall) == before => hall.sweep(Moment::new(0)).ok()?,
+    let (outbox, taker) = outbox_of(rt, alloc, cap)?;
+    match opened(alloc, hall, outbox, moment) {
+        Ok((_, baton, stub)) => Some(Guest {
+            baton,
+            ends: Ends { stub, taker },
+        }),
         Err(_) => None,
     }
 }
 
-/// Sweeps one session, and answers whether there was one.
-pub(crate) fn sweeps<L: Naming, O: Lasting>(hall: &mut Hall<L, O>) -> bool {
-    swept(hall).is_some()
-}
-
-/// Hangs a session, and sweeps one.
-pub(crate) fn end<L: Naming, O: Lasting>(hall: &mut Hall<L, O>, session: SessionId) -> bool {
-    hall.hang(session, Why::Shutdown, Moment::new(0)).is_ok() && sweeps(hall)
-}
-
-/// Opens a session with an outbox for so many items, holds what it is given, and answers whether it has this number.
-pub(crate) fn comes<L: Naming, O: Made<R, T>, R, T: Drop>(
+/// Whether no session is opened, for this reason, and nothing was put into the outbox that comes back.
+pub(crate) fn is_turned_away<L: Naming, O: Made<R, T>, R, T: Drop>(
     rt: &R,
     alloc: Global,
     hall: &mut Hall<L, O>,
-    guests: &mut Vec<Option<Guest<L, O, T>>>,
-    number: u64,
-    cap: usize,
-) -> bool
-    requires { 0 < cap }
-{
-    let Some(guest) = enter(rt, alloc, hall, cap) else {
+    refusal: OpenRefusal,
+) -> bool {
+    let Some((outbox, taker)) = outbox_of::<O, R, T>(rt, alloc, 4) else {
         return false;
     };
-    let is_next = guest.baton.session().number() == number;
-    guests.push(Some(guest)).is_ok() && is_next
-}
-
-/// Two guests.
-#[derive(Drop)]
-pub(crate) struct Pair<L: Naming, O: Lasting<Taker = T>, T: Drop> {
-    pub(crate) al: Guest<L, O, T>,
-    pub(crate) bo: Guest<L, O, T>,
-}
-
-/// Two come, with outboxes for so many items each.
-pub(crate) fn two<L: Naming, O: Made<R, T>, R, T: Drop>(
-    rt: &R,
-    alloc: Global,
-    hall: &mut Hall<L, O>,
-    caps: (usize, usize),
-) -> Option<Pair<L, O, T>> {
-    if caps.0 == 0 || caps.1 == 0 {
-        return None;
+    match opened(alloc, hall, outbox, Moment::new(0)) {
+        Ok(_) => false,
+        Err((other, outbox)) => outbox.close(taker) == 0 && other == refusal,
     }
-    let al = enter(rt, alloc, hall, caps.0)?;
-    let bo = enter(rt, alloc, hall, caps.1)?;
-    Some(Pair { al, bo })
+}
+
+/// Whether these sessions have these numbers.
+pub(crate) fn have_numbers(sessions: &[SessionId], numbers: &[u64]) -> bool {
+    let mut is_right = sessions.len() == numbers.len();
+    for (session, number) in sessions.iter().zip(numbers) {
+        is_right = session.number() == *number && is_right;
+    }
+    is_right
+}
+
+/// Whether just these sessions missed a record.
+pub(crate) fn are_missed(done: &Done, missed: &[u64]) -> bool {
+    have_numbers(done.missed.as_slice(), missed)
+}
+
+/// Whether a record says this piece of a session.
+pub(crate) fn is_said<L: Naming, O: Lasting>(
+    hall: &Hall<L, O>,
+    number: u64,
+    by: SessionId,
+    said: &Piece,
+) -> bool {
+    match hall.record(RecordNumber::new(number)) {
+        Some(record) => match &record.kind {
+            Kind::Said { session, piece, .. } => *session == by && piece == said,
+            _ => false,
+        },
+        None => false,
+    }
 }
 
 impl<L: Naming, O: Lasting<Taker = T>, T: Drop> Guest<L, O, T> {
+    /// What a line is answered: the number of its record, and whether just these miss that, or why there is none.
+    pub(crate) fn answer_once(
+        &mut self,
+        hall: &mut Hall<L, O>,
+        piece: &Piece,
+        moment: Moment,
+        missed: &[u64],
+    ) -> Result<(u64, bool), LineRefusal> {
+        match hall.line(&mut self.baton, piece, moment) {
+            Ok(done) => Ok((done.number.number(), are_missed(&done, missed))),
+            Err(refusal) => Err(refusal),
+        }
+    }
+
     /// What a line is answered. Where a growth is refused the hall answers as before, and the line is said once more.
     pub(crate) fn answer(
         &mut self,
         hall: &mut Hall<L, O>,
         piece: &Piece,
-    ) -> Result<Done, LineRefusal>
-        ensures { self.new.baton.session ≡ self.old.baton.session }
-    {
+        moment: Moment,
+        missed: &[u64],
+    ) -> Result<(u64, bool), LineRefusal> {
         let before = look(hall);
-        match hall.line(&mut self.baton, piece, Moment::new(0)) {
+        match self.answer_once(hall, piece, moment, missed) {
             Err(LineRefusal::Memory) if look(hall) == before => {
-                hall.line(&mut self.baton, piece, Moment::new(0))
+                self.answer_once(hall, piece, moment, missed)
             }
             answer => answer,
         }
-    }
-
-    /// Says a line, and answers whether it is accepted.
-    pub(crate) fn says(&mut self, hall: &mut Hall<L, O>, piece: &Piece) -> bool
-        ensures { self.new.baton.session ≡ self.old.baton.session }
-    {
-        self.answer(hall, piece).is_ok()
-    }
-
-    /// Says lines in turn, and answers whether each is accepted.
-    pub(crate) fn says_all(
-        &mut self,
-        alloc: Global,
-        hall: &mut Hall<L, O>,
-        lines: &[&str],
-    ) -> bool {
-        for text in lines {
-            let Ok(piece) = line(alloc, text) else {
-                return false;
-            };
-            if !self.says(hall, &piece) {
-                return false;
-            }
-        }
-        true
-    }
-
-    /// Gives all up, and answers how many items were left, or why it isn't given up.
-    pub(crate) fn gives_up(self, hall: &mut Hall<L, O>) -> Result<u64, (ReapRefusal, Self)> {
-        let Guest { baton, stub, taker } = self;
-        match hall.reap(baton, stub, taker) {
-            Ok(left) => Ok(left.count()),
-            Err((refusal, baton, stub, taker)) => Err((refusal, Guest { baton, stub, taker })),
-        }
-    }
-
-    /// Gives all up, and answers how many items were left; nothing where the session isn't gone.
-    pub(crate) fn leaves(self, hall: &mut Hall<L, O>) -> Option<u64> {
-        self.gives_up(hall).ok()
-    }
-}
-
-impl<L: Naming, R: Wait + Drop> Guest<L, Sender<R>, Writer> {
-    /// Takes so many items, and answers whether there were as many and no more.
-    pub(crate) fn hears(&mut self, rt: &R, count: u64) -> bool {
-        for _ in 0..count {
-            if self.taker.take_now(rt).is_err() {
-                return false;
-            }
-        }
-        self.taker.take_now(rt).is_err()
     }
 }

@@ -3,11 +3,15 @@
 #![tactic(auto)]
 
 #[cfg(test)]
+mod acts;
+#[cfg(test)]
 mod again;
 #[cfg(test)]
 mod ahead;
 #[cfg(test)]
 mod crowd;
+#[cfg(test)]
+mod ending;
 #[cfg(test)]
 mod ends;
 #[cfg(test)]
@@ -15,7 +19,11 @@ mod growths;
 #[cfg(test)]
 mod guests;
 #[cfg(test)]
+mod items;
+#[cfg(test)]
 mod limits;
+#[cfg(test)]
+mod looking;
 #[cfg(test)]
 mod making;
 #[cfg(test)]
@@ -24,6 +32,10 @@ mod reaping;
 mod rolled;
 #[cfg(test)]
 mod rolled_threads;
+#[cfg(test)]
+mod saying;
+#[cfg(test)]
+mod stage;
 #[cfg(test)]
 mod taking;
 #[cfg(test)]

@@ -1,8 +1,10 @@
-//! Halls in which something is tried, over one kind of outbox or over both.
+//! Halls in which stories are played, over one kind of outbox or over both.
 ghost use Rattle.std.specs.Prelude.{◌≡◌, []};
 
+use crate::acts::Act;
 use crate::again::{copied, new_register};
 use crate::guests::Made;
+use crate::stage::Stage;
 use chronicle::Moment;
 use hall::{BookFault, Hall, Lasting, Naming, Register, Ring, Settings};
 use outbox::{Sender, Writer};
@@ -11,10 +13,9 @@ use std::alloc::{AllocError, Global};
 use std::marker::Brand;
 use std::process::Abort;
 use std::sync::Wait;
-use std::test::Fail;
 
 /// The settings of a server for so many sessions, without accounts.
-pub(crate) fn settings(alloc: Global, sessions: usize) -> Result<Settings, AllocError> {
+fn settings(alloc: Global, sessions: usize) -> Result<Settings, AllocError> {
     Ok(Settings {
         server: copied(alloc, b"irc.example")?,
         info: copied(alloc, b"halld")?,
@@ -30,16 +31,15 @@ pub(crate) fn settings(alloc: Global, sessions: usize) -> Result<Settings, Alloc
 pub(crate) fn hall_of<L: Naming, O: Lasting>(
     alloc: Global,
     register: Register<O::Name>,
-    sessions: usize,
-    limit: usize,
+    size: (usize, usize),
 ) -> Result<Hall<L, O>, BookFault>
     requires named { register.table ≡ L.table }
     requires empty { register.rows ≡ [] }
 {
-    let Ok(settings) = settings(alloc, sessions) else {
-        return Err(BookFault::Memory);
-    };
-    Hall::new(alloc, register, settings, limit)
+    match settings(alloc, size.0) {
+        Ok(settings) => Hall::new(alloc, register, settings, size.1),
+        Err(_) => Err(BookFault::Memory),
+    }
 }
 
 /// Steps that are taken in turn: how many, and which was the first that wasn't as it is to be, where one wasn't.
@@ -65,85 +65,88 @@ impl Steps {
 
     /// Each step was as it is to be.
     pub(crate) fn assert_right<R: Abort>(&self, rt: &R) {
-        assert_eq!(rt; self.wrong, 0, "the first step that is wrong");
+        assert!(rt; self.wrong == 0, "step {} is wrong", self.wrong);
     }
 }
 
-/// What is tried in a hall over this kind of outbox.
-pub(crate) trait Trial<O: Made<R, T>, R, T: Drop> {
-    /// Takes its steps, and notes each.
-    fn run<L: Naming>(&self, rt: &R, alloc: Global, hall: &mut Hall<L, O>, steps: &mut Steps);
+/// What happens in a hall for so many sessions and records: acts in turn, in parts, and all so often.
+#[derive(Drop)]
+pub(crate) struct Story {
+    pub(crate) size: (usize, usize),
+    pub(crate) rounds: u64,
+    pub(crate) parts: &'static [&'static [Act]],
 }
 
-/// A trial in a hall for so many sessions and records, whose sessions this register has. It answers whether there
-/// was memory for the hall.
-fn tried_in<L: Naming, X: Trial<O, R, T>, O: Made<R, T>, R, T: Drop>(
+/// Plays a story in a hall, and notes each act.
+fn plays<L: Naming, O: Made<R, T>, R, T: Drop>(
+    rt: &R,
+    alloc: Global,
+    hall: &mut Hall<L, O>,
+    story: &Story,
+    steps: &mut Steps,
+) {
+    let mut stage: Stage<L, O, T> = Stage::new(alloc);
+    stage.plays(rt, alloc, hall, story, steps);
+}
+
+/// Plays a story in a hall, which ends with it, and notes each act. It answers whether there was memory for the hall.
+fn played_in<L: Naming, O: Made<R, T>, R, T: Drop>(
     rt: &R,
     alloc: Global,
     register: Register<O::Name>,
-    trial: &X,
-    size: (usize, usize),
+    story: &Story,
     steps: &mut Steps,
-) -> Result<bool, Fail>
+) -> bool
     requires named { register.table ≡ L.table }
     requires empty { register.rows ≡ [] }
 {
-    let (sessions, limit) = size;
-    let mut hall = match hall_of::<L, O>(alloc, register, sessions, limit) {
-        Ok(hall) => hall,
-        Err(BookFault::Memory) => return Ok(false),
-        Err(BookFault::BadSettings) => return Err("a hall".into()),
-    };
-    trial.run(rt, alloc, &mut hall, steps);
-    Ok(true)
-}
-
-/// A trial in a hall with a register of its own.
-fn tried<X: Trial<O, R, T>, O: Made<R, T>, R, T: Drop>(
-    rt: &R,
-    alloc: Global,
-    trial: &X,
-    size: (usize, usize),
-    steps: &mut Steps,
-) -> Result<bool, Fail> {
-    let register = new_register(alloc)?;
-    tried_in::<Brand, X, O, R, T>(rt, alloc, register, trial, size, steps)
-}
-
-/// A trial. Where a growth is refused in making the hall, that is told as want of memory, and a hall is made once
-/// more.
-fn over<X: Trial<O, R, T>, O: Made<R, T>, R: Abort, T: Drop>(
-    rt: &R,
-    alloc: Global,
-    trial: &X,
-    size: (usize, usize),
-) -> Result<(), Fail> {
-    let mut steps = Steps::new();
-    if tried::<X, O, R, T>(rt, alloc, trial, size, &mut steps)?
-        || tried::<X, O, R, T>(rt, alloc, trial, size, &mut steps)?
-    {
-        steps.assert_right(rt);
-        return Ok(());
+    match hall_of::<L, O>(alloc, register, story.size) {
+        Ok(mut hall) => {
+            plays::<L, O, R, T>(rt, alloc, &mut hall, story, steps);
+            true
+        }
+        Err(fault) => {
+            steps.note(fault == BookFault::Memory);
+            false
+        }
     }
-    Err("memory".into())
 }
 
-/// A trial over rings, in a hall for so many sessions and records.
-pub(crate) fn over_rings<X: Trial<Ring, R, ()>, R: Abort>(
+/// Plays a story in a hall with a register of its own.
+fn played<O: Made<R, T>, R, T: Drop>(
     rt: &R,
     alloc: Global,
-    trial: &X,
-    size: (usize, usize),
-) -> Result<(), Fail> {
-    over::<X, Ring, R, ()>(rt, alloc, trial, size)
+    story: &Story,
+    steps: &mut Steps,
+) -> bool {
+    match new_register(alloc) {
+        Ok(register) => played_in::<Brand, O, R, T>(rt, alloc, register, story, steps),
+        Err(_) => false,
+    }
 }
 
-/// A trial over channels.
-pub(crate) fn over_channels<X: Trial<Sender<R>, R, Writer>, R: Wait + Abort + Drop + Copy>(
-    rt: &R,
-    alloc: Global,
-    trial: &X,
-    size: (usize, usize),
-) -> Result<(), Fail> {
-    over::<X, Sender<R>, R, Writer>(rt, alloc, trial, size)
+/// A story. Where a growth is refused in making the hall, that is told as want of memory, and a hall is made once
+/// more.
+fn over<O: Made<R, T>, R: Abort, T: Drop>(rt: &R, alloc: Global, story: &Story) {
+    let mut steps = Steps::new();
+    let is_played = played::<O, R, T>(rt, alloc, story, &mut steps)
+        || played::<O, R, T>(rt, alloc, story, &mut steps);
+    steps.note(is_played);
+    steps.assert_right(rt);
+}
+
+/// A story over rings.
+pub(crate) fn over_rings<R: Abort>(rt: &R, alloc: Global, story: &Story) {
+    over::<Ring, R, ()>(rt, alloc, story);
+}
+
+/// A story over channels.
+pub(crate) fn over_channels<R: Wait + Abort + Drop + Copy>(rt: &R, alloc: Global, story: &Story) {
+    over::<Sender<R>, R, Writer>(rt, alloc, story);
+}
+
+/// A story over rings, and over channels.
+pub(crate) fn over_both<R: Wait + Abort + Drop + Copy>(rt: &R, alloc: Global, story: &Story) {
+    over_rings(rt, alloc, story);
+    over_channels(rt, alloc, story);
 }

@@ -1,16 +1,14 @@
 //! Threads share a hall whose journal is rolled by whoever finds it full: nothing is lost, and each base has the
 //! counts.
-use crate::again::new_register;
-use crate::guests::Guest;
-use crate::threads::{LINES, Run, four_threads, is_said};
+use crate::acts::Act;
+use crate::guests::is_said;
+use crate::threads::{LINES, Run, four_threads};
 use chronicle::{Moment, SessionId};
 use hall::{Baton, Hall, LineRefusal, Naming};
 use line_grammar::Piece;
-use outbox::{Sender, Writer};
+use outbox::Sender;
 use std::alloc::Global;
-use std::marker::Brand;
 use std::sync::Wait;
-use std::test::Fail;
 
 /// How many lines each says before that of which there are many.
 const FIRST: u64 = 3;
@@ -20,20 +18,16 @@ const FIRST: u64 = 3;
 pub(crate) struct Speaker<'a> {
     pub(crate) session: SessionId,
     hearer: SessionId,
-    piece: &'a Piece,
+    pub(crate) piece: &'a Piece,
     before: u64,
 }
 
 impl<'a> Speaker<'a> {
-    pub(crate) fn new<L: Naming, R: Wait + Drop>(
-        guest: &Guest<L, Sender<R>, Writer>,
-        hearer: &Guest<L, Sender<R>, Writer>,
-        piece: &'a Piece,
-        before: u64,
-    ) -> Speaker<'a> {
+    /// Who has the first number speaks, and who has the second hears it.
+    pub(crate) fn new(numbers: (u64, u64), piece: &'a Piece, before: u64) -> Speaker<'a> {
         Speaker {
-            session: guest.baton.session(),
-            hearer: hearer.baton.session(),
+            session: SessionId::new(numbers.0),
+            hearer: SessionId::new(numbers.1),
             piece,
             before,
         }
@@ -131,18 +125,31 @@ pub(crate) fn are_counted<L: Naming, R: Wait + Drop>(
     speaker.is_counted(hall, LINES.saturating_sub(kept))
 }
 
+/// Both come, and both go: what wasn't taken and the last item are left for each. The journal may be full then.
+const COME: [Act; 1] = [Act::Come(2, 256)];
+
+const GO: [Act; 7] = [
+    Act::SaysWithRoom(1, "QUIT"),
+    Act::SaysWithRoom(2, "QUIT"),
+    Act::Swept(&[]),
+    Act::Swept(&[]),
+    Act::NobodyToSweep,
+    Act::Leaves(1, 101),
+    Act::Leaves(2, 101),
+];
+
 /// An outbox has room for 256 items, the journal for 64 records, and four of these are kept free for the ends.
 /// Two threads say 100,000 lines each of two sessions under one lock, in a journal for 64 records that each of them
 /// rolls where it is full, while two more take; who is 200 items ahead of its taker waits; then both quit, are
 /// swept and reaped: the numbers of what each took rise by each record of the other, none twice and none left out.
 #[test]
-fn threads_share_a_hall_that_is_rolled(rt: HostRuntime) -> Result<(), Fail> {
-    let register = new_register(rt.alloc())?;
+fn threads_share_a_hall_that_is_rolled(rt: HostRuntime) {
     let run = Run {
         taken: 99_900,
-        cap: 256,
         ahead: 200,
         records: 64,
+        come: &COME,
+        go: &GO,
     };
-    four_threads::<Brand, _>(&rt, rt.alloc(), register, run)
+    four_threads(&rt, rt.alloc(), &run);
 }

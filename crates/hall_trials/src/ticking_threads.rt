@@ -3,12 +3,15 @@
 //! owes it.
 ghost use Rattle.std.specs.Prelude.{◌≡◌, []};
 
+use crate::acts::Act;
 use crate::again::{line, new_register};
-use crate::guests::{Guest, Pair, enter_at, two};
+use crate::ending::gives_up;
+use crate::guests::{Guest, Made, enter};
 use crate::making::{Steps, hall_of};
+use crate::stage::Stage;
+use crate::threads::{Held, Shared, goes, number_of};
 use chronicle::{Kind, Moment, Record, RecordNumber, SessionId, Why};
-use deliveries::Delivery;
-use hall::{Hall, Lasting, Naming, Register};
+use hall::{Hall, Naming, Register};
 use line_grammar::Piece;
 use outbox::{Outbox, Sender, Writer};
 use std::alloc::Global;
@@ -16,7 +19,6 @@ use std::marker::Brand;
 use std::process::Abort;
 use std::sync::atomic::{AtomicBool, AtomicI64, Ordering};
 use std::sync::{Mutex, Wait};
-use std::test::Fail;
 use std::thread;
 use std::thread::{Threads, join};
 
@@ -65,6 +67,11 @@ impl Hands {
         self.now.load(Ordering::SeqCst)
     }
 
+    /// The moment at which all are late who are silent from now on.
+    fn end(&self) -> i64 {
+        self.now().saturating_add(LATE_AFTER)
+    }
+
     fn is_over(&self) -> bool {
         self.is_over.load(Ordering::SeqCst)
     }
@@ -97,12 +104,23 @@ impl Hands {
         }
         self.now.fetch_add(STEP, Ordering::SeqCst);
     }
+
+    /// Waits until it shows this moment, or all is over.
+    fn wait_until<R: Wait>(&self, rt: &R, moment: i64) {
+        for _ in rt.forever() {
+            if moment <= self.now() || self.is_over() {
+                break;
+            }
+            thread::yield_now();
+        }
+    }
 }
 
-/// The number of an item's record.
-fn number_of(delivery: &Delivery) -> u64 {
-    match delivery {
-        Delivery::Lines { number, .. } | Delivery::Last { number, .. } => number.number(),
+/// The number of the record of the next item, if one waits.
+fn take_next<L: Naming, R: Wait + Drop>(rt: &R, guest: &mut Caller<L, R>) -> Option<u64> {
+    match guest.ends.taker.take_now(rt) {
+        Ok(item) => Some(number_of(&item)),
+        Err(_) => None,
     }
 }
 
@@ -114,93 +132,95 @@ fn take_all<L: Naming, R: Wait + Drop>(
 ) {
     let session = guest.baton.session().number();
     for _ in 0..CAP {
-        match guest.taker.take_now(rt) {
-            Ok(item) => {
-                let _ = taken.push((session, number_of(item.delivery())));
+        match take_next(rt, guest) {
+            Some(number) => {
+                let _ = taken.push((session, number));
             }
-            Err(_) => break,
+            None => break,
         }
     }
 }
 
-/// Who said lines: what it took, and how many of its lines were accepted.
+/// What who said lines took, and how many of its lines were accepted.
 #[derive(Drop)]
-struct Talked<L: Naming, O: Lasting<Taker = T>, T: Drop> {
-    guest: Guest<L, O, T>,
+struct Talked {
     taken: Vec<Numbered>,
     said: u64,
+}
+
+/// Whether a line is accepted at the present moment, at which its session is heard then.
+fn says_now<L: Naming, R: Wait + Drop>(
+    hall: &mut Hall<L, Sender<R>>,
+    guest: &mut Caller<L, R>,
+    piece: &Piece,
+    hands: &Hands,
+    which: usize,
+) -> bool {
+    let now = hands.now();
+    let is_said = hall.line(&mut guest.baton, piece, Moment::new(now)).is_ok();
+    if is_said {
+        hands.hear(which, now);
+    }
+    is_said
 }
 
 /// Says a line so often, each time under the lock, and takes what comes.
 fn talk<L: Naming, R: Wait + Drop>(
     rt: &R,
     alloc: Global,
-    hall: &Mutex<Hall<L, Sender<R>>>,
-    mut guest: Caller<L, R>,
+    hall: &Shared<L, R>,
+    guest: &mut Caller<L, R>,
     piece: &Piece,
     hands: &Hands,
     which: usize,
-) -> Talked<L, Sender<R>, Writer> {
-    let mut taken = Vec::new(alloc);
-    let mut said = 0u64;
+) -> Talked {
+    let (mut taken, mut said) = (Vec::new(alloc), 0u64);
     for _ in 0..ROUNDS {
-        let mut held = hall.lock(rt);
-        let now = hands.now();
-        let answer = held.line(&mut guest.baton, piece, Moment::new(now));
-        drop(held);
-        if answer.is_ok() {
-            hands.hear(which, now);
+        if says_now(&mut hall.lock(rt), guest, piece, hands, which) {
             said = said.saturating_add(1);
         }
-        take_all(rt, &mut guest, &mut taken);
+        take_all(rt, guest, &mut taken);
     }
     hands.hear(which, i64::MAX);
-    Talked { guest, taken, said }
+    Talked { taken, said }
 }
 
-/// How often somebody was pinged, and how many were ended for their silence.
-#[derive(Clone, Copy)]
-struct Beaten {
-    ticks: u64,
-    ended: u64,
+/// Whether somebody is pinged.
+fn pings<L: Naming, R: Wait + Drop>(hall: &mut Hall<L, Sender<R>>, moment: Moment) -> bool {
+    matches!(hall.tick(moment), Ok(Some(_)))
 }
 
-/// Pings and ends who is silent at the present moment.
-fn beat<L: Naming, R: Wait + Drop>(
-    rt: &R,
-    hall: &Mutex<Hall<L, Sender<R>>>,
-    now: i64,
-    beaten: &mut Beaten,
-) {
-    let moment = Moment::new(now);
-    if let Ok(Some(_)) = hall.lock(rt).tick(moment) {
-        beaten.ticks = beaten.ticks.saturating_add(1);
+/// Whether somebody is late, and is ended.
+fn ends_late<L: Naming, R: Wait + Drop>(hall: &mut Hall<L, Sender<R>>, moment: Moment) -> bool {
+    match hall.late(moment) {
+        Some(session) => hall.hang(session, Why::PingTimeout, moment).is_ok(),
+        None => false,
     }
+}
+
+/// Pings and ends who is silent at a moment, and answers whether somebody was pinged.
+fn beat<L: Naming, R: Wait + Drop>(rt: &R, hall: &Shared<L, R>, now: i64) -> bool {
+    let moment = Moment::new(now);
+    let is_pinged = pings(&mut hall.lock(rt), moment);
     for _ in rt.forever() {
-        let mut held = hall.lock(rt);
-        let Some(session) = held.late(moment) else {
-            break;
-        };
-        if held.hang(session, Why::PingTimeout, moment).is_err() {
+        if !ends_late(&mut hall.lock(rt), moment) {
             break;
         }
-        beaten.ended = beaten.ended.saturating_add(1);
     }
+    is_pinged
 }
 
-/// Moves the clock so often, and pings and ends who is silent then.
-fn beat_often<L: Naming, R: Wait + Drop>(
-    rt: &R,
-    hall: &Mutex<Hall<L, Sender<R>>>,
-    hands: &Hands,
-) -> Beaten {
-    let mut beaten = Beaten { ticks: 0, ended: 0 };
+/// Moves the clock so often, and pings and ends who is silent then. It answers how often somebody was pinged.
+fn beat_often<L: Naming, R: Wait + Drop>(rt: &R, hall: &Shared<L, R>, hands: &Hands) -> u64 {
+    let mut pings = 0u64;
     for _ in 0..ROUNDS {
         hands.move_on(rt);
-        beat(rt, hall, hands.now(), &mut beaten);
+        if beat(rt, hall, hands.now()) {
+            pings = pings.saturating_add(1);
+        }
     }
     hands.is_over.store(true, Ordering::SeqCst);
-    beaten
+    pings
 }
 
 /// Who came and said nothing: how many, how many of them weren't ended for their silence, what they took, and
@@ -213,57 +233,67 @@ struct Came {
     is_well: bool,
 }
 
+/// One comes at the present moment, which is noted.
+fn comes<L: Naming, R: Wait + Copy + Drop>(
+    rt: &R,
+    alloc: Global,
+    hall: &mut Hall<L, Sender<R>>,
+    hands: &Hands,
+    moment: &mut i64,
+) -> Option<Caller<L, R>> {
+    *moment = hands.now();
+    enter(rt, alloc, hall, CAP, Moment::new(*moment))
+}
+
 impl Came {
+    /// One is ended where it isn't yet, and takes all.
+    fn end<L: Naming, R: Wait + Drop>(
+        &mut self,
+        rt: &R,
+        hall: &mut Hall<L, Sender<R>>,
+        guest: &mut Caller<L, R>,
+        moment: Moment,
+    ) {
+        let session = guest.baton.session();
+        if hall.hang(session, Why::ReadEnded, moment).is_ok() {
+            self.hung = self.hung.saturating_add(1);
+        }
+        take_all(rt, guest, &mut self.taken);
+    }
+
+    /// One goes: it is ended, swept and given up. Others may be to be swept, too.
+    fn leave<L: Naming, R: Wait + Drop>(
+        &mut self,
+        rt: &R,
+        hall: &mut Hall<L, Sender<R>>,
+        held: &mut Option<Caller<L, R>>,
+        hands: &Hands,
+    ) {
+        let moment = Moment::new(hands.now());
+        if let Some(guest) = held {
+            self.end(rt, hall, guest, moment);
+        }
+        for _ in 0..3u32 {
+            let _ = hall.sweep(moment).is_ok();
+        }
+        self.count = self.count.saturating_add(1);
+        self.is_well = gives_up(hall, held) == Some(Ok(0)) && self.is_well;
+    }
+
     /// A session that stays until the clock was moved so often, is ended where it isn't yet, takes all, and is given
     /// up.
     fn one<L: Naming, R: Wait + Copy + Drop>(
         &mut self,
         rt: &R,
         alloc: Global,
-        hall: &Mutex<Hall<L, Sender<R>>>,
+        hall: &Shared<L, R>,
         hands: &Hands,
         steps: i64,
     ) {
-        let mut held = hall.lock(rt);
-        let came = hands.now();
-        let guest = enter_at(rt, alloc, &mut *held, CAP, Moment::new(came));
-        drop(held);
-        let Some(guest) = guest else {
-            self.is_well = false;
-            return;
-        };
-        let until = came.saturating_add(steps.saturating_mul(STEP));
-        for _ in rt.forever() {
-            if until <= hands.now() || hands.is_over() {
-                break;
-            }
-            thread::yield_now();
-        }
-        self.leave(rt, hall, guest, hands);
-    }
-
-    /// It is ended where it isn't yet, takes all, and is given up. Others may be to be swept, too.
-    fn leave<L: Naming, R: Wait + Drop>(
-        &mut self,
-        rt: &R,
-        hall: &Mutex<Hall<L, Sender<R>>>,
-        mut guest: Caller<L, R>,
-        hands: &Hands,
-    ) {
-        let mut held = hall.lock(rt);
-        let moment = Moment::new(hands.now());
-        let hung = held.hang(guest.baton.session(), Why::ReadEnded, moment);
-        if hung.is_ok() {
-            self.hung = self.hung.saturating_add(1);
-        }
-        self.count = self.count.saturating_add(1);
-        take_all(rt, &mut guest, &mut self.taken);
-        for _ in 0..3u32 {
-            let _ = held.sweep(moment);
-        }
-        if guest.leaves(&mut *held) != Some(0) {
-            self.is_well = false;
-        }
+        let mut came = 0i64;
+        let mut held = comes(rt, alloc, &mut hall.lock(rt), hands, &mut came);
+        hands.wait_until(rt, came.saturating_add(steps.saturating_mul(STEP)));
+        self.leave(rt, &mut hall.lock(rt), &mut held, hands);
     }
 }
 
@@ -272,7 +302,7 @@ impl Came {
 fn come_often<L: Naming, R: Wait + Copy + Drop>(
     rt: &R,
     alloc: Global,
-    hall: &Mutex<Hall<L, Sender<R>>>,
+    hall: &Shared<L, R>,
     hands: &Hands,
 ) -> Came {
     let mut came = Came {
@@ -289,15 +319,6 @@ fn come_often<L: Naming, R: Wait + Copy + Drop>(
         came.one(rt, alloc, hall, hands, steps as i64);
     }
     came
-}
-
-/// The two who said lines and those who came beside them, and the moment of the end.
-#[derive(Drop)]
-struct Met<L: Naming, O: Lasting<Taker = T>, T: Drop> {
-    al: Talked<L, O, T>,
-    bo: Talked<L, O, T>,
-    came: Came,
-    end: i64,
 }
 
 /// A session that is open, when it was last heard, and whether it was pinged since.
@@ -393,30 +414,15 @@ fn owed_by<L: Naming, R: Wait + Drop>(alloc: Global, hall: &Hall<L, Sender<R>>) 
     owed
 }
 
-/// Who said lines goes: it took what the journal owes it, and nothing is left for it.
-fn leaves<L: Naming, R: Wait + Drop>(
-    rt: &R,
-    hall: &mut Hall<L, Sender<R>>,
-    mut talked: Talked<L, Sender<R>, Writer>,
-    owed: &Owed,
-    steps: &mut Steps,
-) {
-    steps.note(talked.said == ROUNDS);
-    take_all(rt, &mut talked.guest, &mut talked.taken);
-    let session = talked.guest.baton.session().number();
-    steps.note(owed.is_of(session, session, &talked.taken));
-    steps.note(talked.guest.leaves(hall) == Some(0));
-}
-
 /// Two say lines side by side.
 fn talk_both<L: Naming + Send + Sync, R: Threads + Wait + Copy + Drop + Send + Sync>(
     rt: &R,
     alloc: Global,
-    hall: &Mutex<Hall<L, Sender<R>>>,
-    Pair { al, bo }: Pair<L, Sender<R>, Writer>,
+    hall: &Shared<L, R>,
+    (al, bo): (&mut Caller<L, R>, &mut Caller<L, R>),
     piece: &Piece,
     hands: &Hands,
-) -> (Talked<L, Sender<R>, Writer>, Talked<L, Sender<R>, Writer>) {
+) -> (Talked, Talked) {
     join(
         rt,
         || talk(rt, alloc, hall, al, piece, hands, 0),
@@ -428,9 +434,9 @@ fn talk_both<L: Naming + Send + Sync, R: Threads + Wait + Copy + Drop + Send + S
 fn beat_beside<L: Naming + Send + Sync, R: Threads + Wait + Copy + Drop + Send + Sync>(
     rt: &R,
     alloc: Global,
-    hall: &Mutex<Hall<L, Sender<R>>>,
+    hall: &Shared<L, R>,
     hands: &Hands,
-) -> (Beaten, Came) {
+) -> (u64, Came) {
     join(
         rt,
         || beat_often(rt, hall, hands),
@@ -438,86 +444,177 @@ fn beat_beside<L: Naming + Send + Sync, R: Threads + Wait + Copy + Drop + Send +
     )
 }
 
-/// Two say lines while a third looks who is silent and a fourth has others come. Then nobody says anything, and all
-/// are ended.
+/// The two who said lines, and those who came beside them.
+#[derive(Drop)]
+struct Met {
+    al: Talked,
+    bo: Talked,
+    pings: u64,
+    came: Came,
+}
+
+/// Two say lines while a third looks who is silent and a fourth has others come.
 fn meet<L: Naming + Send + Sync, R: Threads + Wait + Copy + Drop + Send + Sync>(
     rt: &R,
     alloc: Global,
-    hall: &Mutex<Hall<L, Sender<R>>>,
-    callers: Pair<L, Sender<R>, Writer>,
+    hall: &Shared<L, R>,
+    (al, bo): (&mut Caller<L, R>, &mut Caller<L, R>),
+    piece: &Piece,
+    hands: &Hands,
+) -> Met {
+    let ((al, bo), (pings, came)) = join(
+        rt,
+        || talk_both(rt, alloc, hall, (al, bo), piece, hands),
+        || beat_beside(rt, alloc, hall, hands),
+    );
+    Met {
+        al,
+        bo,
+        pings,
+        came,
+    }
+}
+
+/// Whether who said lines took what the journal owes it.
+fn is_owed<L: Naming, R: Wait + Drop>(
+    rt: &R,
+    guest: &mut Caller<L, R>,
+    talked: &mut Talked,
+    owed: &Owed,
+) -> bool {
+    take_all(rt, guest, &mut talked.taken);
+    let session = guest.baton.session().number();
+    talked.said == ROUNDS && owed.is_of(session, session, talked.taken.as_slice())
+}
+
+/// Somebody was pinged, some of those who came were late, and all took what the journal owes them.
+fn look_back<L: Naming, R: Wait + Drop>(
+    rt: &R,
+    alloc: Global,
+    hall: &Hall<L, Sender<R>>,
+    (al, bo): (&mut Caller<L, R>, &mut Caller<L, R>),
+    met: &mut Met,
+    steps: &mut Steps,
+) {
+    let owed = owed_by(alloc, hall);
+    let came = &met.came;
+    steps.note(met.pings > 0 && 0 < came.hung && came.hung < came.count);
+    steps.note(owed.is_well && came.is_well);
+    steps.note(owed.is_of(3, u64::MAX, came.taken.as_slice()));
+    steps.note(is_owed(rt, al, &mut met.al, &owed));
+    steps.note(is_owed(rt, bo, &mut met.bo, &owed));
+}
+
+/// All meet. Then nobody says anything, all are ended, and what they took is looked at.
+fn race<L: Naming + Send + Sync, R: Threads + Wait + Copy + Drop + Send + Sync>(
+    rt: &R,
+    alloc: Global,
+    hall: &Shared<L, R>,
+    (al, bo): (&mut Caller<L, R>, &mut Caller<L, R>),
     piece: &Piece,
     hands: &Hands,
     steps: &mut Steps,
-) -> Met<L, Sender<R>, Writer> {
-    let ((al, bo), (mut beaten, came)) = join(
-        rt,
-        || talk_both(rt, alloc, hall, callers, piece, hands),
-        || beat_beside(rt, alloc, hall, hands),
-    );
-    // Somebody was pinged, and some of those who came were late.
-    steps.note(beaten.ticks > 0);
-    steps.note(0 < came.hung && came.hung < came.count);
-    let end = hands.now().saturating_add(LATE_AFTER);
-    beat(rt, hall, end, &mut beaten);
-    Met { al, bo, came, end }
+) {
+    let mut met = meet(rt, alloc, hall, (al, bo), piece, hands);
+    let _ = beat(rt, hall, hands.end());
+    look_back(rt, alloc, &hall.lock(rt), (al, bo), &mut met, steps);
 }
 
-/// All took what the journal owes them, and the two go.
-fn part<L: Naming, R: Wait + Drop>(
+/// Both race, if they came.
+fn both_race<L: Naming + Send + Sync, R: Threads + Wait + Copy + Drop + Send + Sync>(
     rt: &R,
     alloc: Global,
-    hall: &mut Hall<L, Sender<R>>,
-    met: Met<L, Sender<R>, Writer>,
+    hall: &Shared<L, R>,
+    (al, bo): (&mut Held<L, R>, &mut Held<L, R>),
+    piece: &Piece,
+    hands: &Hands,
     steps: &mut Steps,
 ) {
-    let owed = owed_by(alloc, &*hall);
-    steps.note(owed.is_well && met.came.is_well);
-    steps.note(owed.is_of(3, u64::MAX, &met.came.taken));
-    for _ in 0..2u32 {
-        steps.note(hall.sweep(Moment::new(met.end)).is_ok());
+    match al {
+        Some(al) => match bo {
+            Some(bo) => race(rt, alloc, hall, (al, bo), piece, hands, steps),
+            None => steps.note(false),
+        },
+        None => steps.note(false),
     }
-    leaves(rt, hall, met.al, &owed, steps);
-    leaves(rt, hall, met.bo, &owed, steps);
 }
 
-/// Two come, all meet, and all part.
-fn race<L: Naming + Send + Sync, R: Threads + Wait + Abort + Copy + Drop + Send + Sync>(
+/// Two who came race.
+fn two_race<L: Naming + Send + Sync, R: Threads + Wait + Copy + Drop + Send + Sync>(
     rt: &R,
     alloc: Global,
-    mut hall: Hall<L, Sender<R>>,
+    hall: &Shared<L, R>,
+    guests: &mut [Held<L, R>],
+    piece: &Piece,
+    hands: &Hands,
+    steps: &mut Steps,
+) {
+    match guests {
+        [al, bo] => both_race(rt, alloc, hall, (al, bo), piece, hands, steps),
+        _ => steps.note(false),
+    }
+}
+
+/// Two come.
+const COME: [Act; 1] = [Act::Come(2, CAP)];
+
+/// They go, after all others.
+const GO: [Act; 5] = [
+    Act::Swept(&[]),
+    Act::Swept(&[]),
+    Act::NobodyToSweep,
+    Act::Leaves(1, 0),
+    Act::Leaves(2, 0),
+];
+
+/// Two come, race, and go.
+fn all_race<L: Naming + Send + Sync, R: Threads + Wait + Copy + Drop + Send + Sync>(
+    rt: &R,
+    alloc: Global,
+    hall: &Shared<L, R>,
     piece: &Piece,
     steps: &mut Steps,
 ) {
-    let callers = two(rt, alloc, &mut hall, (CAP, CAP)).expect(rt, "two who come");
-    let (lock, hands) = (Mutex::new(hall), Hands::new());
-    let met = meet(rt, alloc, &lock, callers, piece, &hands, steps);
-    let mut hall = lock.into_inner();
-    part(rt, alloc, &mut hall, met, steps);
+    let (mut stage, hands) = (Stage::new(alloc), Hands::new());
+    goes(rt, alloc, hall, &mut stage, &COME, steps);
+    let guests = stage.guests.as_mut_slice();
+    two_race(rt, alloc, hall, guests, piece, &hands, steps);
+    stage.at(hands.end());
+    goes(rt, alloc, hall, &mut stage, &GO, steps);
 }
 
 /// The same in a hall of its own, whose sessions this register has.
-fn race_in_one<L: Naming + Send + Sync, R: Threads + Wait + Abort + Copy + Drop + Send + Sync>(
+fn race_in<L: Naming + Send + Sync, R: Threads + Wait + Copy + Drop + Send + Sync>(
     rt: &R,
     alloc: Global,
     register: Register<Name<R>>,
-) -> Result<(), Fail>
+    piece: &Piece,
+    steps: &mut Steps,
+)
     requires named { register.table ≡ L.table }
     requires empty { register.rows ≡ [] }
 {
-    let piece = line(alloc, "PING x")?;
-    let Ok(hall) = hall_of::<L, Sender<R>>(alloc, register, 3, RECORDS) else {
-        return Err("a hall".into());
-    };
+    match hall_of::<L, Sender<R>>(alloc, register, (3, RECORDS)) {
+        Ok(hall) => all_race(rt, alloc, &Mutex::new(hall), piece, steps),
+        Err(_) => steps.note(false),
+    }
+}
+
+/// The same with a register of its own.
+fn race_alone<R: Threads + Wait + Abort + Copy + Drop + Send + Sync>(rt: &R, alloc: Global) {
     let mut steps = Steps::new();
-    race(rt, alloc, hall, &piece, &mut steps);
+    match (new_register(alloc), line(alloc, "PING x")) {
+        (Ok(register), Ok(piece)) => {
+            race_in::<Brand, R>(rt, alloc, register, &piece, &mut steps);
+        }
+        _ => steps.note(false),
+    }
     steps.assert_right(rt);
-    Ok(())
 }
 
 /// While two threads say 100,000 lines each, a third moves the clock, pings and ends 100,000 times, and a fourth
 /// has sessions come and ends them: what each took is what the journal owes it.
 #[test]
-fn ticks_race_with_lines(rt: HostRuntime) -> Result<(), Fail> {
-    let register = new_register(rt.alloc())?;
-    race_in_one::<Brand, _>(&rt, rt.alloc(), register)
+fn ticks_race_with_lines(rt: HostRuntime) {
+    race_alone(&rt, rt.alloc());
 }

@@ -4,8 +4,8 @@ use Rattle.std.specs.Prelude.{Result, Ok, Err, codes, decimal, flat_map, filter,
 use Rattle.line_grammar.specs.Lines.{ended}
 use Rattle.chronicle.specs.declared.names.SessionId.{SessionId}
 use Rattle.chronicle.specs.declared.names.RecordNumber.{RecordNumber}
-use Rattle.book.specs.declared.out.Done.{Done}
-use Rattle.book.specs.declared.out.Hung.{Hung}
+use Rattle.ledger.specs.declared.out.Done.{Done}
+use Rattle.ledger.specs.declared.out.Hung.{Hung}
 use Rattle.deliveries.specs.Text.{delivery_text}
 use Rattle.interleave.specs.declared.event.Event.{Event}
 use Rattle.interleave.specs.declared.event.Event.TheVariants as event

@@ -1,17 +1,17 @@
 -- The names of refusals, which a note says after `refused`: this project's own choice.
 use Rattle.std.specs.Prelude.{ℕ, List, codes}
-use Rattle.book.specs.declared.refusals.OpenRefusal.{OpenRefusal}
-use Rattle.book.specs.declared.refusals.OpenRefusal.TheVariants as opening
-use Rattle.book.specs.declared.refusals.LineRefusal.{LineRefusal}
-use Rattle.book.specs.declared.refusals.LineRefusal.TheVariants as accepting
-use Rattle.book.specs.declared.refusals.HangRefusal.{HangRefusal}
-use Rattle.book.specs.declared.refusals.HangRefusal.TheVariants as hanging
-use Rattle.book.specs.declared.refusals.SweepRefusal.{SweepRefusal}
-use Rattle.book.specs.declared.refusals.SweepRefusal.TheVariants as sweeping
-use Rattle.book.specs.declared.refusals.TickRefusal.{TickRefusal}
-use Rattle.book.specs.declared.refusals.TickRefusal.TheVariants as ticking
-use Rattle.book.specs.declared.refusals.ReapRefusal.{ReapRefusal}
-use Rattle.book.specs.declared.refusals.ReapRefusal.TheVariants as reaping
+use Rattle.ledger.specs.declared.refusals.OpenRefusal.{OpenRefusal}
+use Rattle.ledger.specs.declared.refusals.OpenRefusal.TheVariants as opening
+use Rattle.ledger.specs.declared.refusals.LineRefusal.{LineRefusal}
+use Rattle.ledger.specs.declared.refusals.LineRefusal.TheVariants as accepting
+use Rattle.ledger.specs.declared.refusals.HangRefusal.{HangRefusal}
+use Rattle.ledger.specs.declared.refusals.HangRefusal.TheVariants as hanging
+use Rattle.ledger.specs.declared.refusals.SweepRefusal.{SweepRefusal}
+use Rattle.ledger.specs.declared.refusals.SweepRefusal.TheVariants as sweeping
+use Rattle.ledger.specs.declared.refusals.TickRefusal.{TickRefusal}
+use Rattle.ledger.specs.declared.refusals.TickRefusal.TheVariants as ticking
+use Rattle.ledger.specs.declared.refusals.ReapRefusal.{ReapRefusal}
+use Rattle.ledger.specs.declared.refusals.ReapRefusal.TheVariants as reaping
 use Rattle.interleave.specs.declared.event.BookRefusal.{BookRefusal}
 use Rattle.interleave.specs.declared.event.BookRefusal.TheVariants as book
 use Rattle.interleave.specs.declared.event.StepRefusal.{StepRefusal}

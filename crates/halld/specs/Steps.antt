@@ -3,7 +3,7 @@ use Rattle.std.specs.Prelude.{◌≡◌, ◌⊎◌, ℕ, ℤ, zero, suc, ◌-◌
 use Rattle.std.specs.Prelude.{◌++◌, Option, Some, None, Result, Ok, Err, codes}
 use Rattle.chronicle.specs.declared.why.Why.TheVariants as why
 use Rattle.deliveries.specs.declared.delivery.Delivery.{Delivery}
-use Rattle.book.specs.Book.{late}
+use Rattle.ledger.specs.Ledger.{late}
 use Rattle.interleave.specs.declared.event.Event.TheVariants as event
 use Rattle.interleave.specs.declared.event.Note.{Note}
 use Rattle.interleave.specs.declared.event.Note.TheVariants as note

@@ -21,7 +21,7 @@ use Rattle.deeds.specs.Deeds.{facts, spelled, text}
 use Rattle.deliveries.specs.declared.delivery.Delivery.{Delivery}
 use Rattle.deliveries.specs.declared.delivery.Delivery.TheVariants.{Lines, Last}
 use Rattle.deliveries.specs.Owed.{delivery, item, owed, reason, told}
-use Rattle.book.specs.Legal.{IsLegal}
+use Rattle.ledger.specs.Legal.{IsLegal}
 use Rattle.interleave.specs.Laws.{BatchClosed, HeardOnce, IsRequest, LabelledFirst, LabelledOnce, LoneUnbatched}
 use Rattle.interleave.specs.Laws.{Request, answer_to, copies_of, effects_of, record_of, reply_to}
 use Rattle.interleave.proofs.Opened.{opened-once}

@@ -14,12 +14,12 @@ use Rattle.deliveries.specs.declared.delivery.Delivery.{Delivery}
 use Rattle.deliveries.specs.declared.item.Item.{Item}
 use Rattle.deliveries.specs.Items.{deliveries}
 use Rattle.outbox.specs.Ring.{Waiting, has_room, with_put, put_into}
-use Rattle.book.specs.declared.plan.Planned.{Planned}
-use Rattle.book.specs.Legal.{IsKind, IsLegal}
+use Rattle.ledger.specs.declared.plan.Planned.{Planned}
+use Rattle.ledger.specs.Legal.{IsKind, IsLegal}
 use Rattle.deliveries.specs.Owed.{delivery, owed}
-use Rattle.book.specs.Book.{Shown, outbox_at, is_here, IsPlan, planned, plan_of, begun}
-use Rattle.book.specs.Book.{delivered, dropped, put_next, put_all, finished, done}
-use Rattle.book.specs.Book as book
+use Rattle.ledger.specs.Ledger.{Shown, outbox_at, is_here, IsPlan, planned, plan_of, begun}
+use Rattle.ledger.specs.Ledger.{delivered, dropped, put_next, put_all, finished, done}
+use Rattle.ledger.specs.Ledger as book
 use Rattle.interleave.specs.State.{Seen, IsBoxOf, IsSoundAt}
 
 -- an outbox keeps what was taken and how much room there is; a session without one is owed nothing more

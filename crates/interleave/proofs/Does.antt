@@ -3,8 +3,8 @@ use Rattle.std.proofs.Common.{◌≡◌, ℕ, ℤ, ◌+◌, ◌-◌, ◌<◌, �
 use Rattle.std.proofs.Common.{slice_index_or, slice_set, Option, Some, None, arith, refl, sym, subst}
 use Rattle.chronicle.specs.declared.why.Why.{Why}
 use Rattle.outbox.specs.Ring.{Waiting, put_into}
-use Rattle.book.specs.Book.{Shown, Out, IsOut, is_here}
-use Rattle.book.specs.Book as book
+use Rattle.ledger.specs.Ledger.{Shown, Out, IsOut, is_here}
+use Rattle.ledger.specs.Ledger as book
 use Rattle.interleave.specs.declared.worker.Place.TheVariants.{Home, Hand}
 use Rattle.interleave.specs.declared.play.Holder.{Holder}
 use Rattle.interleave.specs.declared.event.Event.TheVariants as event

@@ -6,8 +6,8 @@ use Rattle.registration.specs.declared.settings.Settings.{Settings}
 use Rattle.registration.specs.Settings.{IsWellSet}
 use Rattle.clean_records.specs.Clean.{IsCleanKind}
 use Rattle.outbox.specs.Ring.{Waiting, put_into}
-use Rattle.book.specs.Book.{Shown, held}
-use Rattle.book.specs.Book as book
+use Rattle.ledger.specs.Ledger.{Shown, held}
+use Rattle.ledger.specs.Ledger as book
 use Rattle.interleave.specs.Kept.{IsKept}
 
 no_job : (workers i s : ℕ) → slice_index_or (replicate workers None) i None ≡ Some s → ⊥
@@ -15,7 +15,7 @@ no_job zero i s e = let f : None ≡ Some s = e in cc
 no_job (suc n) zero s e = let f : None ≡ Some s = e in cc
 no_job (suc n) (suc i) s e = no_job n i s e
 
-empty_sound : (limit : ℕ) (settings : Settings) (m : Shown Waiting) → m ≡ book.empty_book limit settings
+empty_sound : (limit : ℕ) (settings : Settings) (m : Shown Waiting) → m ≡ book.empty_ledger limit settings
     → book.IsSound put_into m
 empty_sound limit settings m is =
     let nobody : held [] ≡ 0 = refl in
@@ -32,11 +32,11 @@ empty_sound limit settings m is =
     })
 
 pub empty_kept : (limit : ℕ) (settings : Settings) (sendq workers : ℕ) → IsWellSet settings
-    → IsKept (book.empty_book limit settings) sendq [] (replicate workers None) None
+    → IsKept (book.empty_ledger limit settings) sendq [] (replicate workers None) None
 empty_kept limit settings sendq workers set =
     record {
       sound = record {
-        book = empty_sound limit settings (book.empty_book limit settings) refl;
+        book = empty_sound limit settings (book.empty_ledger limit settings) refl;
         inboxes = refl;
         each = λ t from to. absurd (omega arith);
         jobs = λ i s e. absurd (no_job workers i s e);

@@ -7,8 +7,8 @@ use Rattle.chronicle.specs.declared.record.Kind.TheVariants.{Opened, Said, Hung,
 use Rattle.chronicle.specs.History.{Rec, actor, shut}
 use Rattle.chronicle.specs.Quiet.{is_tick}
 use Rattle.registration.specs.declared.settings.Settings.{Settings}
-use Rattle.book.specs.Legal.{IsKind, IsLegal}
-use Rattle.book.specs.Book.{newest_actor, next_of, newest_next}
+use Rattle.ledger.specs.Legal.{IsKind, IsLegal}
+use Rattle.ledger.specs.Ledger.{newest_actor, next_of, newest_next}
 use Rattle.interleave.specs.Steps.{is_actor_shut}
 
 -- a record of no session is a tick

@@ -3,7 +3,7 @@ use Rattle.std.proofs.lemmas.Bool.Decides.{leb_tells, eqb_tells}
 use Rattle.std.proofs.Common.{◌≡◌, ◌≢◌, inl, inr, ℕ, ◌<◌, ◌≤◌, Bool, true, false, ◌||◌, ◌&&◌, nat_le, cond}
 use Rattle.std.proofs.Common.{List, [], ◌∷◌, length, Option, Some, None, refl, sym, ap, ◌∙◌}
 use Rattle.std.specs.Option.{is_some}
-use Rattle.book.specs.Book.{is_here}
+use Rattle.ledger.specs.Ledger.{is_here}
 use Rattle.interleave.specs.declared.event.StepRefusal.{StepRefusal}
 use Rattle.interleave.specs.State.{State, inbox_at, is_known, is_worker, job_of, holds, is_home}
 use Rattle.interleave.specs.Refusals.{is_empty, no_session, no_worker, locked, not_holding, has_job, no_job}

@@ -18,8 +18,8 @@ use Rattle.chronicle.specs.History.{Rec, sessions, said_by, accepted}
 use Rattle.deliveries.specs.declared.delivery.Delivery.{Delivery}
 use Rattle.deliveries.specs.Items.{deliveries}
 use Rattle.outbox.specs.Ring.{Waiting, empty_ring, with_taken as ring_taken, put_into}
-use Rattle.book.specs.Book.{Shown, Turn, Out, IsOut, is_here}
-use Rattle.book.specs.Book as book
+use Rattle.ledger.specs.Ledger.{Shown, Turn, Out, IsOut, is_here}
+use Rattle.ledger.specs.Ledger as book
 use Rattle.interleave.specs.declared.worker.Place.{Place}
 use Rattle.interleave.specs.declared.worker.Place.TheVariants.{Home, Hand, Begun}
 use Rattle.interleave.specs.declared.play.Holder.{Holder}

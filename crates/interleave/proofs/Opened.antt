@@ -1,34 +1,26 @@
 -- The sessions of a legal history are opened once each.
-use Rattle.std.proofs.Common.{◌≡◌, ℕ, zero, suc, ◌+◌, ◌<◌, ◌≤◌, ◌==◌, Bool, true, false, cond, List, []}
-use Rattle.std.proofs.Common.{◌∷◌, ◌++◌, arith, refl, sym, subst, ap, ◌∙◌, lit≤, eqb-true}
+use Rattle.std.proofs.Common.{◌≡◌, ℕ, zero, suc, ◌+◌, ◌<◌, ◌==◌, false, List, []}
+use Rattle.std.proofs.Common.{◌∷◌, ◌++◌, arith, refl, sym, subst, ap, ◌∙◌, ne_eqb}
+use Rattle.std.specs.List.{AllByRecursion, IsDistinct}
 use Rattle.chronicle.specs.declared.record.Kind.{Kind}
 use Rattle.chronicle.specs.declared.record.Kind.TheVariants.{Opened, Said, Hung, Gone, Ticked}
 use Rattle.chronicle.specs.History.{Rec, opened_by, sessions}
 use Rattle.registration.specs.declared.settings.Settings.{Settings}
 use Rattle.roster.specs.LookBack.{after, numbers, opened}
 use Rattle.deeds.specs.Deeds.{deeds, facts}
-use Rattle.record_laws.specs.Laws.{IsEachOnce, RecordsOpenNoOthers, opens, times}
-use Rattle.book.specs.Legal.{IsKind, IsLegal}
-use Rattle.book.proofs.Opened.{numbers_push}
+use Rattle.record_laws.specs.Laws.{IsEachOnce, RecordsOpenNoOthers, opens}
+use Rattle.ledger.specs.Legal.{IsKind, IsLegal}
+use Rattle.ledger.proofs.Opened.{numbers_push}
 
--- numbers from k on have none below k
-not-below : (k n t : ℕ) → t < k → times (numbers k n) t ≡ 0
-not-below k zero t below = refl
-not-below k (suc n) t below = other (k == t) (λ same. eqb-true k t same) (times (numbers (k + 1) n) t)
-    (not-below (k + 1) n t (omega arith))
-  where
-    other : (b : Bool) → (b ≡ true → k ≡ t) → (m : ℕ) → m ≡ 0 → cond b (suc m) m ≡ 0
-    other true same m e = let is = same refl in absurd (omega arith)
-    other false same m e = e
+-- numbers from j on have none below j
+above : (k j n : ℕ) → k < j → AllByRecursion (λ y. (k == y) ≡ false) (numbers j n)
+above k j zero below = tt
+above k j (suc n) below = (ne_eqb k j (omega arith), above k (j + 1) n (omega arith))
 
 pub numbers-once : (k n : ℕ) → IsEachOnce (numbers k n)
-numbers-once k zero t = lit≤ tt
-numbers-once k (suc n) t = most (k == t) (λ same. eqb-true k t same) (times (numbers (k + 1) n) t)
-    (numbers-once (k + 1) n t) (λ below. not-below (k + 1) n t below)
-  where
-    most : (b : Bool) → (b ≡ true → k ≡ t) → (m : ℕ) → m ≤ 1 → (t < k + 1 → m ≡ 0) → cond b (suc m) m ≤ 1
-    most true same m le none = let is = same refl in let e = none (omega arith) in omega arith
-    most false same m le none = omega arith
+unfolding IsDistinct
+numbers-once k zero = tt
+numbers-once k (suc n) = (above k (k + 1) n (omega arith), numbers-once (k + 1) n)
 
 with-one : (xs : List ℕ) (n s : ℕ) → xs ≡ numbers 1 n → s ≡ n + 1 → xs ++ s ∷ [] ≡ numbers 1 (1 + n)
 with-one xs n s e is =

@@ -16,7 +16,7 @@ use Rattle.line_grammar.specs.declared.splitter.Piece.{Piece}
 use Rattle.line_grammar.specs.Lines.{lines}
 use Rattle.chronicle.specs.History.{accepted}
 use Rattle.outbox.specs.Ring.{Waiting, put_into}
-use Rattle.book.specs.Book.{sent_by}
+use Rattle.ledger.specs.Ledger.{sent_by}
 use Rattle.interleave.specs.declared.worker.Place.{Place}
 use Rattle.interleave.specs.declared.worker.Place.TheVariants.{Home, Hand, Begun}
 use Rattle.interleave.specs.State.{Seen, State, IsSound, IsBoxOf, ForEach, hand, behind, waits, box_at}

@@ -11,7 +11,7 @@ use Rattle.line_grammar.specs.Lines.{lines}
 use Rattle.chronicle.specs.History.{accepted}
 use Rattle.deliveries.specs.declared.delivery.Delivery.{Delivery}
 use Rattle.deliveries.specs.Owed.{owed}
-use Rattle.book.specs.Book.{to_sweep, to_ping}
+use Rattle.ledger.specs.Ledger.{to_sweep, to_ping}
 use Rattle.interleave.specs.declared.worker.Place.TheVariants.{Home, Hand}
 use Rattle.interleave.specs.declared.event.Event.{Event}
 use Rattle.interleave.specs.declared.event.Event.TheVariants.{Connect, Feed, Pick, Begin, Put, End, Back}

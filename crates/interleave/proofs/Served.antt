@@ -11,8 +11,8 @@ use Rattle.registration.specs.Settings.{IsWellSet}
 use Rattle.answer_octets.specs.Clean.{is_one_line}
 use Rattle.clean_records.specs.Clean.{IsCleanHistory, IsCleanKind}
 use Rattle.outbox.specs.Ring.{Waiting, has_room}
-use Rattle.book.specs.declared.plan.Planned.{Planned}
-use Rattle.book.specs.Book.{Shown, begun, delivered, done, dropped, outbox_at, plan_of, put_all, put_next}
+use Rattle.ledger.specs.declared.plan.Planned.{Planned}
+use Rattle.ledger.specs.Ledger.{Shown, begun, delivered, done, dropped, outbox_at, plan_of, put_all, put_next}
 
 abbrev pub IsServed : Shown Waiting → Type 0
 IsServed m = IsWellSet m.settings × IsCleanHistory m.history

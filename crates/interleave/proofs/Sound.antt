@@ -23,8 +23,8 @@ use Rattle.deliveries.specs.declared.item.Item.{Item}
 use Rattle.deliveries.specs.Items.{deliveries}
 use Rattle.outbox.specs.Ring.{Waiting, empty_ring, with_taken as ring_taken, put_into}
 use Rattle.deliveries.specs.Owed.{owed}
-use Rattle.book.specs.Book.{Shown, is_here, box_of, sent_by}
-use Rattle.book.specs.Book as book
+use Rattle.ledger.specs.Ledger.{Shown, is_here, box_of, sent_by}
+use Rattle.ledger.specs.Ledger as book
 use Rattle.interleave.specs.declared.worker.Place.{Place}
 use Rattle.interleave.specs.declared.worker.Place.TheVariants.{Home, Hand, Begun}
 use Rattle.interleave.specs.State.{Seen, State, IsBoxOf, IsSoundAt, IsSound, nothing_fed, inbox_at}

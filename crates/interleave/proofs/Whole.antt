@@ -23,7 +23,7 @@ use Rattle.deeds.specs.Deeds.{facts}
 use Rattle.deliveries.specs.declared.delivery.Delivery.{Delivery}
 use Rattle.deliveries.specs.declared.delivery.Delivery.TheVariants.{Lines}
 use Rattle.deliveries.specs.Owed.{number_of, owed}
-use Rattle.book.specs.Book.{held}
+use Rattle.ledger.specs.Ledger.{held}
 use Rattle.interleave.specs.Laws.{LabelledOnce, OnceInOrder, answer_to, copies_of, record_of, reply_to}
 use Rattle.interleave.specs.Order.{AreAfter, IsRising}
 use Rattle.interleave.specs.State.{IsSound, State}

@@ -8,7 +8,7 @@ use Rattle.deliveries.specs.declared.delivery.Delivery.{Delivery}
 use Rattle.interleave.specs.declared.worker.Place.{Place}
 use Rattle.interleave.specs.declared.worker.Place.TheVariants.{Home}
 use Rattle.outbox.specs.Ring.{Waiting}
-use Rattle.book.specs.Book.{Shown, Turn, Out, IsOut, MayBegin, begun}
+use Rattle.ledger.specs.Ledger.{Shown, Turn, Out, IsOut, MayBegin, begun}
 use Rattle.interleave.specs.State.{Seen, nothing_fed}
 use Rattle.interleave.specs.Steps.{moved, with_left, with_fed, with_begun}
 

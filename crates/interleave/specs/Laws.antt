@@ -22,7 +22,7 @@ use Rattle.deeds.specs.Rows.{of_asked}
 use Rattle.deeds.specs.Deeds.{effects, facts}
 use Rattle.record_laws.specs.Laws.{AllShowOnce}
 use Rattle.deliveries.specs.Owed.{owed}
-use Rattle.book.specs.Legal.{IsLegal}
+use Rattle.ledger.specs.Legal.{IsLegal}
 use Rattle.interleave.specs.State.{State, IsSound, ForEach, inbox_at, taken_of}
 use Rattle.interleave.specs.Order.{IsPrefix, IsRising}
 

@@ -4,16 +4,17 @@ use Rattle.std.specs.Prelude.{◌∷◌, length, Option, Some, None, IsSome}
 use Rattle.std.specs.Option.{is_some}
 use Rattle.chronicle.specs.History.{accepted}
 use Rattle.outbox.specs.Ring.{Waiting}
-use Rattle.book.specs.declared.refusals.OpenRefusal.{OpenRefusal}
-use Rattle.book.specs.declared.refusals.OpenRefusal.TheVariants as opening
-use Rattle.book.specs.declared.refusals.LineRefusal.{LineRefusal}
-use Rattle.book.specs.declared.refusals.LineRefusal.TheVariants as accepting
-use Rattle.book.specs.declared.refusals.SweepRefusal.{SweepRefusal}
-use Rattle.book.specs.declared.refusals.SweepRefusal.TheVariants as sweeping
-use Rattle.book.specs.declared.refusals.TickRefusal.{TickRefusal}
-use Rattle.book.specs.declared.refusals.TickRefusal.TheVariants as ticking
-use Rattle.book.specs.Book.{Shown, Turn, MayOpen, MayBegin, MaySweep, MayTick, IsSomebodyQuiet, HasRoom, to_sweep}
-use Rattle.book.specs.Book.{IsOpenRefusal, IsLineRefusal, IsHangRefusal, IsSweepRefusal, IsTickRefusal, IsReapRefusal}
+use Rattle.ledger.specs.declared.refusals.OpenRefusal.{OpenRefusal}
+use Rattle.ledger.specs.declared.refusals.OpenRefusal.TheVariants as opening
+use Rattle.ledger.specs.declared.refusals.LineRefusal.{LineRefusal}
+use Rattle.ledger.specs.declared.refusals.LineRefusal.TheVariants as accepting
+use Rattle.ledger.specs.declared.refusals.SweepRefusal.{SweepRefusal}
+use Rattle.ledger.specs.declared.refusals.SweepRefusal.TheVariants as sweeping
+use Rattle.ledger.specs.declared.refusals.TickRefusal.{TickRefusal}
+use Rattle.ledger.specs.declared.refusals.TickRefusal.TheVariants as ticking
+use Rattle.ledger.specs.Ledger.{Shown, Turn, MayOpen, MayBegin, MaySweep, MayTick, IsSomebodyQuiet, HasRoom, to_sweep}
+use Rattle.ledger.specs.Ledger.{IsOpenRefusal, IsLineRefusal, IsHangRefusal, IsSweepRefusal, IsTickRefusal}
+use Rattle.ledger.specs.Ledger.{IsReapRefusal}
 use Rattle.interleave.specs.declared.event.Event.{Event}
 use Rattle.interleave.specs.declared.event.Event.TheVariants.{Connect, Feed, Pick, Begin, Put, End, Back}
 use Rattle.interleave.specs.declared.event.Event.TheVariants.{Take, Hang, Sweep, Tick, Reap}

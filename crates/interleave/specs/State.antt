@@ -12,8 +12,8 @@ use Rattle.deliveries.specs.declared.delivery.Delivery.{Delivery}
 use Rattle.outbox.specs.Ring.{Waiting, put_into}
 use Rattle.deliveries.specs.Owed.{owed}
 use Rattle.deliveries.specs.Items.{deliveries}
-use Rattle.book.specs.Book.{is_here, planned}
-use Rattle.book.specs.Book as book
+use Rattle.ledger.specs.Ledger.{is_here, planned}
+use Rattle.ledger.specs.Ledger as book
 use Rattle.interleave.specs.declared.worker.Place.{Place}
 use Rattle.interleave.specs.declared.worker.Place.TheVariants.{Home, Hand, Begun}
 
@@ -114,7 +114,7 @@ is_home (Begun w) = false
 -- with no sessions, and so many workers who have nothing to do
 abbrev pub empty_state : ℕ → Settings → ℕ → ℕ → State
 empty_state limit settings sendq workers = record {
-  book = book.empty_book limit settings;
+  book = book.empty_ledger limit settings;
   sendq = sendq;
   inboxes = [];
   jobs = replicate workers None;

@@ -12,14 +12,14 @@ use Rattle.chronicle.specs.History.{Rec, sessions, accepted, shut, actor}
 use Rattle.chronicle.specs.Quiet.{is_tick}
 use Rattle.deliveries.specs.declared.delivery.Delivery.{Delivery}
 use Rattle.outbox.specs.Ring.{empty_ring}
-use Rattle.book.specs.declared.out.Done.{Done}
-use Rattle.book.specs.declared.out.Hung.{Hung}
-use Rattle.book.specs.declared.out.Step.{Step}
-use Rattle.book.specs.declared.out.Step.TheVariants as step
-use Rattle.book.specs.Book.{MayOpen, MayBegin, MayHang, MaySweep, MayTick, MayReap}
-use Rattle.book.specs.Book.{HasRoom, newest_missed, to_sweep, to_ping}
-use Rattle.book.specs.Book as book
-use Rattle.book.specs.Told.{told_of}
+use Rattle.ledger.specs.declared.out.Done.{Done}
+use Rattle.ledger.specs.declared.out.Hung.{Hung}
+use Rattle.ledger.specs.declared.out.Step.{Step}
+use Rattle.ledger.specs.declared.out.Step.TheVariants as step
+use Rattle.ledger.specs.Ledger.{MayOpen, MayBegin, MayHang, MaySweep, MayTick, MayReap}
+use Rattle.ledger.specs.Ledger.{HasRoom, newest_missed, to_sweep, to_ping}
+use Rattle.ledger.specs.Ledger as book
+use Rattle.ledger.specs.Told.{told_of}
 use Rattle.interleave.specs.declared.worker.Place.{Place}
 use Rattle.interleave.specs.declared.worker.Place.TheVariants.{Home, Hand, Begun}
 use Rattle.interleave.specs.declared.event.Event.{Event}

@@ -15,7 +15,7 @@ use Rattle.deliveries.specs.declared.delivery.Delivery.{Delivery}
 use Rattle.deliveries.specs.declared.delivery.Delivery.TheVariants.{Lines}
 use Rattle.deliveries.specs.Owed.{number_of, owed}
 use Rattle.deliveries.specs.Text.{delivery_text}
-use Rattle.book.specs.Legal.{IsLegal}
+use Rattle.ledger.specs.Legal.{IsLegal}
 use Rattle.interleave.specs.Laws.{IsRequest, Request, copies_of}
 
 -- a delivery as its number and its octets, on the link from this host

@@ -5,11 +5,11 @@ ghost use Rattle.interleave.specs.Refusals.{of_open, of_line, of_sweep, of_tick}
 ghost use Rattle.interleave.specs.Steps.{noted};
 
 use crate::worker::WorkerId;
-use book::{
+use chronicle::{Moment, RecordNumber, SessionId, Why};
+use ledger::{
     Delivery, Done, HangRefusal, Hung, LineRefusal, OpenRefusal, ReapRefusal, Step, SweepRefusal,
     TickRefusal,
 };
-use chronicle::{Moment, RecordNumber, SessionId, Why};
 use line_grammar::Octets;
 use std::alloc::AllocError;
 

@@ -7,7 +7,7 @@ ghost use Rattle.std.specs.Prelude.{IfOk, IfErr, IfSome, IsSome, OnErr, OnOk};
 ghost use Rattle.std.specs.Option.{is_some};
 ghost use Rattle.chronicle.specs.History.{shut};
 ghost use Rattle.deliveries.specs.Items.{deliveries};
-ghost use Rattle.book.specs.Book.{IsOut, MayReap, IsReapRefusal, finished, newest_missed, outbox_at, reaped};
+ghost use Rattle.ledger.specs.Ledger.{IsOut, MayReap, IsReapRefusal, finished, newest_missed, outbox_at, reaped};
 ghost use Rattle.interleave.specs.Refusals.{IsLineRefused};
 ghost use Rattle.interleave.specs.Steps.{with_taken};
 ghost use Rattle.interleave.specs.Inbox.{Held, IsRead, IsBegun, held_at, with_held};
@@ -16,10 +16,10 @@ ghost use Rattle.interleave.specs.Inbox.{with_seen, moved_to, ended_at, reaped_a
 use crate::event::{StepRefusal, of_line};
 use crate::tokens::Tokens;
 use crate::worker::{Place, WorkerId};
-use book::Delivery;
+use book::{Book, Done, Naming, Plan, ReapRefusal, Ring};
 use chronicle::{Moment, SessionId};
 use ghosts::{Change, Snapshot, append, append_all, apply, blank, copied};
-use hall::{Book, Done, Naming, Plan, ReapRefusal, Ring};
+use ledger::Delivery;
 use line_grammar::{Piece, Splitter};
 use std::alloc::{AllocError, Global};
 use std::collections::{LinkedList, VecDeque};
@@ -79,7 +79,7 @@ fn move_up(alloc: Global, next: &mut VecDeque<Piece>, arrived: &mut Vec<Piece>)
 struct LeftIn;
 
 impl<'a, L: Naming> Change<LinkedList<Delivery>, (&'a Book<L, Ring>, SessionId)> for LeftIn {
-    ghost use Rattle.book.specs.Book.{outbox_at};
+    ghost use Rattle.ledger.specs.Ledger.{outbox_at};
 
     ghost changed = { λ xs by. deliveries (outbox_at by.0.now.outboxes by.1).queue };
 }

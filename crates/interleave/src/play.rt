@@ -9,11 +9,11 @@ ghost use Rattle.std.specs.Prelude.{slice_set, Some, None, IfOk, IfErr, IfSome, 
 ghost use Rattle.std.specs.Option.{is_some};
 ghost use Rattle.chronicle.specs.History.{accepted};
 ghost use Rattle.line_grammar.specs.Lines.{lines};
-ghost use Rattle.book.specs.Legal.{IsLegal};
+ghost use Rattle.ledger.specs.Legal.{IsLegal};
 ghost use Rattle.deliveries.specs.Owed.{owed};
 ghost use Rattle.casemapping.specs.Names.{host_shape};
-ghost use Rattle.book.specs.Book.{IsOut, empty_book, finished, late, newest_missed};
-ghost use Rattle.book.specs.Settings.{IsWellSet as IsBookSet};
+ghost use Rattle.ledger.specs.Ledger.{IsOut, empty_ledger, finished, late, newest_missed};
+ghost use Rattle.ledger.specs.Settings.{IsWellSet as IsBookSet};
 ghost use Rattle.interleave.specs.Limits.{IsWellSet};
 ghost use Rattle.interleave.specs.Steps.{is_actor_shut};
 
@@ -29,8 +29,9 @@ use crate::laws::{
 };
 use crate::tokens::Tokens;
 use crate::worker::{Place, WorkerId};
+use book::{Book, BookFault, Done, Naming, Plan, Register, Ring, Settings, TakeRefusal};
 use chronicle::{Moment, SessionId, Why};
-use hall::{Book, BookFault, Done, Naming, Plan, Register, Ring, Settings, TakeRefusal};
+use ledger::Ledger;
 use line_grammar::Octets;
 use std::alloc::{AllocError, Global};
 use std::hash::RandomState;
@@ -95,7 +96,7 @@ fn book_of<L: Naming>(
 ) -> Result<Book<L, Ring>, BookFault>
     requires named { register.table ≡ L.table }
     requires empty { register.rows ≡ [] }
-    ensures ok { IfOk result (λ b. (b ≡ empty_book limit settings) × IsBookSet settings limit) }
+    ensures ok { IfOk result (λ b. (b ≡ empty_ledger limit settings) × IsBookSet settings limit) }
     ensures bad { IfErr result (λ e. e ≡ BookFault.BadSettings → IsBookSet settings limit → ⊥) }
     ensures memory { IfErr result (λ e. e ≡ BookFault.Memory → IsBookSet settings limit) }
 {
@@ -258,7 +259,7 @@ impl<L: Naming> Play<L> {
     fn accounts_are_named(&self)
         ensures { AreNamed self.now.book.settings.accounts }
     {
-        self.book.book().settings().accounts.are_named();
+        self.book.ledger().settings().accounts.are_named();
     }
 
     /// The session of the lowest number that isn't shut and is quiet for too long at a moment, if there is one.
@@ -268,11 +269,11 @@ impl<L: Naming> Play<L> {
         self.book.late(moment)
     }
 
-    /// The book, as it stands.
-    pub fn book(&self) -> &book::Book<Ring>
+    /// The book as it stands, without its tokens.
+    pub fn ledger(&self) -> &Ledger<Ring>
         ensures { result.now ≡ self.now.book }
     {
-        self.book.book()
+        self.book.ledger()
     }
 
     // ---- why a step is refused
@@ -371,7 +372,7 @@ impl<L: Naming> Play<L> {
         if !self.holds(worker) {
             return Some(StepRefusal::NotHolding);
         }
-        if self.book.book().puts_left() == 0 {
+        if self.book.ledger().puts_left() == 0 {
             return Some(StepRefusal::NothingLeft);
         }
         None
@@ -387,7 +388,7 @@ impl<L: Naming> Play<L> {
         if !self.holds(worker) {
             return Some(StepRefusal::NotHolding);
         }
-        if self.book.book().puts_left() != 0 {
+        if self.book.ledger().puts_left() != 0 {
             return Some(StepRefusal::PutsLeft);
         }
         None
@@ -482,7 +483,7 @@ impl<L: Naming> Play<L> {
         requires free { own_refusal self.old (event.Connect host.now moment) ≡ None }
         ensures { IsStep self.old (event.Connect host.now moment) result self.new }
     {
-        if let Err(refusal) = self.book.book().may_open(moment) {
+        if let Err(refusal) = self.book.ledger().may_open(moment) {
             return Err(of_open(refusal));
         }
         let outbox = Ring::new(self.alloc, self.sendq)?;

@@ -5,12 +5,12 @@
 ghost use Rattle.std.specs.Prelude.{◌≡◌, ◌+◌, [], Some, length, IsSome, IfOk, IfErr, OnOk, OnErr};
 ghost use Rattle.chronicle.specs.declared.record.Kind.TheVariants as kind;
 ghost use Rattle.chronicle.specs.History.{shut};
-ghost use Rattle.book.specs.Book.{IsOut, MayBegin, MayReap, IsLineRefusal, IsReapRefusal, begun};
-ghost use Rattle.book.specs.Book.{finished, newest_missed, outbox_at, reaped};
-ghost use Rattle.hall.specs.Reaping.{turn_of};
+ghost use Rattle.ledger.specs.Ledger.{IsOut, MayBegin, MayReap, IsLineRefusal, IsReapRefusal, begun};
+ghost use Rattle.ledger.specs.Ledger.{finished, newest_missed, outbox_at, reaped};
+ghost use Rattle.book.specs.Reaping.{turn_of};
 
+use book::{Baton, Book, Done, LineRefusal, Naming, Plan, ReapRefusal, Ring, Stub};
 use chronicle::{Moment, SessionId};
-use hall::{Baton, Book, Done, LineRefusal, Naming, Plan, ReapRefusal, Ring, Stub};
 use line_grammar::Piece;
 use std::marker::Model;
 
@@ -24,8 +24,8 @@ pub(crate) struct Tokens<L: Naming> {
 
 impl<L: Naming> Model for Tokens<L> {
     ghost use Rattle.std.specs.Prelude.{◌≡◌, IsSome};
-    ghost use Rattle.book.specs.Book.{Turn};
-    ghost use Rattle.hall.specs.Reaping.{turn_of};
+    ghost use Rattle.ledger.specs.Ledger.{Turn};
+    ghost use Rattle.book.specs.Reaping.{turn_of};
 
     ghost Value = { Turn };
 

@@ -3,12 +3,12 @@ ghost use Rattle.std.specs.Prelude.{IfOk};
 ghost use Rattle.interleave.specs.Steps.{IsWellShaped};
 
 use crate::again::copied;
+use crate::plays::Steps;
 use casemapping::is_host;
 use interleave::{
     Delivery, Done, Event, Moment, Naming, Note, Play, SessionId, StepRefusal, Why, WorkerId,
 };
 use std::alloc::{AllocError, Global};
-use std::process::Abort;
 
 /// An event by the numbers of its worker and its session.
 #[derive(Clone, Copy)]
@@ -48,20 +48,23 @@ pub(crate) enum Told {
 }
 
 /// The event by which a client connects.
-fn connect(rt: &impl Abort, alloc: Global, moment: Moment) -> Result<Event, AllocError>
+fn connect(alloc: Global, moment: Moment) -> Result<Event, AllocError>
     ensures { IfOk result IsWellShaped }
 {
-    let host = copied(alloc, b"one.example")?;
-    assert!(rt; is_host(host.as_slice()));
-    Ok(Event::Connect { host, moment })
+    match copied(alloc, b"one.example") {
+        Ok(host) if is_host(host.as_slice()) => Ok(Event::Connect { host, moment }),
+        _ => Err(AllocError),
+    }
 }
 
 /// The event of a reader.
 fn feed(alloc: Global, session: SessionId, text: &str) -> Result<Event, AllocError>
     ensures { IfOk result IsWellShaped }
 {
-    let octets = copied(alloc, text.as_bytes())?;
-    Ok(Event::Feed { session, octets })
+    match copied(alloc, text.as_bytes()) {
+        Ok(octets) => Ok(Event::Feed { session, octets }),
+        Err(_) => Err(AllocError),
+    }
 }
 
 /// The event of a session's step that brings no octets. (Who comes has no number yet.)
@@ -122,11 +125,11 @@ pub(crate) fn plain_event(act: Act, moment: Moment) -> Event
 }
 
 /// The event of a step.
-fn event_of(rt: &impl Abort, alloc: Global, act: Act, at: i64) -> Result<Event, AllocError>
+fn event_of(alloc: Global, act: Act, at: i64) -> Result<Event, AllocError>
     ensures { IfOk result IsWellShaped }
 {
     match act {
-        Act::Connect => connect(rt, alloc, Moment::new(at)),
+        Act::Connect => connect(alloc, Moment::new(at)),
         Act::Feed(session, text) => feed(alloc, SessionId::new(session), text),
         _ => Ok(plain_event(act, Moment::new(at))),
     }
@@ -164,37 +167,31 @@ pub(crate) fn brief(answer: &Result<Note, StepRefusal>) -> Told {
 }
 
 /// Takes a step, once more where there was no memory: one growth is refused at most.
-fn step<L: Naming>(play: &mut Play<L>, event: Event) -> Told
-    requires { IsWellShaped event }
+fn step<L: Naming>(play: &mut Play<L>, event: &Event) -> Told
+    requires { IsWellShaped event.now }
 {
-    match brief(&play.step(&event)) {
-        Told::Refused(StepRefusal::Memory) => brief(&play.step(&event)),
+    match brief(&play.step(event)) {
+        Told::Refused(StepRefusal::Memory) => brief(&play.step(event)),
         told => told,
     }
 }
 
-/// Takes a step.
-pub(crate) fn take_step<L: Naming>(
-    rt: &impl Abort,
-    alloc: Global,
-    play: &mut Play<L>,
-    act: Act,
-    at: i64,
-) -> Result<Told, AllocError> {
-    let event = event_of(rt, alloc, act, at)?;
-    Ok(step(play, event))
+/// Takes a step. Where there is no memory for what it brings it is refused for that.
+pub(crate) fn take_step<L: Naming>(alloc: Global, play: &mut Play<L>, act: Act, at: i64) -> Told {
+    match event_of(alloc, act, at) {
+        Ok(event) => step(play, &event),
+        Err(_) => Told::Refused(StepRefusal::Memory),
+    }
 }
 
-/// Takes steps in turn, and compares what became of each.
+/// Takes steps in turn, and notes whether each came to what it is to.
 pub(crate) fn compare<L: Naming>(
-    rt: &impl Abort,
     alloc: Global,
     play: &mut Play<L>,
     table: &[(Act, Told)],
-) -> Result<(), AllocError> {
-    for (place, (act, want)) in table.iter().enumerate() {
-        let told = take_step(rt, alloc, play, *act, 2000)?;
-        assert_eq!(rt; told, *want, "step {place}");
+    steps: &mut Steps,
+) {
+    for (act, want) in table {
+        steps.note(take_step(alloc, play, *act, 2000) == *want);
     }
-    Ok(())
 }

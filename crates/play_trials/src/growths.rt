@@ -4,11 +4,9 @@ ghost use Rattle.interleave.specs.Steps.{IsWellShaped};
 
 use crate::acts::{Act, Told, brief, compare};
 use crate::again::copied;
-use crate::plays::{Story, tell_story};
+use crate::plays::{Steps, Story, tell_story};
 use interleave::{Delivery, Event, Moment, Naming, Note, Play, SessionId, StepRefusal, WorkerId};
-use std::alloc::{AllocError, Global};
-use std::process::Abort;
-use std::test::Fail;
+use std::alloc::Global;
 
 /// Al asks for labels and moments, and registers: records 1 to 5.
 const AL: [(Act, Told); 20] = [
@@ -98,35 +96,39 @@ fn is_free<L: Naming>(play: &mut Play<L>) -> bool {
     )
 }
 
-/// Takes a step, once more where a growth was refused: then there are as many records as before, and nothing was put.
-fn step_again<L: Naming>(rt: &impl Abort, play: &mut Play<L>, event: &Event) -> Told
+/// What becomes of a step, which is taken once more where a growth was refused: then there are as many records as
+/// before, and nothing was put.
+fn step_again<L: Naming>(play: &mut Play<L>, event: &Event, steps: &mut Steps) -> Told
     requires { IsWellShaped event.now }
 {
-    let records = play.book().len();
+    let records = play.ledger().len();
     let told = brief(&play.step(event));
     if told != Told::Refused(StepRefusal::Memory) {
         return told;
     }
-    let is_same = play.book().len() == records;
-    assert!(rt; is_same && is_free(play) && has_nothing(play, 1) && has_nothing(play, 2));
+    let is_same = play.ledger().len() == records;
+    steps.note(is_same && is_free(play) && has_nothing(play, 1) && has_nothing(play, 2));
     brief(&play.step(event))
 }
 
 /// Al's line is read.
-fn read<L: Naming>(rt: &impl Abort, alloc: Global, play: &mut Play<L>) -> Result<(), AllocError> {
+fn read<L: Naming>(alloc: Global, play: &mut Play<L>, steps: &mut Steps) {
     let session = SessionId::new(1);
-    let octets = copied(alloc, b"@label=j JOIN #a\r\n")?;
-    let told = step_again(rt, play, &Event::Feed { session, octets });
-    assert_eq!(rt; told, Told::Read(1));
-    Ok(())
+    match copied(alloc, b"@label=j JOIN #a\r\n") {
+        Ok(octets) => {
+            let told = step_again(play, &Event::Feed { session, octets }, steps);
+            steps.note(told == Told::Read(1));
+        }
+        Err(_) => steps.note(false),
+    }
 }
 
 /// It is accepted.
-fn begin<L: Naming>(rt: &impl Abort, play: &mut Play<L>) {
+fn begin<L: Naming>(play: &mut Play<L>, steps: &mut Steps) {
     let worker = WorkerId::new(1);
     let moment = Moment::new(2000);
-    let told = step_again(rt, play, &Event::Begin { worker, moment });
-    assert_eq!(rt; told, Told::Record(10));
+    let told = step_again(play, &Event::Begin { worker, moment }, steps);
+    steps.note(told == Told::Record(10));
 }
 
 /// Whether a session takes this text.
@@ -138,30 +140,21 @@ fn takes<L: Naming>(play: &mut Play<L>, session: u64, want: &str) -> bool {
     }
 }
 
-/// Al joins the channel.
-fn join<L: Naming>(rt: &impl Abort, alloc: Global, play: &mut Play<L>) -> Result<(), AllocError> {
-    read(rt, alloc, play)?;
-    compare(rt, alloc, play, &PICK)?;
-    begin(rt, play);
-    compare(rt, alloc, play, &PUTS)?;
-    assert!(rt; takes(play, 1, TO_AL) && takes(play, 2, TO_BO));
-    Ok(())
-}
-
 /// Al and bo come, and al joins the channel.
-pub(crate) fn tell<L: Naming>(
-    rt: &impl Abort,
-    alloc: Global,
-    play: &mut Play<L>,
-) -> Result<(), AllocError> {
-    compare(rt, alloc, play, &AL)?;
-    compare(rt, alloc, play, &BO)?;
-    join(rt, alloc, play)
+pub(crate) fn tell<L: Naming>(alloc: Global, play: &mut Play<L>, steps: &mut Steps) -> bool {
+    compare(alloc, play, &AL, steps);
+    compare(alloc, play, &BO, steps);
+    read(alloc, play, steps);
+    compare(alloc, play, &PICK, steps);
+    begin(play, steps);
+    compare(alloc, play, &PUTS, steps);
+    steps.note(takes(play, 1, TO_AL) && takes(play, 2, TO_BO));
+    true
 }
 
 /// A labelled line for which there is no memory, when it is read or when it is begun, changes nothing, and is
 /// answered when it comes again.
 #[test]
-fn a_labelled_line_without_memory_changes_nothing(rt: HostRuntime) -> Result<(), Fail> {
-    tell_story(&rt, rt.alloc(), Story::Growths)
+fn a_labelled_line_without_memory_changes_nothing(rt: HostRuntime) {
+    tell_story(&rt, rt.alloc(), Story::Growths);
 }

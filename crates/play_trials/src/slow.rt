@@ -1,8 +1,8 @@
 //! What the records of a book say of its sessions, by a plain list of them that is searched from its
 //! beginning. It is made anew from the first record each time, and shares no code with the book's tables.
-use book::{Book, Ring};
 use chronicle::{Kind, Moment, Record, RecordNumber, SessionId};
 use interleave::Piece;
+use ledger::{Ledger, Ring};
 
 /// What a line asks for. Nicknames and channels are told by their places, so those that differ by case are one.
 #[derive(Clone, Copy)]
@@ -114,7 +114,7 @@ pub(crate) enum Met {
 }
 
 /// How many kinds of these there are.
-pub(crate) const KINDS: usize = 11;
+const KINDS: usize = 11;
 
 /// All sessions, that of the number 1 first, and how often each kind was met.
 #[derive(Clone, Copy)]
@@ -321,7 +321,7 @@ impl People {
 }
 
 /// Reads all records of a book.
-pub(crate) fn read_back(book: &Book<Ring>) -> People {
+pub(crate) fn read_back(book: &Ledger<Ring>) -> People {
     let mut people = People {
         people: [NOBODY; MOST],
         met: [0; KINDS],

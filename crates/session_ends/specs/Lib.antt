@@ -3,7 +3,8 @@ pub mod Sweeping
 pub mod Timing
 pub use Rattle.hall.specs.Ends
 pub use Rattle.hall.specs.Turn
-pub use Rattle.hall.specs.Book
+pub use Rattle.hall.specs.Outcomes
+pub use Rattle.hall.specs.Ledger
 pub use Rattle.hall.specs.Planned
 pub use Rattle.hall.specs.Done
 pub use Rattle.hall.specs.Hung

@@ -1,6 +1,6 @@
 //! The end of a session.
 ghost use Rattle.std.specs.Prelude.{◌≡◌, ℤ, All, Some, IfOk, IfErr, IfSome, OnOk, OnErr};
-ghost use Rattle.hall.specs.Book.{reaped};
+ghost use Rattle.hall.specs.Ledger.{reaped};
 ghost use Rattle.hall.specs.Reaping.{IsReapRefusal};
 ghost use Rattle.chronicle.specs.History.{last_moment};
 ghost use Rattle.session_ends.specs.Sweeping.{Sweeps};

@@ -1,9 +1,12 @@
-use Rattle.crew.proofs.Pinged.{ticks_seen}
+use Rattle.std.proofs.Common.{sym, subst}
+use Rattle.session_ends.specs.Ends.{Puttings}
+use Rattle.session_ends.specs.Ledger.{Shown}
+use Rattle.crew.specs.Beating.{Ticks}
 use Rattle.crew.proofs.beating.tick_once.Goals as goal
 
 pub returns-clause-ticks : goal.returns-clause-ticks
 returns-clause-ticks g c =
-    let hall = c.tick_told-answer.ensures in
-    ticks_seen _ c.tick_told-answer.result c.of-before.result.value c.of-after.result.value c.args.hall.now
-    c.tick_told-answer.new.self c.args.moment c.of-before.ensures c.of-after.ensures hall.some hall.none
-    hall.refusal hall.err
+    let answer = c.tick_told-answer.result in let moment = c.args.moment in
+    subst (λ (x : Shown Puttings). Ticks x c.of-after.result.value moment answer) (sym c.of-before.ensures)
+    (subst (λ (x : Shown Puttings). Ticks c.args.hall.now x moment answer) (sym c.of-after.ensures)
+    c.tick_told-answer.ensures.outcome)

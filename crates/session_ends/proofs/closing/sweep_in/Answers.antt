@@ -1,9 +1,12 @@
-use Rattle.session_ends.proofs.SeenSwept.{sweeps_seen}
+use Rattle.std.proofs.Common.{sym, subst}
+use Rattle.hall.specs.Ends.{Puttings}
+use Rattle.hall.specs.Ledger.{Shown}
+use Rattle.session_ends.specs.Sweeping.{Sweeps}
 use Rattle.session_ends.proofs.closing.sweep_in.Goals as goal
 
 pub returns-clause-sweeps : goal.returns-clause-sweeps
 returns-clause-sweeps g c =
-    let hall = c.sweep_told-answer.ensures in
-    sweeps_seen _ c.sweep_told-answer.result c.of-before.result.value c.of-after.result.value c.args.hall.now
-    c.sweep_told-answer.new.self c.later-moment.result c.of-before.ensures c.of-after.ensures hall.some hall.none
-    hall.refusal hall.err
+    let answer = c.sweep_told-answer.result in let moment = c.later-moment.result in
+    subst (λ (x : Shown Puttings). Sweeps x c.of-after.result.value moment answer) (sym c.of-before.ensures)
+    (subst (λ (x : Shown Puttings). Sweeps c.args.hall.now x moment answer) (sym c.of-after.ensures)
+    c.sweep_told-answer.ensures.outcome)

@@ -1,114 +1,55 @@
-use Rattle.std.proofs.Common.{arith, ◌≡◌, ◌+◌, ◌≤◌, ◌<◌, ◌∷◌, [], ◌++◌, Some, List}
-use Rattle.std.proofs.Common.{false, length, sym, ap, ◌∙◌, subst, refl, ℕ}
-use Rattle.std.proofs.lemmas.Grind.{common_steps}
-use Rattle.chronicle.specs.declared.record.Kind.TheVariants.{Opened}
-use Rattle.chronicle.specs.Journal.{most, fresh_record}
-use Rattle.registration.specs.declared.settings.Settings.{Settings}
-use Rattle.roster.specs.declared.deed.Deed.{Deed}
-use Rattle.roster.specs.declared.deed.Deed.TheVariants as deed
-use Rattle.book.specs.Seats.{no_seat}
-use Rattle.book.specs.Kept.{IsKept}
-use Rattle.book.specs.Book.{MayOpen, held}
-use Rattle.book.proofs.Opened.{sessions_le, seats_held}
-use Rattle.book.proofs.KeptSteps.{shown, opened_kept}
-use Rattle.book.specs.declared.last_heard.Since.{Since}
-use Rattle.book.proofs.Hearing.{since_as, since_opened, since_next}
-use Rattle.book.proofs.Based.{based_as, based_boxes, based_record, opened_many, opened_still}
+use Rattle.std.proofs.Common.{◌≡◌, ◌+◌, ◌<◌, ℕ, List, [], ◌∷◌, length, sym, ap, ◌∙◌, subst, append-nil, arith}
+use Rattle.chronicle.specs.History.{sessions, accepted}
+use Rattle.register.specs.declared.claims.Row.{Row}
+use Rattle.register.specs.Rows.{new_row}
+use Rattle.ledger.specs.Ledger.{Shown, opened}
+use Rattle.book.specs.Tied.{IsTied}
+use Rattle.book.proofs.Unopened.{silent}
+use Rattle.book.proofs.Ties.{opened_ties}
 use Rattle.book.proofs.book.Book.open.Goals as goal
 
+pub invariant_of-result : goal.invariant_of-result
+invariant_of-result g c =
+    let m = c.self.inside.ledger in
+    let n = sessions m.history + 1 in
+    let ok = c.in_ok-session.ensures.ok in
+    let session = c.in_ok-session.ensures.session in
+    let mark = c.admit-mark.ensures.mark in
+    let turn = c.in_ok-session.turn in
+    let late : sessions m.history < n = omega arith in
+    let none : accepted m.history n ≡ [] = silent m.settings m.history n c.sound.ensures.legal late in
+    let whose : turn.session ≡ n = ap (λ b. b.session) session.1 in
+    let front : accepted c.of-front.result.value.history turn.session ≡ [] =
+    ap (λ (b : Shown g.row.O.Denot). accepted b.history turn.session) (c.of-front.ensures ∙ ok)
+    ∙ ap (accepted (opened m c.args.host c.args.moment c.args.outbox).history) whose
+    ∙ append-nil (accepted m.history n) ∙ none in (
+      ap (λ b. b.session) mark ∙ session.0 ∙ sym whose,
+      record {
+        next = ap (λ b. b.next) session.1 ∙ sym (ap (λ b. length b.pieces) mark);
+        pieces = ap (λ b. b.pieces) mark ∙ sym front;
+      },
+    )
+
 pub invariant_of-self-2 : goal.invariant_of-self-2
-invariant_of-self-2 over c =
+invariant_of-self-2 g c =
     let a = c.self.inside in
-    let may : MayOpen (shown a.journal a.roster.settings a.outboxes.boxes a.plan a.busy) c.args.moment = subst
-    (λ m. MayOpen m c.args.moment) (sym c.self.view_is) (c.in-Ok.ensures.ok) in
-    let session : c.new-session.result ≡ length a.seats + 1 = grind (arith, common_steps) in
-    let told : c.in-Ok-clone.told ≡ c.args.host = grind (arith, common_steps) in
-    let same = c.reserve.ensures.same in let app = c.append.ensures.appended in
-    let history : c.append.new.self.history ≡ fresh_record a.journal.history c.args.moment
-    (Opened c.new-session.result c.in-Ok-clone.told) ∷ a.journal.history =
-    app.history ∙ ap (λ h. fresh_record h c.args.moment (Opened c.new-session.result c.in-Ok-clone.told) ∷ h)
-    same.history in
-    let limit : c.append.new.self.limit ≡ a.journal.limit = app.limit ∙ same.limit in
-    let kept : c.held-room.result ≡ held a.journal.history = c.held-room.ensures.kept ∙ ap
-    (λ m. held m.history) (sym c.self.view_is) in
-    let free : held a.journal.history + 2 ≤ c.append.new.self.room = let ok = c.reserve.ensures.ok in
-    let more = app.room in grind (arith, common_steps) in
-    let known : c.apply.new.self.facts
-    ≡ deed.Opened c.new-session.result c.args.host ∷ a.roster.facts = c.apply.ensures.facts ∙ ap
-    (λ (fs : List Deed). deed.Opened c.new-session.result c.args.host ∷ fs) c.prepare.ensures.facts in
-    let settings : c.apply.new.self.settings ≡ a.roster.settings = c.apply.ensures.settings
-    ∙ c.prepare.ensures.settings in
-    let boxes : c.open-3.new.self.boxes ≡ a.outboxes.boxes ++ Some c.args.outbox ∷ [] = c.open-3.ensures ∙ ap
-    (λ xs. xs ++ Some c.args.outbox ∷ []) c.make_room.ensures.same in
-    let heard : c.open.new.self ≡ (c.new-session.result, record { moment = c.args.moment; pinged = false })
-    ∷ a.last_heard = let ok = c.open.ensures.ok in grind (arith, common_steps) in
-    let seats : c.open-2.new.self ≡ a.seats ++ no_seat ∷ [] = let ok = c.open-2.ensures.ok in
-    grind (arith, common_steps) in
-    record {
-      kept =
-          subst (λ (g : Settings). IsKept over.O.Outbox.sent c.append.new.self g c.apply.new.self.facts
-          c.open-2.new.self c.open-3.new.self.boxes a.plan a.busy) (sym settings)
-          (opened_kept over.O.Outbox.sent a.journal c.append.new.self a.roster.settings a.roster.facts
-          c.apply.new.self.facts a.seats c.open-2.new.self
-          a.outboxes.boxes c.open-3.new.self.boxes a.plan a.busy c.args.host c.in-Ok-clone.told c.args.moment
-          c.new-session.result c.args.outbox c.self.invariant.kept may c.requires.fresh session told history
-          limit free known seats boxes);
-      based = (let h = a.journal.history in
-          let r = fresh_record h c.args.moment (Opened c.new-session.result c.in-Ok-clone.told) in
-          let n = a.journal.limit.dropped in let g = a.roster.settings in let was = a.outboxes.boxes in
-          based_as a.base (r ∷ h) c.append.new.self.history n c.append.new.self.limit.dropped g
-          c.apply.new.self.settings (was ++ Some c.args.outbox ∷ []) c.open-3.new.self.boxes
-          (based_boxes a.base (r ∷ h) n g was (was ++ Some c.args.outbox ∷ [])
-          (based_record a.base h r n g was c.self.invariant.based) (opened_many was c.args.outbox)
-          (opened_still was c.args.outbox)) history (ap (λ l. l.dropped) limit) settings boxes);
-      since = (let h = a.journal.history in let s = c.new-session.result in let was = a.outboxes.boxes in
-          let x : Since = record { moment = c.args.moment; pinged = false } in
-          since_as ((s, x) ∷ a.last_heard) c.open.new.self
-          (fresh_record h c.args.moment (Opened s c.in-Ok-clone.told) ∷ h) c.append.new.self.history
-          (was ++ Some c.args.outbox ∷ []) c.open-3.new.self.boxes
-          (since_opened a.last_heard h s c.in-Ok-clone.told c.args.moment was c.args.outbox c.self.invariant.since
-          (let n = c.self.invariant.kept.places in omega arith) may.in_time.not_earlier) heard history boxes);
-    }
-
-pub overflow_add-opened : goal.overflow_add-opened
-overflow_add-opened over c =
-    let a = c.self.inside in
-    let limit : most a.journal.limit < 18446744073709551616 = subst
-    (λ m. most m.limit < 18446744073709551616) (sym c.self.view_is) c.in-Ok.ensures.fits in
-    let few = sessions_le a.journal.history in
-    let room = c.self.invariant.kept.sound.room in
-    let many = c.self.invariant.kept.sound.sessions in let places = c.self.invariant.kept.places in
-    let may : MayOpen (shown a.journal a.roster.settings a.outboxes.boxes a.plan a.busy) c.args.moment = subst
-    (λ m. MayOpen m c.args.moment) (sym c.self.view_is) (c.in-Ok.ensures.ok) in
-    let more = may.room in let is = c.opened.ensures in omega arith
-
-pub open-requires-2-clause-next : goal.open-requires-2-clause-next
-open-requires-2-clause-next over c = let session : c.new-session.result
-    ≡ length c.self.inside.seats + 1 = grind (arith, common_steps) in session
-
-pub open-requires-2-clause-held : goal.open-requires-2-clause-held
-open-requires-2-clause-held over c =
-    let a = c.self.inside in
-    let i = c.self.invariant.kept in
-    let limit : most a.journal.limit < 18446744073709551616 = subst
-    (λ m. most m.limit < 18446744073709551616) (sym c.self.view_is) c.in-Ok.ensures.fits in
-    let may : MayOpen (shown a.journal a.roster.settings a.outboxes.boxes a.plan a.busy) c.args.moment = subst
-    (λ m. MayOpen m c.args.moment) (sym c.self.view_is) (c.in-Ok.ensures.ok) in
-    let more = may.room in
-    let all = seats_held a.journal.history a.seats a.outboxes.boxes i.each_seat (i.sound.sessions ∙ sym i.places) in
-    omega arith
-
-pub open-requires-3-clause-next : goal.open-requires-3-clause-next
-open-requires-3-clause-next over c =
-    let a = c.self.inside in let session : c.new-session.result ≡ length a.seats + 1 = grind (arith, common_steps) in
-    let places = c.self.invariant.kept.places in
-    let same : length c.make_room.new.self.boxes ≡ length a.outboxes.boxes = ap length c.make_room.ensures.same in
-    omega arith
-
--- nobody of the next number was heard of yet
-pub open-requires : goal.open-requires
-open-requires over c =
-    let a = c.self.inside in let session : c.new-session.result ≡ length a.seats + 1 = grind (arith, common_steps) in
-    let places = c.self.invariant.kept.places in
-    let past : length a.outboxes.boxes < c.new-session.result = omega arith in
-    since_next a.last_heard a.journal.history a.outboxes.boxes c.new-session.result c.self.invariant.since past
+    let i = c.self.invariant in
+    let m = a.ledger in
+    let k = c.open.new.self in
+    let n = sessions m.history + 1 in
+    let name = g.O.Outbox.name in
+    let ok = c.in_ok-session.ensures.ok in
+    let session = c.in_ok-session.ensures.session.0 in
+    let may = c.in_ok-session.ensures.may in
+    let late : sessions m.history < n = omega arith in
+    let none : accepted m.history n ≡ [] = silent m.settings m.history n c.sound.ensures.legal late in
+    let rows : c.admit-mark.new.self.rows ≡ new_row n (name c.args.outbox) ∷ a.register.rows =
+    ap (λ r. r.rows) c.admit-mark.ensures.register ∙ ap
+    (λ (s : ℕ). new_row s (name c.of-namesake.result.of.value) ∷ a.register.rows) session
+    ∙ ap (λ (o : g.row.O.Denot). new_row n (name o) ∷ a.register.rows) c.of-namesake.ensures in
+    let tied = opened_ties name m c.args.host c.args.moment c.args.outbox a.register.rows may.idle
+    c.sound.ensures.sessions none i.1 in (
+      ap (λ r. r.table) c.admit-mark.ensures.register ∙ i.0,
+      subst (λ b. IsTied name b c.admit-mark.new.self.rows) (sym ok) (subst (λ (xs : List (Row g.row.O-Name.Denot)).
+          IsTied name (opened m c.args.host c.args.moment c.args.outbox) xs) (sym rows) tied),
+    )

@@ -1,8 +1,8 @@
 use Rattle.std.proofs.Common.{◌≡◌, ℕ, ◌<◌, ◌≤◌, Some, subst}
 use Rattle.chronicle.specs.History.{sessions, accepted}
 use Rattle.register.specs.Rows.{pieces_at}
-use Rattle.book.specs.Book.{Shown}
-use Rattle.hall.proofs.Ties.{idle_pieces}
+use Rattle.ledger.specs.Ledger.{Shown}
+use Rattle.book.proofs.Ties.{idle_pieces}
 use Rattle.hall.proofs.hall.Hall.register.Goals as goal
 
 pub returns-clause-pieces : goal.returns-clause-pieces

@@ -8,7 +8,7 @@ use Rattle.interleave.specs.State.{Seen, State, job_of}
 use Rattle.std.specs.Prelude.{IsSome, IfErr, Err}
 use Rattle.interleave.specs.declared.event.Note.TheVariants as note
 use Rattle.interleave.specs.declared.event.StepRefusal.{StepRefusal}
-use Rattle.book.specs.Book.{Turn, MayBegin}
+use Rattle.ledger.specs.Ledger.{Turn, MayBegin}
 use Rattle.interleave.specs.Inbox.{IsBegun}
 use Rattle.interleave.specs.Refusals.{IsLineRefused, IsBeginRefused, IsRefused}
 use Rattle.interleave.specs.Steps.{begun, IsBegin, IsStep}

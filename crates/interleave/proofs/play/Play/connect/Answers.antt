@@ -8,7 +8,7 @@ use Rattle.interleave.specs.State.{State}
 use Rattle.chronicle.specs.History.{sessions}
 use Rattle.outbox.specs.Ring.{empty_ring}
 use Rattle.casemapping.specs.Names.{host_shape}
-use Rattle.book.specs.Book as book
+use Rattle.ledger.specs.Ledger as book
 use Rattle.interleave.specs.State.{nothing_fed}
 use Rattle.interleave.proofs.Kept.{connected_kept}
 use Rattle.interleave.proofs.Does.{connects}

@@ -9,7 +9,7 @@ use Rattle.interleave.specs.State.{State, job_of}
 use Rattle.interleave.specs.declared.play.Holder.{Holder}
 use Rattle.std.specs.Prelude.{IsSome, IfSome}
 use Rattle.chronicle.specs.History.{shut}
-use Rattle.book.specs.Book.{Turn, newest_actor}
+use Rattle.ledger.specs.Ledger.{Turn, newest_actor}
 use Rattle.interleave.specs.declared.event.Note.TheVariants as note
 use Rattle.interleave.specs.Steps.{ended, IsEnd}
 use Rattle.interleave.proofs.Ended.{line_is_shut}

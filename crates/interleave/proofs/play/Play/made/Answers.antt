@@ -1,6 +1,6 @@
 use Rattle.std.proofs.Common.{ℕ, List, [], Option, None, sym, subst}
 use Rattle.outbox.specs.Ring.{Waiting}
-use Rattle.book.specs.Book.{Shown, empty_book}
+use Rattle.ledger.specs.Ledger.{Shown, empty_ledger}
 use Rattle.interleave.specs.Inbox.{Held}
 use Rattle.interleave.specs.Kept.{IsKept}
 use Rattle.interleave.proofs.Empty.{empty_kept}
@@ -11,8 +11,8 @@ invariant_of-result g c =
     let q = c.args.sendq in
     subst (λ (m : Shown Waiting). IsKept m q c.new.result.items c.in-Ok-idle.jobs.items None)
     (sym c.in-Ok.ensures.ok.0)
-    (subst (λ (bs : List Held). IsKept (empty_book c.args.limit c.args.settings) q bs c.in-Ok-idle.jobs.items None)
+    (subst (λ (bs : List Held). IsKept (empty_ledger c.args.limit c.args.settings) q bs c.in-Ok-idle.jobs.items None)
     (sym c.new.ensures.items)
-    (subst (λ (js : List (Option ℕ)). IsKept (empty_book c.args.limit c.args.settings) q [] js None)
+    (subst (λ (js : List (Option ℕ)). IsKept (empty_ledger c.args.limit c.args.settings) q [] js None)
     (sym c.in-Ok-idle.ensures) (empty_kept c.args.limit c.args.settings q c.args.workers
     c.in-Ok.ensures.ok.1.settings)))

@@ -10,7 +10,7 @@ use Rattle.std.proofs.lemmas.List.{length-map}
 use Rattle.deliveries.specs.declared.delivery.Delivery.{Delivery}
 use Rattle.deliveries.specs.declared.item.Item.{Item}
 use Rattle.deliveries.specs.Items.{deliveries}
-use Rattle.book.specs.Book.{MayReap, IsReapRefusal, outbox_at, reaped}
+use Rattle.ledger.specs.Ledger.{MayReap, IsReapRefusal, outbox_at, reaped}
 use Rattle.interleave.specs.declared.event.Note.TheVariants as note
 use Rattle.interleave.specs.State.{queue_of}
 use Rattle.interleave.specs.declared.event.StepRefusal.{StepRefusal}

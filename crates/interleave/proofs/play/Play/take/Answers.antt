@@ -4,7 +4,7 @@ use Rattle.interleave.specs.Refusals.{own_refusal}
 use Rattle.interleave.specs.Inbox.{Held, held_at, with_held, with_seen}
 use Rattle.deliveries.specs.declared.item.Item.{Item}
 use Rattle.deliveries.specs.Items.{deliveries}
-use Rattle.book.specs.Book.{outbox_at}
+use Rattle.ledger.specs.Ledger.{outbox_at}
 use Rattle.interleave.specs.Kept.{state_of, IsKept}
 use Rattle.interleave.specs.State.{State}
 use Rattle.deliveries.specs.declared.delivery.Delivery.{Delivery}

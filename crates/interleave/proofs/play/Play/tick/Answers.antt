@@ -4,7 +4,7 @@ use Rattle.interleave.specs.Refusals.{own_refusal}
 use Rattle.interleave.specs.Kept.{state_of}
 use Rattle.interleave.specs.State.{State}
 use Rattle.chronicle.specs.declared.record.Kind.TheVariants as kind
-use Rattle.book.specs.Book as book
+use Rattle.ledger.specs.Ledger as book
 use Rattle.interleave.proofs.Kept.{silent_kept}
 use Rattle.interleave.proofs.Does.{ticks}
 use Rattle.interleave.proofs.play.Play.tick.Goals as goal
@@ -19,6 +19,6 @@ invariant_of-self g c =
     let may = ticks m a.sendq boxes jobs a.holder w c.args.moment free in
     let some : (c.begin_tick-begun.new.self ≡ book.begun m kind.Ticked c.args.moment)
     × book.IsOut c.begin_tick-begun.new.self p × (p.session ≡ 0)
-    × (p.next ≡ None) = rw c.in-Ok-Some.field-0-is at c.in-Ok-Some.ensures.some in
+    × (p.next ≡ None) = rw c.in-Ok-Some.field-0-is at c.in-Ok-Some.ensures.begun.some in
     silent_kept m c.begin_tick-begun.new.self a.sendq boxes jobs a.holder w kind.Ticked c.args.moment p
     (λ t. refl) tt c.self.invariant may.0.worker may.0.there may.0.lock may.1 some.0 some.1 some.3 c.sound.ensures

@@ -1,0 +1,44 @@
+use Rattle.std.proofs.Common.{◌≡◌, sym, subst}
+use Rattle.chronicle.specs.declared.record.Kind.TheVariants.{Said}
+use Rattle.book.specs.Turn.{Turn}
+use Rattle.ledger.specs.Ledger.{MayBegin, begun}
+use Rattle.book.specs.Reaping.{turn_of}
+use Rattle.book.specs.Outcomes.{IsLineBegun}
+use Rattle.book.specs.Tied.{IsTied}
+use Rattle.book.proofs.Outcomes.{by_result}
+use Rattle.book.proofs.Ties.{said_ties}
+use Rattle.book.proofs.book.Book.begin_read.Goals as goal
+
+pub invariant_of-self : goal.invariant_of-self
+invariant_of-self g c =
+    let a = c.self.inside in
+    let i = c.self.invariant in
+    let k = c.begin.new.self in
+    let b = c.baton.inside.turn in
+    let p = c.args.line in
+    by_result c.begin.result (k ≡ begun a.ledger (Said b.session b.next p) c.args.moment) (MayBegin a.ledger b
+    c.args.moment) (k ≡ a.ledger) c.begin.ensures.ok c.begin.ensures.may c.begin.ensures.err
+    (λ is may. (
+      i.0,
+      subst (λ m. IsTied g.O.Outbox.name m a.register.rows) (sym is)
+          (said_ties g.O.Outbox.name a.ledger b.session b.next p c.args.moment a.register.rows may.idle i.1),
+    ))
+    (λ is. (i.0, subst (λ m. IsTied g.O.Outbox.name m a.register.rows) (sym is) i.1))
+
+pub returns : goal.returns
+returns g c =
+    let k = c.begin.new.self in
+    let b = c.baton.inside.turn in
+    let begun = c.begin.ensures in
+    record {
+      begun = subst (λ (t : Turn). IsLineBegun c.args.self.now k (turn_of t) c.args.line c.args.moment c.begin.result)
+          c.baton.view_is
+          (subst (λ m. IsLineBegun m k b c.args.line c.args.moment c.begin.result) c.self.view_is (record {
+            ok = begun.ok;
+            out = begun.out;
+            line = begun.line;
+            may = begun.may;
+            refusal = begun.refusal;
+            err = begun.err;
+          }));
+    }

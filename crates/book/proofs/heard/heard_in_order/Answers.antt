@@ -1,9 +1,0 @@
-use Rattle.std.proofs.Common.{List, ap, ◌∙◌}
-use Rattle.book.specs.declared.heard.Heard.{Heard}
-use Rattle.book.specs.Heard.{text_for}
-use Rattle.book.proofs.Heards.{heard_all}
-use Rattle.book.proofs.heard.heard_in_order.Goals as goal
-
-pub returns-clause-texts : goal.returns-clause-texts
-returns-clause-texts c = λ t. c.sort_by_session.ensures.texts t ∙ ap (λ (xs : List Heard). text_for xs t)
-    c.in_ok-heard.ensures ∙ heard_all c.args.roster.now.facts c.args.moment c.args.shown.items t

@@ -1,5 +1,0 @@
-use Rattle.book.proofs.RingSteps.{ring-next}
-use Rattle.book.proofs.laws.rings_take_what_fits.Goals as goal
-
-pub returns : goal.returns
-returns c = ring-next

@@ -1,8 +1,0 @@
-use Rattle.book.specs.Seats.{boxes_of}
-use Rattle.book.proofs.Noting.{AreCountedTo}
-use Rattle.book.proofs.outboxes.Outboxes.counts.Given as goal
-
--- the sessions at the places so far are counted
-abbrev pub invariant-loop-place : goal.invariant-loop-place
-invariant-loop-place over l = AreCountedTo over.O.Outbox.sent l.seats (boxes_of l.self-inside.outboxes.entries
-    l.self-inside.opened) l.last_heard l.self-inside.outboxes.entries l.place l.counts.entries

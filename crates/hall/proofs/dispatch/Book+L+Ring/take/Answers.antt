@@ -1,8 +1,0 @@
-use Rattle.std.proofs.Common.{◌≡◌, subst}
-use Rattle.std.specs.Prelude.{OnOk}
-use Rattle.book.specs.Book.{taken}
-use Rattle.hall.proofs.dispatch.Book+L+Ring.take.Goals as goal
-
-pub returns-clause-taken : goal.returns-clause-taken
-returns-clause-taken g c =
-    subst (λ m. OnOk c.take.result (c.take.new.self ≡ taken m c.args.session)) c.self.view_is c.take.ensures.taken

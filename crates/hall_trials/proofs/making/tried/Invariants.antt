@@ -1,5 +1,0 @@
-use Rattle.hall_trials.proofs.making.tried.Given as goal
-
--- the register that was just made
-abbrev pub ghosts-tried_in : goal.ghosts-tried_in
-ghosts-tried_in g a = record { table = a.register.table }

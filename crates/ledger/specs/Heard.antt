@@ -1,0 +1,47 @@
+-- What hearers hear of a record, and the deliveries that are made of it.
+use Rattle.std.specs.Prelude.{ℕ, ℤ, ◌≤◌, ◌==◌, cond, List, [], ◌∷◌, ◌++◌, filter, map}
+use Rattle.std.specs.List.{flat_map}
+use Rattle.numerics.specs.declared.outgoing.Out.{Out}
+use Rattle.roster.specs.declared.deed.Deed.{Deed}
+use Rattle.roster.specs.LookBack.{caps}
+use Rattle.labels_batches.specs.Spellings.{spelled_for}
+use Rattle.drafts.specs.declared.verdict.Shown.{Shown}
+use Rattle.ledger.specs.declared.heard.Heard.{Heard}
+use Rattle.ledger.specs.declared.plan.Planned.{Planned}
+use Rattle.ledger.specs.declared.seat.Seat.{Seat}
+use Rattle.ledger.specs.Ledger.{puts}
+use Rattle.ledger.specs.Seats.{told_here}
+
+-- a line as t takes it, by the capabilities that it has
+abbrev pub heard_by : List Deed → ℤ → Out → ℕ → Heard
+heard_by fs moment line t = record { session = t; text = spelled_for (caps fs t) moment line }
+
+-- lines as each of their hearers takes them
+abbrev pub all_heard : List Deed → ℤ → List Shown → List Heard
+all_heard fs moment xs = flat_map (λ x. map (heard_by fs moment x.line) x.hearers) xs
+
+-- the texts of t, one after another
+abbrev pub text_for : List Heard → ℕ → List ℕ
+text_for xs t = flat_map (λ x. x.text) (filter (λ x. x.session == t) xs)
+
+-- texts stand by the numbers of their sessions, from number k on
+abbrev pub rises : ℕ → List Heard → Type 0
+rises k [] = Unit {0}
+rises k (x ∷ xs) = (k ≤ x.session) × rises x.session xs
+
+-- a text and those after it, where those of one session that stand side by side are made one
+abbrev pub joined_to : Heard → List Heard → List Heard
+joined_to x [] = x ∷ []
+joined_to x (y ∷ ys) = cond (y.session == x.session)
+    (joined_to (record { session = x.session; text = x.text ++ y.text }) ys) (x ∷ joined_to y ys)
+
+abbrev pub joined : List Heard → List Heard
+joined [] = []
+joined (x ∷ xs) = joined_to x xs
+
+-- the delivery of a text to a session that isn't s
+abbrev pub delivery_of : List Seat → ℕ → ℕ → Heard → List Planned
+delivery_of seats s number x = cond (x.session == s) [] (puts x.session (told_here seats number x.session x.text))
+
+abbrev pub deliveries_of : List Seat → ℕ → ℕ → List Heard → List Planned
+deliveries_of seats s number xs = flat_map (delivery_of seats s number) xs

@@ -1,0 +1,10 @@
+pub mod Legal
+pub mod Ledger
+pub mod Seats
+pub mod Heard
+pub mod Settings
+pub mod LastHeard
+pub mod Noted
+pub mod Kept
+pub mod Told
+pub mod Read

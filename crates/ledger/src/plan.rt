@@ -1,0 +1,335 @@
+//! The deliveries of a record, before they are put.
+//!
+//! The actor's own text is planned last, put first, and stands apart from the others', so no list takes memory where
+//! only the actor is told.
+ghost use Rattle.std.specs.Prelude.{◌≡◌, ◌≤◌, ◌≤ℤ◌, ◌++◌, [], false, not, length, pos};
+ghost use Rattle.std.specs.Prelude.{None, OnOk, IfOk, option_to_list};
+ghost use Rattle.chronicle.specs.History.{is_quit};
+ghost use Rattle.roster.specs.LookBack.{after, caps, opened};
+ghost use Rattle.roster.specs.Legal.{IsOpened, AreNext};
+ghost use Rattle.commands.specs.Asked.{asked_of, asks_for_quit};
+ghost use Rattle.labels_batches.specs.Labels.{label_of};
+ghost use Rattle.labels_batches.specs.Answers.{answered};
+ghost use Rattle.labels_batches.specs.Rendered.{rendered};
+ghost use Rattle.drafts.specs.Words.{deeds_of};
+ghost use Rattle.deeds.specs.Departure.{departs};
+ghost use Rattle.deeds.specs.Rows.{of_asked};
+ghost use Rattle.deeds.specs.Deeds.{spelled};
+ghost use Rattle.drafts.specs.Verdicts.{IsVerdict};
+ghost use Rattle.ledger.specs.Ledger.{puts};
+ghost use Rattle.ledger.specs.Seats.{hears, told_own, heard_text, pinged_text, planned_from, planned_with};
+ghost use Rattle.ledger.specs.Heard.{delivery_of, deliveries_of, joined};
+ghost use Rattle.ledger.specs.Read.{counted};
+
+use crate::heard::{Heard, heard_in_order};
+use crate::read_line::ReadLine;
+use crate::seats::Seats;
+use crate::to_put::ToPut;
+use chronicle::{Moment, RecordMoment, RecordNumber, SessionId, Why};
+use commands::Asked;
+use deeds::{Shown, Verdict, decide, decide_gone, ping};
+use deliveries::Delivery;
+use labels_batches::{Receiver, Text, answer_text, takes_labels};
+use line_grammar::{Octets, Piece};
+use numerics::Line;
+use roster::{Deed, Roster, Sessions};
+use smallvec::SmallVec;
+use std::alloc::{AllocError, Global};
+use std::collections::VecDeque;
+use std::mem::replace;
+
+/// A delivery that is still to be put.
+#[derive(Drop)]
+pub(crate) struct Planned {
+    pub(crate) session: SessionId,
+    pub(crate) delivery: Delivery,
+}
+
+/// The facts that a record establishes and its deliveries, with room for those who miss it.
+#[derive(Drop)]
+pub(crate) struct Prepared {
+    pub(crate) deeds: Vec<Deed>,
+    pub(crate) plan: ToPut,
+    pub(crate) missed: SmallVec<SessionId, 2>,
+}
+
+/// What a record is planned by: whose it is, its number and moment, and what is known before it.
+#[derive(Drop)]
+pub(crate) struct Planning<'a> {
+    pub(crate) alloc: Global,
+    pub(crate) roster: &'a Roster,
+    pub(crate) seats: &'a Seats,
+    pub(crate) actor: SessionId,
+    pub(crate) number: RecordNumber,
+    pub(crate) moment: RecordMoment,
+}
+
+/// The moment of a record, where it may have it.
+pub(crate) fn moment_of_record(moment: Moment) -> RecordMoment
+    requires from_1970 { pos 0 ≤ℤ moment }
+    requires to_9998 { moment ≤ℤ pos 253370764799999 }
+    ensures { result ≡ moment }
+{
+    let Some(moment) = RecordMoment::of(moment) else {
+        unreachable!()
+    };
+    moment
+}
+
+/// What the actor of a record is told: the answer, under the label of its line, and what it sent to itself.
+fn own_text(
+    by: &Planning<'_>,
+    label: Option<Octets>,
+    reply: Vec<Line>,
+    copies: &[Line],
+) -> Result<Octets, AllocError>
+    ensures { IfOk result
+        (λ t. t ≡ rendered (caps by.now.roster.now.facts by.now.actor) by.now.moment (answered
+        by.now.roster.now.settings.server label by.now.number reply.items copies.now)) }
+{
+    let server = by.roster.settings().server.as_slice();
+    let caps = by.roster.caps_of(by.actor);
+    let to = Receiver {
+        caps,
+        moment: by.moment,
+    };
+    answer_text(by.alloc, server, label, by.number, reply, copies, &to)
+}
+
+/// Plans, after all others, the delivery of a text to a session that isn't the actor.
+fn plan_one(
+    plan: &mut VecDeque<Planned>,
+    seats: &Seats,
+    actor: SessionId,
+    number: RecordNumber,
+    heard: Heard,
+) -> Result<(), AllocError>
+    ensures { OnOk result
+        (plan.new.items ≡ plan.old.items ++ delivery_of seats.now actor number heard) }
+{
+    let Heard { session, text } = heard;
+    if session == actor || !seats.is_listening(session) || text.is_empty() {
+        return Ok(());
+    }
+    plan.push_back(Planned {
+        session,
+        delivery: Delivery::Lines { number, text },
+    })?;
+    Ok(())
+}
+
+/// What a session hears, and what it hears next.
+fn joined_with(alloc: Global, heard: Heard, next: &Heard) -> Result<Heard, AllocError>
+    ensures { IfOk result
+        (λ x. x ≡ record { session = heard.session; text = heard.text ++ next.now.text }) }
+{
+    let Heard { session, text } = heard;
+    let text = text.followed(alloc, &next.text)?;
+    Ok(Heard { session, text })
+}
+
+/// The deliveries of texts, which stand by the numbers of their sessions: one a session, but for the actor's.
+fn plan_others(
+    alloc: Global,
+    seats: &Seats,
+    heard: Vec<Heard>,
+    actor: SessionId,
+    number: RecordNumber,
+) -> Result<VecDeque<Planned>, AllocError>
+    ensures { IfOk result
+        (λ plan. plan.items ≡ deliveries_of seats.now actor number (joined heard.items)) }
+{
+    let mut plan = VecDeque::with_capacity(alloc, heard.len())?;
+    let mut rest = heard.into_iter();
+    let Some(mut current) = rest.next() else {
+        return Ok(plan);
+    };
+    for next in rest {
+        if next.session == current.session {
+            current = joined_with(alloc, current, &next)?;
+        } else {
+            let whole = replace(&mut current, next);
+            plan_one(&mut plan, seats, actor, number, whole)?;
+        }
+    }
+    plan_one(&mut plan, seats, actor, number, current)?;
+    Ok(plan)
+}
+
+/// Plans what the actor is told: where it quits by the record, its last item.
+fn plan_own(by: &Planning<'_>, text: Octets, quits: bool) -> Result<Option<Planned>, AllocError>
+    ensures { IfOk result (λ own. option_to_list own ≡ puts by.now.actor
+        (told_own (not (hears by.now.seats.now by.now.actor)) by.now.number text quits)) }
+{
+    let (session, number) = (by.actor, by.number);
+    if !by.seats.is_listening(session) || (!quits && text.is_empty()) {
+        return Ok(None);
+    }
+    let delivery = if quits {
+        Delivery::Last {
+            number,
+            why: Why::Quit,
+        }
+    } else {
+        Delivery::Lines {
+            number,
+            text: Text::new(by.alloc, text)?,
+        }
+    };
+    Ok(Some(Planned { session, delivery }))
+}
+
+/// The deliveries of a record: the actor's text first, then what others hear, by session number.
+fn plan_for(
+    by: &Planning<'_>,
+    own: Octets,
+    shown: Vec<Shown>,
+    quits: bool,
+) -> Result<ToPut, AllocError>
+    ensures { IfOk result (λ plan. plan ≡ planned_with by.now.seats.now by.now.actor by.now.number
+        own (heard_text by.now.roster.now.facts by.now.moment shown.items) quits) }
+{
+    let heard = heard_in_order(by.alloc, by.roster, shown, by.moment)?;
+    let others = plan_others(by.alloc, by.seats, heard, by.actor, by.number)?;
+    let first = plan_own(by, own, quits)?;
+    Ok(ToPut::new(first, others))
+}
+
+/// Plans what a verdict on a record tells, and makes room for those who miss it.
+fn with_room(
+    by: &Planning<'_>,
+    label: Option<Octets>,
+    verdict: Verdict,
+    quits: bool,
+) -> Result<Prepared, AllocError>
+    ensures deeds { IfOk result (λ p. p.deeds.items ≡ verdict.deeds.items) }
+    ensures plan { IfOk result (λ p. p.plan ≡ planned_with by.now.seats.now by.now.actor
+        by.now.number (rendered (caps by.now.roster.now.facts by.now.actor) by.now.moment
+        (answered by.now.roster.now.settings.server label
+        by.now.number verdict.reply.items verdict.copies.items))
+        (heard_text by.now.roster.now.facts by.now.moment verdict.others.items) quits) }
+    ensures missed { IfOk result
+        (λ p. (p.missed.items ≡ []) × (length p.plan ≤ p.missed.capacity)) }
+{
+    let Verdict {
+        deeds,
+        reply,
+        copies,
+        others,
+    } = verdict;
+    let own = own_text(by, label, reply, &copies)?;
+    let plan = plan_for(by, own, others, quits)?;
+    let missed = SmallVec::with_capacity(by.alloc, plan.len())?;
+    Ok(Prepared {
+        deeds,
+        plan,
+        missed,
+    })
+}
+
+/// Decides what a session does that asks for this, and whether it quits by it.
+fn decide_asked(by: &Planning<'_>, asked: Asked) -> Result<(Verdict, bool), AllocError>
+    requires known { IsOpened by.now.roster.now.facts by.now.actor }
+    ensures verdict { IfOk result (λ v. IsVerdict v.0 by.now.actor
+        (of_asked by.now.roster.now.settings by.now.roster.now.facts by.now.actor asked)) }
+    ensures next { IfOk result (λ v. AreNext by.now.roster.now.facts v.0.deeds.items) }
+    ensures opened { IfOk result (λ v. opened (after by.now.roster.now.facts v.0.deeds.items)
+        ≡ opened by.now.roster.now.facts) }
+    ensures quits { IfOk result (λ v. v.1 ≡ asks_for_quit asked) }
+{
+    let verdict = decide(by.alloc, by.roster, by.actor, &asked, by.moment.moment())?;
+    Ok((verdict, asked.is_quit()))
+}
+
+/// The label of a line as it counts for the actor, by the capabilities that it has before the line.
+fn counted_label(by: &Planning<'_>, label: Option<Octets>) -> Option<Octets>
+    ensures { result ≡ counted (caps by.now.roster.now.facts by.now.actor) label }
+{
+    if takes_labels(by.roster.caps_of(by.actor)) {
+        label
+    } else {
+        None
+    }
+}
+
+/// Decides what a line of a session does, plans its deliveries, and hands its piece back.
+pub(crate) fn prepare_line(
+    by: &Planning<'_>,
+    line: ReadLine,
+) -> Result<(Prepared, Piece, bool), AllocError>
+    requires known { IsOpened by.now.roster.now.facts by.now.actor }
+    ensures deeds { IfOk result (λ p. p.0.deeds.items ≡ deeds_of (of_asked
+        by.now.roster.now.settings by.now.roster.now.facts by.now.actor (asked_of line))) }
+    ensures next { IfOk result (λ p. AreNext by.now.roster.now.facts p.0.deeds.items) }
+    ensures opened { IfOk result (λ p. opened (after by.now.roster.now.facts p.0.deeds.items)
+        ≡ opened by.now.roster.now.facts) }
+    ensures piece { IfOk result (λ p. p.1 ≡ line) }
+    ensures quits { IfOk result (λ p. p.2 ≡ is_quit line) }
+    ensures plan { IfOk result (λ p. p.0.plan ≡ planned_from by.now.seats.now by.now.actor
+        by.now.number (spelled by.now.roster.now.settings by.now.roster.now.facts by.now.actor
+        (label_of (caps by.now.roster.now.facts by.now.actor) line)
+        (of_asked by.now.roster.now.settings by.now.roster.now.facts by.now.actor
+        (asked_of line)) by.now.moment by.now.number) p.2) }
+    ensures missed { IfOk result
+        (λ p. (p.0.missed.items ≡ []) × (length p.0.plan ≤ p.0.missed.capacity)) }
+{
+    let ReadLine {
+        piece,
+        asked,
+        label,
+    } = line;
+    let (verdict, quits) = decide_asked(by, asked)?;
+    let prepared = with_room(by, counted_label(by, label), verdict, quits)?;
+    Ok((prepared, piece, quits))
+}
+
+/// Decides what it does that a session is gone, and plans who is told.
+pub(crate) fn prepare_gone(by: &Planning<'_>) -> Result<Prepared, AllocError>
+    requires known { IsOpened by.now.roster.now.facts by.now.actor }
+    ensures deeds { IfOk result
+        (λ p. p.deeds.items ≡ deeds_of (departs by.now.roster.now.facts by.now.actor)) }
+    ensures next { IfOk result (λ p. AreNext by.now.roster.now.facts p.deeds.items) }
+    ensures opened { IfOk result (λ p. opened (after by.now.roster.now.facts p.deeds.items)
+        ≡ opened by.now.roster.now.facts) }
+    ensures plan { IfOk result (λ p. p.plan ≡ planned_from by.now.seats.now by.now.actor
+        by.now.number (spelled by.now.roster.now.settings by.now.roster.now.facts by.now.actor None
+        (departs by.now.roster.now.facts by.now.actor) by.now.moment by.now.number) false) }
+    ensures missed { IfOk result
+        (λ p. (p.missed.items ≡ []) × (length p.plan ≤ p.missed.capacity)) }
+{
+    let verdict = decide_gone(by.alloc, by.roster, by.actor)?;
+    with_room(by, None, verdict, false)
+}
+
+/// Plans that a tick pings these sessions, of whom each stands once, and makes room for those who miss it.
+pub(crate) fn prepare_tick(
+    by: &Planning<'_>,
+    sessions: &[SessionId],
+) -> Result<(ToPut, SmallVec<SessionId, 2>), AllocError>
+    ensures plan { IfOk result (λ p. p.0 ≡ planned_with by.now.seats.now by.now.actor
+        by.now.number [] (pinged_text by.now.roster.now.settings by.now.roster.now.facts
+        by.now.moment sessions.now) false) }
+    ensures missed { IfOk result (λ p. (p.1.items ≡ []) × (length p.0 ≤ p.1.capacity)) }
+{
+    let line = ping(by.alloc, by.roster.settings().server.as_slice())?;
+    let mut shown = Vec::new(by.alloc);
+    shown.push(Shown {
+        hearers: Sessions::from_vec(Vec::from_slice(by.alloc, sessions)?),
+        line,
+    })?;
+    let nothing = Octets::from_vec(Vec::new(by.alloc));
+    let plan = plan_for(by, nothing, shown, false)?;
+    let missed = SmallVec::with_capacity(by.alloc, plan.len())?;
+    Ok((plan, missed))
+}
+
+/// Establishes the facts of a record, for which room was made. It takes no memory.
+pub(crate) fn commit(roster: &mut Roster, deeds: Vec<Deed>)
+    requires { roster.old.ready ≡ deeds.items }
+    ensures settings { roster.new.settings ≡ roster.old.settings }
+    ensures facts { roster.new.facts ≡ after roster.old.facts deeds.items }
+{
+    for deed in deeds {
+        roster.apply(deed);
+    }
+}
