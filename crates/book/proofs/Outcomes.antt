@@ -18,7 +18,3 @@ by_answer (Err e) S N M Q s n m q f g h = h q
 pub on_ok : {A E P Q : Type 0} (r : Result A E) → (P → Q) → OnOk r P → OnOk r Q
 on_ok (Ok x) f p = f p
 on_ok (Err e) f p = p
-
--- what holds of the value of an option whose value is known
-pub at_some : {A : Type 0} (o : Option A) (x : A) (P : A → Type 0) → o ≡ Some x → IfSome o P → P x
-at_some {A} o x P is p = subst (λ (q : Option A). IfSome q P) is p

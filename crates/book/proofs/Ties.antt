@@ -23,10 +23,11 @@ use Rattle.ledger.specs.declared.plan.Planned.{Planned}
 use Rattle.ledger.specs.declared.out.Step.{Step}
 use Rattle.ledger.specs.declared.out.Step.TheVariants.{Put, Missed}
 use Rattle.ledger.specs.Ledger.{Shown, box_at, plan_of, empty_ledger, opened, begun, finished, rolled, reaped, dropped}
-use Rattle.ledger.specs.Ledger.{IsPutNext, IsPutAll, IsDone, newest_actor, next_of, newest_next, Out, IsOut}
+use Rattle.ledger.specs.Ledger.{IsPutNext, IsPutAll, IsDone, newest_actor, next_of, newest_next, line_of, newest_line}
+use Rattle.ledger.specs.Ledger.{Out, IsOut}
 use Rattle.ledger.specs.Legal.{IsKind, IsLegal}
 use Rattle.book.specs.Reaping.{newest_said}
-use Rattle.book.specs.Tied.{line_of, newest_line, begun_of, IsTied}
+use Rattle.book.specs.Tied.{begun_of, IsTied}
 use Rattle.book.proofs.Boxes.{push_else, replaced, taken_out}
 
 sessions_missed : (h : List Rec) (u : ℕ) → sessions (miss h u) ≡ sessions h
@@ -45,18 +46,18 @@ said_missed (r ∷ h) u s = refl
 
 -- ---- which line the newest record says
 
-line_here : (k : Kind) (n : ℕ) → next_of k ≡ Some n → (p : Piece) × (line_of k ≡ Some (actor k, p))
-    × (said_by k (actor k) ≡ p ∷ [])
-line_here (Opened s host) n e = absurd (none-some n e)
-line_here (Said s i p) n e = (p, refl, cond_is (s == s) true (p ∷ []) [] (eq-eqb s s refl))
-line_here (Hung s why) n e = absurd (none-some n e)
-line_here (Gone s) n e = absurd (none-some n e)
-line_here Ticked n e = absurd (none-some n e)
+said_line : (k : Kind) (s : ℕ) → said_by k s ≡ begun_by (line_of k) s
+said_line (Opened u host) s = refl
+said_line (Said u i p) s = refl
+said_line (Hung u why) s = refl
+said_line (Gone u) s = refl
+said_line Ticked s = refl
 
-pub newest_is : (h : List Rec) (n : ℕ) → newest_next h ≡ Some n → (p : Piece)
-    × (newest_line h ≡ Some (newest_actor h, p)) × (newest_said h (newest_actor h) ≡ p ∷ [])
-newest_is [] n e = absurd (none-some n e)
-newest_is (r ∷ h) n e = line_here r.kind n e
+-- which is what it adds to its session's pieces
+pub newest_adds : (h : List Rec) (s : ℕ) (p : Piece) → newest_line h ≡ Some (s, p) → newest_said h s ≡ p ∷ []
+newest_adds [] s p e = absurd (none-some (s, p) e)
+newest_adds (r ∷ h) s p e = said_line r.kind s ∙ ap (λ (b : Begun). begun_by b s) e
+    ∙ cond_is (s == s) true (p ∷ []) [] (eq-eqb s s refl)
 
 no_line : (k : Kind) → next_of k ≡ None → line_of k ≡ None
 no_line (Opened s host) e = refl
@@ -93,22 +94,7 @@ pub newest_is_none : (h : List Rec) → newest_next h ≡ None → newest_line h
 newest_is_none [] e = refl
 newest_is_none (r ∷ h) e = no_line r.kind e
 
--- the line whose plan is out
-pub out_line : {O : Type 0} (m : Shown O) (p : Out) (s n : ℕ) → IsOut m p → p.session ≡ s
-    → p.next ≡ Some n → (x : Piece) × (begun_of m ≡ Some (s, x)) × (newest_line m.history ≡ Some (s, x))
-    × (newest_said m.history s ≡ x ∷ [])
-out_line m p s n out whose next =
-    let l = newest_is m.history n (sym out.next ∙ next) in
-    let is : newest_actor m.history ≡ s = sym out.session ∙ whose in
-    let line : newest_line m.history ≡ Some (s, l.0) = l.1 ∙ ap (λ (t : ℕ). Some (t, l.0)) is in (
-      l.0,
-      ap (λ (b : Bool). cond b (newest_line m.history) None) out.busy ∙ line,
-      line,
-      subst
-          (λ (t : ℕ). newest_said m.history t ≡ l.0 ∷ []) is l.2,
-    )
-
--- and none, where it is that of no line
+-- no line is begun, where the plan that is out is that of none
 pub out_no_line : {O : Type 0} (m : Shown O) (p : Out) → IsOut m p → p.next ≡ None → begun_of m ≡ None
 out_no_line m p out next = ap (λ (b : Bool). cond b (newest_line m.history) None) out.busy
     ∙ newest_is_none m.history (sym out.next ∙ next)

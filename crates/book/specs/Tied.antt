@@ -1,25 +1,9 @@
 -- How a register stands for a book: words of private contracts.
-use Rattle.std.specs.Prelude.{◌≡◌, ℕ, ◌<◌, cond, List, [], ◌∷◌, Some, None, IfSome}
-use Rattle.chronicle.specs.declared.record.Kind.{Kind}
-use Rattle.chronicle.specs.declared.record.Kind.TheVariants.{Opened, Said, Hung, Gone, Ticked}
-use Rattle.chronicle.specs.History.{Rec}
+use Rattle.std.specs.Prelude.{◌≡◌, ℕ, ◌<◌, cond, List, Some, None, IfSome}
 use Rattle.register.specs.declared.claims.Row.{Row}
 use Rattle.register.specs.Rows.{outbox_at}
 use Rattle.book.specs.Standing.{Begun, StandsFor}
-use Rattle.ledger.specs.Ledger.{Shown, box_at}
-
--- the line that a record says
-abbrev pub line_of : Kind → Begun
-line_of (Opened s host) = None
-line_of (Said s i piece) = Some (s, piece)
-line_of (Hung s why) = None
-line_of (Gone s) = None
-line_of Ticked = None
-
--- the line of the newest record
-abbrev pub newest_line : List Rec → Begun
-newest_line [] = None
-newest_line (r ∷ h) = line_of r.kind
+use Rattle.ledger.specs.Ledger.{Shown, box_at, newest_line}
 
 -- the line that is begun and isn't done: that of the newest record, while a plan is out
 abbrev pub begun_of : {O : Type 0} → Shown O → Begun

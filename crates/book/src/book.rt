@@ -2,25 +2,23 @@
 //!
 //! A book is made with an empty register, since of rows that another left in it nothing could be said. A tick goes by
 //! the book's own calls: its record is of no session, so no token changes.
-ghost use Rattle.std.specs.Prelude.{◌≡◌, ◌<◌, ◌+◌, ◌++◌, [], Some, None, true, false, length, IfOk};
-ghost use Rattle.std.specs.Prelude.{IfErr, IfSome, IsSome, OnOk, OnErr, slice_get};
+ghost use Rattle.std.specs.Prelude.{◌≡◌, ◌≢◌, ◌<◌, ◌+◌, ◌++◌, [], Some, None, true, false, length, IfOk};
+ghost use Rattle.std.specs.Prelude.{IfErr, OnOk, OnErr, slice_get};
 ghost use Rattle.casemapping.specs.Names.{host_shape};
 ghost use Rattle.chronicle.specs.declared.record.Kind.TheVariants as kind;
 ghost use Rattle.chronicle.specs.History.{accepted, shut};
-ghost use Rattle.register.specs.Rows.{pieces_at};
-ghost use Rattle.register.specs.Shown.{with_done, longer_mark};
 ghost use Rattle.ledger.specs.Settings.{IsWellSet};
 ghost use Rattle.ledger.specs.Ledger.{outbox_at};
 ghost use Rattle.book.specs.Reaping.{turn_of, newest_said, MayReap, IsReapRefusal, IsAllOwed, AreAllAccepted};
 ghost use Rattle.book.specs.Telling.{TellsOf};
-ghost use Rattle.book.specs.Tied.{newest_line, IsTied};
+ghost use Rattle.book.specs.Tied.{IsTied};
 
 use crate::baton::Baton;
 use crate::lasting::Lasting;
 use crate::left::Left;
 use crate::namesake::Namesake;
 use crate::told::Told;
-use chronicle::{Kind, Moment, RecordNumber, SessionId, Why};
+use chronicle::{Moment, SessionId, Why};
 use deliveries::Item;
 use ghosts::Snapshot;
 use ledger::{
@@ -29,7 +27,7 @@ use ledger::{
 };
 use line_grammar::{Octets, Piece};
 use outbox::{Outbox, Ring};
-use register::{Mark, Naming, Register, Stub};
+use register::{Naming, Register, Stub};
 use registration::Settings;
 use std::alloc::Global;
 use std::hash::RandomState;
@@ -55,38 +53,13 @@ impl<L: Naming, O: Outbox> Model for Book<L, O> {
     ghost invariant = { λ a. (a.register.table ≡ L.table) × IsTied O.name a.ledger a.register.rows };
 }
 
-/// Has the line done that the newest record says, whose number this is.
-fn advance<L: Naming, O: Outbox>(
-    ledger: &Ledger<O>,
-    register: &mut Register<O::Name>,
-    mark: &mut Mark<L, O::Name>,
-    number: RecordNumber,
-)
-    requires named { register.old.table ≡ L.table }
-    requires newest { number ≡ length ledger.now.history }
-    requires kept { ledger.now.limit.dropped < length ledger.now.history }
-    requires line { IsSome (newest_line ledger.now.history) }
-    ensures knew { pieces_at register.old.rows mark.old.session ≡ Some mark.old.pieces }
-    ensures register { IfSome (newest_line ledger.now.history)
-        (λ l. register.new ≡ with_done register.old mark.old.session l.1) }
-    ensures mark { IfSome (newest_line ledger.now.history)
-        (λ l. mark.new ≡ longer_mark mark.old l.1) }
-{
-    let Some(record) = ledger.record(number) else {
-        unreachable!();
-    };
-    let Kind::Said { piece, .. } = &record.kind else {
-        unreachable!();
-    };
-    register.advance(mark, piece);
-}
-
 impl<L: Naming, O: Lasting> Book<L, O> {
     ghost use Rattle.book.specs.Outcomes.{IsLineOutcome, IsOpenOutcome, IsReapOutcome};
     ghost use Rattle.book.specs.Outcomes.{IsHangOutcome, IsLineBegun, IsRollOutcome, IsSweepBegun, IsSweepOutcome};
     ghost use Rattle.book.specs.Outcomes.{IsTickBegun, IsTickOutcome};
     ghost use Rattle.ledger.specs.Ledger.{empty_ledger, finished, late, newest_missed, reaped, IsOut, IsPutAll};
-    ghost use Rattle.ledger.specs.Ledger.{IsPutNext};
+    ghost use Rattle.ledger.specs.Ledger.{IsPutNext, MayBegin, MayTick, HasRoom, IsSomebodyQuiet, to_ping};
+    ghost use Rattle.ledger.specs.Ledger.{IsLineRefusal, IsTickRefusal, IsOpenRefusal, MayOpen};
 
     /// An empty book for at most `limit` records, whose tokens a register has that is named by `L` and has no
     /// session yet.
@@ -149,6 +122,16 @@ impl<L: Naming, O: Lasting> Book<L, O> {
         &self.register
     }
 
+    /// Whether a session may be opened at a moment: what `open` would answer, want of memory apart. It takes no
+    /// memory.
+    pub fn may_open(&self, moment: Moment) -> Result<(), OpenRefusal>
+        ensures ok { OnOk result (MayOpen self.now moment) }
+        ensures refusal { IfErr result (λ e. IsOpenRefusal self.now moment e) }
+        ensures no_memory { IfErr result (λ e. e ≢ OpenRefusal.Memory) }
+    {
+        self.ledger.may_open(moment)
+    }
+
     /// Opens a session whose host has the shape of one, and gives its baton and its stub. A refusal gives the outbox
     /// back, and changes nothing.
     pub fn open(
@@ -162,7 +145,7 @@ impl<L: Naming, O: Lasting> Book<L, O> {
         ensures outcome { IsOpenOutcome O.name self.old self.new host moment outbox result }
     {
         self.ledger.sound();
-        if let Err(refusal) = self.ledger.may_open(moment) {
+        if let Err(refusal) = self.may_open(moment) {
             return Err((refusal, outbox));
         }
         let namesake = Namesake::of(&outbox);
@@ -170,6 +153,16 @@ impl<L: Naming, O: Lasting> Book<L, O> {
         let (mark, stub) = self.register.admit::<L, Namesake<O>>(session, &namesake);
         let front = Snapshot::of(&self.ledger);
         Ok((session, Baton { turn, mark, front }, stub))
+    }
+
+    /// Whether a line of the baton's session may be accepted at a moment: what `begin` would answer, want of memory
+    /// apart. It takes no memory.
+    pub fn may_line(&self, baton: &Baton<L, O>, moment: Moment) -> Result<(), LineRefusal>
+        ensures ok { OnOk result (MayBegin self.now (turn_of baton.now) moment) }
+        ensures refusal { IfErr result (λ e. IsLineRefusal self.now (turn_of baton.now) moment e) }
+        ensures no_memory { IfErr result (λ e. e ≢ LineRefusal.Memory) }
+    {
+        self.ledger.may_line(&baton.turn, moment)
     }
 
     /// Begins the next line of the baton's session: its record is appended, and a plan of its deliveries is handed
@@ -182,7 +175,7 @@ impl<L: Naming, O: Lasting> Book<L, O> {
     ) -> Result<Plan, LineRefusal>
         ensures begun { IsLineBegun self.old self.new (turn_of baton.now) piece.now moment result }
     {
-        self.ledger.may_line(&baton.turn, moment)?;
+        self.may_line(baton, moment)?;
         let line = ReadLine::read(self.ledger.allocator(), piece)?;
         self.begin_read(baton, line, moment)
     }
@@ -255,10 +248,10 @@ impl<L: Naming, O: Lasting> Book<L, O> {
         ensures shut { result.shut ≡ shut self.old.history baton.old.session }
     {
         self.ledger.sound();
-        let number = plan.number();
         baton.turn.go_on(&plan);
+        let line = self.ledger.line_of(&plan);
+        self.register.advance(&mut baton.mark, line);
         let done = self.ledger.finish(plan);
-        advance(&self.ledger, &mut self.register, &mut baton.mark, number);
         baton.front = Snapshot::of(&self.ledger);
         done
     }
@@ -277,7 +270,7 @@ impl<L: Naming, O: Lasting> Book<L, O> {
         ensures told { OnOk result (TellsOf told.old told.new self.old.outboxes self.new.outboxes) }
         ensures untold { OnErr result (told.new ≡ told.old) }
     {
-        self.ledger.may_line(&baton.turn, moment)?;
+        self.may_line(baton, moment)?;
         let line = ReadLine::read(self.ledger.allocator(), piece)?;
         self.line_read(baton, line, moment, told)
     }
@@ -360,6 +353,19 @@ impl<L: Naming, O: Lasting> Book<L, O> {
         ensures begun { IsTickBegun self.old self.new moment result }
     {
         self.ledger.begin_tick(moment)
+    }
+
+    /// Whether a tick at a moment pings somebody, or why there may be none: what `begin_tick` would answer, want of
+    /// memory apart. It takes no memory.
+    pub fn may_tick(&self, moment: Moment) -> Result<bool, TickRefusal>
+        ensures some { IfOk result
+            (λ b. b ≡ true → IsSomebodyQuiet self.now moment × HasRoom self.now) }
+        ensures none { IfOk result (λ b. b ≡ false → to_ping self.now.history moment ≡ []) }
+        ensures may { OnOk result (MayTick self.now moment) }
+        ensures refusal { IfErr result (λ e. IsTickRefusal self.now moment e) }
+        ensures no_memory { IfErr result (λ e. e ≢ TickRefusal.Memory) }
+    {
+        self.ledger.may_tick(moment)
     }
 
     /// Gives back the plan of a tick, with nothing left in it. It takes no memory.

@@ -1,16 +1,17 @@
 -- What clauses see of a journal: the history, how much of it was dropped, and the room that was made.
 use Rattle.std.specs.Prelude.{◌≡◌, ℕ, ℤ, ◌+◌, ◌-◌, ◌^◌, ◌≤◌, List, [], ◌∷◌, ◌++◌, length, map}
-use Rattle.std.specs.Prelude.{reverse, min, slice_get, nat_le, cond, Option, Some, None}
+use Rattle.std.specs.Prelude.{reverse, min, slice_get, nat_le, cond, Option, Some, None, Bool, true}
 use Rattle.std.specs.Borrow.{Bor}
 use Rattle.chronicle.specs.declared.record.Kind.{Kind}
 use Rattle.chronicle.specs.declared.record.Record.{Record}
 use Rattle.chronicle.specs.History.{Rec, rec_of}
 use Rattle.chronicle.specs.Kept.{Row}
 
--- how many records may be kept, after how many that were dropped
+-- how many records may be kept, after how many that were dropped, and whether it was cut, of however many records
 pub record Limit : Type 0 where
   pub records : ℕ
   pub dropped : ℕ
+  pub is_cut : Bool
 
 -- the highest number that a record may have: so many are kept at most, and no number is above 2 ^ 60
 unfoldable pub most : Limit → ℕ
@@ -72,7 +73,7 @@ pub record Misses (old new : Shown) (t : ℕ) : Type 0 where
 -- all records were dropped, which leaves the history as it is, and no less room
 pub record Cuts (old new : Shown) : Type 0 where
   pub history : new.history ≡ old.history
-  pub limit : new.limit ≡ record { records = old.limit.records; dropped = length old.history }
+  pub limit : new.limit ≡ record { records = old.limit.records; dropped = length old.history; is_cut = true }
   pub room : old.room ≤ new.room
   pub prepared : new.prepared ≡ old.prepared
 

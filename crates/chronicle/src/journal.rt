@@ -1,5 +1,6 @@
 //! The list of records, and the room that is made before a record is written. Records may be dropped, and still count.
-ghost use Rattle.std.specs.Prelude.{◌≡◌, ◌<◌, ◌≤◌, ◌+◌, ◌-◌, ◌^◌, ◌↔◌, ◌∷◌, [], length, OnOk, OnErr, IfOk, IsErrOf};
+ghost use Rattle.std.specs.Prelude.{◌≡◌, ◌<◌, ◌≤◌, ◌+◌, ◌-◌, ◌^◌, ◌↔◌, ◌∷◌, [], false, length, OnOk, OnErr};
+ghost use Rattle.std.specs.Prelude.{IfOk, IsErrOf};
 
 use crate::kept::Kept;
 use crate::{Kind, Moment, Record, RecordNumber, SessionId};
@@ -53,6 +54,8 @@ pub struct Journal {
     prepared: SmallVec<SessionId, 1>,
     /// How many were dropped.
     dropped: usize,
+    /// Whether it was cut, of however many records.
+    is_cut: bool,
     past: Snapshot<Past>,
     /// The moment of the newest record, 0 before the first.
     last: Moment,
@@ -67,8 +70,8 @@ impl Model for Journal {
 
     ghost view = { λ a. record {
       history = history_of a.records.items a.past.value;
-      limit = record { records = a.limit; dropped = a.dropped };
-      room = min a.records.free (most (record { records = a.limit; dropped = a.dropped })
+      limit = record { records = a.limit; dropped = a.dropped; is_cut = a.is_cut };
+      room = min a.records.free (most (record { records = a.limit; dropped = a.dropped; is_cut = a.is_cut })
           - (a.dropped + length a.records.items));
       prepared = a.prepared.capacity
           - length a.prepared.items;
@@ -88,13 +91,15 @@ impl Journal {
     /// An empty journal that keeps at most `limit` records.
     pub fn with_limit(alloc: Global, limit: usize) -> Result<Journal, AllocError>
         ensures { IfOk result
-            (λ j. (j.history ≡ []) × (j.limit ≡ record { records = limit; dropped = 0 })) }
+            (λ j. (j.history ≡ [])
+            × (j.limit ≡ record { records = limit; dropped = 0; is_cut = false })) }
     {
         Ok(Journal {
             records: Kept::new(alloc),
             limit,
             prepared: SmallVec::new(alloc),
             dropped: 0,
+            is_cut: false,
             past: Snapshot::of(&Past {}),
             last: Moment::new(0),
         })
@@ -167,6 +172,7 @@ impl Journal {
     {
         apply::<Drops, Past, Kept>(&mut self.past, &self.records);
         self.dropped += self.records.len();
+        self.is_cut = true;
         self.records.clear();
     }
 

@@ -1,6 +1,7 @@
 //! What stands in a lock.
 ghost use Rattle.std.specs.Prelude.{◌≡◌, ◌≢◌, ◌<◌, ◌≤◌, ◌+◌, ◌↔◌, [], ℕ, Some, None, true, false};
-ghost use Rattle.std.specs.Prelude.{length, IsTrue, IfOk, IfErr, IfSome, option_copied};
+ghost use Rattle.std.specs.Prelude.{length, IsTrue, IfOk, IfErr, IfSome, OnOk, option_copied};
+ghost use Rattle.std.specs.Option.{is_some};
 ghost use Rattle.casemapping.specs.Names.{host_shape};
 ghost use Rattle.chronicle.specs.declared.record.Kind.TheVariants as kind;
 ghost use Rattle.chronicle.specs.History.{sessions, last_moment, accepted, shut};
@@ -47,8 +48,10 @@ impl<L: Naming, O: Lasting> Hall<L, O> {
     ghost use Rattle.book.specs.Outcomes.{IsLineOutcome, IsOpenOutcome, IsReapOutcome};
     ghost use Rattle.book.specs.Outcomes.{IsHangOutcome, IsRollOutcome, IsSweepOutcome, IsTickOutcome};
     ghost use Rattle.ledger.specs.Ledger.{empty_ledger, opened, IsSound, late};
-    ghost use Rattle.ledger.specs.Ledger.{is_here, base_of, nickname};
+    ghost use Rattle.ledger.specs.Ledger.{is_here, base_of, nickname, to_ping, MayBegin, MayTick, HasRoom};
+    ghost use Rattle.ledger.specs.Ledger.{IsSomebodyQuiet, IsLineRefusal, IsTickRefusal, IsOpenRefusal, MayOpen};
     ghost use Rattle.ledger.specs.Noted.{base_by, is_noted};
+    ghost use Rattle.book.specs.Reaping.{turn_of};
 
     /// An empty hall for at most `limit` records, whose tokens a register has that is named by `L` and has no
     /// session yet.
@@ -94,6 +97,17 @@ impl<L: Naming, O: Lasting> Hall<L, O> {
         })
     }
 
+    /// Whether a session may be opened at a moment: what `open` would answer, want of memory apart. It takes no
+    /// memory.
+    pub fn may_open(&self, moment: Moment) -> Result<(), OpenRefusal>
+        ensures ok { OnOk result (MayOpen self.now moment) }
+        ensures refusal { IfErr result (λ e. IsOpenRefusal self.now moment e) }
+        ensures no_memory { IfErr result (λ e. e ≢ OpenRefusal.Memory) }
+        ensures not_busy { IfErr result (λ e. e ≢ OpenRefusal.Busy) }
+    {
+        self.book.may_open(moment)
+    }
+
     /// Opens a session whose host has the shape of one, and gives its baton and its stub. A refusal gives the outbox
     /// back, and changes nothing.
     pub fn open(
@@ -108,6 +122,17 @@ impl<L: Naming, O: Lasting> Hall<L, O> {
         ensures not_busy { IfErr result (λ e. e.0 ≢ OpenRefusal.Busy) }
     {
         self.book.open(host, moment, outbox)
+    }
+
+    /// Whether a line of the baton's session may be accepted at a moment: what `line` would answer, want of memory
+    /// apart. It takes no memory.
+    pub fn may_line(&self, baton: &Baton<L, O>, moment: Moment) -> Result<(), LineRefusal>
+        ensures ok { OnOk result (MayBegin self.now (turn_of baton.now) moment) }
+        ensures refusal { IfErr result (λ e. IsLineRefusal self.now (turn_of baton.now) moment e) }
+        ensures no_memory { IfErr result (λ e. e ≢ LineRefusal.Memory) }
+        ensures not_busy { IfErr result (λ e. e ≢ LineRefusal.Busy) }
+    {
+        self.book.may_line(baton, moment)
     }
 
     /// Accepts the next line of the baton's session: its record is appended, all that it owes is put or missed, and
@@ -161,6 +186,20 @@ impl<L: Naming, O: Lasting> Hall<L, O> {
         self.book.tick(moment, &mut self.told)
     }
 
+    /// Whether a tick at a moment pings somebody, or why there may be none: what `tick` would answer, want of memory
+    /// apart. It takes no memory.
+    pub fn may_tick(&self, moment: Moment) -> Result<bool, TickRefusal>
+        ensures some { IfOk result
+            (λ b. b ≡ true → IsSomebodyQuiet self.now moment × HasRoom self.now) }
+        ensures none { IfOk result (λ b. b ≡ false → to_ping self.now.history moment ≡ []) }
+        ensures may { OnOk result (MayTick self.now moment) }
+        ensures refusal { IfErr result (λ e. IsTickRefusal self.now moment e) }
+        ensures no_memory { IfErr result (λ e. e ≢ TickRefusal.Memory) }
+        ensures not_busy { IfErr result (λ e. e ≢ TickRefusal.Busy) }
+    {
+        self.book.may_tick(moment)
+    }
+
     /// The session of the lowest number that isn't shut and is quiet for too long at a moment, which is to be hung.
     /// It takes no memory.
     pub fn late(&self, moment: Moment) -> Option<SessionId>
@@ -196,15 +235,15 @@ impl<L: Naming, O: Lasting> Hall<L, O> {
         self.book.roll()
     }
 
-    /// What is known of the records that were dropped. `None` where none was.
+    /// What is known of the records that were dropped, none of them if there were none. `None` before the first roll.
     pub fn base(&self) -> Option<&Base>
         ensures base { IfSome result (λ b. base_by b.now ≡ base_of self.now) }
         ensures noted { IfSome result (λ b. (t : ℕ) → 0 < t → t ≤ (base_of self.now).sessions
             → is_noted b.now t ≡ is_here self.now.outboxes t) }
         ensures opened { IfSome result
             (λ b. (t : ℕ) → is_noted b.now t ≡ true → (0 < t) × (t ≤ (base_of self.now).sessions)) }
+        ensures rolled { is_some result ≡ self.now.limit.is_cut }
         ensures none { result ≡ None → self.now.limit.dropped ≡ 0 }
-        ensures some { IfSome result (λ b. 0 < self.now.limit.dropped) }
     {
         self.book.ledger().base()
     }

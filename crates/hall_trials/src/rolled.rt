@@ -38,6 +38,21 @@ const GONE: [Act; 10] = [
     Act::Counted(1, None, None),
 ];
 
+/// No record is dropped, and it is known that nobody came.
+const NOTHING: [Act; 5] = [
+    Act::NotRolled,
+    Act::Rolled(0, 1),
+    Act::Counted(1, None, None),
+    Act::Came(0),
+    Act::Has(0),
+];
+
+const NOTHING_AT_FIRST: Story = Story {
+    size: (4, 8),
+    rounds: 1,
+    parts: &[&NOTHING, &SIX, &NO_PING],
+};
+
 /// The line for which there is no room at first.
 const NO_PING: [Act; 1] = [Act::Refused(1, "PING x", LineRefusal::JournalFull)];
 
@@ -69,4 +84,11 @@ const A_WHOIS_LATER: Story = Story {
 fn a_rolled_hall_goes_on(rt: HostRuntime) {
     over_both(&rt, rt.alloc(), &A_PING_LATER);
     over_both(&rt, rt.alloc(), &A_WHOIS_LATER);
+}
+
+/// Before the first record a hall's journal is rolled: no record is dropped and the next is 1, and there is a base, which
+/// knows of no session. Then there is room for as many records as without; over both outboxes.
+#[test]
+fn a_hall_without_records_is_rolled(rt: HostRuntime) {
+    over_both(&rt, rt.alloc(), &NOTHING_AT_FIRST);
 }

@@ -559,13 +559,18 @@ fn two_race<L: Naming + Send + Sync, R: Threads + Wait + Copy + Drop + Send + Sy
 const COME: [Act; 1] = [Act::Come(2, CAP)];
 
 /// They go, after all others.
-const GO: [Act; 5] = [
-    Act::Swept(&[]),
-    Act::Swept(&[]),
-    Act::NobodyToSweep,
-    Act::Leaves(1, 0),
-    Act::Leaves(2, 0),
-];
+const GO: [Act; 3] = [Act::NobodyToSweep, Act::Leaves(1, 0), Act::Leaves(2, 0)];
+
+/// Sweeps whichever of the two isn't swept yet: one that had said all its lines before the others ended may be.
+fn sweep_two<L: Naming, R: Wait + Drop>(
+    hall: &mut Hall<L, Sender<R>>,
+    moment: Moment,
+    steps: &mut Steps,
+) {
+    for _ in 0..2u32 {
+        steps.note(hall.sweep(moment).is_ok());
+    }
+}
 
 /// Two come, race, and go.
 fn all_race<L: Naming + Send + Sync, R: Threads + Wait + Copy + Drop + Send + Sync>(
@@ -580,6 +585,7 @@ fn all_race<L: Naming + Send + Sync, R: Threads + Wait + Copy + Drop + Send + Sy
     let guests = stage.guests.as_mut_slice();
     two_race(rt, alloc, hall, guests, piece, &hands, steps);
     stage.at(hands.end());
+    sweep_two(&mut hall.lock(rt), stage.moment(), steps);
     goes(rt, alloc, hall, &mut stage, &GO, steps);
 }
 

@@ -30,6 +30,12 @@ dropped_missed n (r ∷ h) t few =
 abbrev pub AreHereStill : {O : Type 0} → List (Option O) → List (Option O) → Type 0
 AreHereStill boxes more = (t : ℕ) → 0 < t → t ≤ length boxes → is_here boxes t ≡ is_here more t
 
+-- counts are kept after those of a session were forgotten, if they were before
+pub forgets_still : (b c : Option Noted) (s : ℕ) → Forgets b c s → is_some c ≡ is_some b
+forgets_still None c s f = ap (λ o. is_some o) f
+forgets_still (Some b) None s f = absurd f
+forgets_still (Some b) (Some c) s f = refl
+
 module _ {O : Type 0} where
   pub based_on : (b : Option Noted) (h k : List Rec) (n : ℕ) (g : Settings) (boxes more : List (Option O))
       → IsBased b h n g boxes → length h ≤ length k → (n ≤ length h → dropped_part n k ≡ dropped_part n h)

@@ -1,7 +1,11 @@
 -- The plan that is out stays the one that is out.
 use Rattle.std.proofs.Common.{◌≡◌, ℕ, ◌+◌, ◌<◌, ◌≤◌, List, [], ◌∷◌, ◌++◌, length, Option}
-use Rattle.std.proofs.Common.{Some, None, arith, refl, sym, ap, ◌∙◌, subst}
-use Rattle.chronicle.specs.History.{Rec, sessions}
+use Rattle.std.proofs.Common.{Some, None, true, false, arith, refl, sym, ap, ◌∙◌, subst}
+use Rattle.std.specs.Prelude.{IsSome, IfSome}
+use Rattle.line_grammar.specs.declared.splitter.Piece.{Piece}
+use Rattle.chronicle.specs.declared.record.Kind.{Kind}
+use Rattle.chronicle.specs.declared.record.Kind.TheVariants.{Opened, Said, Hung, Gone, Ticked}
+use Rattle.chronicle.specs.History.{Rec, actor, sessions}
 use Rattle.chronicle.specs.Journal.{miss}
 use Rattle.deliveries.specs.declared.item.Item.{Item}
 use Rattle.outbox.specs.declared.queue.PutFault.{PutFault}
@@ -9,7 +13,7 @@ use Rattle.ledger.specs.declared.plan.Planned.{Planned}
 use Rattle.ledger.specs.declared.out.Step.{Step}
 use Rattle.ledger.specs.declared.out.Step.TheVariants.{Put, Missed}
 use Rattle.ledger.specs.Ledger.{Shown, delivered_to, dropped, IsPutNext, Out, IsOut}
-use Rattle.ledger.specs.Ledger.{newest_missed, newest_actor, newest_next}
+use Rattle.ledger.specs.Ledger.{newest_missed, newest_actor, newest_next, newest_line, next_of, line_of}
 
 -- what is noted of a step
 abbrev pub IsNoted : Out → Option Step → Out → Type 0
@@ -17,6 +21,32 @@ IsNoted p None q = q ≡ p
 IsNoted p (Some (Put t)) q = q ≡ p
 IsNoted p (Some (Missed t)) q = (q.number ≡ p.number) × (q.session ≡ p.session) × (q.next ≡ p.next)
     × (q.missed ≡ p.missed ++ t ∷ []) × (q.room + 1 ≡ p.room)
+
+-- a record after which a line of its session is next says a line
+says : (k : Kind) → IsSome (next_of k) → IsSome (line_of k)
+says (Opened s host) i = i
+says (Said s j piece) i = refl
+says (Hung s why) i = i
+says (Gone s) i = i
+says Ticked i = i
+
+pub newest_says : (h : List Rec) → IsSome (newest_next h) → IsSome (newest_line h)
+newest_says [] i = i
+newest_says (r ∷ h) i = says r.kind i
+
+-- which is its session's
+says_own : (k : Kind) (x : Piece) → IsSome (line_of k) → IfSome (line_of k) (λ l. l.1 ≡ x)
+    → line_of k ≡ Some (actor k, x)
+says_own (Opened s host) x i e = absurd (let f : false ≡ true = i in cc)
+says_own (Said s j piece) x i e = ap (λ (p : Piece). Some (s, p)) e
+says_own (Hung s why) x i e = absurd (let f : false ≡ true = i in cc)
+says_own (Gone s) x i e = absurd (let f : false ≡ true = i in cc)
+says_own Ticked x i e = absurd (let f : false ≡ true = i in cc)
+
+pub newest_says_own : (h : List Rec) (x : Piece) → IsSome (newest_line h) → IfSome (newest_line h) (λ l. l.1 ≡ x)
+    → newest_line h ≡ Some (newest_actor h, x)
+newest_says_own [] x i e = absurd (let f : false ≡ true = i in cc)
+newest_says_own (r ∷ h) x i e = says_own r.kind x i e
 
 missed_more : (h : List Rec) (t : ℕ) → 0 < length h → newest_missed (miss h t) ≡ newest_missed h ++ t ∷ []
 missed_more [] t l = absurd (omega arith)

@@ -53,7 +53,7 @@ module _ {O : Type 0} (sent : O → List Item) where
       let split = length-append (deliveries (sent_by sent (box_at m.outboxes t))) (planned m.plan t) in
       let same = deliveries_length (sent_by sent (box_at m.outboxes t)) in
       let most_ = owed_le m.settings m.history t in
-      let room = i.room in let low = most_low m.limit.records m.limit.dropped in
+      let room = i.room in let low = most_low m.limit.is_cut m.limit.records m.limit.dropped in
       omega arith
 
   by_box : (box : Option O) → length (sent_by sent box) + 1 < 18446744073709551616

@@ -1,5 +1,6 @@
 -- How what a ledger keeps stands for its history.
 use Rattle.std.specs.Prelude.{◌≡◌, ℕ, ◌<◌, ◌≤◌, Bool, List, length, Option}
+use Rattle.std.specs.Option.{is_some}
 use Rattle.chronicle.specs.Journal as journal
 use Rattle.registration.specs.declared.settings.Settings.{Settings}
 use Rattle.roster.specs.declared.deed.Deed.{Deed}
@@ -33,4 +34,5 @@ pub record Keeps {O : Type 0} (sent : O → List Item) (j : journal.Shown) (g : 
     (heard : List (ℕ × Since)) : Type 0 where
   pub kept : IsKept sent j g known seats boxes plan busy
   pub based : IsBased b j.history j.limit.dropped g boxes
+  pub cut : is_some b ≡ j.limit.is_cut
   pub since : AreSince heard j.history boxes

@@ -3,6 +3,7 @@ use Rattle.std.specs.Prelude.{◌≡◌, ℕ, ℤ, zero, suc, ◌+◌, ◌-◌, 
 use Rattle.std.specs.Prelude.{cond, List, [], ◌∷◌, ◌++◌, length, map, filter, sum_by, if◌then◌else◌}
 use Rattle.std.specs.Prelude.{slice_index_or, slice_set, Option, Some, None, IsSome, All}
 use Rattle.std.specs.Option.{is_some}
+use Rattle.line_grammar.specs.declared.splitter.Piece.{Piece}
 use Rattle.chronicle.specs.declared.record.Kind.{Kind}
 use Rattle.chronicle.specs.declared.record.Kind.TheVariants.{Opened, Said, Hung, Gone, Ticked}
 use Rattle.chronicle.specs.History.{Rec, IsMomentAfter, last_moment, sessions, actor, accepted, misses, shut, gone}
@@ -119,7 +120,7 @@ planned (p ∷ ps) t = cond (p.session == t) (p.delivery ∷ planned ps t) (plan
 abbrev pub empty_ledger : {O : Type 0} → ℕ → Settings → Shown O
 empty_ledger limit settings = record {
   history = [];
-  limit = record { records = limit; dropped = 0 };
+  limit = record { records = limit; dropped = 0; is_cut = false };
   settings = settings;
   outboxes = [];
   plan = [];
@@ -231,7 +232,7 @@ IsDone {O} accepts refuses m kind moment k = (n : Shown O) × IsPutAll accepts r
 abbrev pub rolled : {O : Type 0} → Shown O → Shown O
 rolled m = record {
   history = m.history;
-  limit = record { records = m.limit.records; dropped = length m.history };
+  limit = record { records = m.limit.records; dropped = length m.history; is_cut = true };
   settings = m.settings;
   outboxes = m.outboxes;
   plan = m.plan;
@@ -490,6 +491,19 @@ next_of Ticked = None
 abbrev pub newest_next : List Rec → Option ℕ
 newest_next [] = None
 newest_next (r ∷ h) = next_of r.kind
+
+-- the line that a record says, and whose it is
+abbrev pub line_of : Kind → Option (ℕ × Piece)
+line_of (Opened s host) = None
+line_of (Said s i piece) = Some (s, piece)
+line_of (Hung s why) = None
+line_of (Gone s) = None
+line_of Ticked = None
+
+-- the line of the newest record
+abbrev pub newest_line : List Rec → Option (ℕ × Piece)
+newest_line [] = None
+newest_line (r ∷ h) = line_of r.kind
 
 -- ---- a plan that is handed out
 

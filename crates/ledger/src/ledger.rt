@@ -3,6 +3,7 @@ ghost use Rattle.std.specs.Prelude.{◌≡◌, ◌≢◌, ◌<◌, ◌≤◌, �
 ghost use Rattle.std.specs.Prelude.{Some, None, true, false, length, slice_get, IsTrue};
 ghost use Rattle.std.specs.Prelude.{IfOk, IfErr, IfSome, OnOk, OnErr, option_copied};
 ghost use Rattle.std.specs.List.{list_any};
+ghost use Rattle.std.specs.Option.{is_some};
 ghost use Rattle.casemapping.specs.Names.{host_shape};
 ghost use Rattle.chronicle.specs.declared.record.Kind.TheVariants as kind;
 ghost use Rattle.chronicle.specs.History.{sessions, last_moment, shut, gone};
@@ -564,19 +565,16 @@ impl<O: Outbox> Ledger<O> {
         Ok(Rolled { dropped, next })
     }
 
-    /// What is known of the records that were dropped. `None` where none was.
+    /// What is known of the records that were dropped, none of them if there were none. `None` before the first roll.
     pub fn base(&self) -> Option<&Base>
         ensures base { IfSome result (λ b. base_by b.now ≡ base_of self.now) }
         ensures noted { IfSome result (λ b. (t : ℕ) → 0 < t → t ≤ (base_of self.now).sessions
             → is_noted b.now t ≡ is_here self.now.outboxes t) }
         ensures opened { IfSome result
             (λ b. (t : ℕ) → is_noted b.now t ≡ true → (0 < t) × (t ≤ (base_of self.now).sessions)) }
+        ensures rolled { is_some result ≡ self.now.limit.is_cut }
         ensures none { result ≡ None → self.now.limit.dropped ≡ 0 }
-        ensures some { IfSome result (λ b. 0 < self.now.limit.dropped) }
     {
-        if self.journal.newest() == self.journal.len() {
-            return None;
-        }
         self.base.as_ref()
     }
 

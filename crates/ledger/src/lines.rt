@@ -1,5 +1,5 @@
 //! Lines, which were read before they are begun.
-ghost use Rattle.std.specs.Prelude.{◌≡◌, ◌<◌, ◌+◌, ◌^◌, Some, IfOk, IfErr, OnOk, OnErr};
+ghost use Rattle.std.specs.Prelude.{◌≡◌, ◌<◌, ◌+◌, ◌^◌, length, Some, IsSome, IfSome, IfOk, IfErr, OnOk, OnErr};
 ghost use Rattle.chronicle.specs.declared.record.Kind.TheVariants as kind;
 ghost use Rattle.chronicle.specs.Journal.{most};
 
@@ -10,11 +10,12 @@ use crate::read_line::ReadLine;
 use crate::refusals::LineRefusal;
 use crate::turn::Turn;
 use chronicle::{Kind, Moment, RecordNumber};
+use line_grammar::Piece;
 use outbox::Outbox;
 use std::alloc::AllocError;
 
 impl<O: Outbox> Ledger<O> {
-    ghost use Rattle.ledger.specs.Ledger.{begun, MayBegin, IsLineRefusal, IsOut};
+    ghost use Rattle.ledger.specs.Ledger.{begun, newest_line, MayBegin, IsLineRefusal, IsOut};
 
     /// Begins the next line of a session, which was read before: its record is appended, and a plan of its
     /// deliveries is handed out. Whether its label counts is decided here, by the capabilities that the session has
@@ -91,5 +92,30 @@ impl<O: Outbox> Ledger<O> {
             next: Some(turn.next + 1),
             missed,
         })
+    }
+
+    /// The line that was accepted by the record of the plan that is out.
+    pub fn line_of(&self, plan: &Plan) -> &Piece
+        requires out { IsOut self.now plan.now }
+        requires line { IsSome plan.now.next }
+        ensures { newest_line self.now.history ≡ Some (plan.now.session, result.now) }
+    {
+        self.newest_said(plan.number)
+    }
+
+    /// The line that the newest record says, whose number this is.
+    fn newest_said(&self, number: RecordNumber) -> &Piece
+        requires newest { number ≡ length self.now.history }
+        requires kept { self.now.limit.dropped < length self.now.history }
+        requires line { IsSome (newest_line self.now.history) }
+        ensures { IfSome (newest_line self.now.history) (λ l. l.1 ≡ result.now) }
+    {
+        let Some(record) = self.record(number) else {
+            unreachable!();
+        };
+        let Kind::Said { piece, .. } = &record.kind else {
+            unreachable!();
+        };
+        piece
     }
 }

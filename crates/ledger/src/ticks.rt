@@ -3,7 +3,7 @@
 //! A tick is a record of no session, so its plan has session 0, which nobody has. It looks for somebody to ping before
 //! it asks for room or memory, so a server where nobody is quiet ticks in a full journal. Whom it pings goes by
 //! moments, which facts don't have.
-ghost use Rattle.std.specs.Prelude.{◌≡◌, ◌<◌, ◌≤◌, ◌+◌, [], Some, None, true, false};
+ghost use Rattle.std.specs.Prelude.{◌≡◌, ◌≢◌, ◌<◌, ◌≤◌, ◌+◌, [], Some, None, true, false};
 ghost use Rattle.std.specs.Prelude.{length, IfOk, IfErr, IfSome, OnOk, OnErr};
 ghost use Rattle.chronicle.specs.declared.record.Kind.TheVariants as kind;
 
@@ -34,6 +34,22 @@ impl<O: Outbox> Ledger<O> {
         ensures refusal { IfErr result (λ e. IsTickRefusal self.old moment e) }
         ensures err { OnErr result (self.new ≡ self.old) }
     {
+        if !self.may_tick(moment)? {
+            return Ok(None);
+        }
+        Ok(Some(self.ping_all(moment)?))
+    }
+
+    /// Whether a tick at a moment pings somebody, or why there may be none: what `begin_tick` would answer, want of
+    /// memory apart. It takes no memory.
+    pub fn may_tick(&self, moment: Moment) -> Result<bool, TickRefusal>
+        ensures some { IfOk result
+            (λ b. b ≡ true → IsSomebodyQuiet self.now moment × HasRoom self.now) }
+        ensures none { IfOk result (λ b. b ≡ false → to_ping self.now.history moment ≡ []) }
+        ensures may { OnOk result (MayTick self.now moment) }
+        ensures refusal { IfErr result (λ e. IsTickRefusal self.now moment e) }
+        ensures no_memory { IfErr result (λ e. e ≢ TickRefusal.Memory) }
+    {
         let free = self.free();
         if self.busy {
             return Err(TickRefusal::Busy);
@@ -42,12 +58,12 @@ impl<O: Outbox> Ledger<O> {
             return Err(TickRefusal::BadMoment);
         }
         if !self.is_somebody_quiet(moment) {
-            return Ok(None);
+            return Ok(false);
         }
         if free < 1 {
             return Err(TickRefusal::JournalFull);
         }
-        Ok(Some(self.ping_all(moment)?))
+        Ok(true)
     }
 
     /// Whether a tick at a moment pings somebody.

@@ -1,5 +1,6 @@
 //! What no step of a play can do: a plan is dropped, and then its book takes nothing any more.
-ghost use Rattle.std.specs.Prelude.{◌≡◌, []};
+ghost use Rattle.std.specs.Prelude.{◌≡◌, [], true, IfSome};
+ghost use Rattle.casemapping.specs.Names.{host_shape};
 
 use crate::plays::{new_register, settings};
 use book::{Baton, Book, HangRefusal, LineRefusal, Naming, Register, Ring};
@@ -11,11 +12,30 @@ use std::marker::Brand;
 
 const NOON: i64 = 43_200_000;
 
-/// What is opened: a host, and an outbox that holds eight items. `None` where there was no memory.
-fn arrival(alloc: Global) -> Option<(Octets, Ring)> {
-    match (Octets::copied(alloc, b"h1"), Ring::new(alloc, 8)) {
-        (Ok(host), Ok(outbox)) => Some((host, outbox)),
-        _ => None,
+/// A host. `None` where there was no memory.
+fn host(alloc: Global) -> Option<Octets>
+    ensures { IfSome result (λ h. host_shape h ≡ true) }
+{
+    let Ok(host) = Octets::copied(alloc, b"h1") else {
+        return None;
+    };
+    if is_host(host.as_slice()) {
+        Some(host)
+    } else {
+        None
+    }
+}
+
+/// The baton of one who comes, with an outbox that holds eight items. `None` where there was no memory.
+fn comes<L: Naming>(alloc: Global, book: &mut Book<L, Ring>, host: Octets) -> Option<Baton<L, Ring>>
+    requires { host_shape host ≡ true }
+{
+    let Ok(outbox) = Ring::new(alloc, 8) else {
+        return None;
+    };
+    match book.open(host, Moment::new(NOON), outbox) {
+        Ok((_, baton, _)) => Some(baton),
+        Err(_) => None,
     }
 }
 
@@ -38,15 +58,13 @@ fn is_busy_after<L: Naming>(
     book: &mut Book<L, Ring>,
     piece: &Piece,
 ) -> Option<bool> {
-    let (host, outbox) = arrival(alloc)?;
-    if !is_host(host.as_slice()) {
-        return None;
+    let host = host(alloc)?;
+    let baton = comes(alloc, book, host)?;
+    if is_begun(book, &baton, piece) {
+        Some(is_busy(book, &baton, piece))
+    } else {
+        None
     }
-    let (_, baton, _) = book.open(host, Moment::new(NOON), outbox).ok()?;
-    if !is_begun(book, &baton, piece) {
-        return None;
-    }
-    Some(is_busy(book, &baton, piece))
 }
 
 /// Whether a new book is busy after a plan was dropped. `None` where there was no memory.

@@ -1,4 +1,4 @@
-use Rattle.std.proofs.Common.{◌≡◌, ◌<◌, ◌≤◌, ◌+◌, ℕ, List, [], ◌∷◌, length, Some}
+use Rattle.std.proofs.Common.{◌≡◌, ◌<◌, ◌≤◌, ◌+◌, ℕ, Bool, cond, List, [], ◌∷◌, ◌++◌, length, Some, None}
 use Rattle.std.proofs.Common.{length-append, refl, sym, ap, ◌∙◌, subst, arith}
 use Rattle.line_grammar.specs.declared.splitter.Piece.{Piece}
 use Rattle.chronicle.specs.History.{sessions, accepted, shut}
@@ -6,10 +6,10 @@ use Rattle.register.specs.declared.claims.Row.{Row}
 use Rattle.register.specs.Rows.{with_piece, pieces_at}
 use Rattle.register.specs.Shown.{with_done, longer_mark}
 use Rattle.book.specs.Turn.{Turn}
-use Rattle.ledger.specs.Ledger.{IsOut, finished}
-use Rattle.book.specs.Tied.{newest_line, begun_of, IsTied}
-use Rattle.book.proofs.Outcomes.{at_some}
-use Rattle.book.proofs.Ties.{newest_from_1, out_line, line_ties, done_accepts}
+use Rattle.ledger.specs.Ledger.{IsOut, finished, newest_line}
+use Rattle.book.specs.Reaping.{newest_said}
+use Rattle.book.specs.Tied.{begun_of, IsTied}
+use Rattle.book.proofs.Ties.{newest_adds, newest_from_1, line_ties, done_accepts}
 use Rattle.book.proofs.book.Book.finish.Given as given
 use Rattle.book.proofs.book.Book.finish.Goals as goal
 
@@ -20,27 +20,24 @@ out g c = subst (λ m. IsOut m c.args.plan) (sym c.self.view_is) c.requires.out
 -- what the line that is done said, and what that makes of the register and of the mark
 record Turned (g : given.Over) (c : goal.After-drop-baton-inside g) : Type 0 where
   said : Piece
+  newest : newest_line c.self.inside.ledger.history ≡ Some (c.baton.inside.turn.session, said)
   line : begun_of c.self.inside.ledger ≡ Some (c.baton.inside.turn.session, said)
-  register : c.advance.new.register ≡ with_done c.self.inside.register c.baton.inside.mark.session said
+  register : c.advance.new.self ≡ with_done c.self.inside.register c.baton.inside.mark.session said
   mark : c.advance.new.mark ≡ longer_mark c.baton.inside.mark said
 
 turned : (g : given.Over) (c : goal.After-drop-baton-inside g) → Turned g c
 turned g c =
-    let a = c.self.inside in
-    let k = c.finish-done.new.self in
-    let s = c.baton.inside.turn.session in
-    let mark = c.baton.inside.mark in
+    let h = c.self.inside.ledger.history in
+    let said = c.line_of-line.result.now in
     let whose = c.requires.line.0 ∙ sym (ap (λ (t : Turn). t.session) c.baton.view_is) in
-    let l = out_line a.ledger c.args.plan s (c.args.baton.now.next + 1) (out g c) whose c.requires.line.1 in
-    let newest : newest_line k.history ≡ Some (s, l.0) = ap
-    (λ m. newest_line m.history) c.finish-done.ensures.book ∙ l.2 in
+    let newest : newest_line h ≡ Some (c.baton.inside.turn.session, said) = c.line_of-line.ensures
+    ∙ ap (λ (s : ℕ). Some (s, said)) whose in
     record {
-      said = l.0;
-      line = l.1;
-      register = at_some (newest_line k.history) (s, l.0) (λ (q : ℕ × Piece). c.advance.new.register
-          ≡ with_done a.register mark.session q.1) newest c.advance.ensures.register;
-      mark = at_some (newest_line k.history) (s, l.0)
-          (λ (q : ℕ × Piece). c.advance.new.mark ≡ longer_mark mark q.1) newest c.advance.ensures.mark;
+      said = said;
+      newest = newest;
+      line = ap (λ (b : Bool). cond b (newest_line h) None) (out g c).busy ∙ newest;
+      register = c.advance.ensures.register;
+      mark = c.advance.ensures.mark;
     }
 
 tied : (g : given.Over) (c : goal.After-drop-baton-inside g) → IsTied g.O.Outbox.name (finished c.self.inside.ledger)
@@ -75,7 +72,7 @@ invariant_of-self g c =
     let rows = ap (λ r. r.rows) t.register
     ∙ ap (λ (s : ℕ). with_piece a.register.rows s t.said) c.baton.invariant.0 in (
       ap (λ r. r.table) t.register ∙ i.0,
-      subst (λ m. IsTied g.O.Outbox.name m c.advance.new.register.rows) (sym is)
+      subst (λ m. IsTied g.O.Outbox.name m c.advance.new.self.rows) (sym is)
           (subst (λ (xs : List (Row g.row.O-Name.Denot)). IsTied g.O.Outbox.name (finished a.ledger) xs) (sym rows)
           (tied g c)),
     )
@@ -110,13 +107,16 @@ returns-clause-shut g c =
     c.finish-done.ensures.shut from ∙ ap (λ m. shut m.history c.args.plan.session) c.self.view_is
     ∙ ap (shut c.args.self.now.history) c.requires.line.0
 
+pub returns-clause-grown : goal.returns-clause-grown
+returns-clause-grown g c =
+    let t = turned g c in let h = c.self.inside.ledger.history in let mark = c.baton.inside.mark in
+    ap (λ m. m.pieces) t.mark
+    ∙ ap (λ (ps : List Piece). mark.pieces ++ ps)
+    (sym (newest_adds h c.baton.inside.turn.session t.said t.newest))
+    ∙ ap (λ (b : Turn). b.pieces ++ newest_said h b.session) c.baton.view_is
+    ∙ ap (λ m. c.args.baton.now.pieces ++ newest_said m.history c.args.baton.now.session) c.self.view_is
+
 pub returns-clause-accepted : goal.returns-clause-accepted
 returns-clause-accepted g c = pieces g c ∙ ap (accepted c.self.inside.ledger.history)
     (ap (λ (t : Turn). t.session) c.baton.view_is) ∙ ap (λ b. accepted b.history c.args.baton.now.session)
     (sym c.finish-done.ensures.book)
-
-pub advance-requires-clause-kept : goal.advance-requires-clause-kept
-advance-requires-clause-kept g c =
-    let o : IsOut c.self.inside.ledger c.args.plan = subst
-    (λ m. IsOut m c.args.plan) (sym c.self.view_is) c.requires.out in
-    subst (λ m. m.limit.dropped < length m.history) (sym c.finish-done.ensures.book) o.kept

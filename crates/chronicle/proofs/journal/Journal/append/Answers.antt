@@ -13,7 +13,7 @@ pub invariant_of-self : goal.invariant_of-self
 invariant_of-self c =
     let a = c.self.inside in
     let xs = a.records.items in
-    let i = c.self.invariant in let m = most (record { records = a.limit; dropped = a.dropped }) in
+    let i = c.self.invariant in let m = most (record { records = a.limit; dropped = a.dropped; is_cut = a.is_cut }) in
     let er : min (a.records.free) (m - (a.dropped + length xs)) ≡ c.args.self.now.room = ap
     (λ j. j.room) c.self.view_is in
     let room : 0 < min (a.records.free) (m - (a.dropped + length xs)) = subst (λ (n : ℕ). 0 < n) (sym er) c.requires in
@@ -25,8 +25,8 @@ invariant_of-self c =
     } in
     let all : c.push.new.self.items ≡ xs ++ r ∷ [] = c.push.ensures.items in
     let longer : length c.push.new.self.items ≡ length xs + 1 = ap length all ∙ length-append xs (r ∷ []) in
-    let kept = room_kept (a.records.free) a.limit a.dropped (length xs) room in
-    let low = room_low (a.records.free) a.limit a.dropped (length xs) room in (
+    let kept = room_kept a.is_cut (a.records.free) a.limit a.dropped (length xs) room in
+    let low = room_low a.is_cut (a.records.free) a.limit a.dropped (length xs) room in (
       omega (arith, longer, kept),
       omega (arith, longer, low),
       i.2,
@@ -38,7 +38,7 @@ invariant_of-self c =
 pub returns-clause-appended : goal.returns-clause-appended
 returns-clause-appended c =
     let a = c.self.inside in let xs = a.records.items in let past = a.past.value in
-    let v = c.self.view_is in let m = most (record { records = a.limit; dropped = a.dropped }) in
+    let v = c.self.view_is in let m = most (record { records = a.limit; dropped = a.dropped; is_cut = a.is_cut }) in
     let eh : history_of xs past ≡ c.args.self.now.history = ap (λ j. j.history) v in
     let r : Record = record {
       number = c.new-number.result;

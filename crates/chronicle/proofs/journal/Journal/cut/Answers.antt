@@ -1,4 +1,4 @@
-use Rattle.std.proofs.Common.{arith, ◌≡◌, ℕ, ◌+◌, ◌-◌, ◌≤◌, min, length, ap, ◌∙◌, sym, subst}
+use Rattle.std.proofs.Common.{arith, ◌≡◌, ℕ, ◌+◌, ◌-◌, ◌≤◌, true, min, length, ap, ◌∙◌, sym, subst}
 use Rattle.std.proofs.lemmas.Grind.{common_steps}
 use Rattle.chronicle.specs.History.{last_moment}
 use Rattle.chronicle.specs.Journal.{most, history_of}
@@ -34,21 +34,21 @@ returns c =
     ap (λ xs. history_of xs c.apply.new.told.value) c.clear.ensures.items ∙ past in
     let new : a.dropped + c.len.result ≡ a.dropped + length a.records.items = grind (arith, common_steps) in
     let none : length c.clear.new.self.items ≡ 0 = ap length c.clear.ensures.items in
-    let grown = room_cut a.records.free c.clear.new.self.free a.limit a.dropped (length a.records.items)
+    let grown = room_cut a.is_cut a.records.free c.clear.new.self.free a.limit a.dropped (length a.records.items)
     (a.dropped + c.len.result) (length c.clear.new.self.items) c.clear.ensures.free new none in
-    let room : min (a.records.free) (most (record { records = a.limit; dropped = a.dropped })
+    let room : min (a.records.free) (most (record { records = a.limit; dropped = a.dropped; is_cut = a.is_cut })
     - (a.dropped + length a.records.items)) ≡ c.args.self.now.room = ap (λ j. j.room) v in
     let dropped : a.dropped + c.len.result ≡ length c.args.self.now.history = new
     ∙ grind (arith, common_steps, n, i.2, ap (λ j. length j.history) v) in
     record {
       history = all ∙ ap (λ j. j.history) v;
-      limit = ap (λ (d : ℕ). record { records = a.limit; dropped = d }) dropped ∙ ap
-          (λ (l : ℕ). record { records = l; dropped = length c.args.self.now.history })
+      limit = ap (λ (d : ℕ). record { records = a.limit; dropped = d; is_cut = true }) dropped ∙ ap
+          (λ (l : ℕ). record { records = l; dropped = length c.args.self.now.history; is_cut = true })
           (ap (λ j. j.limit.records) v);
       room = subst (λ (r : ℕ). r ≤ min (c.clear.new.self.free) (most (record {
         records = a.limit;
-        dropped =
-            a.dropped + c.len.result;
+        dropped = a.dropped + c.len.result;
+        is_cut = true;
       }) - (a.dropped + c.len.result + length c.clear.new.self.items))) room grown;
       prepared = ap (λ j. j.prepared) v;
     }

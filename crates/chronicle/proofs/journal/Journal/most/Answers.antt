@@ -10,7 +10,7 @@ overflow_sub-self-inside c = omega arith
 pub returns-then-self-clause-value : goal.returns-then-self-clause-value
 returns-then-self-clause-value c =
     let a = c.self.inside in
-    most_capped a.limit a.dropped (omega arith) c.if-self.true ∙ ap (λ j. most j.limit) c.self.view_is
+    most_capped a.is_cut a.limit a.dropped (omega arith) c.if-self.true ∙ ap (λ j. most j.limit) c.self.view_is
 
 pub returns-then-self-clause-enough : goal.returns-then-self-clause-enough
 returns-then-self-clause-enough c =
@@ -22,7 +22,7 @@ returns-then-self-clause-enough c =
 pub returns-else-self-clause-value : goal.returns-else-self-clause-value
 returns-else-self-clause-value c =
     let a = c.self.inside in
-    most_free a.limit a.dropped (omega arith) c.if-self.false ∙ ap (λ j. most j.limit) c.self.view_is
+    most_free a.is_cut a.limit a.dropped (omega arith) c.if-self.false ∙ ap (λ j. most j.limit) c.self.view_is
 
 pub returns-else-self-clause-enough : goal.returns-else-self-clause-enough
 returns-else-self-clause-enough c =

@@ -17,6 +17,7 @@ invariant_of-self c =
           based_as a.base h h n n g g new c.take.new.self.boxes
           (based_boxes a.base h n g was new c.self.invariant.based (set_many was (s - 1) (Some v))
           (put_still was s v k.here k.from_1 k.opened)) refl refl refl c.take.ensures.taken);
+      cut = c.self.invariant.cut;
       since = (let was = a.outboxes.boxes in let h = a.journal.history in let v = with_taken (outbox_at was s) in
           let new = slice_set was (s - 1) (Some v) in
           since_as a.last_heard a.last_heard h h new c.take.new.self.boxes (since_put a.last_heard h was s v

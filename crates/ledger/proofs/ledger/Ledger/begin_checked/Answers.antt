@@ -129,6 +129,7 @@ invariant_of-self-3 over c =
           based_as a.base (r ∷ h) c.append.new.self.history n c.append.new.self.limit.dropped g
           c.commit.new.roster.settings was was (based_record a.base h r n g was c.self.invariant.based)
           (history over c) (ap (λ l. l.dropped) (limit over c)) (settings over c) refl);
+      cut = c.self.invariant.cut ∙ sym (ap (λ l. l.is_cut) (limit over c));
       since = (let h = a.journal.history in let m = c.args.moment in
           let x : Since = record { moment = m; pinged = false } in let t = may over c in
           let there : IsThere a.outboxes.boxes s = record {

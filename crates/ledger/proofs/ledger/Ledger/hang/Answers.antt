@@ -65,6 +65,7 @@ invariant_of-self over c =
           (set_many was (s - 1) (Some took.after))
           (put_still was s took.after may.known.here may.known.from_1 few)) app.history
           (ap (λ l. l.dropped) app.limit) c.end.ensures.settings took.now);
+      cut = c.self.invariant.cut ∙ sym (ap (λ l. l.is_cut) app.limit);
       since = (let h = a.journal.history in let r = fresh_record h c.args.moment (Hung s w) in
           let was = a.outboxes.boxes in let new = slice_set was (s - 1) (Some took.after) in
           let few : s ≤ length was = (let l = may.known.opened in let many = c.self.invariant.kept.sound.sessions in
@@ -128,6 +129,7 @@ invariant_of-self-2 over c =
           (based_missed a.base k.history s k.limit.dropped g was c.append-number.ensures.kept grown)
           c.miss.ensures.history (ap (λ l. l.dropped) c.miss.ensures.limit) c.end.ensures.settings
           (c.offer.ensures.same c.if-offer.false));
+      cut = c.self.invariant.cut ∙ sym (ap (λ l. l.is_cut) (c.miss.ensures.limit ∙ app.limit));
       since = (let h = a.journal.history in let r = fresh_record h c.args.moment (Hung s w) in
           let was = a.outboxes.boxes in
           since_as a.last_heard a.last_heard (miss (r ∷ h) s) c.miss.new.self.history was c.offer.new.self.boxes

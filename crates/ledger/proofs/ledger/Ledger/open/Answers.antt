@@ -61,6 +61,7 @@ invariant_of-self-2 over c =
           (based_boxes a.base (r ∷ h) n g was (was ++ Some c.args.outbox ∷ [])
           (based_record a.base h r n g was c.self.invariant.based) (opened_many was c.args.outbox)
           (opened_still was c.args.outbox)) history (ap (λ l. l.dropped) limit) settings boxes);
+      cut = c.self.invariant.cut ∙ sym (ap (λ l. l.is_cut) limit);
       since = (let h = a.journal.history in let s = c.new-session.result in let was = a.outboxes.boxes in
           let x : Since = record { moment = c.args.moment; pinged = false } in
           since_as ((s, x) ∷ a.last_heard) c.open.new.self

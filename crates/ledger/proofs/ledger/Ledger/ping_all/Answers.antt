@@ -68,6 +68,7 @@ invariant_of-self-2 over c =
           based_as a.base (r ∷ h) c.append.new.self.history n c.append.new.self.limit.dropped g g was was
           (based_record a.base h r n g was c.self.invariant.based) (history over c)
           (ap (λ l. l.dropped) (limit over c)) refl refl);
+      cut = c.self.invariant.cut ∙ sym (ap (λ l. l.is_cut) (limit over c));
       since = since_as (with_pings a.last_heard (picked (is_due a.seats m) a.last_heard)) c.ping_each.new.self
           c.append.new.self.history c.append.new.self.history was was
           (since_after over.O.Outbox.sent a.journal g a.roster.facts a.seats was a.plan a.busy c.self.invariant.kept

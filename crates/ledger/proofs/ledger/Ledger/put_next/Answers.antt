@@ -61,6 +61,7 @@ invariant_of-self-then-offer over c =
           based_as a.base h h n n g g new c.offer.new.self.boxes
           (based_boxes a.base h n g was new c.self.invariant.based (set_many was (s - 1) (Some took.after))
           (put_still was s took.after there is.0 is.1)) refl refl refl took.now);
+      cut = c.self.invariant.cut;
       since = (let was = a.outboxes.boxes in let h = a.journal.history in let s = p.session in
           let new = slice_set was (s - 1) (Some took.after) in
           let is = subst (IsPlan a.roster.settings h (length was)) plan c.self.invariant.kept.sound.plan in
@@ -101,6 +102,7 @@ invariant_of-self-2 over c =
           c.miss.new.self.limit.dropped g g was c.offer.new.self.boxes
           (based_missed a.base h p.session n g was few c.self.invariant.based) c.miss.ensures.history
           (ap (λ l. l.dropped) c.miss.ensures.limit) refl (c.offer.ensures.same c.if-offer.false));
+      cut = c.self.invariant.cut ∙ sym (ap (λ l. l.is_cut) c.miss.ensures.limit);
       since = since_as a.last_heard a.last_heard
           (miss a.journal.history p.session) c.miss.new.self.history a.outboxes.boxes c.offer.new.self.boxes
           (since_missed a.last_heard a.journal.history p.session a.outboxes.boxes c.self.invariant.since) refl

@@ -3,7 +3,7 @@ use Rattle.ledger.specs.Ledger.{MayReap}
 use Rattle.ledger.proofs.KeptSteps.{shown, reaped_kept}
 use Rattle.std.specs.Map.{remove_entry}
 use Rattle.ledger.proofs.Hearing.{since_as, since_reaped}
-use Rattle.ledger.proofs.Based.{based_as, based_reaped}
+use Rattle.ledger.proofs.Based.{based_as, based_reaped, forgets_still}
 use Rattle.ledger.proofs.ledger.Ledger.reap.Goals as goal
 
 pub invariant_of-self : goal.invariant_of-self
@@ -25,6 +25,7 @@ invariant_of-self over c =
           based_as kept h h n n g g new c.give_up-count.new.self.boxes
           (based_reaped a.base kept h n g was s c.self.invariant.based c.forget_counts.ensures may.known.from_1 to)
           refl refl refl c.give_up-count.ensures.given);
+      cut = forgets_still a.base c.forget_counts.new.base s c.forget_counts.ensures ∙ c.self.invariant.cut;
       since = (let was = a.outboxes.boxes in let h = a.journal.history in let new = slice_set was (s - 1) None in
           since_as (remove_entry (nat_eq s) a.last_heard) c.forget.new.self h h new c.give_up-count.new.self.boxes
           (since_reaped a.last_heard h was s c.self.invariant.since c.forget.ensures.once may.known.from_1 to)

@@ -1,5 +1,6 @@
 use Rattle.std.proofs.Common.{arith, ◌≡◌, ℕ, ◌<◌, ◌≤◌, true, length, refl, ap, ◌∙◌, sym, subst}
 use Rattle.chronicle.specs.History.{sessions}
+use Rattle.chronicle.specs.Journal.{Limit}
 use Rattle.chronicle.proofs.Most.{most_low}
 use Rattle.ledger.specs.Ledger.{is_here, rolled}
 use Rattle.ledger.specs.Noted.{is_noted}
@@ -11,7 +12,7 @@ pub overflow_add-newest : goal.overflow_add-newest
 overflow_add-newest over c =
     let j = c.self.inside.journal in
     let room = c.self.invariant.kept.sound.room in
-    let low = most_low j.limit.records j.limit.dropped in let is = c.newest.ensures in omega arith
+    let low = most_low j.limit.is_cut j.limit.records j.limit.dropped in let is = c.newest.ensures in omega arith
 
 pub invariant_of-self : goal.invariant_of-self
 invariant_of-self over c =
@@ -30,6 +31,7 @@ invariant_of-self over c =
           ≡ is_here m.outboxes t) (sym c.self.view_is) base.noted)
           (subst (λ m. (t : ℕ) → is_noted c.in_ok-base.base t ≡ true → (0 < t) × (t ≤ sessions m.history))
           (sym c.self.view_is) base.opened);
+      cut = sym (ap (λ (l : Limit). l.is_cut) c.cut.ensures.limit);
       since = since_as a.last_heard a.last_heard j.history c.cut.new.self.history a.outboxes.boxes a.outboxes.boxes
           c.self.invariant.since refl c.cut.ensures.history refl;
     }

@@ -132,6 +132,7 @@ invariant_of-self-2 over c =
           based_as a.base (r ∷ h) c.append.new.self.history n c.append.new.self.limit.dropped g
           c.commit.new.roster.settings was was (based_record a.base h r n g was c.self.invariant.based)
           (history over c) (ap (λ l. l.dropped) (limit over c)) (settings over c) refl);
+      cut = c.self.invariant.cut ∙ sym (ap (λ l. l.is_cut) (limit over c));
       since = since_as a.last_heard a.last_heard (fresh_record a.journal.history c.args.moment (Gone c.args.session)
           ∷ a.journal.history) c.append.new.self.history a.outboxes.boxes a.outboxes.boxes
           (since_record a.last_heard a.journal.history (Gone c.args.session) c.args.moment a.outboxes.boxes
