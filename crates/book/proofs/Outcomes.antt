@@ -1,5 +1,5 @@
 -- What follows from either outcome of a call.
-use Rattle.std.proofs.Common.{◌≡◌, Result, Ok, Err, Option, Some, None, refl, subst}
+use Rattle.std.proofs.Common.{◌≡◌, Result, Ok, Err, Option, Some, None, refl}
 use Rattle.std.specs.Prelude.{OnOk, OnErr, IfOk, IfSome}
 
 pub by_result : {A E : Type 0} (r : Result A E) (P R Q : Type 0) {G : Type 0} → OnOk r P → OnOk r R → OnErr r Q

@@ -86,8 +86,8 @@ fn a_rolled_hall_goes_on(rt: HostRuntime) {
     over_both(&rt, rt.alloc(), &A_WHOIS_LATER);
 }
 
-/// Before the first record a hall's journal is rolled: no record is dropped and the next is 1, and there is a base, which
-/// knows of no session. Then there is room for as many records as without; over both outboxes.
+/// Before the first record a hall's journal is rolled: no record is dropped and the next is 1, and there is a base,
+/// which knows of no session. Then there is room for as many records as without; over both outboxes.
 #[test]
 fn a_hall_without_records_is_rolled(rt: HostRuntime) {
     over_both(&rt, rt.alloc(), &NOTHING_AT_FIRST);

@@ -23,7 +23,8 @@ grown : (records dropped n : ℕ) → dropped ≤ n → min (dropped + records) 
     ≤ min (n + records) 1152921504606846976
 grown records dropped n l = omega arith
 
-most_grown : (l : Limit) (n : ℕ) → l.dropped ≤ n → most l ≤ most (record { records = l.records; dropped = n; is_cut = true })
+most_grown : (l : Limit) (n : ℕ) → l.dropped ≤ n
+    → most l ≤ most (record { records = l.records; dropped = n; is_cut = true })
 unfolding most
 most_grown l n few = grown l.records l.dropped n few
 
@@ -110,7 +111,8 @@ shown_cut j k g boxes plan busy cut =
     }) cut.limit
 
 pub shown_empty : {O : Type 0} (j : journal.Shown) (g settings : Settings) (boxes : List (Option O))
-    (plan : List Planned) (limit : ℕ) → j.history ≡ [] → j.limit ≡ record { records = limit; dropped = 0; is_cut = false }
+    (plan : List Planned) (limit : ℕ) → j.history ≡ []
+    → j.limit ≡ record { records = limit; dropped = 0; is_cut = false }
     → g ≡ settings → boxes ≡ [] → plan ≡ [] → shown j g boxes plan false ≡ empty_ledger limit settings
 shown_empty j g settings boxes plan limit eh el eg eb ep =
     ap (λ (h : List Rec). record {

@@ -21,6 +21,7 @@ invariant_of-result over c =
 pub returns-clause-ok : goal.returns-clause-ok
 returns-clause-ok over c =
     let history : c.in-Ok.journal.history ≡ [] = c.in-Ok.ensures.0 in
-    let limit : c.in-Ok.journal.limit ≡ record { records = c.args.limit; dropped = 0; is_cut = false } = c.in-Ok.ensures.1 in
+    let limit : c.in-Ok.journal.limit
+    ≡ record { records = c.args.limit; dropped = 0; is_cut = false } = c.in-Ok.ensures.1 in
     shown_empty c.in-Ok.journal c.args.roster.settings c.args.roster.settings c.new-3.result.boxes c.nothing.result
     c.args.limit history limit refl c.new-3.ensures c.nothing.ensures
