@@ -168,7 +168,11 @@ fn split_line(octets: &[u8]) -> Option<(&[u8], &[u8])>
 fn first_line_end(octets: &[u8]) -> Option<usize>
     ensures { result ≡ position is_line_end octets.now }
 {
-    memchr2(b'\r', b'\n', octets)
+    match octets {
+        [] => None,
+        [b'\r' | b'\n', ..] => Some(0),
+        _ => memchr2(b'\r', b'\n', octets),
+    }
 }
 
 /// Cuts a stream that comes in any pieces. It keeps the unfinished line, at most 4606 octets of it: `@`, 4094 of tag
@@ -253,6 +257,9 @@ impl Splitter {
         ensures stays { take (length out.old.items) out.new.items ≡ out.old.items }
     {
         let rest = push_lines(self.alloc, octets, out)?;
+        if rest.is_empty() {
+            return Ok(());
+        }
         self.extend(rest)
     }
 
