@@ -271,7 +271,7 @@ impl ChannelState {
     pub fn has_voice(&self, session: SessionId) -> bool
         ensures { result ≡ among session self.now.state.voices }
     {
-        self.voices.has(session)
+        self.voices.is_some_one() && self.voices.has(session)
     }
 
     /// Whether a session is invited.
