@@ -112,7 +112,10 @@ impl NameLine {
             mut names,
         } = self;
         text.push(b' ')?;
-        name.push_to(&mut text)?;
+        if let Some(rank) = name.rank {
+            text.push(rank.mark())?;
+        }
+        text.extend_from_slice(name.nick)?;
         apply::<AddsName, LinkedList<Octets>, MemberName<'_>>(&mut names, name);
         Ok(NameLine { text, names })
     }
