@@ -1,3 +1,4 @@
+pub mod Parted
 pub mod Rows
 pub mod Lists
 pub mod Examples

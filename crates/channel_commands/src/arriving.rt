@@ -1,5 +1,6 @@
 //! What members are shown of a session that joined (RFC 2812, section 3.2.1; IRCv3 extended-join and away-notify).
 ghost use Rattle.std.specs.Prelude.{◌≡◌, ◌∷◌, ◌++◌, [], filter, IfOk, OnOk};
+ghost use Rattle.std.specs.List.{list_any};
 ghost use Rattle.roster.specs.LookBack.{account, away, real};
 ghost use Rattle.drafts.specs.Words.{extended_join_line, grown, join_line, shown};
 ghost use Rattle.channel_commands.specs.Joining.{absence_shown, introduced, join_shown, takes_extended, takes_plain};
@@ -13,6 +14,22 @@ use std::alloc::{AllocError, Global};
 
 // ---- by the form of JOIN that members take
 
+/// Whether a session takes extended-join.
+fn takes_extended(roster: &Roster, session: SessionId) -> bool
+    ensures { result ≡ takes_extended roster.now.facts session }
+{
+    roster.caps_of(session).contains(Cap::ExtendedJoin)
+}
+
+/// Whether one of some sessions takes extended-join.
+fn is_one_extended(roster: &Roster, sessions: &[SessionId]) -> bool
+    ensures { result ≡ list_any (takes_extended roster.now.facts) sessions.now }
+{
+    sessions
+        .iter()
+        .any(|session| takes_extended(roster, *session))
+}
+
 /// Adds a session to those that take extended-join, or to the others.
 fn push_parted(
     roster: &Roster,
@@ -25,14 +42,16 @@ fn push_parted(
     ensures plain { OnOk result
         (plain.new ≡ plain.old ++ filter (takes_plain roster.now.facts) (session ∷ [])) }
 {
-    if roster.caps_of(session).contains(Cap::ExtendedJoin) {
+    if takes_extended(roster, session) {
         extended.push(session)
     } else {
         plain.push(session)
     }
 }
 
-/// Sessions that take extended-join, and the others, each in their order.
+/// Sessions that take extended-join, and the others, each in their order. Where nobody takes it, all are copied at
+/// once.
+#[tactic(auto, using(crate::proofs::Parted::nobody_extended, crate::proofs::Parted::all_plain))]
 fn parted(
     alloc: Global,
     roster: &Roster,
@@ -42,6 +61,10 @@ fn parted(
         (λ p. p.0 ≡ filter (takes_extended roster.now.facts) sessions.now) }
     ensures plain { IfOk result (λ p. p.1 ≡ filter (takes_plain roster.now.facts) sessions.now) }
 {
+    if !is_one_extended(roster, sessions) {
+        let nobody = Sessions::from_vec(Vec::new(alloc));
+        return Ok((nobody, Sessions::copied(alloc, sessions)?));
+    }
     let mut extended = Sessions::from_vec(Vec::new(alloc));
     let mut plain = Sessions::from_vec(Vec::with_capacity(alloc, sessions.len())?);
     for session in sessions {
