@@ -232,7 +232,7 @@ impl<L: Naming, W: Write + Drop> Wire<L, W> {
         if self.is_broken {
             return Err(WriteFault::Failed);
         }
-        if !self.write_begun()? {
+        if self.begun.is_some() && !self.write_begun()? {
             return Ok(Flow::Behind);
         }
         for _turn in 0..TURNS {
@@ -244,7 +244,7 @@ impl<L: Naming, W: Write + Drop> Wire<L, W> {
                 let all = self.flush()?;
                 return Ok(if all { Flow::Idle } else { Flow::Behind });
             }
-            if !self.write_begun()? {
+            if self.begun.is_some() && !self.write_begun()? {
                 return Ok(Flow::Behind);
             }
         }
