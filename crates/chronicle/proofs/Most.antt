@@ -33,7 +33,8 @@ room_there free m n h = omega arith
 
 -- where there is room for a record, it is within the limits
 pub room_kept : (cut : Bool) (free limit dropped kept : ℕ)
-    → 0 < min free (most (record { records = limit; dropped = dropped; is_cut = cut }) - (dropped + kept)) → kept < limit
+    → 0 < min free (most (record { records = limit; dropped = dropped; is_cut = cut }) - (dropped + kept))
+    → kept < limit
 room_kept cut free limit dropped kept h = most_kept cut limit dropped kept
     (room_there free (most (record { records = limit; dropped = dropped; is_cut = cut })) (dropped + kept) h)
 
