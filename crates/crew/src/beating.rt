@@ -11,7 +11,7 @@ use chronicle::{Moment, SessionId, Why};
 use ghosts::Snapshot;
 use session_ends::hall::outbox::Sender;
 use session_ends::hall::{Done, Hall, HangRefusal, Hung, Naming, TickRefusal, Told};
-use session_ends::{Clock, Gate, Server, Sockets, hang_at, later, shut_missed, tell, tell_many};
+use session_ends::{Host, Server, Sockets, hang_at, later, shut_missed, tell, tell_many};
 use std::sync::Wait;
 
 /// What came of a tick, with the hall before that and after it, which exist for clauses alone.
@@ -63,7 +63,7 @@ fn tick_once<L: Naming, R: Wait + Drop>(
 }
 
 /// Ticks in the hall at this moment, and adds who got something. Where its journal has no room for the record, that is
-/// rolled, and the tick is tried again.
+/// rolled first.
 fn tick_or_roll<L: Naming, R: Wait + Drop, S: Sockets>(
     sockets: &S,
     hall: &mut Hall<L, Sender<R>>,
@@ -74,16 +74,23 @@ fn tick_or_roll<L: Naming, R: Wait + Drop, S: Sockets>(
     ensures moment { result.moment ≡ moment }
     ensures before { result.before.value.history ≡ hall.old.history }
 {
-    let first = tick_once(hall, moment, told);
-    if !matches!(first.answer, Err(TickRefusal::JournalFull)) {
-        return first;
-    }
-    match hall.roll() {
-        Ok(rolled) => {
+    make_room(sockets, hall, moment);
+    tick_once(hall, moment, told)
+}
+
+/// Makes room in the hall's journal for a tick, if it may come and there is memory for that: where there is none the
+/// journal is rolled.
+fn make_room<L: Naming, R: Wait + Drop, S: Sockets>(
+    sockets: &S,
+    hall: &mut Hall<L, Sender<R>>,
+    moment: Moment,
+)
+    ensures { hall.new.history ≡ hall.old.history }
+{
+    if let Err(TickRefusal::JournalFull) = hall.may_tick(moment) {
+        if let Ok(rolled) = hall.roll() {
             sockets.rolled(rolled.dropped);
-            tick_once(hall, moment, told)
         }
-        Err(_) => first,
     }
 }
 
@@ -107,22 +114,22 @@ fn tick_in<L: Naming, R: Wait + Drop, S: Sockets>(
 ///
 /// The answer tells what came of it in the server's hall, at a moment that the clock showed or at that of the newest
 /// record where that is later: the record; that nobody was to be pinged; or why there is none.
-pub fn tick<L: Naming, R: Wait + Drop, G: Gate, S: Sockets, C: Clock>(
+pub fn tick<L: Naming, R: Wait + Drop, H: Host>(
     rt: &R,
-    server: &Server<'_, L, R, G, S, C>,
+    server: &Server<'_, L, R, H>,
     told: &mut Told,
 ) -> Ticked<L, R>
     ensures ticks { Ticks result.before.value result.after.value result.moment result.answer }
-    ensures moment { (t : ℤ) × C.shows server.now.clock.now t
+    ensures moment { (t : ℤ) × H.shows server.now.host.now t
         × IsLater t (last_moment result.before.value.history) result.moment }
     ensures shut { IfOk result.answer
-        (λ o. IfSome o (λ d. All (S.shuts server.now.sockets.now) d.missed)) }
+        (λ o. IfSome o (λ d. All (H.shuts server.now.host.now) d.missed)) }
 {
-    let moment = server.clock.now();
-    let ticked = tick_in(server.sockets, &mut *server.hall.lock(rt), moment, told);
+    let moment = server.host.now();
+    let ticked = tick_in(server.host, &mut *server.hall.lock(rt), moment, told);
     tell_many(server, told);
     if let Ok(Some(done)) = &ticked.answer {
-        shut_missed(server.sockets, done);
+        shut_missed(server.host, done);
     }
     ticked
 }
@@ -160,30 +167,30 @@ fn hang_late_in<L: Naming, R: Wait + Drop>(
 ///
 /// The answer tells what came of it in the server's hall, at a moment that the clock showed or at that of the newest
 /// record where that is later.
-pub fn hang_late<L: Naming, R: Wait + Drop, G: Gate, S: Sockets, C: Clock>(
+pub fn hang_late<L: Naming, R: Wait + Drop, H: Host>(
     rt: &R,
-    server: &Server<'_, L, R, G, S, C>,
+    server: &Server<'_, L, R, H>,
     told: &mut Told,
 ) -> Late<L, R>
     ensures hangs { HangsLate result.before.value result.after.value result.moment result.ended }
-    ensures moment { (t : ℤ) × C.shows server.now.clock.now t
+    ensures moment { (t : ℤ) × H.shows server.now.host.now t
         × IsLater t (last_moment result.before.value.history) result.moment }
-    ensures shut { IfSome result.ended (λ e. OnOk e.1 (S.shuts server.now.sockets.now e.0)) }
+    ensures shut { IfSome result.ended (λ e. OnOk e.1 (H.shuts server.now.host.now e.0)) }
 {
-    let moment = server.clock.now();
+    let moment = server.host.now();
     let late = hang_late_in(&mut *server.hall.lock(rt), moment, told);
     tell_many(server, told);
     if let Some((session, Ok(_))) = &late.ended {
-        server.sockets.shut(*session);
+        server.host.shut(*session);
     }
     late
 }
 
 /// Ends one session after another that is quiet for too long, each under a hold of the lock of its own, until nobody
 /// is.
-fn hang_all_late<L: Naming, R: Wait + Drop, G: Gate, S: Sockets, C: Clock>(
+fn hang_all_late<L: Naming, R: Wait + Drop, H: Host>(
     rt: &R,
-    server: &Server<'_, L, R, G, S, C>,
+    server: &Server<'_, L, R, H>,
     told: &mut Told,
 ) -> Late<L, R>
     ensures hangs { HangsLate result.before.value result.after.value result.moment result.ended }
@@ -202,15 +209,15 @@ fn hang_all_late<L: Naming, R: Wait + Drop, G: Gate, S: Sockets, C: Clock>(
 /// tick that is refused waits for the next beat, and nobody is ended then.
 ///
 /// After a tick that wasn't refused, the last look found nobody who is late; or ending somebody was refused.
-pub fn beat<L: Naming, R: Wait + Drop, G: Gate, S: Sockets, C: Clock>(
+pub fn beat<L: Naming, R: Wait + Drop, H: Host>(
     rt: &R,
-    server: &Server<'_, L, R, G, S, C>,
+    server: &Server<'_, L, R, H>,
     told: &mut Told,
 ) -> Beaten<L, R>
     ensures ticks { Ticks result.ticked.before.value result.ticked.after.value result.ticked.moment
         result.ticked.answer }
     ensures shut { IfOk result.ticked.answer
-        (λ o. IfSome o (λ d. All (S.shuts server.now.sockets.now) d.missed)) }
+        (λ o. IfSome o (λ d. All (H.shuts server.now.host.now) d.missed)) }
     ensures late { OnOk result.ticked.answer (IsSomeAnd result.last
         (λ l. HangsLate l.before.value l.after.value l.moment l.ended × IsLast l.ended)) }
     ensures refused { OnErr result.ticked.answer (result.last ≡ None) }

@@ -19,8 +19,8 @@ pub use intakes::Intake;
 pub use outlet::{Outlet, Pumped};
 pub use reading::{Next, Took, read_on, read_some};
 pub use session_ends::{
-    Clock, Ending, Gate, GivenUp, Server, Sockets, Swept, close_now, close_up, give_up, hall, hang,
-    moment_in, sweep, tell,
+    Clock, Ending, Gate, GivenUp, Host, Server, Sockets, Swept, close_now, close_up, give_up, hall,
+    hang, moment_in, sweep, tell,
 };
 pub use wire;
 pub use working::{Back, Job, Worked, work, work_one};

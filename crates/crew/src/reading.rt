@@ -10,7 +10,7 @@ use chronicle::Why;
 use intakes::Intake;
 use session_ends::hall::outbox::Sender;
 use session_ends::hall::{Baton, Naming, Told};
-use session_ends::{Clock, Gate, Server, Sockets, hang, tell};
+use session_ends::{Host, Server, Sockets, hang, tell};
 use std::alloc::Global;
 use std::io::Read;
 use std::sync::Wait;
@@ -40,9 +40,9 @@ pub struct Took<L: Naming, R: Wait + Drop> {
 
 /// Has the lines done that the intake has, until one is refused or much waits for the session. `then` says how
 /// reading goes on where all were.
-fn do_lines<'a, L: Naming, R: Wait + Drop, G: Gate, S: Sockets, C: Clock, B: Backlog>(
+fn do_lines<'a, L: Naming, R: Wait + Drop, H: Host, B: Backlog>(
     rt: &R,
-    server: &Server<'a, L, R, G, S, C>,
+    server: &Server<'a, L, R, H>,
     desk: Option<&'a Desk>,
     backlog: &B,
     intake: &mut Intake,
@@ -70,9 +70,9 @@ fn do_lines<'a, L: Naming, R: Wait + Drop, G: Gate, S: Sockets, C: Clock, B: Bac
 
 /// Does the lines that are left or reads once, as `read_some` does, and has the lines done under a slot where there
 /// is a desk.
-fn read_by<'a, L: Naming, I: Read, R: Wait + Drop, G: Gate, S: Sockets, C: Clock, B: Backlog>(
+fn read_by<'a, L: Naming, I: Read, R: Wait + Drop, H: Host, B: Backlog>(
     rt: &R,
-    server: &Server<'a, L, R, G, S, C>,
+    server: &Server<'a, L, R, H>,
     desk: Option<&'a Desk>,
     backlog: &B,
     intake: &mut Intake,
@@ -126,9 +126,9 @@ fn read_by<'a, L: Naming, I: Read, R: Wait + Drop, G: Gate, S: Sockets, C: Clock
 /// intake, and then of those that end in the octets that were read, the first were done with the baton that comes
 /// back, in order. Where `all` is true, which it is where reading goes on, the others are left in the intake, in
 /// order, and there are none unless much was found to wait.
-pub fn read_some<L: Naming, I: Read, B: Backlog, R: Wait + Drop, G: Gate, S: Sockets, C: Clock>(
+pub fn read_some<L: Naming, I: Read, B: Backlog, R: Wait + Drop, H: Host>(
     rt: &R,
-    server: &Server<'_, L, R, G, S, C>,
+    server: &Server<'_, L, R, H>,
     intake: &mut Intake,
     baton: Baton<L, Sender<R>>,
     backlog: &B,
@@ -154,10 +154,10 @@ fn rest_after<S: Sockets>(sockets: &S, next: Next) {
 
 /// Has lines done as they come, until no more come, one is refused or the session is shut. It answers why the
 /// session is ended then, if it is still open.
-fn read_lines<'a, L: Naming, I: Read, R: Wait + Drop, G: Gate, S: Sockets, C: Clock>(
+fn read_lines<'a, L: Naming, I: Read, R: Wait + Drop, H: Host>(
     rt: &R,
     alloc: Global,
-    server: &Server<'a, L, R, G, S, C>,
+    server: &Server<'a, L, R, H>,
     desk: &'a Desk,
     baton: Baton<L, Sender<R>>,
     input: &mut I,
@@ -173,7 +173,7 @@ fn read_lines<'a, L: Naming, I: Read, R: Wait + Drop, G: Gate, S: Sockets, C: Cl
     };
     let mut baton = baton;
     for _ in rt.forever() {
-        if server.sockets.is_shut(session) {
+        if server.host.is_shut(session) {
             break;
         }
         let took = read_by(
@@ -187,7 +187,7 @@ fn read_lines<'a, L: Naming, I: Read, R: Wait + Drop, G: Gate, S: Sockets, C: Cl
             told,
         );
         tell(server, told);
-        rest_after(server.sockets, took.next);
+        rest_after(server.host, took.next);
         match took.next {
             Next::Over(why) => return (
                 Worked {
@@ -208,10 +208,10 @@ fn read_lines<'a, L: Naming, I: Read, R: Wait + Drop, G: Gate, S: Sockets, C: Cl
 ///
 /// The pieces done with the baton that comes back are those done before, then the first of the lines that end in the
 /// octets that were read, in order; all of them where `all` is true.
-pub fn read_on<'a, L: Naming, I: Read, R: Wait + Drop, G: Gate, S: Sockets, C: Clock>(
+pub fn read_on<'a, L: Naming, I: Read, R: Wait + Drop, H: Host>(
     rt: &R,
     alloc: Global,
-    server: &Server<'a, L, R, G, S, C>,
+    server: &Server<'a, L, R, H>,
     desk: &'a Desk,
     baton: Baton<L, Sender<R>>,
     input: &mut I,

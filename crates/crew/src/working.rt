@@ -20,8 +20,9 @@ use line_grammar::Piece;
 use session_ends::hall::outbox::Sender;
 use session_ends::hall::{Baton, Done, Hall, LineRefusal, Naming, ReadLine, RollRefusal, Told};
 use session_ends::{
-    Clock, Gate, Server, Sockets, are_many, end_refused, later, shut_those, tell, tell_many,
+    Gate, Host, Server, Sockets, are_many, end_refused, later, shut_those, tell, tell_many,
 };
+use std::alloc::Global;
 use std::hint::spin_loop;
 use std::sync::{Mutex, MutexGuard, Wait};
 
@@ -92,26 +93,6 @@ fn lock_soon<'a, L: Naming, R: Wait + Drop>(
 fn line_once<L: Naming, R: Wait + Drop>(
     hall: &mut Hall<L, Sender<R>>,
     baton: &mut Baton<L, Sender<R>>,
-    piece: &Piece,
-    moment: Moment,
-    told: &mut Told,
-) -> Result<Done, LineRefusal>
-    ensures done { OnOk result (baton.new.pieces ≡ baton.old.pieces ++ piece.now ∷ []) }
-    ensures refused { OnErr result ((hall.new ≡ hall.old) × (baton.new ≡ baton.old)) }
-    ensures session { baton.new.session ≡ baton.old.session }
-    ensures told { IfOk result (λ d. TellsOf d baton.new.front baton.new.session) }
-    ensures next { OnOk result (IsNext moment hall.old.history baton.new.front) }
-{
-    match hall.line_told(baton, piece, moment, told) {
-        Ok(done) => Ok(done),
-        Err(refusal) => Err(refusal),
-    }
-}
-
-/// Does a line in the hall that was read before, if that takes it now, and adds who got something.
-fn line_read_once<L: Naming, R: Wait + Drop>(
-    hall: &mut Hall<L, Sender<R>>,
-    baton: &mut Baton<L, Sender<R>>,
     line: ReadLine,
     moment: Moment,
     told: &mut Told,
@@ -128,58 +109,44 @@ fn line_read_once<L: Naming, R: Wait + Drop>(
     }
 }
 
-/// Does a line in the hall, if that takes it now, as it was read before, where it was. Who got something is added.
-fn line_first<L: Naming, R: Wait + Drop>(
+/// Makes room in the hall's journal for a line, if it may come: where there is none the journal is rolled. It answers
+/// how many records were dropped, and nobody else takes the room, since the hall is held.
+fn make_room<L: Naming, R: Wait + Drop>(
     hall: &mut Hall<L, Sender<R>>,
-    baton: &mut Baton<L, Sender<R>>,
-    piece: &Piece,
-    line: Option<ReadLine>,
+    baton: &Baton<L, Sender<R>>,
     moment: Moment,
-    told: &mut Told,
-) -> Result<Done, LineRefusal>
-    requires read { IfSome line (λ r. r ≡ piece.now) }
-    ensures done { OnOk result (baton.new.pieces ≡ baton.old.pieces ++ piece.now ∷ []) }
-    ensures refused { OnErr result ((hall.new ≡ hall.old) × (baton.new ≡ baton.old)) }
-    ensures session { baton.new.session ≡ baton.old.session }
-    ensures told { IfOk result (λ d. TellsOf d baton.new.front baton.new.session) }
-    ensures next { OnOk result (IsNext moment hall.old.history baton.new.front) }
+) -> Result<usize, LineRefusal>
+    ensures { hall.new.history ≡ hall.old.history }
 {
-    match line {
-        Some(line) => line_read_once(hall, baton, line, moment, told),
-        None => line_once(hall, baton, piece, moment, told),
-    }
-}
-
-/// Does a line in the hall. Where its journal has no room for it, that is rolled, and the line is read and tried
-/// again: nobody else takes the room, since the hall is held.
-fn line_or_roll<L: Naming, R: Wait + Drop>(
-    hall: &mut Hall<L, Sender<R>>,
-    baton: &mut Baton<L, Sender<R>>,
-    piece: &Piece,
-    line: Option<ReadLine>,
-    moment: Moment,
-    told: &mut Told,
-) -> Result<Done, LineRefusal>
-    requires read { IfSome line (λ r. r ≡ piece.now) }
-    ensures done { OnOk result (baton.new.pieces ≡ baton.old.pieces ++ piece.now ∷ []) }
-    ensures refused { OnErr result (baton.new ≡ baton.old) }
-    ensures session { baton.new.session ≡ baton.old.session }
-    ensures told { IfOk result (λ d. TellsOf d baton.new.front baton.new.session) }
-    ensures next { OnOk result (IsNext moment hall.old.history baton.new.front) }
-{
-    match line_first(hall, baton, piece, line, moment, told) {
-        Ok(done) => return Ok(done),
+    match hall.may_line(baton, moment) {
+        Ok(()) => return Ok(0),
         Err(LineRefusal::JournalFull) => {}
         Err(refusal) => return Err(refusal),
     }
     match hall.roll() {
-        Ok(_) => line_once(hall, baton, piece, moment, told),
+        Ok(rolled) => Ok(rolled.dropped),
         Err(RollRefusal::Memory) => Err(LineRefusal::Memory),
         Err(RollRefusal::Busy) => Err(LineRefusal::Busy),
     }
 }
 
-/// Does a line in the hall, at this moment or at that of the newest record where that is later.
+/// A line as it was read before the hall was taken, or is read now where there was no memory for that.
+fn read_by_now(
+    alloc: Global,
+    piece: &Piece,
+    line: Option<ReadLine>,
+) -> Result<ReadLine, LineRefusal>
+    requires read { IfSome line (λ r. r ≡ piece.now) }
+    ensures { IfOk result (λ r. r ≡ piece.now) }
+{
+    match line {
+        Some(line) => Ok(line),
+        None => Ok(ReadLine::read(alloc, piece)?),
+    }
+}
+
+/// Does a line in the hall, at this moment or at that of the newest record where that is later, and adds who got
+/// something. Where the journal has no room for it, that is rolled first, and so many records are dropped.
 fn line_at<L: Naming, R: Wait + Drop>(
     hall: &mut Hall<L, Sender<R>>,
     baton: &mut Baton<L, Sender<R>>,
@@ -187,26 +154,7 @@ fn line_at<L: Naming, R: Wait + Drop>(
     line: Option<ReadLine>,
     moment: Moment,
     told: &mut Told,
-) -> Result<Done, LineRefusal>
-    requires read { IfSome line (λ r. r ≡ piece.now) }
-    ensures done { OnOk result (baton.new.pieces ≡ baton.old.pieces ++ piece.now ∷ []) }
-    ensures refused { OnErr result (baton.new ≡ baton.old) }
-    ensures session { baton.new.session ≡ baton.old.session }
-    ensures told { IfOk result (λ d. TellsOf d baton.new.front baton.new.session) }
-    ensures moment { OnOk result (IsAt moment baton.new.front) }
-{
-    let moment = later(moment, hall.last_moment());
-    line_or_roll(hall, baton, piece, line, moment, told)
-}
-
-/// Does a line in the hall, and adds who got something.
-fn line_in<L: Naming, R: Wait + Drop>(
-    hall: &mut Hall<L, Sender<R>>,
-    baton: &mut Baton<L, Sender<R>>,
-    piece: &Piece,
-    line: Option<ReadLine>,
-    moment: Moment,
-    told: &mut Told,
+    dropped: &mut usize,
 ) -> Result<Done, LineRefusal>
     requires read { IfSome line (λ r. r ≡ piece.now) }
     ensures done { OnOk result (baton.new.pieces ≡ baton.old.pieces ++ piece.now ∷ []) }
@@ -216,7 +164,10 @@ fn line_in<L: Naming, R: Wait + Drop>(
     ensures moment { OnOk result (IsAt moment baton.new.front) }
 {
     told.begin();
-    line_at(hall, baton, piece, line, moment, told)
+    let moment = later(moment, hall.last_moment());
+    *dropped = make_room(hall, &*baton, moment)?;
+    let line = read_by_now(told.allocator(), piece, line)?;
+    line_once(hall, baton, line, moment, told)
 }
 
 /// Does a line, at this moment or at that of the newest record where that is later. Where the journal has no room
@@ -242,14 +193,16 @@ pub fn work_one<L: Naming, R: Wait + Drop, G: Gate>(
     let Job { mut baton, piece } = job;
     let session = baton.session();
     let line = read_now(told.allocator(), &piece);
+    let mut dropped = 0;
     gate.enter(session);
-    let outcome = line_in(
+    let outcome = line_at(
         &mut *lock_soon(rt, hall),
         &mut baton,
         &piece,
         line,
         moment,
         told,
+        &mut dropped,
     );
     gate.leave(session);
     Back { baton, outcome }
@@ -272,14 +225,8 @@ fn line_told<L: Naming, R: Wait + Drop, S: Sockets>(
     ensures told { IfOk result (λ d. TellsOf d baton.new.front baton.new.session) }
     ensures moment { OnOk result (IsAt moment baton.new.front) }
 {
-    let before = hall.len();
-    let done = line_in(hall, baton, piece, line, moment, told);
-    let grown = if done.is_ok() {
-        before.saturating_add(1)
-    } else {
-        before
-    };
-    let dropped = grown.saturating_sub(hall.len());
+    let mut dropped = 0;
+    let done = line_at(hall, baton, piece, line, moment, told, &mut dropped);
     if dropped != 0 {
         sockets.rolled(dropped);
     }
@@ -323,27 +270,27 @@ impl<'a, L: Naming, R: Wait + Drop> Held<'a, L, R> {
     }
 
     /// Does a line in the hall, which it takes where the thread has it not, and adds who got something.
-    fn line<G: Gate, S: Sockets, C: Clock>(
+    fn line<H: Host>(
         &mut self,
         rt: &R,
-        server: &Server<'a, L, R, G, S, C>,
+        server: &Server<'a, L, R, H>,
         baton: &mut Baton<L, Sender<R>>,
         piece: &Piece,
         line: Option<ReadLine>,
         told: &mut Told,
     ) -> Result<Done, LineRefusal>
-        requires shown { C.shows server.now.clock.now self.old.moment }
+        requires shown { H.shows server.now.host.now self.old.moment }
         requires read { IfSome line (λ r. r ≡ piece.now) }
         ensures done { OnOk result (baton.new.pieces ≡ baton.old.pieces ++ piece.now ∷ []) }
         ensures refused { OnErr result (baton.new ≡ baton.old) }
         ensures session { baton.new.session ≡ baton.old.session }
         ensures told { IfOk result (λ d. TellsOf d baton.new.front baton.new.session) }
-        ensures shown { C.shows server.now.clock.now self.new.moment }
+        ensures shown { H.shows server.now.host.now self.new.moment }
         ensures moment { OnOk result (IsAt self.new.moment baton.new.front) }
     {
         if let Some(hall) = &mut self.hall {
             return line_told(
-                server.sockets,
+                server.host,
                 &mut **hall,
                 baton,
                 piece,
@@ -352,11 +299,11 @@ impl<'a, L: Naming, R: Wait + Drop> Held<'a, L, R> {
                 told,
             );
         }
-        server.gate.enter(baton.session());
-        self.moment = server.clock.now();
+        server.host.enter(baton.session());
+        self.moment = server.host.now();
         let mut hall = lock_soon(rt, server.hall);
         let done = line_told(
-            server.sockets,
+            server.host,
             &mut *hall,
             baton,
             piece,
@@ -380,17 +327,12 @@ impl<'a, L: Naming, R: Wait + Drop> Held<'a, L, R> {
     }
 
     /// Gives the hall back, and the slot, where the thread has them.
-    fn give_back<G: Gate, S: Sockets, C: Clock>(
-        &mut self,
-        rt: &R,
-        server: &Server<'a, L, R, G, S, C>,
-        session: SessionId,
-    )
+    fn give_back<H: Host>(&mut self, rt: &R, server: &Server<'a, L, R, H>, session: SessionId)
         ensures { self.new.moment ≡ self.old.moment }
     {
         if let Some(hall) = self.hall.take() {
             drop(hall);
-            server.gate.leave(session);
+            server.host.leave(session);
         }
         let slot = self.slot.take();
         if let (Some(desk), Some(slot)) = (self.desk, slot) {
@@ -399,10 +341,10 @@ impl<'a, L: Naming, R: Wait + Drop> Held<'a, L, R> {
     }
 
     /// Gives the hall and the slot back where somebody is to be shut or many are to be told, whom it then tells.
-    fn give_back_for<G: Gate, S: Sockets, C: Clock>(
+    fn give_back_for<H: Host>(
         &mut self,
         rt: &R,
-        server: &Server<'a, L, R, G, S, C>,
+        server: &Server<'a, L, R, H>,
         session: SessionId,
         shuts: bool,
         told: &mut Told,
@@ -417,10 +359,10 @@ impl<'a, L: Naming, R: Wait + Drop> Held<'a, L, R> {
 
     /// Whether much waits for the session. Where it does, this gives the hall and the slot back, has all told who
     /// got something, by which what waits is written as far as the stream takes it, and looks again.
-    fn finds_much<G: Gate, S: Sockets, C: Clock, B: Backlog>(
+    fn finds_much<H: Host, B: Backlog>(
         &mut self,
         rt: &R,
-        server: &Server<'a, L, R, G, S, C>,
+        server: &Server<'a, L, R, H>,
         session: SessionId,
         backlog: &B,
         told: &mut Told,
@@ -440,23 +382,23 @@ impl<'a, L: Naming, R: Wait + Drop> Held<'a, L, R> {
 /// Does one piece, as it was read before, where it was, in the hall that is held or that it takes, and answers
 /// whether it was done. Where the line shut somebody, many are to be told, or it was refused, it gives the hall and
 /// the slot back and sees to that.
-fn work_next<'a, L: Naming, R: Wait + Drop, G: Gate, S: Sockets, C: Clock>(
+fn work_next<'a, L: Naming, R: Wait + Drop, H: Host>(
     rt: &R,
-    server: &Server<'a, L, R, G, S, C>,
+    server: &Server<'a, L, R, H>,
     baton: &mut Baton<L, Sender<R>>,
     piece: &Piece,
     line: Option<ReadLine>,
     told: &mut Told,
     held: &mut Held<'a, L, R>,
 ) -> bool
-    requires shown { C.shows server.now.clock.now held.old.moment }
+    requires shown { H.shows server.now.host.now held.old.moment }
     requires read { IfSome line (λ r. r ≡ piece.now) }
     ensures done { result ≡ true → baton.new.pieces ≡ baton.old.pieces ++ piece.now ∷ [] }
     ensures not_done { result ≡ false → baton.new ≡ baton.old }
     ensures session { baton.new.session ≡ baton.old.session }
     ensures seen_to { result ≡ true
-        → IsSeenTo (C.shows server.now.clock.now) (S.shuts server.now.sockets.now) baton.new }
-    ensures shown { C.shows server.now.clock.now held.new.moment }
+        → IsSeenTo (H.shows server.now.host.now) (H.shuts server.now.host.now) baton.new }
+    ensures shown { H.shows server.now.host.now held.new.moment }
 {
     if !held.take_slot(rt) {
         return false;
@@ -466,7 +408,7 @@ fn work_next<'a, L: Naming, R: Wait + Drop, G: Gate, S: Sockets, C: Clock>(
         Ok(done) => {
             let shuts = done.shut || !done.missed.as_slice().is_empty();
             held.give_back_for(rt, server, session, shuts, told);
-            shut_those(server.sockets, session, &done);
+            shut_those(server.host, session, &done);
             true
         }
         Err(refusal) => {
@@ -479,23 +421,23 @@ fn work_next<'a, L: Naming, R: Wait + Drop, G: Gate, S: Sockets, C: Clock>(
 
 /// Does pieces of a session in turn, until one isn't done or much waits for the session. Those of one hold are read
 /// before it.
-fn work_all<'a, L: Naming, R: Wait + Drop, G: Gate, S: Sockets, C: Clock, B: Backlog>(
+fn work_all<'a, L: Naming, R: Wait + Drop, H: Host, B: Backlog>(
     rt: &R,
-    server: &Server<'a, L, R, G, S, C>,
+    server: &Server<'a, L, R, H>,
     backlog: &B,
     baton: &mut Baton<L, Sender<R>>,
     pieces: &[Piece],
     told: &mut Told,
     held: &mut Held<'a, L, R>,
 ) -> Count
-    requires { C.shows server.now.clock.now held.old.moment }
+    requires { H.shows server.now.host.now held.old.moment }
     ensures count { result.done ≤ length pieces.now }
     ensures front { baton.new.pieces ≡ baton.old.pieces ++ take result.done pieces.now }
     ensures whole { result.until ≡ Until.Done → result.done ≡ length pieces.now }
     ensures much { result.until ≡ Until.Much → B.finds_much backlog.now }
     ensures session { baton.new.session ≡ baton.old.session }
-    ensures newest { IsNewestSeenTo (C.shows server.now.clock.now)
-        (S.shuts server.now.sockets.now) baton.old baton.new }
+    ensures newest { IsNewestSeenTo (H.shows server.now.host.now)
+        (H.shuts server.now.host.now) baton.old baton.new }
 {
     let session = baton.session();
     let mut ahead = Ahead::new(told.allocator());
@@ -525,9 +467,9 @@ fn work_all<'a, L: Naming, R: Wait + Drop, G: Gate, S: Sockets, C: Clock, B: Bac
 
 /// Does pieces of a session in turn, as `work` does where there is a desk, and else without a slot, until much waits
 /// for the session.
-pub(crate) fn work_by<'a, L: Naming, R: Wait + Drop, G: Gate, S: Sockets, C: Clock, B: Backlog>(
+pub(crate) fn work_by<'a, L: Naming, R: Wait + Drop, H: Host, B: Backlog>(
     rt: &R,
-    server: &Server<'a, L, R, G, S, C>,
+    server: &Server<'a, L, R, H>,
     desk: Option<&'a Desk>,
     backlog: &B,
     baton: &mut Baton<L, Sender<R>>,
@@ -539,11 +481,11 @@ pub(crate) fn work_by<'a, L: Naming, R: Wait + Drop, G: Gate, S: Sockets, C: Clo
     ensures whole { result.until ≡ Until.Done → result.done ≡ length pieces.now }
     ensures much { result.until ≡ Until.Much → B.finds_much backlog.now }
     ensures session { baton.new.session ≡ baton.old.session }
-    ensures newest { IsNewestSeenTo (C.shows server.now.clock.now)
-        (S.shuts server.now.sockets.now) baton.old baton.new }
+    ensures newest { IsNewestSeenTo (H.shows server.now.host.now)
+        (H.shuts server.now.host.now) baton.old baton.new }
 {
     let session = baton.session();
-    let mut held = Held::none(desk, server.clock.now());
+    let mut held = Held::none(desk, server.host.now());
     let count = work_all(rt, server, backlog, baton, pieces, told, &mut held);
     held.give_back(rt, server, session);
     count
@@ -559,9 +501,9 @@ pub(crate) fn work_by<'a, L: Naming, R: Wait + Drop, G: Gate, S: Sockets, C: Clo
 /// The pieces done with the baton that comes back are those done before, then the first of these pieces, in order;
 /// all of them where `all` is true. The newest line that was done was done at a moment that the clock showed, or at
 /// that of the newest record where that is later, and whom it shut was shut.
-pub fn work<'a, L: Naming, R: Wait + Drop, G: Gate, S: Sockets, C: Clock>(
+pub fn work<'a, L: Naming, R: Wait + Drop, H: Host>(
     rt: &R,
-    server: &Server<'a, L, R, G, S, C>,
+    server: &Server<'a, L, R, H>,
     desk: &'a Desk,
     baton: Baton<L, Sender<R>>,
     pieces: &[Piece],
@@ -570,8 +512,8 @@ pub fn work<'a, L: Naming, R: Wait + Drop, G: Gate, S: Sockets, C: Clock>(
     ensures front { DoesFront baton.pieces result.baton.pieces pieces.now }
     ensures whole { result.all ≡ true → result.baton.pieces ≡ baton.pieces ++ pieces.now }
     ensures session { result.baton.session ≡ baton.session }
-    ensures newest { IsNewestSeenTo (C.shows server.now.clock.now)
-        (S.shuts server.now.sockets.now) baton result.baton }
+    ensures newest { IsNewestSeenTo (H.shows server.now.host.now)
+        (H.shuts server.now.host.now) baton result.baton }
 {
     let mut baton = baton;
     let count = work_by(rt, server, Some(desk), &NoBacklog, &mut baton, pieces, told);

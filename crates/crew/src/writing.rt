@@ -7,7 +7,7 @@ ghost use Rattle.wire.specs.Wired.{IsSameWire};
 use crate::outlet::{Outlet, Pumped};
 use chronicle::{SessionId, Why};
 use session_ends::hall::{Naming, Told};
-use session_ends::{Clock, Gate, Server, Sockets, hang, tell};
+use session_ends::{Host, Server, hang, tell};
 use std::alloc::Global;
 use std::io::Write;
 use std::sync::Wait;
@@ -44,9 +44,9 @@ pub struct Written<L: Naming, W: Write + Drop> {
 /// found empty in this call; or where its stream answered that it takes no more. What went out is said by the wire
 /// itself (`Wire::in_step`), whoever pumped it: the texts of the items that its writer took, in order, but for a rest.
 /// The writer comes back out of the wire.
-pub fn write_some<L: Naming, W: Write + Drop, R: Wait + Drop, G: Gate, S: Sockets, C: Clock>(
+pub fn write_some<L: Naming, W: Write + Drop, R: Wait + Drop, H: Host>(
     rt: &R,
-    server: &Server<'_, L, R, G, S, C>,
+    server: &Server<'_, L, R, H>,
     session: SessionId,
     outlet: &Outlet<L, W>,
     is_shut: bool,
@@ -89,20 +89,20 @@ pub fn write_some<L: Naming, W: Write + Drop, R: Wait + Drop, G: Gate, S: Socket
 ///
 /// The wire that comes back is the one given: its writer is that of the session's outbox, and what went out is the
 /// texts of the items that it took, in order, but for a rest (`Wire::in_step`).
-pub fn write_on<L: Naming, W: Write + Drop, R: Wait + Drop, G: Gate, S: Sockets, C: Clock>(
+pub fn write_on<L: Naming, W: Write + Drop, R: Wait + Drop, H: Host>(
     rt: &R,
     alloc: Global,
-    server: &Server<'_, L, R, G, S, C>,
+    server: &Server<'_, L, R, H>,
     wire: Wire<L, W>,
 ) -> Wire<L, W>
     ensures same { IsSameWire wire result }
-    ensures over { IsOver (S.finds_shut server.now.sockets.now wire.session) wire result }
+    ensures over { IsOver (H.finds_shut server.now.host.now wire.session) wire result }
 {
     let session = wire.session();
     let mut wire = wire;
     let mut tries = 0;
     for _ in rt.forever() {
-        let is_shut = server.sockets.is_shut(session);
+        let is_shut = server.host.is_shut(session);
         match wire.pump(rt) {
             Ok(Flow::Ended) => return wire,
             Ok(Flow::Idle) if is_shut => return wire,
@@ -113,7 +113,7 @@ pub fn write_on<L: Naming, W: Write + Drop, R: Wait + Drop, G: Gate, S: Sockets,
                 if is_shut {
                     tries += 1;
                 }
-                server.sockets.pause();
+                server.host.pause();
             }
             Err(_) => {
                 let mut told = Told::new(alloc);

@@ -73,7 +73,7 @@ fn is_written_meanwhile<
             is_held.store(true, Ordering::SeqCst);
             let is_written = is_written(scene);
             drop(hall);
-            scene.stage.sockets.shut(session);
+            scene.stage.host.shut(session);
             bell.ring();
             is_written
         },

@@ -3,16 +3,12 @@
 #![tactic(auto)]
 
 mod accepting;
-mod client;
 mod clock;
 mod connections;
 mod events;
-mod hosts;
+mod greeting;
 mod journal;
-mod left;
 mod news;
-mod noting;
-mod opening;
 mod post;
 mod serve;
 mod stopping;

@@ -10,7 +10,7 @@ invariant-loop-piece g l = record {
   ahead : IsFront l.ahead (drop l.done l.pieces);
   front : l.baton.pieces ≡ l.fn.baton.pieces ++ take l.done l.pieces;
   session : l.baton.session ≡ l.fn.baton.session;
-  newest : IsNewestSeenTo (g.C.Clock.shows l.server.clock.now)
-      (g.S.Sockets.shuts l.server.sockets.now) l.fn.baton l.baton;
-  shown : g.C.Clock.shows l.server.clock.now l.held.moment;
+  newest : IsNewestSeenTo (g.H.Clock.shows l.server.host.now)
+      (g.H.Sockets.shuts l.server.host.now) l.fn.baton l.baton;
+  shown : g.H.Clock.shows l.server.host.now l.held.moment;
 }

@@ -4,9 +4,9 @@
 //! there stands who was told by a short line of the same round. A count at the connection says of how many records it
 //! was told since; whoever finds it 0 lists the place, and the worker takes the count back before it writes, so what
 //! was put before is written. Without memory for the list the worker writes to all its clients.
-use crate::client::Place;
-use crate::opening::Serving;
-use crate::post::Post;
+use super::Context;
+use super::places::{Place, Places};
+use crate::post::{Left, Post};
 use crew::Gate;
 use crew::hall::Naming;
 use std::alloc::Global;
@@ -16,36 +16,6 @@ use std::time::Clock;
 
 /// To how many of these a worker writes before it looks at other events.
 const WRITES: usize = 32;
-
-/// Places of clients for whom something is left to be written.
-#[derive(Drop)]
-pub(crate) struct Left {
-    places: Vec<usize>,
-    /// There may be others, since there was no memory for the list.
-    is_all: bool,
-}
-
-impl Left {
-    /// Nobody.
-    pub(crate) fn new(alloc: Global) -> Left {
-        Left {
-            places: Vec::new(alloc),
-            is_all: false,
-        }
-    }
-
-    /// Whether nobody is left.
-    pub(crate) fn is_empty(&self) -> bool {
-        self.places.is_empty() && !self.is_all
-    }
-
-    /// Adds a client; all where there is no memory for the list.
-    pub(crate) fn add(&mut self, place: usize) {
-        if self.places.push(place).is_err() {
-            self.is_all = true;
-        }
-    }
-}
 
 /// Clients to whom a worker has begun to write. Who is left to it meanwhile waits in its post until it has written
 /// to all these.
@@ -92,32 +62,31 @@ impl Batch {
     }
 }
 
-/// Writes what waits for the client at a place.
-fn write_at<L: Naming, R: Wait + Clock + Copy + Drop, G: Gate, C: crew::Clock>(
-    server: &Serving<'_, L, R, G, C>,
-    place: Option<&Place<L, R>>,
-) {
-    if let Some(Place::Held(client)) = place {
-        server.sockets.write_left(&client.connection);
+impl<L: Naming, R: Wait + Clock + Copy + Drop, G: Gate, C: crew::Clock> Context<'_, L, R, G, C> {
+    /// Writes what waits for the client at a place.
+    fn write_at(&self, place: Option<&Place<L, R>>) {
+        if let Some(Place::Held(client)) = place {
+            self.server.host.write_left(&client.connection);
+        }
     }
-}
 
-/// Writes to some of those who are left to a worker that has these places, those who were left last first.
-pub(crate) fn write_batch<L: Naming, R: Wait + Clock + Copy + Drop, G: Gate, C: crew::Clock>(
-    server: &Serving<'_, L, R, G, C>,
-    batch: &mut Batch,
-    places: &[Place<L, R>],
-) {
-    for _ in 0..batch.begin() {
-        let Some(at) = batch.left.places.pop() else {
-            break;
-        };
-        write_at(server, places.get(at));
+    /// Writes to some of those who are left to the worker that has these places, those who were left last first.
+    pub(super) fn write_batch(&mut self, places: &Places<L, R>) {
+        for _ in 0..self.batch.begin() {
+            let Some(at) = self.batch.left.pop() else {
+                break;
+            };
+            self.write_at(places.all.get(at));
+        }
+        if self.batch.left.take_all() {
+            self.write_all(places);
+        }
     }
-    if !mem::replace(&mut batch.left.is_all, false) {
-        return;
-    }
-    for place in places.iter() {
-        write_at(server, Some(place));
+
+    /// Writes to all clients.
+    fn write_all(&self, places: &Places<L, R>) {
+        for place in places.all.iter() {
+            self.write_at(Some(place));
+        }
     }
 }

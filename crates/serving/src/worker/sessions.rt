@@ -6,14 +6,15 @@
 ghost use Rattle.std.specs.Prelude.{◌≡◌, [], true, Some, IfSome};
 ghost use Rattle.casemapping.specs.Names.{host_shape};
 
-use crate::connections::{Connection, Connections, Output, View};
-use crate::hosts::host_of;
+use super::Context;
+use super::hosts::host_of;
+use crate::connections::{Connection, Connections, Output};
 use chronicle::{Moment, SessionId};
 use client_streams::Web;
 use crew::hall::outbox::{ChannelName, Sender, Writer, pair};
 use crew::hall::{Baton, Hall, Naming, OpenRefusal, Stub};
 use crew::wire::Wire;
-use crew::{Gate, Server, moment_in};
+use crew::{Clock as _, Gate, moment_in};
 use deliveries::{Item, write_out};
 use line_grammar::Octets;
 use mio::net::TcpStream;
@@ -25,8 +26,14 @@ use std::time::Clock;
 /// More deliveries than an outbox has room for.
 const REST: u32 = 4097;
 
-/// The server as one of its threads knows it.
-pub(crate) type Serving<'a, L, R, G, C> = Server<'a, L, R, G, View<'a, L, R>, C>;
+/// Who connected and has no session yet.
+#[derive(Drop)]
+pub(crate) struct Incoming<R: Wait + Copy + Drop> {
+    pub(crate) stream: Arc<TcpStream>,
+    /// Its WebSocket, where it has one.
+    pub(crate) web: Option<Web<R>>,
+    pub(crate) peer: SocketAddr,
+}
 
 /// A session's three tokens.
 #[derive(Drop)]
@@ -102,68 +109,20 @@ fn open_or_roll<L: Naming, R: Wait + Clock + Copy + Drop>(
     }
 }
 
-/// Opens a session for a peer, where the server takes one, whose connection is at this place.
-fn open<L: Naming, R: Wait + Clock + Copy + Drop, G: Gate, C: crew::Clock>(
-    rt: &R,
-    alloc: Global,
-    server: &Serving<'_, L, R, G, C>,
-    sendq: usize,
-    stream: Arc<TcpStream>,
-    web: Option<Web<R>>,
-    place: usize,
-    peer: SocketAddr,
-) -> Option<Opened<L, R>> {
-    let Ok((sender, writer)) = pair(*rt, alloc, sendq.max(1)) else {
-        return None;
-    };
-    let Ok(gauge) = writer.gauge().again() else {
-        return None;
-    };
-    let connection = Connection::new(stream, web, gauge, server.sockets.worker, place);
-    let Ok(connection) = Arc::new(alloc, connection) else {
-        return None;
-    };
-    let Ok(again) = Arc::try_clone(&connection) else {
-        return None;
-    };
-    let (host, told) = host_twice(alloc, peer)?;
-    let all = server.sockets.all;
-    let mut hall = server.hall.lock(rt);
-    if all.is_stopping() || all.make_room().is_err() {
-        return None;
-    }
-    let moment = moment_in(&*hall, server.clock.now());
-    let (session, baton, stub) = open_or_roll(&mut *hall, host, &told, moment, sender, all)?;
-    all.add(session, again);
-    Some(Opened {
-        tokens: Tokens {
-            baton,
-            stub,
-            writer,
-        },
-        connection,
-        host: told,
-    })
-}
-
 /// Gives a session's connection its wire.
-fn connect<L: Naming, R: Wait + Copy + Drop>(
+fn wired<L: Naming, R: Wait + Copy + Drop>(
     rt: &R,
     alloc: Global,
     opened: Opened<L, R>,
 ) -> Connected<L, R> {
+    let Some(output) = Output::of(&*opened.connection) else {
+        return Connected::Refused(opened);
+    };
     let Opened {
         tokens,
         connection,
         host,
     } = opened;
-    let Some(output) = Output::of(&*connection) else {
-        return Connected::Refused(Opened {
-            tokens,
-            connection,
-            host,
-        });
-    };
     let Tokens {
         baton,
         stub,
@@ -186,19 +145,62 @@ fn connect<L: Naming, R: Wait + Copy + Drop>(
     }
 }
 
-/// Opens a session for a peer, where the server takes one, whose connection is at this place, with its wire.
-pub(crate) fn open_connected<L: Naming, R: Wait + Clock + Copy + Drop, G: Gate, C: crew::Clock>(
-    rt: &R,
-    alloc: Global,
-    server: &Serving<'_, L, R, G, C>,
-    sendq: usize,
-    stream: Arc<TcpStream>,
-    web: Option<Web<R>>,
-    place: usize,
-    peer: SocketAddr,
-) -> Option<Connected<L, R>> {
-    let opened = open(rt, alloc, server, sendq, stream, web, place, peer)?;
-    Some(connect(rt, alloc, opened))
+impl<L: Naming, R: Wait + Clock + Copy + Drop, G: Gate, C: crew::Clock> Context<'_, L, R, G, C> {
+    /// A connection at this place for who connected, of the session that has this writer, twice.
+    fn connection_twice(
+        &self,
+        at: usize,
+        incoming: Incoming<R>,
+        writer: &Writer,
+    ) -> Option<(Arc<Connection<L, R>>, Arc<Connection<L, R>>)> {
+        let Ok(gauge) = writer.gauge().again() else {
+            return None;
+        };
+        let Incoming { stream, web, .. } = incoming;
+        let connection = Connection::new(stream, web, gauge, self.server.host.worker, at);
+        let Ok(connection) = Arc::new(self.alloc, connection) else {
+            return None;
+        };
+        match Arc::try_clone(&connection) {
+            Ok(again) => Some((connection, again)),
+            Err(_) => None,
+        }
+    }
+
+    /// Opens a session for who connected, where the server takes one, whose connection is at this place.
+    fn open(&self, at: usize, incoming: Incoming<R>) -> Option<Opened<L, R>> {
+        let (host, told) = host_twice(self.alloc, incoming.peer)?;
+        let Ok((sender, writer)) = pair(*self.rt, self.alloc, self.sendq.max(1)) else {
+            return None;
+        };
+        let (connection, again) = self.connection_twice(at, incoming, &writer)?;
+        let all = self.server.host.all;
+        let mut hall = self.server.hall.lock(self.rt);
+        if all.is_stopping() || all.make_room().is_err() {
+            return None;
+        }
+        let moment = moment_in(&*hall, self.server.host.now());
+        let (session, baton, stub) = open_or_roll(&mut *hall, host, &told, moment, sender, all)?;
+        all.add(session, again);
+        Some(Opened {
+            tokens: Tokens {
+                baton,
+                stub,
+                writer,
+            },
+            connection,
+            host: told,
+        })
+    }
+
+    /// Opens a session for who connected, where the server takes one, whose connection is at this place, with its
+    /// wire.
+    pub(super) fn connect(&self, at: usize, incoming: Incoming<R>) -> Option<Connected<L, R>> {
+        let peer = incoming.peer;
+        let opened = self.open(at, incoming)?;
+        self.note_opened(opened.tokens.baton.session(), peer, &opened.connection);
+        Some(wired(self.rt, self.alloc, opened))
+    }
 }
 
 /// Writes an item for a session that has no wire, and answers whether it was written.
@@ -214,13 +216,18 @@ fn write_item<L: Naming, R: Wait + Copy + Drop>(opened: &Opened<L, R>, item: &It
     }
 }
 
+/// Writes what waits next for a session that has no wire, and answers whether it was written.
+fn write_next<L: Naming, R: Wait + Copy + Drop>(rt: &R, opened: &mut Opened<L, R>) -> bool {
+    match opened.tokens.writer.take_now(rt) {
+        Ok(item) => write_item(&*opened, &item),
+        Err(_) => false,
+    }
+}
+
 /// Writes what waits for a session that has no wire, as far as its stream takes it.
 pub(crate) fn write_rest<L: Naming, R: Wait + Copy + Drop>(rt: &R, opened: &mut Opened<L, R>) {
     for _ in 0..REST {
-        let Ok(item) = opened.tokens.writer.take_now(rt) else {
-            return;
-        };
-        if !write_item(&*opened, &item) {
+        if !write_next(rt, opened) {
             return;
         }
     }
