@@ -3,7 +3,7 @@ use crate::acts::Act;
 use crate::scene::Scene;
 use crate::trial::{Step, Story, Who, try_out};
 use chronicle::Why;
-use crew::{Beaten, beat};
+use crew::session_io::{Beaten, beat};
 use hall::{Naming, TickRefusal, Told};
 use std::sync::Wait;
 

@@ -1,6 +1,6 @@
 //! What stands for gates, connections, a clock and a client's input.
 use chronicle::{Moment, SessionId};
-use crew::{Backlog, Clock, Gate, Host, Sockets};
+use crew::session_io::{Backlog, Clock, Gate, Host, Sockets};
 use hall::Told;
 use std::io::{ErrorKind, Read, Write};
 use std::sync::atomic::{AtomicBool, AtomicI64, AtomicU64, AtomicUsize, Ordering};

@@ -8,7 +8,8 @@ use crate::making::{Guest, is_text};
 use crate::scene::Scene;
 use crate::trial::{Step, Story, Who, try_out};
 use chronicle::{SessionId, Why};
-use crew::{Next, NoBacklog};
+use crew::NoBacklog;
+use crew::session_io::Next;
 use hall::{LineRefusal, Naming, TickRefusal};
 use std::sync::Wait;
 

@@ -5,7 +5,7 @@ use crate::making::Guest;
 use crate::scene::Scene;
 use crate::trial::{Step, Story, Who, try_out};
 use chronicle::{SessionId, Why};
-use crew::{Outlet, Sockets, Standing, write_some};
+use crew::session_io::{Outlet, Sockets, Standing, write_some};
 use hall::{Naming, Told};
 use outbox::Bell;
 use std::sync::Wait;
