@@ -9,10 +9,10 @@ use crate::events::{Event, Events};
 use crate::news::{Counts, News, Teller};
 use crate::post::{Arrival, WAKE, Watch};
 use crate::stopping::Stopping;
-use crew::hall::{Naming, Told};
-use crew::{Clock as _, Gate, beat, tell, tick};
 use mio::net::TcpListener;
 use mio::{Interest, Registry, Token, Waker};
+use session_io::hall::{Naming, Told};
+use session_io::{Clock as _, Gate, beat, tell, tick};
 use std::alloc::Global;
 use std::io::ErrorKind;
 use std::net::{Net, SocketAddr};
@@ -75,7 +75,7 @@ fn error_of(tcp: Waiting, ws: Waiting) -> Option<i32> {
 /// Who accepts connections, has a beat every so often, and has it told that connections are refused and that the
 /// journal is rolled, where there is who tells it.
 #[derive(Drop)]
-pub(crate) struct Acceptor<'a, L: Naming, R: Wait + Clock + Copy + Drop, G: Gate, C: crew::Clock> {
+pub(crate) struct Acceptor<'a, L: Naming, R: Wait + Clock + Copy + Drop, G: Gate, C: crate::Clock> {
     rt: &'a R,
     server: &'a Serving<'a, L, R, G, C>,
     listeners: &'a Listeners,
@@ -92,7 +92,7 @@ where
     L: Naming,
     R: Wait + Clock + Copy + Drop,
     G: Gate,
-    C: crew::Clock,
+    C: crate::Clock,
 {
     /// Nobody is accepted yet. The first beat is to come as long after now as each later one after the last.
     pub(crate) fn new(
@@ -114,7 +114,7 @@ where
     }
 }
 
-impl<L: Naming, R: Wait + Clock + Copy + Drop, G: Gate, C: crew::Clock> Acceptor<'_, L, R, G, C> {
+impl<L: Naming, R: Wait + Clock + Copy + Drop, G: Gate, C: crate::Clock> Acceptor<'_, L, R, G, C> {
     /// Accepts some of those who wait to connect to a listener, and answers who else waits.
     fn accept_some(&self, listener: &Option<TcpListener>, is_web: bool) -> Waiting {
         let Some(listener) = listener else {

@@ -2,13 +2,13 @@
 use crate::clock::SystemClock;
 use crate::news::News;
 use chronicle::{Moment, SessionId};
-use crew::Clock as _;
 use crossbeam_channel::Sender;
 use line_grammar::Octets;
 use log::kv::Source;
 use log::span::Spans;
 use log::{Line, Log, Metadata, Record, info, warn};
 use numerics::{TimeFault, time_text};
+use session_io::Clock as _;
 use std::alloc::Global;
 use std::fmt::Display;
 use std::net::SocketAddr;

@@ -3,16 +3,16 @@ use crate::connections::NO_MEMORY;
 use crate::worker::{Context, Incoming, Place, Worker};
 use client_streams::websocket_front::{CloseCode, Front, close_for_memory};
 use client_streams::{Came, Guest, MOST_GREETING, Web, WebStream, end_guest};
-use crew::Gate;
-use crew::hall::Naming;
 use mio::net::TcpStream;
+use session_io::Gate;
+use session_io::hall::Naming;
 use std::alloc::AllocError;
 use std::io::Write;
 use std::net::SocketAddr;
 use std::sync::{Arc, Wait};
 use std::time::{Clock, Instant};
 
-impl<L: Naming, R: Wait + Clock + Copy + Drop, G: Gate, C: crew::Clock> Worker<'_, L, R, G, C> {
+impl<L: Naming, R: Wait + Clock + Copy + Drop, G: Gate, C: crate::Clock> Worker<'_, L, R, G, C> {
     /// Opens a session for who has greeted at a place, where the server takes one. Else a close says why not.
     fn welcome(
         &mut self,
@@ -120,7 +120,7 @@ impl<L: Naming, R: Wait + Clock + Copy + Drop, G: Gate, C: crew::Clock> Worker<'
     }
 }
 
-impl<L: Naming, R: Wait + Clock + Copy + Drop, G: Gate, C: crew::Clock> Context<'_, L, R, G, C> {
+impl<L: Naming, R: Wait + Clock + Copy + Drop, G: Gate, C: crate::Clock> Context<'_, L, R, G, C> {
     /// Closes the stream of who greeted and isn't served.
     fn send_away(&mut self, web: Web<R>, stream: Arc<TcpStream>) {
         let all = self.server.host.all;

@@ -16,5 +16,5 @@ mod worker;
 
 pub use accepting::listen;
 pub use clock::SystemClock;
-pub use crew::{Clock, Gate};
 pub use serve::{OpenGate, Options, ServeFault, serve_on, serve_with};
+pub use session_io::{Clock, Gate};

@@ -10,10 +10,10 @@ use crate::connections::Connections;
 use crate::events::Events;
 use crate::news::Teller;
 use chronicle::SessionId;
-use crew::Gate;
-use crew::hall::outbox::{ChannelName, Sender};
-use crew::hall::{BookFault, Hall, Naming, Register, Settings};
 use doors::{Doors, doors_of, has_stop};
+use session_io::Gate;
+use session_io::hall::outbox::{ChannelName, Sender};
+use session_io::hall::{BookFault, Hall, Naming, Register, Settings};
 use shared::{Config, Shared, run_on};
 use std::alloc::{AllocError, Global};
 use std::hash::RandomState;
@@ -70,7 +70,7 @@ impl From<BookFault> for ServeFault {
 
 /// What a server is started with.
 #[derive(Drop)]
-pub struct Options<'a, G: Gate, C: crew::Clock> {
+pub struct Options<'a, G: Gate, C: crate::Clock> {
     /// Where clients connect; nobody does where there is none.
     pub tcp: Option<net::TcpListener>,
     /// Where clients connect that come by WebSocket; nobody does where there is none.
@@ -123,7 +123,7 @@ fn hall_of<L: Naming, R: Wait + RandomSource + Drop>(
 }
 
 /// Who tells on standard error what happens, unless the server is to be quiet and has no log.
-fn teller_of<R: Threads + Wait + Eprint + Copy + Drop + Send + 'static, G: Gate, C: crew::Clock>(
+fn teller_of<R: Threads + Wait + Eprint + Copy + Drop + Send + 'static, G: Gate, C: crate::Clock>(
     rt: &R,
     alloc: Global,
     config: &Config<'_, G, C>,
@@ -150,7 +150,7 @@ fn log_of<R: Wait + Clock + Copy + Drop>(
 }
 
 /// The connections of a server that nobody is connected to yet.
-fn connections_of<L: Naming, R: Wait + Clock + Copy + Drop, G: Gate, C: crew::Clock>(
+fn connections_of<L: Naming, R: Wait + Clock + Copy + Drop, G: Gate, C: crate::Clock>(
     rt: &R,
     alloc: Global,
     doors: &mut Doors,
@@ -180,7 +180,7 @@ fn serve_told<
     L: Naming + Send + Sync,
     R: Threads + Wait + Clock + Copy + Drop + Send + Sync + 'static,
     G: Gate + Sync,
-    C: crew::Clock + Sync,
+    C: crate::Clock + Sync,
     I: Read + Send + Drop + 'static,
 >(
     rt: &R,
@@ -209,7 +209,7 @@ fn serve_by<
     L: Naming + Send + Sync,
     R: Threads + Wait + Clock + Eprint + Copy + Drop + Send + Sync + 'static,
     G: Gate + Sync,
-    C: crew::Clock + Sync,
+    C: crate::Clock + Sync,
     I: Read + Send + Drop + 'static,
 >(
     rt: &R,
@@ -232,7 +232,7 @@ fn serve_in<
     L: Naming + Send + Sync,
     R: Threads + Wait + Clock + Net + Eprint + Copy + Drop + Send + Sync + 'static,
     G: Gate + Sync,
-    C: crew::Clock + Sync,
+    C: crate::Clock + Sync,
     I: Read + Send + Drop + 'static,
 >(
     rt: &R,
@@ -254,7 +254,7 @@ fn serve_named<
     L: Naming + Send + Sync,
     R: Threads + Wait + Clock + Net + RandomSource + Eprint + Copy + Drop + Send + Sync + 'static,
     G: Gate + Sync,
-    C: crew::Clock + Sync,
+    C: crate::Clock + Sync,
     I: Read + Send + Drop + 'static,
 >(
     rt: &R,
@@ -306,7 +306,7 @@ fn is_within(number: u64, limits: (u64, u64)) -> bool
 pub fn serve_with<
     R: Threads + Wait + Clock + Net + RandomSource + Eprint + Copy + Drop + Send + Sync + 'static,
     G: Gate + Sync,
-    C: crew::Clock + Sync,
+    C: crate::Clock + Sync,
     I: Read + Send + Drop + 'static,
 >(rt: &R, alloc: Global, options: Options<'_, G, C>, stop: I) -> Result<(), ServeFault>
     ensures no_worker { options.entry.workers ≡ 0 → result ≡ Err BadSettings }

@@ -19,12 +19,12 @@ use crate::connections::{NO_MEMORY, PAUSE, Serving};
 use crate::post::{Arrival, Mail, Post, WAKE};
 use batch::Batch;
 use client_streams::{Guests, Lingerers};
-use crew::hall::{Naming, Told};
-use crew::{Gate, tell};
 use mio::{Events, Poll};
 pub(crate) use places::Place;
 use places::Places;
 use reading::Readiness;
+use session_io::hall::{Naming, Told};
+use session_io::{Gate, tell};
 pub(crate) use sessions::Incoming;
 use std::alloc::Global;
 use std::collections::VecDeque;
@@ -40,14 +40,14 @@ const SWEEPS: u32 = 4;
 
 /// A worker: its clients' places, and what it works with besides, so that a place can be lent to that.
 #[derive(Drop)]
-pub(crate) struct Worker<'a, L: Naming, R: Wait + Clock + Copy + Drop, G: Gate, C: crew::Clock> {
+pub(crate) struct Worker<'a, L: Naming, R: Wait + Clock + Copy + Drop, G: Gate, C: crate::Clock> {
     pub(crate) places: Places<L, R>,
     pub(crate) context: Context<'a, L, R, G, C>,
 }
 
 /// What a worker works with besides its clients' places.
 #[derive(Drop)]
-pub(crate) struct Context<'a, L: Naming, R: Wait + Clock + Copy + Drop, G: Gate, C: crew::Clock> {
+pub(crate) struct Context<'a, L: Naming, R: Wait + Clock + Copy + Drop, G: Gate, C: crate::Clock> {
     pub(crate) rt: &'a R,
     pub(crate) alloc: Global,
     pub(crate) server: &'a Serving<'a, L, R, G, C>,
@@ -75,7 +75,13 @@ pub(crate) struct Context<'a, L: Naming, R: Wait + Clock + Copy + Drop, G: Gate,
     pause: u64,
 }
 
-impl<'a, L: Naming, R: Wait + Clock + Copy + Drop, G: Gate, C: crew::Clock> Worker<'a, L, R, G, C> {
+impl<'a, L: Naming, R: Wait + Clock + Copy + Drop, G: Gate, C: crate::Clock> Worker<
+    'a,
+    L,
+    R,
+    G,
+    C,
+> {
     /// A worker of a server, without clients, that waits here, and for which others leave something there.
     pub(crate) fn new(
         rt: &'a R,
@@ -112,7 +118,7 @@ impl<'a, L: Naming, R: Wait + Clock + Copy + Drop, G: Gate, C: crew::Clock> Work
     }
 }
 
-impl<L: Naming, R: Wait + Clock + Copy + Drop, G: Gate, C: crew::Clock> Worker<'_, L, R, G, C> {
+impl<L: Naming, R: Wait + Clock + Copy + Drop, G: Gate, C: crate::Clock> Worker<'_, L, R, G, C> {
     /// A place is free for another client.
     pub(crate) fn free(&mut self, at: usize) {
         self.context.post.one_less();
@@ -236,7 +242,7 @@ impl<L: Naming, R: Wait + Clock + Copy + Drop, G: Gate, C: crew::Clock> Worker<'
     }
 }
 
-impl<L: Naming, R: Wait + Clock + Copy + Drop, G: Gate, C: crew::Clock> Context<'_, L, R, G, C> {
+impl<L: Naming, R: Wait + Clock + Copy + Drop, G: Gate, C: crate::Clock> Context<'_, L, R, G, C> {
     /// Has a place looked at again after a pause.
     fn look_again(&mut self, at: usize) {
         if self.again.push(at).is_err() {

@@ -1,10 +1,10 @@
 //! A session's connection, as any thread may write to it.
 use client_streams::Web;
 use client_streams::websocket_front::CloseCode;
-use crew::hall::Naming;
-use crew::hall::outbox::Gauge;
-use crew::{Backlog, Outlet};
 use mio::net::TcpStream;
+use session_io::hall::Naming;
+use session_io::hall::outbox::Gauge;
+use session_io::{Backlog, Outlet};
 use std::io;
 use std::io::Write;
 use std::net::Shutdown;

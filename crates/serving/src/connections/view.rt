@@ -2,9 +2,9 @@
 use super::connection::{Connection, Output};
 use super::{Connections, PAUSE};
 use chronicle::{Moment, SessionId};
-use crew::hall::{Naming, Told};
-use crew::wire::Flow;
-use crew::{Gate, Host, Pumped, Server, Sockets};
+use session_io::hall::{Naming, Told};
+use session_io::wire::Flow;
+use session_io::{Gate, Host, Pumped, Server, Sockets};
 use std::sync::Wait;
 use std::sync::atomic::Ordering;
 use std::thread;
@@ -18,7 +18,7 @@ const ENDS: usize = 16;
 
 /// The connections of all sessions, as one thread works with them, and what stands beside them.
 #[derive(Drop)]
-pub(crate) struct View<'a, L: Naming, R: Wait + Clock + Copy + Drop, G: Gate, C: crew::Clock> {
+pub(crate) struct View<'a, L: Naming, R: Wait + Clock + Copy + Drop, G: Gate, C: crate::Clock> {
     pub(crate) all: &'a Connections<L, R>,
     pub(crate) gate: &'a G,
     pub(crate) clock: &'a C,
@@ -31,7 +31,7 @@ pub(crate) struct View<'a, L: Naming, R: Wait + Clock + Copy + Drop, G: Gate, C:
 /// The server as one of its threads knows it.
 pub(crate) type Serving<'a, L, R, G, C> = Server<'a, L, R, View<'a, L, R, G, C>>;
 
-impl<L: Naming, R: Wait + Clock + Copy + Drop, G: Gate, C: crew::Clock> View<'_, L, R, G, C> {
+impl<L: Naming, R: Wait + Clock + Copy + Drop, G: Gate, C: crate::Clock> View<'_, L, R, G, C> {
     /// Has a connection's worker look at it.
     fn call(&self, connection: &Connection<L, R>) {
         if connection.is_called.swap(true, Ordering::SeqCst) {
@@ -112,7 +112,7 @@ impl<L: Naming, R: Wait + Clock + Copy + Drop, G: Gate, C: crew::Clock> View<'_,
     }
 }
 
-impl<L: Naming, R: Wait + Clock + Copy + Drop, G: Gate, C: crew::Clock> Gate
+impl<L: Naming, R: Wait + Clock + Copy + Drop, G: Gate, C: crate::Clock> Gate
     for View<'_, L, R, G, C> {
     fn enter(&self, session: SessionId) {
         self.gate.enter(session);
@@ -123,17 +123,17 @@ impl<L: Naming, R: Wait + Clock + Copy + Drop, G: Gate, C: crew::Clock> Gate
     }
 }
 
-impl<L: Naming, R: Wait + Clock + Copy + Drop, G: Gate, C: crew::Clock> crew::Clock
+impl<L: Naming, R: Wait + Clock + Copy + Drop, G: Gate, C: crate::Clock> crate::Clock
     for View<'_, L, R, G, C> {
     fn now(&self) -> Moment {
         self.clock.now()
     }
 }
 
-impl<L: Naming, R: Wait + Clock + Copy + Drop, G: Gate, C: crew::Clock> Host
+impl<L: Naming, R: Wait + Clock + Copy + Drop, G: Gate, C: crate::Clock> Host
     for View<'_, L, R, G, C> {}
 
-impl<L: Naming, R: Wait + Clock + Copy + Drop, G: Gate, C: crew::Clock> Sockets
+impl<L: Naming, R: Wait + Clock + Copy + Drop, G: Gate, C: crate::Clock> Sockets
     for View<'_, L, R, G, C> {
     fn shut(&self, session: SessionId) {
         self.all.leave_unswept();

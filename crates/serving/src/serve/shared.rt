@@ -8,9 +8,9 @@ use crate::news::Teller;
 use crate::post::Watch;
 use crate::worker::Worker;
 use chronicle::{SessionId, Why};
-use crew::hall::outbox::Sender;
-use crew::hall::{Hall, Naming};
-use crew::{Gate, Server, Sockets, moment_in};
+use session_io::hall::outbox::Sender;
+use session_io::hall::{Hall, Naming};
+use session_io::{Gate, Server, Sockets, moment_in};
 use std::alloc::Global;
 use std::sync::{Mutex, Wait};
 use std::thread::{Builder, Threads};
@@ -25,7 +25,7 @@ const MOST_LINES: usize = 32;
 
 /// What is read of a server's options while it runs.
 #[derive(Clone, Copy, Drop)]
-pub(super) struct Config<'a, G: Gate, C: crew::Clock> {
+pub(super) struct Config<'a, G: Gate, C: crate::Clock> {
     gate: &'a G,
     clock: &'a C,
     pub(super) workers: usize,
@@ -36,7 +36,7 @@ pub(super) struct Config<'a, G: Gate, C: crew::Clock> {
     pub(super) has_log: bool,
 }
 
-impl<'a, G: Gate, C: crew::Clock> Config<'a, G, C> {
+impl<'a, G: Gate, C: crate::Clock> Config<'a, G, C> {
     /// What is read of these options.
     pub(super) fn of(options: &Options<'a, G, C>) -> Config<'a, G, C> {
         Config {
@@ -60,13 +60,13 @@ impl<'a, G: Gate, C: crew::Clock> Config<'a, G, C> {
 
 /// What all threads of a server share.
 #[derive(Drop)]
-pub(super) struct Shared<'a, L: Naming, R: Wait + Clock + Copy + Drop, G: Gate, C: crew::Clock> {
+pub(super) struct Shared<'a, L: Naming, R: Wait + Clock + Copy + Drop, G: Gate, C: crate::Clock> {
     pub(super) hall: &'a Mutex<Hall<L, Sender<R>>>,
     pub(super) connections: &'a Connections<L, R>,
     pub(super) config: &'a Config<'a, G, C>,
 }
 
-impl<L: Naming, R: Wait + Clock + Copy + Drop, G: Gate, C: crew::Clock> Shared<'_, L, R, G, C> {
+impl<L: Naming, R: Wait + Clock + Copy + Drop, G: Gate, C: crate::Clock> Shared<'_, L, R, G, C> {
     /// The connections as a worker works with them; as a thread that is none, where the number is that of the workers.
     fn view(&self, worker: usize) -> View<'_, L, R, G, C> {
         View {
@@ -143,7 +143,7 @@ pub(super) fn run_on<
     L: Naming + Send + Sync,
     R: Threads + Wait + Clock + Copy + Drop + Send + Sync,
     G: Gate + Sync,
-    C: crew::Clock + Sync,
+    C: crate::Clock + Sync,
 >(
     rt: &R,
     alloc: Global,

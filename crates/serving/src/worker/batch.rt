@@ -7,8 +7,8 @@
 use super::Context;
 use super::places::{Place, Places};
 use crate::post::{Left, Post};
-use crew::Gate;
-use crew::hall::Naming;
+use session_io::Gate;
+use session_io::hall::Naming;
 use std::alloc::Global;
 use std::mem;
 use std::sync::Wait;
@@ -62,7 +62,7 @@ impl Batch {
     }
 }
 
-impl<L: Naming, R: Wait + Clock + Copy + Drop, G: Gate, C: crew::Clock> Context<'_, L, R, G, C> {
+impl<L: Naming, R: Wait + Clock + Copy + Drop, G: Gate, C: crate::Clock> Context<'_, L, R, G, C> {
     /// Writes what waits for the client at a place.
     fn write_at(&self, place: Option<&Place<L, R>>) {
         if let Some(Place::Held(client)) = place {

@@ -2,9 +2,9 @@
 use crate::connections::Connection;
 use chronicle::SessionId;
 use client_streams::{Payloads, Web};
-use crew::Intake;
-use crew::hall::outbox::Sender;
-use crew::hall::{Baton, Naming};
+use session_io::Intake;
+use session_io::hall::outbox::Sender;
+use session_io::hall::{Baton, Naming};
 use std::alloc::Global;
 use std::sync::{Arc, Wait};
 

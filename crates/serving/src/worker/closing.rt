@@ -7,8 +7,8 @@ use crate::connections::Connection;
 use chronicle::{SessionId, Why};
 use client_streams::LINGER_TRIES;
 use client_streams::websocket_front::CloseCode;
-use crew::hall::Naming;
-use crew::{Gate, GivenUp, Standing, Swept, give_up, hang, sweep, write_some};
+use session_io::hall::Naming;
+use session_io::{Gate, GivenUp, Standing, Swept, give_up, hang, sweep, write_some};
 use std::mem;
 use std::sync::{Arc, Wait};
 use std::time::Clock;
@@ -20,7 +20,7 @@ struct Wrote {
     is_fault: bool,
 }
 
-impl<L: Naming, R: Wait + Clock + Copy + Drop, G: Gate, C: crew::Clock> Worker<'_, L, R, G, C> {
+impl<L: Naming, R: Wait + Clock + Copy + Drop, G: Gate, C: crate::Clock> Worker<'_, L, R, G, C> {
     /// Looks at the client at a place, if there is one, and ends it where its writing is over.
     pub(super) fn look(&mut self, at: usize, is_pause: bool) {
         let mut ended = None;
@@ -74,7 +74,7 @@ impl<L: Naming, R: Wait + Clock + Copy + Drop, G: Gate, C: crew::Clock> Worker<'
     }
 }
 
-impl<L: Naming, R: Wait + Clock + Copy + Drop, G: Gate, C: crew::Clock> Context<'_, L, R, G, C> {
+impl<L: Naming, R: Wait + Clock + Copy + Drop, G: Gate, C: crate::Clock> Context<'_, L, R, G, C> {
     /// Ends a session for this reason, where it is open.
     pub(super) fn hang(&mut self, session: SessionId, why: Why) {
         let _ = hang(self.rt, self.server, session, why, &mut self.told);

@@ -3,10 +3,10 @@ use super::Context;
 use crate::connections::Connection;
 use crate::events::Event;
 use chronicle::{Kind, Record, RecordNumber, SessionId, Why};
-use crew::Gate;
-use crew::hall::outbox::Sender;
-use crew::hall::{Hall, Naming};
 use line_grammar::Octets;
+use session_io::Gate;
+use session_io::hall::outbox::Sender;
+use session_io::hall::{Hall, Naming};
 use std::alloc::AllocError;
 use std::net::SocketAddr;
 use std::sync::Wait;
@@ -62,7 +62,7 @@ fn nick_in<L: Naming, R: Wait + Drop>(
     }
 }
 
-impl<L: Naming, R: Wait + Clock + Copy + Drop, G: Gate, C: crew::Clock> Context<'_, L, R, G, C> {
+impl<L: Naming, R: Wait + Clock + Copy + Drop, G: Gate, C: crate::Clock> Context<'_, L, R, G, C> {
     /// Notes for the log that a session was opened.
     pub(super) fn note_opened(
         &self,

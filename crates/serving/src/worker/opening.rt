@@ -7,10 +7,10 @@ use crate::connections::{NO_MEMORY, NO_PLACE};
 use crate::post::Arrival;
 use chronicle::Why;
 use client_streams::websocket_front::CloseCode;
-use crew::Gate;
-use crew::hall::Naming;
 use mio::net::TcpStream;
 use mio::{Interest, Token};
+use session_io::Gate;
+use session_io::hall::Naming;
 use std::io;
 use std::sync::{Arc, Wait};
 use std::time::Clock;
@@ -18,7 +18,7 @@ use std::time::Clock;
 /// How many sessions are opened before others have their turn.
 const OPENS: u32 = 16;
 
-impl<L: Naming, R: Wait + Clock + Copy + Drop, G: Gate, C: crew::Clock> Worker<'_, L, R, G, C> {
+impl<L: Naming, R: Wait + Clock + Copy + Drop, G: Gate, C: crate::Clock> Worker<'_, L, R, G, C> {
     /// Opens sessions for some who connected.
     pub(super) fn open_some(&mut self) {
         for _ in 0..OPENS {
@@ -97,7 +97,7 @@ impl<L: Naming, R: Wait + Clock + Copy + Drop, G: Gate, C: crew::Clock> Worker<'
     }
 }
 
-impl<L: Naming, R: Wait + Clock + Copy + Drop, G: Gate, C: crew::Clock> Context<'_, L, R, G, C> {
+impl<L: Naming, R: Wait + Clock + Copy + Drop, G: Gate, C: crate::Clock> Context<'_, L, R, G, C> {
     /// Has events of a stream come with this place, and answers what several threads may hold of it.
     fn watch(&mut self, at: usize, stream: TcpStream) -> io::Result<Arc<TcpStream>> {
         let mut stream = stream;

@@ -2,7 +2,7 @@
 use super::client::Client;
 use super::sessions::Tokens;
 use client_streams::Guest;
-use crew::hall::Naming;
+use session_io::hall::Naming;
 use std::alloc::{AllocError, Global};
 use std::mem;
 use std::sync::Wait;

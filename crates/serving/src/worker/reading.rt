@@ -4,10 +4,10 @@ use super::places::Place;
 use super::{Context, Worker};
 use crate::connections::Connection;
 use chronicle::Why;
-use crew::hall::outbox::Sender;
-use crew::hall::{Baton, Naming};
-use crew::wire::Flow;
-use crew::{Gate, Intake, Next, Took, read_some};
+use session_io::hall::outbox::Sender;
+use session_io::hall::{Baton, Naming};
+use session_io::wire::Flow;
+use session_io::{Gate, Intake, Next, Took, read_some};
 use std::io;
 use std::io::Read;
 use std::sync::Wait;
@@ -36,7 +36,7 @@ impl<I: Read> Read for Counted<'_, I> {
     }
 }
 
-impl<L: Naming, R: Wait + Clock + Copy + Drop, G: Gate, C: crew::Clock> Worker<'_, L, R, G, C> {
+impl<L: Naming, R: Wait + Clock + Copy + Drop, G: Gate, C: crate::Clock> Worker<'_, L, R, G, C> {
     /// Sees to a client that something happened to.
     pub(super) fn see_to(&mut self, at: usize, ready: Readiness) {
         if let Some(Place::Held(client)) = self.places.all.get_mut(at) {
@@ -65,7 +65,7 @@ impl<L: Naming, R: Wait + Clock + Copy + Drop, G: Gate, C: crew::Clock> Worker<'
     }
 }
 
-impl<L: Naming, R: Wait + Clock + Copy + Drop, G: Gate, C: crew::Clock> Context<'_, L, R, G, C> {
+impl<L: Naming, R: Wait + Clock + Copy + Drop, G: Gate, C: crate::Clock> Context<'_, L, R, G, C> {
     /// Has a client read again in its turn. Where there is no memory for that, its session is ended.
     fn list(&mut self, at: usize, client: &mut Client<L, R>) {
         client.is_listed = self.more.push_back(at).is_ok();

@@ -11,13 +11,13 @@ use super::hosts::host_of;
 use crate::connections::{Connection, Connections, Output};
 use chronicle::{Moment, SessionId};
 use client_streams::Web;
-use crew::hall::outbox::{ChannelName, Sender, Writer, pair};
-use crew::hall::{Baton, Hall, Naming, OpenRefusal, Stub};
-use crew::wire::Wire;
-use crew::{Clock as _, Gate, moment_in};
 use deliveries::{Item, write_out};
 use line_grammar::Octets;
 use mio::net::TcpStream;
+use session_io::hall::outbox::{ChannelName, Sender, Writer, pair};
+use session_io::hall::{Baton, Hall, Naming, OpenRefusal, Stub};
+use session_io::wire::Wire;
+use session_io::{Clock as _, Gate, moment_in};
 use std::alloc::Global;
 use std::net::SocketAddr;
 use std::sync::{Arc, Wait};
@@ -145,7 +145,7 @@ fn wired<L: Naming, R: Wait + Copy + Drop>(
     }
 }
 
-impl<L: Naming, R: Wait + Clock + Copy + Drop, G: Gate, C: crew::Clock> Context<'_, L, R, G, C> {
+impl<L: Naming, R: Wait + Clock + Copy + Drop, G: Gate, C: crate::Clock> Context<'_, L, R, G, C> {
     /// A connection at this place for who connected, of the session that has this writer, twice.
     fn connection_twice(
         &self,
