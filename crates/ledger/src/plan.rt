@@ -26,11 +26,10 @@ use crate::read_line::ReadLine;
 use crate::seats::Seats;
 use crate::to_put::ToPut;
 use chronicle::{Moment, RecordMoment, RecordNumber, SessionId, Why};
-use commands::Asked;
 use deeds::{Shown, Verdict, decide, decide_gone, ping};
 use deliveries::Delivery;
 use labels_batches::{Receiver, Text, answer_text, takes_labels};
-use line_grammar::{Octets, Piece};
+use line_grammar::Octets;
 use numerics::Line;
 use roster::{Deed, Roster, Sessions};
 use smallvec::SmallVec;
@@ -227,60 +226,44 @@ fn with_room(
     })
 }
 
-/// Decides what a session does that asks for this, and whether it quits by it.
-fn decide_asked(by: &Planning<'_>, asked: Asked) -> Result<(Verdict, bool), AllocError>
-    requires known { IsOpened by.now.roster.now.facts by.now.actor }
-    ensures verdict { IfOk result (λ v. IsVerdict v.0 by.now.actor
-        (of_asked by.now.roster.now.settings by.now.roster.now.facts by.now.actor asked)) }
-    ensures next { IfOk result (λ v. AreNext by.now.roster.now.facts v.0.deeds.items) }
-    ensures opened { IfOk result (λ v. opened (after by.now.roster.now.facts v.0.deeds.items)
-        ≡ opened by.now.roster.now.facts) }
-    ensures quits { IfOk result (λ v. v.1 ≡ asks_for_quit asked) }
-{
-    let verdict = decide(by.alloc, by.roster, by.actor, &asked, by.moment.moment())?;
-    Ok((verdict, asked.is_quit()))
-}
-
 /// The label of a line as it counts for the actor, by the capabilities that it has before the line.
-fn counted_label(by: &Planning<'_>, label: Option<Octets>) -> Option<Octets>
-    ensures { result ≡ counted (caps by.now.roster.now.facts by.now.actor) label }
+fn counted_label(
+    by: &Planning<'_>,
+    label: &Option<Octets>,
+) -> Result<Option<Octets>, AllocError>
+    ensures { IfOk result
+        (λ l. l ≡ counted (caps by.now.roster.now.facts by.now.actor) label.now) }
 {
-    if takes_labels(by.roster.caps_of(by.actor)) {
-        label
-    } else {
-        None
+    match label {
+        Some(label) if takes_labels(by.roster.caps_of(by.actor)) => Ok(Some(label.clone()?)),
+        _ => Ok(None),
     }
 }
 
-/// Decides what a line of a session does, plans its deliveries, and hands its piece back.
+/// Decides what a line of a session does, and plans its deliveries.
 pub(crate) fn prepare_line(
     by: &Planning<'_>,
-    line: ReadLine,
-) -> Result<(Prepared, Piece, bool), AllocError>
+    line: &ReadLine,
+) -> Result<(Prepared, bool), AllocError>
     requires known { IsOpened by.now.roster.now.facts by.now.actor }
     ensures deeds { IfOk result (λ p. p.0.deeds.items ≡ deeds_of (of_asked
-        by.now.roster.now.settings by.now.roster.now.facts by.now.actor (asked_of line))) }
+        by.now.roster.now.settings by.now.roster.now.facts by.now.actor (asked_of line.now))) }
     ensures next { IfOk result (λ p. AreNext by.now.roster.now.facts p.0.deeds.items) }
     ensures opened { IfOk result (λ p. opened (after by.now.roster.now.facts p.0.deeds.items)
         ≡ opened by.now.roster.now.facts) }
-    ensures piece { IfOk result (λ p. p.1 ≡ line) }
-    ensures quits { IfOk result (λ p. p.2 ≡ is_quit line) }
+    ensures quits { IfOk result (λ p. p.1 ≡ is_quit line.now) }
     ensures plan { IfOk result (λ p. p.0.plan ≡ planned_from by.now.seats.now by.now.actor
         by.now.number (spelled by.now.roster.now.settings by.now.roster.now.facts by.now.actor
-        (label_of (caps by.now.roster.now.facts by.now.actor) line)
+        (label_of (caps by.now.roster.now.facts by.now.actor) line.now)
         (of_asked by.now.roster.now.settings by.now.roster.now.facts by.now.actor
-        (asked_of line)) by.now.moment by.now.number) p.2) }
+        (asked_of line.now)) by.now.moment by.now.number) p.1) }
     ensures missed { IfOk result
         (λ p. (p.0.missed.items ≡ []) × (length p.0.plan ≤ p.0.missed.capacity)) }
 {
-    let ReadLine {
-        piece,
-        asked,
-        label,
-    } = line;
-    let (verdict, quits) = decide_asked(by, asked)?;
-    let prepared = with_room(by, counted_label(by, label), verdict, quits)?;
-    Ok((prepared, piece, quits))
+    let label = counted_label(by, &line.label)?;
+    let quits = line.asked.is_quit();
+    let verdict = decide(by.alloc, by.roster, by.actor, &line.asked, by.moment.moment())?;
+    Ok((with_room(by, label, verdict, quits)?, quits))
 }
 
 /// Decides what it does that a session is gone, and plans who is told.
