@@ -78,7 +78,7 @@ heard_all fs moment (x ∷ xs) t =
 abbrev goes_before : Heard → Heard → Bool
 goes_before x y = is_lt (nat_cmp x.session y.session)
 
-session_ties : (a b : ℕ) → (not (is_lt (nat_cmp a b)) && not (is_lt (nat_cmp b a))) ≡ (b == a)
+pub session_ties : (a b : ℕ) → (not (is_lt (nat_cmp a b)) && not (is_lt (nat_cmp b a))) ≡ (b == a)
 session_ties a b = grind (arith, nat_tests)
 
 -- it leaves the texts of each session as they were
