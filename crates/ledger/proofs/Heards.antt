@@ -54,7 +54,7 @@ pub heard_more : (f : ℕ → Heard) (hs : List ℕ) (k h : ℕ) → k < length 
 heard_more f hs k h l is = ap (map f) (take_more hs k h l ∙ ap (λ (y : ℕ). take k hs ++ y ∷ []) (sym is))
     ∙ map-append f (take k hs) (h ∷ [])
 
-heard_each : (fs : List Deed) (moment : ℤ) (line : Out) (hs : List ℕ) (t : ℕ) → text_for
+pub heard_each : (fs : List Deed) (moment : ℤ) (line : Out) (hs : List ℕ) (t : ℕ) → text_for
     (map (heard_by fs moment line) hs) t ≡ rendered (caps fs t) moment (map (tagged_as None) (heard hs line t))
 heard_each fs moment line [] t = refl
 heard_each fs moment line (h ∷ hs) t =

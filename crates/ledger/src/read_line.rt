@@ -44,6 +44,7 @@ impl ReadLine {
     }
 
     /// Takes the piece out. What stays is what a line that is too long is read as.
+    #[tactic(auto, unfolding(commands::specs::Asked::asked_of, chronicle::specs::History::is_quit))]
     pub(crate) fn take(&mut self) -> Piece
         ensures piece { result ≡ self.old }
         ensures taken { self.new ≡ piece.TooLong }
