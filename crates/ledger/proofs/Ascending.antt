@@ -1,5 +1,5 @@
 -- Hearers of one line that stand by their numbers, each once.
-use Rattle.std.proofs.Common.{◌≡◌, ℕ, ℤ, ◌<◌, ◌≤◌, Bool, not, ◌&&◌, ◌==◌, cond, List, [], ◌∷◌, ◌++◌, filter, map, refl}
+use Rattle.std.proofs.Common.{◌≡◌, ℕ, ℤ, ◌==◌, List, [], ◌∷◌, ◌++◌, filter, map, refl}
 use Rattle.std.proofs.Common.{length, None, lit<, arith, sym, ap, ◌∙◌, ne_eqb, append_assoc, append-nil}
 use Rattle.std.specs.List.Sorted.{ties, IsStableBy}
 use Rattle.std.specs.Ordering.{nat_cmp, is_lt}
@@ -9,7 +9,6 @@ use Rattle.roster.specs.declared.deed.Deed.{Deed}
 use Rattle.roster.specs.LookBack.{caps}
 use Rattle.labels_batches.specs.Answers.{tagged_as}
 use Rattle.labels_batches.specs.Rendered.{rendered}
-use Rattle.drafts.specs.declared.verdict.Shown.{Shown}
 use Rattle.ledger.specs.declared.heard.Heard.{Heard}
 use Rattle.drafts.specs.Effects.{heard}
 use Rattle.ledger.specs.declared.seat.Seat.{Seat}

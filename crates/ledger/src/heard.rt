@@ -21,7 +21,11 @@ pub(crate) struct Heard {
 }
 
 /// A line as a session takes it.
-pub(crate) fn hear_one(roster: &Roster, session: SessionId, line: &mut Spellings) -> Result<Heard, AllocError>
+pub(crate) fn hear_one(
+    roster: &Roster,
+    session: SessionId,
+    line: &mut Spellings,
+) -> Result<Heard, AllocError>
     ensures same { line.new ≡ line.old }
     ensures heard { IfOk result
         (λ x. x ≡ heard_by roster.now.facts line.old.moment line.old.line session) }

@@ -287,10 +287,7 @@ fn with_room(
 }
 
 /// The label of a line as it counts for the actor, by the capabilities that it has before the line.
-fn counted_label(
-    by: &Planning<'_>,
-    label: &Option<Octets>,
-) -> Result<Option<Octets>, AllocError>
+fn counted_label(by: &Planning<'_>, label: &Option<Octets>) -> Result<Option<Octets>, AllocError>
     ensures { IfOk result
         (λ l. l ≡ counted (caps by.now.roster.now.facts by.now.actor) label.now) }
 {
@@ -322,7 +319,13 @@ pub(crate) fn prepare_line(
 {
     let label = counted_label(by, &line.label)?;
     let quits = line.asked.is_quit();
-    let verdict = decide(by.alloc, by.roster, by.actor, &line.asked, by.moment.moment())?;
+    let verdict = decide(
+        by.alloc,
+        by.roster,
+        by.actor,
+        &line.asked,
+        by.moment.moment(),
+    )?;
     Ok((with_room(by, label, verdict, quits)?, quits))
 }
 
