@@ -56,7 +56,7 @@ pub fn work_one<L: Naming, R: Wait + Drop, G: Gate>(
 {
     let Job { mut baton, piece } = job;
     let session = baton.session();
-    let Ok(line) = ReadLine::read(told.allocator(), &piece) else {
+    let Ok(mut line) = ReadLine::read(told.allocator(), &piece) else {
         return Back {
             baton,
             outcome: Err(LineRefusal::Memory),
@@ -67,7 +67,7 @@ pub fn work_one<L: Naming, R: Wait + Drop, G: Gate>(
     let outcome = line_at(
         &mut *lock_soon(rt, hall),
         &mut baton,
-        line,
+        &mut line,
         moment,
         told,
         &mut dropped,

@@ -89,19 +89,20 @@ fn make_room<L: Naming, R: Wait + Drop>(
 /// something, for whom what waits is still to be written. Where the journal has no room for it, that is rolled first,
 /// and so many records are dropped.
 ///
-/// Where the line was done, its piece is the newest of those done with the baton. Where it was refused, the baton is
-/// unchanged. What is told of a line that was done, and its moment, is what its own record says, which is the newest
-/// of the history that the baton shows.
+/// Where the line was done, its piece is the newest of those done with the baton. Where it was refused, the baton and
+/// the line are unchanged. What is told of a line that was done, and its moment, is what its own record says, which is
+/// the newest of the history that the baton shows.
 pub fn line_at<L: Naming, R: Wait + Drop>(
     hall: &mut Hall<L, Sender<R>>,
     baton: &mut Baton<L, Sender<R>>,
-    line: ReadLine,
+    line: &mut ReadLine,
     moment: Moment,
     told: &mut Told,
     dropped: &mut usize,
 ) -> Result<Done, LineRefusal>
-    ensures done { OnOk result (baton.new.pieces ≡ baton.old.pieces ++ line ∷ []) }
+    ensures done { OnOk result (baton.new.pieces ≡ baton.old.pieces ++ line.old ∷ []) }
     ensures refused { OnErr result (baton.new ≡ baton.old) }
+    ensures left { OnErr result (line.new ≡ line.old) }
     ensures session { baton.new.session ≡ baton.old.session }
     ensures told { IfOk result (λ d. TellsOf d baton.new.front baton.new.session) }
     ensures moment { OnOk result (IsAt moment baton.new.front) }
@@ -170,11 +171,11 @@ impl<'a, L: Naming, R: Wait + Drop> Held<'a, L, R> {
         rt: &R,
         server: &Server<'a, L, R, H>,
         baton: &mut Baton<L, Sender<R>>,
-        line: ReadLine,
+        line: &mut ReadLine,
         told: &mut Told,
     ) -> bool
         requires { H.shows server.now.host.now self.old.moment }
-        ensures done { result ≡ true → baton.new.pieces ≡ baton.old.pieces ++ line ∷ [] }
+        ensures done { result ≡ true → baton.new.pieces ≡ baton.old.pieces ++ line.old ∷ [] }
         ensures not_done { result ≡ false → baton.new ≡ baton.old }
         ensures session { baton.new.session ≡ baton.old.session }
         ensures seen_to { result ≡ true
@@ -264,14 +265,14 @@ pub fn do_lines<'a, L: Naming, R: Wait + Drop, H: Host, B: Backlog>(
         if held.hall.is_none() {
             ahead.read(&pieces[done..], server.burst.max(1));
         }
-        let Ok(line) = line_of(told.allocator(), piece, ahead.next()) else {
+        let Ok(mut line) = line_of(told.allocator(), piece, ahead.next()) else {
             held.refuse(rt, server, session, LineRefusal::Memory, told);
             return Count {
                 done,
                 until: Until::Refused,
             };
         };
-        if !held.line(rt, server, baton, line, told) {
+        if !held.line(rt, server, baton, &mut line, told) {
             return Count {
                 done,
                 until: Until::Refused,
