@@ -144,7 +144,7 @@ impl<L: Naming, R: Wait + Clock + Copy + Drop, G: Gate, C: crew::Clock> Acceptor
     }
 
     /// Has a beat where it is time for one, or where the clock was set back, and answers in how many milliseconds
-    /// the next is to be. Where it comes late nobody is ended before the next: who is quiet is pinged.
+    /// the next is to be.
     fn beat_in_time(&mut self) -> u64 {
         let now = self.server.host.now().milliseconds();
         let passed = now.saturating_sub(self.last);
@@ -154,14 +154,19 @@ impl<L: Naming, R: Wait + Clock + Copy + Drop, G: Gate, C: crew::Clock> Acceptor
         if passed < LATE {
             self.last = now;
             let _ = beat(self.rt, self.server, &mut self.told);
-            return BEAT as u64;
+        } else {
+            self.beat_late(now);
         }
+        BEAT as u64
+    }
+
+    /// Has a beat that comes late, after which nobody is ended before the next: who is quiet is pinged.
+    fn beat_late(&mut self, now: i64) {
         // Where nobody could be pinged the next is late as well.
         if tick(self.rt, self.server, &mut self.told).answer.is_ok() {
             self.last = now;
         }
         tell(self.server, &mut self.told);
-        BEAT as u64
     }
 
     /// Whether there is something to tell that wasn't told where it happened.
@@ -242,8 +247,9 @@ impl<L: Naming, R: Wait + Clock + Copy + Drop, G: Gate, C: crew::Clock> Acceptor
     /// Accepts some of those who wait to connect, does what is due, and answers how long to wait for others; `None`
     /// where the server is asked to stop.
     fn turn(&mut self) -> Option<Duration> {
-        let tcp = self.accept_some(&self.listeners.tcp, false);
-        let ws = self.accept_some(&self.listeners.ws, true);
+        let listeners = self.listeners;
+        let tcp = self.accept_some(&listeners.tcp, false);
+        let ws = self.accept_some(&listeners.ws, true);
         if self.server.host.all.is_stopping() {
             return None;
         }
