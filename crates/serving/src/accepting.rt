@@ -144,7 +144,7 @@ impl<L: Naming, R: Wait + Clock + Copy + Drop, G: Gate, C: crew::Clock> Acceptor
     }
 
     /// Has a beat where it is time for one, or where the clock was set back, and answers in how many milliseconds
-    /// the next is to be.
+    /// the next is to be. Where it comes late nobody is ended before the next: who is quiet is pinged.
     fn beat_in_time(&mut self) -> u64 {
         let now = self.server.host.now().milliseconds();
         let passed = now.saturating_sub(self.last);
@@ -154,19 +154,14 @@ impl<L: Naming, R: Wait + Clock + Copy + Drop, G: Gate, C: crew::Clock> Acceptor
         if passed < LATE {
             self.last = now;
             let _ = beat(self.rt, self.server, &mut self.told);
-        } else {
-            self.beat_late(now);
+            return BEAT as u64;
         }
-        BEAT as u64
-    }
-
-    /// Has a beat that comes late, after which nobody is ended before the next: who is quiet is pinged.
-    fn beat_late(&mut self, now: i64) {
         // Where nobody could be pinged the next is late as well.
         if tick(self.rt, self.server, &mut self.told).answer.is_ok() {
             self.last = now;
         }
         tell(self.server, &mut self.told);
+        BEAT as u64
     }
 
     /// Whether there is something to tell that wasn't told where it happened.
