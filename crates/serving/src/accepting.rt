@@ -242,8 +242,9 @@ impl<L: Naming, R: Wait + Clock + Copy + Drop, G: Gate, C: crate::Clock> Accepto
     /// Accepts some of those who wait to connect, does what is due, and answers how long to wait for others; `None`
     /// where the server is asked to stop.
     fn turn(&mut self) -> Option<Duration> {
-        let tcp = self.accept_some(&self.listeners.tcp, false);
-        let ws = self.accept_some(&self.listeners.ws, true);
+        let listeners = self.listeners;
+        let tcp = self.accept_some(&listeners.tcp, false);
+        let ws = self.accept_some(&listeners.ws, true);
         if self.server.host.all.is_stopping() {
             return None;
         }

@@ -192,15 +192,12 @@ fn serve_told<
     stop: I,
 ) -> Result<(), ServeFault> {
     let connections = connections_of(rt, alloc, doors, config, teller)?;
-    if !has_stop(rt, stop, &doors.stopping) {
-        return Err(ServeFault::Memory);
-    }
     let shared = Shared {
         hall,
         connections: &connections,
         config,
     };
-    let is_run = run_on(rt, alloc, &shared, doors, teller);
+    let is_run = has_stop(rt, stop, &doors.stopping) && run_on(rt, alloc, &shared, doors, teller);
     end_of(is_run, connections.is_full())
 }
 
@@ -319,11 +316,11 @@ pub fn serve_with<
     ensures large_journal { 68719476736 < options.entry.journal_bytes → result ≡ Err BadSettings }
 {
     let (workers, sendq) = (options.workers, options.sendq);
-    if workers < 1 || 64 < workers || sendq < 1 || 4096 < sendq {
-        return Err(ServeFault::BadSettings);
-    }
     let (sendq_bytes, journal_bytes) = (options.sendq_bytes, options.journal_bytes);
-    if !is_within(sendq_bytes, SENDQ_LIMITS) || !is_within(journal_bytes, JOURNAL_LIMITS) {
+    let are_counts_within = 1 <= workers && workers <= 64 && 1 <= sendq && sendq <= 4096;
+    let are_octets_within = is_within(sendq_bytes, SENDQ_LIMITS)
+        && is_within(journal_bytes, JOURNAL_LIMITS);
+    if !are_counts_within || !are_octets_within {
         return Err(ServeFault::BadSettings);
     }
     let register = Register::new(alloc)?;

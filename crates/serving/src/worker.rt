@@ -127,8 +127,7 @@ impl<L: Naming, R: Wait + Clock + Copy + Drop, G: Gate, C: crate::Clock> Worker<
 
     /// Does what others left, and answers whether there was anything.
     fn do_mail(&mut self) -> bool {
-        let mut mail = mem::replace(&mut self.context.mail, Mail::new(self.context.alloc));
-        self.context.post.swap(self.context.rt, &mut mail);
+        let mut mail = self.context.take_mail();
         let is_any = mail.is_all || !mail.calls.is_empty();
         for at in mail.calls.iter() {
             self.look(*at, false);
@@ -155,9 +154,7 @@ impl<L: Naming, R: Wait + Clock + Copy + Drop, G: Gate, C: crate::Clock> Worker<
     fn settle(&mut self) {
         let rt = self.context.rt;
         let server = self.context.server;
-        self.context
-            .batch
-            .add_told(self.context.told.sessions().len());
+        self.context.add_told();
         // Where the server is closed nobody waits, and nobody is told.
         let most = if server.host.all.is_closed() {
             u32::MAX
@@ -189,7 +186,7 @@ impl<L: Naming, R: Wait + Clock + Copy + Drop, G: Gate, C: crate::Clock> Worker<
             return;
         }
         self.context.resume();
-        let again = mem::replace(&mut self.context.again, Vec::new(self.context.alloc));
+        let again = self.context.take_again();
         for at in again.iter() {
             self.retry(*at);
         }
@@ -243,6 +240,24 @@ impl<L: Naming, R: Wait + Clock + Copy + Drop, G: Gate, C: crate::Clock> Worker<
 }
 
 impl<L: Naming, R: Wait + Clock + Copy + Drop, G: Gate, C: crate::Clock> Context<'_, L, R, G, C> {
+    /// Takes what others left.
+    fn take_mail(&mut self) -> Mail {
+        let mut mail = mem::replace(&mut self.mail, Mail::new(self.alloc));
+        self.post.swap(self.rt, &mut mail);
+        mail
+    }
+
+    /// The worker tells those who are listed.
+    fn add_told(&mut self) {
+        let count = self.told.sessions().len();
+        self.batch.add_told(count);
+    }
+
+    /// Takes who is looked at again after a pause off the list.
+    fn take_again(&mut self) -> Vec<usize> {
+        mem::replace(&mut self.again, Vec::new(self.alloc))
+    }
+
     /// Has a place looked at again after a pause.
     fn look_again(&mut self, at: usize) {
         if self.again.push(at).is_err() {
@@ -309,10 +324,12 @@ impl<L: Naming, R: Wait + Clock + Copy + Drop, G: Gate, C: crate::Clock> Context
 
     /// Waits for events, no longer than until there is something to do without one.
     fn wait_for(&mut self, events: &mut Events) {
-        let has_left = self.batch.fill(self.rt, self.post);
-        let wait = self.wait(has_left || self.server.host.all.is_to_sweep());
+        let (rt, post) = (self.rt, self.post);
+        let has_left = self.batch.fill(rt, post);
+        let is_due = has_left || self.server.host.all.is_to_sweep();
+        let wait = self.wait(is_due);
         if self.poll.poll(events, wait).is_err() {
-            thread::sleep(self.rt, Duration::from_millis(PAUSE));
+            thread::sleep(rt, Duration::from_millis(PAUSE));
         }
     }
 }

@@ -24,7 +24,7 @@ const STACK: usize = 1_048_576;
 const MOST_LINES: usize = 32;
 
 /// What is read of a server's options while it runs.
-#[derive(Clone, Copy, Drop)]
+#[derive(Drop)]
 pub(super) struct Config<'a, G: Gate, C: crate::Clock> {
     gate: &'a G,
     clock: &'a C,
@@ -99,7 +99,13 @@ impl<L: Naming, R: Wait + Clock + Copy + Drop, G: Gate, C: crate::Clock> Shared<
     }
 
     /// Accepts connections until the server is asked to stop.
-    fn accept(&self, rt: &R, alloc: Global, doors: &mut Doors, teller: Option<&Teller>) {
+    fn accept<'a>(
+        &self,
+        rt: &'a R,
+        alloc: Global,
+        doors: &'a mut Doors,
+        teller: Option<&'a Teller>,
+    ) {
         let view = self.view(self.config.workers);
         let server = self.server(&view);
         Acceptor::new(rt, alloc, &server, &doors.listeners, teller).serve(&mut doors.watch);

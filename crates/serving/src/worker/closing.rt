@@ -67,7 +67,7 @@ impl<L: Naming, R: Wait + Clock + Copy + Drop, G: Gate, C: crate::Clock> Worker<
 
     /// Gives up all sessions that are to be given up now.
     pub(super) fn close_those(&mut self) {
-        let closing = mem::replace(&mut self.context.closing, Vec::new(self.context.alloc));
+        let closing = self.context.take_closing();
         for at in closing.iter() {
             self.close(*at);
         }
@@ -75,6 +75,11 @@ impl<L: Naming, R: Wait + Clock + Copy + Drop, G: Gate, C: crate::Clock> Worker<
 }
 
 impl<L: Naming, R: Wait + Clock + Copy + Drop, G: Gate, C: crate::Clock> Context<'_, L, R, G, C> {
+    /// Takes whose session is to be given up now off the list.
+    fn take_closing(&mut self) -> Vec<usize> {
+        mem::replace(&mut self.closing, Vec::new(self.alloc))
+    }
+
     /// Ends a session for this reason, where it is open.
     pub(super) fn hang(&mut self, session: SessionId, why: Why) {
         let _ = hang(self.rt, self.server, session, why, &mut self.told);

@@ -75,8 +75,8 @@ fn host_twice(alloc: Global, peer: SocketAddr) -> Option<(Octets, Octets)>
 /// What opening a session gives.
 type Given<L, R> = (SessionId, Baton<L, Sender<R>>, Stub<L, ChannelName>);
 
-/// Opens a session in the hall. Where its journal has no room for it, that is rolled, and it is tried again, by the
-/// host's copy.
+/// Opens a session in the hall, unless the server is to stop, and makes room for its connection. Where the journal has
+/// no room for it, that is rolled, and it is tried again, by the host's copy.
 fn open_or_roll<L: Naming, R: Wait + Clock + Copy + Drop>(
     hall: &mut Hall<L, Sender<R>>,
     host: Octets,
@@ -91,6 +91,9 @@ fn open_or_roll<L: Naming, R: Wait + Clock + Copy + Drop>(
     ensures session { IfSome result (λ given. given.2.session ≡ given.1.session) }
     ensures outbox { IfSome result (λ given. given.2.outbox ≡ Some sender.channel) }
 {
+    if all.is_stopping() || all.make_room().is_err() {
+        return None;
+    }
     let sender = match hall.open(host, moment, sender) {
         Ok(given) => return Some(given),
         Err((OpenRefusal::JournalFull, sender)) => sender,
@@ -176,9 +179,6 @@ impl<L: Naming, R: Wait + Clock + Copy + Drop, G: Gate, C: crate::Clock> Context
         let (connection, again) = self.connection_twice(at, incoming, &writer)?;
         let all = self.server.host.all;
         let mut hall = self.server.hall.lock(self.rt);
-        if all.is_stopping() || all.make_room().is_err() {
-            return None;
-        }
         let moment = moment_in(&*hall, self.server.host.now());
         let (session, baton, stub) = open_or_roll(&mut *hall, host, &told, moment, sender, all)?;
         all.add(session, again);
