@@ -42,8 +42,7 @@ impl<R: Wait + Copy + Drop> Input<R> {
 #[derive(Drop)]
 pub(crate) struct Client<L: Naming, R: Wait + Copy + Drop> {
     pub(crate) session: SessionId,
-    /// Its session's baton, but while its lines are done.
-    pub(crate) baton: Option<Baton<L, Sender<R>>>,
+    pub(crate) baton: Baton<L, Sender<R>>,
     pub(crate) connection: Arc<Connection<L, R>>,
     pub(crate) input: Input<R>,
     /// It stands in the list of those who may have more to be read.
@@ -66,7 +65,7 @@ impl<L: Naming, R: Wait + Copy + Drop> Client<L, R> {
     ) -> Client<L, R> {
         Client {
             session: baton.session(),
-            baton: Some(baton),
+            baton,
             connection,
             input,
             is_listed: false,

@@ -148,7 +148,6 @@ impl<L: Naming, R: Wait + Clock + Copy + Drop, G: Gate, C: crate::Clock> Context
             ..
         } = client;
         drop(input);
-        let baton = baton?;
         let Some(wire) = connection.outlet.end(self.rt, baton.session()) else {
             connection.end(code);
             return None;

@@ -7,7 +7,7 @@ use chronicle::Why;
 use session_io::hall::outbox::Sender;
 use session_io::hall::{Baton, Naming};
 use session_io::wire::Flow;
-use session_io::{Gate, Intake, Next, Took, read_some};
+use session_io::{Gate, Intake, Next, read_some};
 use std::io;
 use std::io::Read;
 use std::sync::Wait;
@@ -127,9 +127,7 @@ impl<L: Naming, R: Wait + Clock + Copy + Drop, G: Gate, C: crate::Clock> Context
         if client.connection.is_shut() {
             return false;
         }
-        let Some(next) = self.do_lines(client) else {
-            return false;
-        };
+        let next = self.do_lines(client);
         let has_more = client.input.has_more();
         self.write_where_wanted(&client.connection);
         client.is_held_up = next == Next::Left;
@@ -145,44 +143,33 @@ impl<L: Naming, R: Wait + Clock + Copy + Drop, G: Gate, C: crate::Clock> Context
         }
     }
 
-    /// Reads a client once, where what waits for it lets that be, and has the lines done that end in what that
-    /// brings, for which its baton is taken and put back.
-    fn do_lines(&mut self, client: &mut Client<L, R>) -> Option<Next> {
-        let baton = client.baton.take()?;
-        let Took { baton, next, .. } = self.read_input(
-            &client.connection,
-            &mut client.input,
+    /// Reads the payloads of a client that came by WebSocket, or else its stream, where what waits for it lets that be,
+    /// and has the lines done that end in what that brings.
+    fn do_lines(&mut self, client: &mut Client<L, R>) -> Next {
+        let Client {
             baton,
-        );
-        client.baton = Some(baton);
-        Some(next)
-    }
-
-    /// Reads the payloads of a client that came by WebSocket, or else its stream.
-    fn read_input(
-        &mut self,
-        connection: &Connection<L, R>,
-        input: &mut Input<R>,
-        baton: Baton<L, Sender<R>>,
-    ) -> Took<L, R> {
-        let Input { intake, payloads } = input;
+            connection,
+            input: Input { intake, payloads },
+            ..
+        } = client;
+        let connection = &**connection;
         match payloads {
-            Some(payloads) => self.read_counted(connection, intake, baton, payloads),
+            Some(payloads) => self.read_input(connection, intake, baton, payloads),
             None => {
                 let mut stream = &*connection.stream;
-                self.read_counted(connection, intake, baton, &mut stream)
+                self.read_input(connection, intake, baton, &mut stream)
             }
         }
     }
 
     /// Reads an input of a client, and counts what was read for the journal.
-    fn read_counted<I: Read>(
+    fn read_input<I: Read>(
         &mut self,
         connection: &Connection<L, R>,
         intake: &mut Intake,
-        baton: Baton<L, Sender<R>>,
+        baton: &mut Baton<L, Sender<R>>,
         input: &mut I,
-    ) -> Took<L, R> {
+    ) -> Next {
         let mut input = Counted { input, count: 0 };
         let told = &mut self.told;
         let took = read_some(
@@ -195,7 +182,7 @@ impl<L: Naming, R: Wait + Clock + Copy + Drop, G: Gate, C: crate::Clock> Context
             told,
         );
         self.server.host.all.kept.add(input.count);
-        took
+        took.next
     }
 
     /// Writes what waits for a client where another thread wanted to, and found that its WebSocket was being read.
