@@ -176,8 +176,8 @@ impl<L: Naming, O: Lasting> Book<L, O> {
         ensures begun { IsLineBegun self.old self.new (turn_of baton.now) piece.now moment result }
     {
         self.may_line(baton, moment)?;
-        let line = ReadLine::read(self.ledger.allocator(), piece)?;
-        self.begin_read(baton, line, moment)
+        let mut line = ReadLine::read(self.ledger.allocator(), piece)?;
+        self.begin_read(baton, &mut line, moment)
     }
 
     /// Puts the first delivery of the plan that is out into its session's outbox, or notes that the session missed
@@ -271,8 +271,8 @@ impl<L: Naming, O: Lasting> Book<L, O> {
         ensures untold { OnErr result (told.new ≡ told.old) }
     {
         self.may_line(baton, moment)?;
-        let line = ReadLine::read(self.ledger.allocator(), piece)?;
-        self.line_read(baton, line, moment, told)
+        let mut line = ReadLine::read(self.ledger.allocator(), piece)?;
+        self.line_read(baton, &mut line, moment, told)
     }
 
     /// Ends a session: one record is appended, and its last item is put, or missed where its outbox doesn't take it.

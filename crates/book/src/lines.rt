@@ -1,6 +1,7 @@
 //! Lines that were read before they are begun.
 ghost use Rattle.std.specs.Prelude.{◌≡◌, OnOk, OnErr};
 ghost use Rattle.chronicle.specs.declared.record.Kind.TheVariants as kind;
+ghost use Rattle.line_grammar.specs.declared.splitter.Piece.TheVariants as piece;
 ghost use Rattle.book.specs.Reaping.{turn_of};
 ghost use Rattle.book.specs.Telling.{TellsOf};
 
@@ -18,30 +19,35 @@ impl<L: Naming, O: Lasting> Book<L, O> {
     ghost use Rattle.ledger.specs.Ledger.{begun};
 
     /// Begins the next line of the baton's session, which was read before, as `begin` does. Whether its label counts
-    /// is decided here.
+    /// is decided here. The line is taken; a refusal leaves it.
     pub fn begin_read(
         &mut self,
         baton: &Baton<L, O>,
-        line: ReadLine,
+        line: &mut ReadLine,
         moment: Moment,
     ) -> Result<Plan, LineRefusal>
-        ensures begun { IsLineBegun self.old self.new (turn_of baton.now) line moment result }
+        ensures begun { IsLineBegun self.old self.new (turn_of baton.now) line.old moment result }
+        ensures taken { OnOk result (line.new ≡ piece.TooLong) }
+        ensures left { OnErr result (line.new ≡ line.old) }
     {
         self.ledger.begin(&baton.turn, line, moment)
     }
 
-    /// Accepts the next line of the baton's session, which was read before, as `line` does. A refusal changes nothing.
+    /// Accepts the next line of the baton's session, which was read before, as `line` does. The line is taken; a
+    /// refusal changes nothing, and leaves it.
     pub fn line_read(
         &mut self,
         baton: &mut Baton<L, O>,
-        line: ReadLine,
+        line: &mut ReadLine,
         moment: Moment,
         told: &mut Told,
     ) -> Result<Done, LineRefusal>
         ensures outcome { IsLineOutcome O.accepts O.refuses self.old self.new baton.old baton.new
-            line moment result }
+            line.old moment result }
         ensures told { OnOk result (TellsOf told.old told.new self.old.outboxes self.new.outboxes) }
         ensures untold { OnErr result (told.new ≡ told.old) }
+        ensures taken { OnOk result (line.new ≡ piece.TooLong) }
+        ensures left { OnErr result (line.new ≡ line.old) }
     {
         let mut plan = self.begin_read(baton, line, moment)?;
         self.put_rest(&mut plan, told);

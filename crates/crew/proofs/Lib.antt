@@ -1,2 +1,1 @@
 pub mod LinesRead
-pub mod Moments

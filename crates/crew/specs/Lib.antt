@@ -1,4 +1,3 @@
-pub mod Beating
 pub mod Doing
 pub mod Taking
 pub mod Writing

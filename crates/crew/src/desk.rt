@@ -1,11 +1,16 @@
 //! The slots of workers.
 //!
 //! A slot is a number in a queue between threads: no clause says when one comes. A server's worker needs none, since
-//! it does one line at a time.
+//! it does one line at a time. Who needs one takes it at the gate, before the lock of the hall is asked for, and so
+//! waits for it without the hall.
 ghost use Rattle.std.specs.Prelude.{◌<◌, ◌≤◌};
 
+use chronicle::{Moment, SessionId};
 use crossbeam_channel::{Receiver, Sender, bounded};
+use session_io::hall::Told;
+use session_io::{Clock, Gate, Host, Sockets};
 use std::alloc::{AllocError, Global};
+use std::cell::Cell;
 use std::sync::Wait;
 
 /// Holds one slot for each worker: who has one may do lines. It is shared by threads.
@@ -43,3 +48,78 @@ impl Desk {
         }
     }
 }
+
+/// A host for one thread, at whose gate a slot of a desk is taken before that of the host is passed, and given back
+/// after it.
+#[derive(Drop)]
+pub(crate) struct AtDesk<'a, R: Wait, H: Host> {
+    pub(crate) rt: &'a R,
+    pub(crate) host: &'a H,
+    pub(crate) desk: &'a Desk,
+    pub(crate) slot: Cell<Option<u64>>,
+}
+
+impl<R: Wait, H: Host> Gate for AtDesk<'_, R, H> {
+    fn enter(&self, session: SessionId) {
+        // The desk has both ends of its channel, which so answers no error.
+        for _ in self.rt.forever() {
+            let slot = self.desk.slot(self.rt);
+            if slot.is_some() {
+                self.slot.set(slot);
+                break;
+            }
+        }
+        self.host.enter(session);
+    }
+
+    fn leave(&self, session: SessionId) {
+        self.host.leave(session);
+        if let Some(slot) = self.slot.take() {
+            self.desk.back(self.rt, slot);
+        }
+    }
+}
+
+impl<R: Wait, H: Host> Sockets for AtDesk<'_, R, H> {
+    ghost shuts = { λ a t. H.shuts a.host.now t };
+
+    ghost finds_shut = { λ a t. H.finds_shut a.host.now t };
+
+    ghost tells = { λ a w. H.tells a.host.now w };
+
+    ghost stops = { λ a. H.stops a.host.now };
+
+    fn shut(&self, session: SessionId) {
+        self.host.shut(session);
+    }
+
+    fn is_shut(&self, session: SessionId) -> bool {
+        self.host.is_shut(session)
+    }
+
+    fn tell(&self, told: &Told) {
+        self.host.tell(told);
+    }
+
+    fn pause(&self) {
+        self.host.pause();
+    }
+
+    fn rolled(&self, dropped: usize) {
+        self.host.rolled(dropped);
+    }
+
+    fn stop(&self) {
+        self.host.stop();
+    }
+}
+
+impl<R: Wait, H: Host> Clock for AtDesk<'_, R, H> {
+    ghost shows = { λ a t. H.shows a.host.now t };
+
+    fn now(&self) -> Moment {
+        self.host.now()
+    }
+}
+
+impl<R: Wait, H: Host> Host for AtDesk<'_, R, H> {}

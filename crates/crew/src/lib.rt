@@ -1,27 +1,19 @@
-//! What the threads of a server do: lines under a lock, reading and writing, and the end of a session.
+//! A server's calls for who gives each stream threads of its own: loops over `session_io`, with lines done under the
+//! slots of a desk.
 //!
 //! A call that waits owes no return. What is promised of it holds if it returns.
 #![tactic(auto)]
 
-mod ahead;
 mod backlog;
-mod beating;
 mod desk;
-mod outlet;
 mod reading;
 mod working;
 mod writing;
 
-pub use backlog::{Backlog, NoBacklog};
-pub use beating::{Beaten, Late, Ticked, beat, hang_late, tick};
+pub use backlog::NoBacklog;
 pub use desk::Desk;
-pub use intakes::Intake;
-pub use outlet::{Outlet, Pumped};
-pub use reading::{Next, Took, read_on, read_some};
-pub use session_ends::{
-    Clock, Ending, Gate, GivenUp, Server, Sockets, Swept, close_now, close_up, give_up, hall, hang,
-    moment_in, sweep, tell,
-};
-pub use wire;
+pub use reading::read_on;
+pub use session_io;
+pub use session_io::{Clock, Gate, Host, Server, Sockets, close_up, hall, wire};
 pub use working::{Back, Job, Worked, work, work_one};
-pub use writing::{Standing, Written, write_on, write_some};
+pub use writing::write_on;

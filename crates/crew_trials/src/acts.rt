@@ -8,7 +8,8 @@ use crate::threads::work_at_once;
 use crate::wanting::{beats_again, closes_again, does_again, finds_none};
 use crate::writing::{goes_on, is_over, is_over_meanwhile, write_alone, writes};
 use chronicle::{SessionId, Why};
-use crew::{Next, NoBacklog, Outlet, Sockets, sweep, tell};
+use crew::NoBacklog;
+use crew::session_io::{Next, Outlet, Sockets, sweep, tell};
 use hall::{Naming, ReapRefusal};
 use std::sync::Wait;
 use std::sync::atomic::Ordering;
@@ -258,7 +259,7 @@ fn is_beaten_so<L: Naming, R: Wait + Drop>(
         Act::Clock(moment) => scene.sets_clock(moment),
         Act::Beats(moment, came) => beats(scene, moment) == came,
         Act::BeatsAgain(moment, came) => beats_again(scene, moment, came),
-        Act::WasTold(told) => scene.stage.sockets.was_told(session) == told,
+        Act::WasTold(told) => scene.stage.host.was_told(session) == told,
         Act::IsShut(shut) => scene.is_shut(session) == shut,
         Act::IsHung(number, why) => scene.is_hung(number, session, why),
         Act::IsEnded(number, why) => scene.is_ended(number, session, why),
@@ -271,7 +272,7 @@ fn is_seen_so<L: Naming, R: Wait + Drop>(scene: &Scene<'_, L, R>, act: &Act) -> 
     match *act {
         Act::Wrote(writes) => scene.around.tally.writes.load(Ordering::SeqCst) == writes,
         Act::Took(octets) => scene.around.tally.octets.load(Ordering::SeqCst) == octets,
-        Act::Paused(count) => scene.stage.sockets.paused.load(Ordering::SeqCst) == count,
+        Act::Paused(count) => scene.stage.host.paused.load(Ordering::SeqCst) == count,
         Act::Has(records) => scene.records() == records,
         Act::HasMade(records) => scene.has_made(records),
         Act::Dropped(records) => scene.dropped() == records,

@@ -3,7 +3,7 @@ use crate::acts::Act;
 use crate::scene::Scene;
 use crate::trial::{Step, Story, Who, try_out};
 use chronicle::Why;
-use crew::{Beaten, beat};
+use crew::session_io::{Beaten, beat};
 use hall::{Naming, TickRefusal, Told};
 use std::sync::Wait;
 
@@ -36,7 +36,7 @@ fn answer_of<L: Naming, R: Wait + Drop>(beaten: &Beaten<L, R>) -> Came {
 
 /// Has a beat at a moment.
 pub(crate) fn beats<L: Naming, R: Wait + Drop>(scene: &Scene<'_, L, R>, moment: i64) -> Came {
-    scene.stage.clock.set(moment);
+    scene.stage.host.set(moment);
     let mut told = Told::new(scene.alloc);
     answer_of(&beat(scene.rt, &scene.stage, &mut told))
 }

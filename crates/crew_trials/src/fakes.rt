@@ -1,6 +1,6 @@
 //! What stands for gates, connections, a clock and a client's input.
 use chronicle::{Moment, SessionId};
-use crew::{Backlog, Clock, Gate, Sockets};
+use crew::session_io::{Backlog, Clock, Gate, Host, Sockets};
 use hall::Told;
 use std::io::{ErrorKind, Read, Write};
 use std::sync::atomic::{AtomicBool, AtomicI64, AtomicU64, AtomicUsize, Ordering};
@@ -75,10 +75,11 @@ impl<R: time::Clock + Drop> Gate for Turnstile<R> {
     }
 }
 
-/// Connections of which is noted who was shut, who was told, how often a thread paused, how many
-/// records were dropped, and whether the server is to stop.
+/// A host with a gate that is always open, a clock that is set by hand, and connections of which is noted who was
+/// shut, who was told, how often a thread paused, how many records were dropped, and whether the server is to stop.
 #[derive(Drop)]
 pub(crate) struct Noted {
+    moment: AtomicI64,
     shut: AtomicU64,
     told: AtomicU64,
     pub(crate) paused: AtomicU64,
@@ -87,15 +88,21 @@ pub(crate) struct Noted {
 }
 
 impl Noted {
-    /// Nobody is shut.
+    /// Nobody is shut, and the clock shows 0.
     pub(crate) fn new() -> Noted {
         Noted {
+            moment: AtomicI64::new(0),
             shut: AtomicU64::new(0),
             told: AtomicU64::new(0),
             paused: AtomicU64::new(0),
             dropped: AtomicU64::new(0),
             is_stopped: AtomicBool::new(false),
         }
+    }
+
+    /// From now on the clock shows this moment.
+    pub(crate) fn set(&self, moment: i64) {
+        self.moment.store(moment, Ordering::SeqCst);
     }
 
     /// Whether a session was told since this was last asked of it.
@@ -109,6 +116,20 @@ impl Noted {
 fn bit_of(session: SessionId) -> u64 {
     1 << (session.number() % 64)
 }
+
+impl Gate for Noted {
+    fn enter(&self, _session: SessionId) {}
+
+    fn leave(&self, _session: SessionId) {}
+}
+
+impl Clock for Noted {
+    fn now(&self) -> Moment {
+        Moment::new(self.moment.load(Ordering::SeqCst))
+    }
+}
+
+impl Host for Noted {}
 
 impl Sockets for Noted {
     fn shut(&self, session: SessionId) {
@@ -136,32 +157,6 @@ impl Sockets for Noted {
 
     fn stop(&self) {
         self.is_stopped.store(true, Ordering::SeqCst);
-    }
-}
-
-/// A clock that is set by hand.
-#[derive(Drop)]
-pub(crate) struct Dial {
-    moment: AtomicI64,
-}
-
-impl Dial {
-    /// A clock that shows 0.
-    pub(crate) fn new() -> Dial {
-        Dial {
-            moment: AtomicI64::new(0),
-        }
-    }
-
-    /// From now on it shows this moment.
-    pub(crate) fn set(&self, moment: i64) {
-        self.moment.store(moment, Ordering::SeqCst);
-    }
-}
-
-impl Clock for Dial {
-    fn now(&self) -> Moment {
-        Moment::new(self.moment.load(Ordering::SeqCst))
     }
 }
 

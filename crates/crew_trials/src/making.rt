@@ -7,10 +7,10 @@ use crate::fakes::{Input, Open, Stream, Turnstile, Wanted};
 use crate::scene::Scene;
 use casemapping::is_host;
 use chronicle::{Moment, SessionId, Why};
-use crew::{
-    Backlog, Desk, Gate, GivenUp, Intake, Job, Next, Outlet, close_now, close_up, give_up, hang,
-    read_on, read_some, work, work_one, write_on,
+use crew::session_io::{
+    Backlog, GivenUp, Intake, Next, Outlet, close_now, give_up, hang, read_some,
 };
+use crew::{Desk, Gate, Job, close_up, read_on, work, work_one, write_on};
 use crew_apart::work_under_slot;
 use deliveries::{Item, write_out};
 use hall::{Baton, Hall, Left, LineRefusal, Naming, ReapRefusal, Stub, Told};
@@ -185,7 +185,7 @@ impl<L: Naming, R: Wait + Drop> Guest<L, R> {
         backlog: &B,
         input: &mut Input<'_>,
     ) -> (bool, Next) {
-        let Some(baton) = self.baton.take() else {
+        let Some(baton) = &mut self.baton else {
             return (false, Next::Nothing);
         };
         let Some(intake) = &mut self.intake else {
@@ -193,7 +193,6 @@ impl<L: Naming, R: Wait + Drop> Guest<L, R> {
         };
         let told = &mut self.told;
         let took = read_some(scene.rt, &scene.stage, intake, baton, backlog, input, told);
-        self.baton = Some(took.baton);
         (took.all, took.next)
     }
 

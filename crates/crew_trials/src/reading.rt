@@ -2,7 +2,7 @@
 use crate::acts::Act;
 use crate::trial::{Step, Story, Who, try_out};
 use chronicle::Why;
-use crew::Next;
+use crew::session_io::Next;
 use std::alloc::{AllocError, Global};
 use std::process::Abort;
 use std::sync::Wait;

@@ -1,5 +1,5 @@
 //! What all that is tried works with: a server in memory.
-use crate::fakes::{Dial, Noted, Open, Stream, Tally};
+use crate::fakes::{Noted, Stream, Tally};
 use chronicle::{Kind, RecordNumber, SessionId, Why};
 use crew::{Desk, Server, Sockets};
 use hall::{Hall, Naming};
@@ -8,12 +8,11 @@ use std::alloc::Global;
 use std::sync::atomic::Ordering;
 use std::sync::{Mutex, Wait};
 
-/// What stands around a hall: a desk with one slot, connections, a clock, and a count of what streams take.
+/// What stands around a hall: a desk with one slot, a host, and a count of what streams take.
 #[derive(Drop)]
 pub(crate) struct Surroundings {
     pub(crate) desk: Desk,
-    sockets: Noted,
-    clock: Dial,
+    host: Noted,
     pub(crate) tally: Tally,
 }
 
@@ -26,8 +25,7 @@ impl Surroundings {
         };
         Some(Surroundings {
             desk,
-            sockets: Noted::new(),
-            clock: Dial::new(),
+            host: Noted::new(),
             tally: Tally::new(),
         })
     }
@@ -41,9 +39,7 @@ impl Surroundings {
     ) -> Scene<'a, L, R> {
         let stage = Server {
             hall,
-            gate: &Open,
-            sockets: &self.sockets,
-            clock: &self.clock,
+            host: &self.host,
             burst: 4,
         };
         Scene {
@@ -56,7 +52,7 @@ impl Surroundings {
 }
 
 /// The server of a trial.
-pub(crate) type Stage<'a, L, R> = Server<'a, L, R, Open, Noted, Dial>;
+pub(crate) type Stage<'a, L, R> = Server<'a, L, R, Noted>;
 
 /// What all that is tried works with.
 #[derive(Drop)]
@@ -81,7 +77,7 @@ impl<'a, L: Naming, R: Wait + Drop> Scene<'a, L, R> {
 impl<L: Naming, R: Wait + Drop> Scene<'_, L, R> {
     /// The clock shows this moment.
     pub(crate) fn sets_clock(&self, moment: i64) -> bool {
-        self.stage.clock.set(moment);
+        self.stage.host.set(moment);
         true
     }
 
@@ -102,7 +98,7 @@ impl<L: Naming, R: Wait + Drop> Scene<'_, L, R> {
 
     /// How many records were dropped.
     pub(crate) fn dropped(&self) -> u64 {
-        self.stage.sockets.dropped.load(Ordering::SeqCst)
+        self.stage.host.dropped.load(Ordering::SeqCst)
     }
 
     /// Whether so many records were made, of which some may be dropped.
@@ -112,12 +108,12 @@ impl<L: Naming, R: Wait + Drop> Scene<'_, L, R> {
 
     /// Whether the server goes on.
     pub(crate) fn goes_on(&self) -> bool {
-        !self.stage.sockets.is_stopped.load(Ordering::SeqCst)
+        !self.stage.host.is_stopped.load(Ordering::SeqCst)
     }
 
     /// Whether a session was shut.
     pub(crate) fn is_shut(&self, session: SessionId) -> bool {
-        self.stage.sockets.is_shut(session)
+        self.stage.host.is_shut(session)
     }
 
     /// Whether the hall and the only slot are there.

@@ -5,7 +5,7 @@ use crate::acts::{Act, Props, is_so};
 use crate::fakes::Input;
 use crate::making::Guest;
 use crate::scene::{Scene, Surroundings};
-use crew::Outlet;
+use crew::session_io::Outlet;
 use crew_apart::hall;
 use hall::{Hall, Naming, Register};
 use outbox::{ChannelName, Sender};

@@ -8,7 +8,8 @@ use crate::making::{Guest, is_text};
 use crate::scene::Scene;
 use crate::trial::{Step, Story, Who, try_out};
 use chronicle::{SessionId, Why};
-use crew::{Next, NoBacklog};
+use crew::NoBacklog;
+use crew::session_io::Next;
 use hall::{LineRefusal, Naming, TickRefusal};
 use std::sync::Wait;
 
@@ -176,14 +177,14 @@ pub(crate) fn beats_again<L: Naming, R: Wait + Drop>(
     moment: i64,
     came: Came,
 ) -> bool {
-    let (records, sockets) = (scene.records(), scene.stage.sockets);
+    let (records, host) = (scene.records(), scene.stage.host);
     let first = beats(scene, moment);
     if first != Came::Refused(TickRefusal::Memory) {
         return first == came;
     }
     let mut is_same = scene.records() == records;
     for session in [SessionId::new(1), SessionId::new(2)] {
-        is_same = is_same && !sockets.was_told(session) && !scene.is_shut(session);
+        is_same = is_same && !host.was_told(session) && !scene.is_shut(session);
     }
     is_same && beats(scene, moment) == came
 }

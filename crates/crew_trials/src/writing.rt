@@ -5,7 +5,7 @@ use crate::making::Guest;
 use crate::scene::Scene;
 use crate::trial::{Step, Story, Who, try_out};
 use chronicle::{SessionId, Why};
-use crew::{Outlet, Sockets, Standing, write_some};
+use crew::session_io::{Outlet, Sockets, Standing, write_some};
 use hall::{Naming, Told};
 use outbox::Bell;
 use std::sync::Wait;
@@ -73,7 +73,7 @@ fn is_written_meanwhile<
             is_held.store(true, Ordering::SeqCst);
             let is_written = is_written(scene);
             drop(hall);
-            scene.stage.sockets.shut(session);
+            scene.stage.host.shut(session);
             bell.ring();
             is_written
         },

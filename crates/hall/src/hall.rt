@@ -48,7 +48,7 @@ impl<L: Naming, O: Lasting> Hall<L, O> {
     ghost use Rattle.book.specs.Outcomes.{IsLineOutcome, IsOpenOutcome, IsReapOutcome};
     ghost use Rattle.book.specs.Outcomes.{IsHangOutcome, IsRollOutcome, IsSweepOutcome, IsTickOutcome};
     ghost use Rattle.ledger.specs.Ledger.{empty_ledger, opened, IsSound, late};
-    ghost use Rattle.ledger.specs.Ledger.{is_here, base_of, nickname, to_ping, MayBegin, MayTick, HasRoom};
+    ghost use Rattle.ledger.specs.Ledger.{is_here, base_of, nickname, ended_for, to_ping, MayBegin, MayTick, HasRoom};
     ghost use Rattle.ledger.specs.Ledger.{IsSomebodyQuiet, IsLineRefusal, IsTickRefusal, IsOpenRefusal, MayOpen};
     ghost use Rattle.ledger.specs.Noted.{base_by, is_noted};
     ghost use Rattle.book.specs.Reaping.{turn_of};
@@ -299,6 +299,13 @@ impl<L: Naming, O: Lasting> Hall<L, O> {
             → result ≡ None }
     {
         self.book.ledger().nick_of(session)
+    }
+
+    /// Why a session ended, whether or not its records were dropped; where that was never told its outbox was full.
+    pub fn why_of(&self, session: SessionId) -> Why
+        ensures { result ≡ ended_for self.now session }
+    {
+        self.book.ledger().why_of(session)
     }
 
     /// What holds of every hall: its history is legal, what was put into each session's outbox is what the history

@@ -2,6 +2,7 @@
 ghost use Rattle.std.specs.Prelude.{◌≡◌, ◌≢◌};
 ghost use Rattle.std.specs.Prelude.{IfErr, OnOk, OnErr};
 ghost use Rattle.chronicle.specs.declared.record.Kind.TheVariants as kind;
+ghost use Rattle.line_grammar.specs.declared.splitter.Piece.TheVariants as piece;
 ghost use Rattle.book.specs.Telling.{TellsOf};
 
 use crate::hall::Hall;
@@ -35,19 +36,21 @@ impl<L: Naming, O: Lasting> Hall<L, O> {
     }
 
     /// Accepts the next line of the baton's session, which was read before the hall was taken, as `line_told` does.
-    /// Whether its label counts is decided here, by the capabilities that the session has before the line. A refusal
-    /// changes nothing.
+    /// Whether its label counts is decided here, by the capabilities that the session has before the line. The line
+    /// is taken; a refusal changes nothing, and leaves it.
     pub fn line_read(
         &mut self,
         baton: &mut Baton<L, O>,
-        line: ReadLine,
+        line: &mut ReadLine,
         moment: Moment,
         told: &mut Told,
     ) -> Result<Done, LineRefusal>
         ensures outcome { IsLineOutcome O.accepts O.refuses self.old self.new baton.old baton.new
-            line moment result }
+            line.old moment result }
         ensures told { OnOk result (TellsOf told.old told.new self.old.outboxes self.new.outboxes) }
         ensures untold { OnErr result (told.new ≡ told.old) }
+        ensures taken { OnOk result (line.new ≡ piece.TooLong) }
+        ensures left { OnErr result (line.new ≡ line.old) }
         ensures not_busy { IfErr result (λ e. e ≢ LineRefusal.Busy) }
     {
         self.book.line_read(baton, line, moment, told)

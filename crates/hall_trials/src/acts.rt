@@ -75,6 +75,8 @@ pub(crate) enum Act {
     Counted(u64, Option<u64>, Option<u64>),
     /// Of the records that were dropped it is known that so many sessions came.
     Came(usize),
+    /// It ended for this reason.
+    Ended(u64, Why),
     /// So many records are there.
     Has(usize),
     /// This record is there, or isn't.
@@ -179,6 +181,7 @@ fn is_seen_so<L: Naming, O: Lasting<Taker = T>, T: Drop>(
         Act::Has(records) => hall.len() == records,
         Act::IsKept(number, is_kept) => has_record(hall, number) == is_kept,
         Act::IsOpen(session, is_open) => hall.is_open(stage.id(session)) == is_open,
+        Act::Ended(session, why) => hall.why_of(stage.id(session)) == why,
         _ => false,
     }
 }

@@ -24,8 +24,8 @@ const ROLLED: [Act; 5] = [
 ];
 
 /// The next record is kept, and the one before isn't. Al goes, and isn't counted any more once the journal is rolled
-/// again.
-const GONE: [Act; 10] = [
+/// again. Why it ended is known after that, too.
+const GONE: [Act; 11] = [
     Act::IsKept(6, false),
     Act::IsKept(7, true),
     Act::Has(1),
@@ -36,6 +36,7 @@ const GONE: [Act; 10] = [
     Act::Leaves(1, 6),
     Act::Rolled(3, 10),
     Act::Counted(1, None, None),
+    Act::Ended(1, Why::Shutdown),
 ];
 
 /// No record is dropped, and it is known that nobody came.

@@ -32,7 +32,7 @@ fn number_of(answer: Result<Done, LineRefusal>) -> Answer {
 }
 
 impl<L: Naming, O: Lasting<Taker = T>, T: Drop> Guest<L, O, T> {
-    /// What the line is answered that was read, which has no turn where none was.
+    /// What the line is answered that was read, which has no turn where none was. Where it is refused it stays.
     fn does(
         &mut self,
         hall: &mut Hall<L, O>,
@@ -40,10 +40,14 @@ impl<L: Naming, O: Lasting<Taker = T>, T: Drop> Guest<L, O, T> {
         moment: Moment,
         told: &mut Told,
     ) -> Answer {
-        match read.take() {
-            Some(line) => number_of(hall.line_read(&mut self.baton, line, moment, told)),
-            None => Err(LineRefusal::WrongTurn),
+        let Some(line) = read else {
+            return Err(LineRefusal::WrongTurn);
+        };
+        let answer = number_of(hall.line_read(&mut self.baton, line, moment, told));
+        if answer.is_ok() {
+            *read = None;
         }
+        answer
     }
 
     /// What a line is answered that adds its hearers to a list.
@@ -186,7 +190,7 @@ impl<L: Naming, O: Lasting<Taker = T>, T: Drop> Stage<L, O, T> {
     }
 
     /// Whether this line, which was read, is answered so, and has its record where it is accepted. Where a growth is
-    /// refused the hall has as many records as before, and the line is read and done once more.
+    /// refused the hall has as many records as before, and the line, which is left, is done once more.
     pub(crate) fn does(
         &mut self,
         alloc: Global,
@@ -197,7 +201,7 @@ impl<L: Naming, O: Lasting<Taker = T>, T: Drop> Stage<L, O, T> {
     ) -> bool {
         let before = hall.len();
         let mut answer = self.does_once(hall, session);
-        if answer == Err(LineRefusal::Memory) && hall.len() == before && self.reads(alloc, text) {
+        if answer == Err(LineRefusal::Memory) && hall.len() == before {
             answer = self.does_once(hall, session);
         }
         answer == wanted && self.brings(alloc, text) && self.is_done(hall, session, wanted)

@@ -54,7 +54,7 @@ pub heard_more : (f : ℕ → Heard) (hs : List ℕ) (k h : ℕ) → k < length 
 heard_more f hs k h l is = ap (map f) (take_more hs k h l ∙ ap (λ (y : ℕ). take k hs ++ y ∷ []) (sym is))
     ∙ map-append f (take k hs) (h ∷ [])
 
-heard_each : (fs : List Deed) (moment : ℤ) (line : Out) (hs : List ℕ) (t : ℕ) → text_for
+pub heard_each : (fs : List Deed) (moment : ℤ) (line : Out) (hs : List ℕ) (t : ℕ) → text_for
     (map (heard_by fs moment line) hs) t ≡ rendered (caps fs t) moment (map (tagged_as None) (heard hs line t))
 heard_each fs moment line [] t = refl
 heard_each fs moment line (h ∷ hs) t =
@@ -78,7 +78,7 @@ heard_all fs moment (x ∷ xs) t =
 abbrev goes_before : Heard → Heard → Bool
 goes_before x y = is_lt (nat_cmp x.session y.session)
 
-session_ties : (a b : ℕ) → (not (is_lt (nat_cmp a b)) && not (is_lt (nat_cmp b a))) ≡ (b == a)
+pub session_ties : (a b : ℕ) → (not (is_lt (nat_cmp a b)) && not (is_lt (nat_cmp b a))) ≡ (b == a)
 session_ties a b = grind (arith, nat_tests)
 
 -- it leaves the texts of each session as they were

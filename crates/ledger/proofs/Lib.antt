@@ -7,6 +7,7 @@ pub mod Counted
 pub mod Mapped
 pub mod Begun
 pub mod Heards
+pub mod Ascending
 pub mod Plans
 pub mod Puts
 pub mod KeptSteps

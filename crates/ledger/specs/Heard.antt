@@ -1,5 +1,5 @@
 -- What hearers hear of a record, and the deliveries that are made of it.
-use Rattle.std.specs.Prelude.{ℕ, ℤ, ◌≤◌, ◌==◌, cond, List, [], ◌∷◌, ◌++◌, filter, map}
+use Rattle.std.specs.Prelude.{ℕ, ℤ, ◌<◌, ◌≤◌, ◌==◌, cond, List, [], ◌∷◌, ◌++◌, filter, map}
 use Rattle.std.specs.List.{flat_map}
 use Rattle.numerics.specs.declared.outgoing.Out.{Out}
 use Rattle.roster.specs.declared.deed.Deed.{Deed}
@@ -28,6 +28,11 @@ text_for xs t = flat_map (λ x. x.text) (filter (λ x. x.session == t) xs)
 abbrev pub rises : ℕ → List Heard → Type 0
 rises k [] = Unit {0}
 rises k (x ∷ xs) = (k ≤ x.session) × rises x.session xs
+
+-- sessions stand by their numbers, each once, after number k
+abbrev pub ascends : ℕ → List ℕ → Type 0
+ascends k [] = Unit {0}
+ascends k (t ∷ ts) = (k < t) × ascends t ts
 
 -- a text and those after it, where those of one session that stand side by side are made one
 abbrev pub joined_to : Heard → List Heard → List Heard

@@ -4,6 +4,7 @@ use Rattle.std.specs.Prelude.{cond, List, [], ◌∷◌, ◌++◌, length, map, 
 use Rattle.std.specs.Prelude.{slice_index_or, slice_set, Option, Some, None, IsSome, All}
 use Rattle.std.specs.Option.{is_some}
 use Rattle.line_grammar.specs.declared.splitter.Piece.{Piece}
+use Rattle.chronicle.specs.declared.why.Why.{Why}
 use Rattle.chronicle.specs.declared.record.Kind.{Kind}
 use Rattle.chronicle.specs.declared.record.Kind.TheVariants.{Opened, Said, Hung, Gone, Ticked}
 use Rattle.chronicle.specs.History.{Rec, IsMomentAfter, last_moment, sessions, actor, accepted, misses, shut, gone}
@@ -37,7 +38,7 @@ use Rattle.deliveries.specs.Owed.{delivery, owed}
 use Rattle.deliveries.specs.Base.{Base, base, dropped_part, kept_part}
 use Rattle.ledger.specs.Legal.{IsLegal}
 use Rattle.deeds.specs.Deeds.{facts}
-use Rattle.roster.specs.LookBack.{numbers, nick}
+use Rattle.roster.specs.LookBack.{numbers, nick, why}
 
 -- the history, how many records may be kept of it and how many were dropped, the settings of the server, each
 -- session's outbox until it is reaped, the deliveries of the newest record that aren't put yet, and whether a plan
@@ -53,6 +54,10 @@ pub record Shown (O : Type 0) : Type 0 where
 -- the nickname of session s by what was accepted: none once it is gone
 abbrev pub nickname : {O : Type 0} → Shown O → ℕ → Option (List ℕ)
 nickname m s = nick (facts m.settings m.history) s
+
+-- why session s ended by what was accepted; where that was never told its outbox was full
+abbrev pub ended_for : {O : Type 0} → Shown O → ℕ → Why
+ended_for m s = why (facts m.settings m.history) s
 
 -- the outbox of session t, until it is reaped
 abbrev pub box_at : {O : Type 0} → List (Option O) → ℕ → Option O

@@ -1,15 +1,16 @@
 //! What each hearer of a record hears.
 //!
 //! Each hearer of each line has the text as it takes it. A stable sort puts those of one session side by side, by the
-//! numbers of the sessions, in the order that they have.
-ghost use Rattle.std.specs.Prelude.{◌≡◌, ℕ, ◌++◌, map, IfOk, OnOk};
+//! numbers of the sessions, in the order that they have. Where one line is shown, its hearers are sorted before they
+//! hear it.
+ghost use Rattle.std.specs.Prelude.{◌≡◌, ◌==◌, ℕ, ◌++◌, filter, map, true, IfOk, OnOk};
 ghost use Rattle.ledger.specs.Seats.{heard_text};
-ghost use Rattle.ledger.specs.Heard.{heard_by, all_heard, text_for, rises};
+ghost use Rattle.ledger.specs.Heard.{heard_by, all_heard, text_for, rises, ascends};
 
 use chronicle::{RecordMoment, SessionId};
 use deeds::Shown;
 use labels_batches::{Spellings, Text};
-use roster::Roster;
+use roster::{Roster, Sessions};
 use std::alloc::{AllocError, Global};
 
 /// A text that a session hears.
@@ -20,7 +21,11 @@ pub(crate) struct Heard {
 }
 
 /// A line as a session takes it.
-fn hear_one(roster: &Roster, session: SessionId, line: &mut Spellings) -> Result<Heard, AllocError>
+pub(crate) fn hear_one(
+    roster: &Roster,
+    session: SessionId,
+    line: &mut Spellings,
+) -> Result<Heard, AllocError>
     ensures same { line.new ≡ line.old }
     ensures heard { IfOk result
         (λ x. x ≡ heard_by roster.now.facts line.old.moment line.old.line session) }
@@ -90,6 +95,37 @@ fn sort_by_session(heard: &mut Vec<Heard>) -> Result<(), AllocError>
         { one.session.number() },
     )?;
     Ok(())
+}
+
+/// Whether sessions stand by their numbers, each once.
+pub(crate) fn ascend(sessions: &[SessionId]) -> bool
+    ensures { result ≡ true → ascends 0 sessions.now }
+{
+    let mut last = 0;
+    for session in sessions {
+        if session.number() <= last {
+            return false;
+        }
+        last = session.number();
+    }
+    true
+}
+
+/// Hearers by their numbers. Those that stand so are handed back as they are.
+pub(crate) fn by_number(alloc: Global, hearers: Sessions) -> Result<Sessions, AllocError>
+    ensures { IfOk result (λ sorted. (t : ℕ)
+        → filter (λ h. h == t) sorted ≡ filter (λ h. h == t) hearers) }
+{
+    if ascend(hearers.as_slice()) {
+        return Ok(hearers);
+    }
+    let mut sorted = Vec::from_slice(alloc, hearers.as_slice())?;
+    sorted.sort_by_key(
+        |session: &SessionId| -> u64
+            ensures { result ≡ session.now }
+        { session.number() },
+    )?;
+    Ok(Sessions::from_vec(sorted))
 }
 
 /// What the hearers of lines hear, by the numbers of their sessions.

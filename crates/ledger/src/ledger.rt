@@ -93,7 +93,7 @@ impl<O: Outbox> Ledger<O> {
     ghost use Rattle.ledger.specs.Ledger.{IsDone, IsLeft, to_sweep, IsKnown, MayOpen, MayBegin, MayHang};
     ghost use Rattle.ledger.specs.Ledger.{MaySweep, MayReap, IsOpenRefusal, IsLineRefusal, IsHangRefusal};
     ghost use Rattle.ledger.specs.Ledger.{IsSweepRefusal, IsReapRefusal, IsSound, IsOut, newest_missed, held};
-    ghost use Rattle.ledger.specs.Ledger.{is_here, rolled, base_of, IsRollRefusal};
+    ghost use Rattle.ledger.specs.Ledger.{is_here, ended_for, rolled, base_of, IsRollRefusal};
     ghost use Rattle.ledger.specs.Noted.{base_by, is_noted};
 
     /// An empty ledger for at most `limit` records. Names are hashed by keys that everybody knows.
@@ -633,6 +633,13 @@ impl<O: Outbox> Ledger<O> {
         ensures none { (0 < session → session ≤ sessions self.now.history → ⊥) → result ≡ None }
     {
         self.roster.nick_of(session)
+    }
+
+    /// Why a session ended by the history; where that was never told its outbox was full.
+    pub fn why_of(&self, session: SessionId) -> Why
+        ensures { result ≡ ended_for self.now session }
+    {
+        self.roster.why_of(session)
     }
 
     /// Whether a session is on a channel by the history.

@@ -2,6 +2,7 @@
 ghost use Rattle.std.specs.Prelude.{◌≡◌, ◌<◌, ◌+◌, ◌^◌, length, Some, IsSome, IfSome, IfOk, IfErr, OnOk, OnErr};
 ghost use Rattle.chronicle.specs.declared.record.Kind.TheVariants as kind;
 ghost use Rattle.chronicle.specs.Journal.{most};
+ghost use Rattle.line_grammar.specs.declared.splitter.Piece.TheVariants as piece;
 
 use crate::ledger::{Ledger, reserve};
 use crate::out::Plan;
@@ -19,21 +20,23 @@ impl<O: Outbox> Ledger<O> {
 
     /// Begins the next line of a session, which was read before: its record is appended, and a plan of its
     /// deliveries is handed out. Whether its label counts is decided here, by the capabilities that the session has
-    /// before the line. A refusal changes nothing.
+    /// before the line. The line is taken; a refusal changes nothing, and leaves it.
     pub fn begin(
         &mut self,
         turn: &Turn,
-        line: ReadLine,
+        line: &mut ReadLine,
         moment: Moment,
     ) -> Result<Plan, LineRefusal>
-        ensures ok { OnOk result
-            (self.new ≡ begun self.old (kind.Said turn.now.session turn.now.next line) moment) }
+        ensures ok { OnOk result (self.new
+            ≡ begun self.old (kind.Said turn.now.session turn.now.next line.old) moment) }
         ensures out { IfOk result (λ p. IsOut self.new p) }
         ensures line { IfOk result
             (λ p. (p.session ≡ turn.now.session) × (p.next ≡ Some (turn.now.next + 1))) }
         ensures may { OnOk result (MayBegin self.old turn.now moment) }
         ensures refusal { IfErr result (λ e. IsLineRefusal self.old turn.now moment e) }
         ensures err { OnErr result (self.new ≡ self.old) }
+        ensures taken { OnOk result (line.new ≡ piece.TooLong) }
+        ensures left { OnErr result (line.new ≡ line.old) }
     {
         self.check_line(turn, moment)?;
         Ok(self.begin_checked(turn, line, moment)?)
@@ -43,17 +46,19 @@ impl<O: Outbox> Ledger<O> {
     pub(crate) fn begin_checked(
         &mut self,
         turn: &Turn,
-        line: ReadLine,
+        line: &mut ReadLine,
         moment: Moment,
     ) -> Result<Plan, AllocError>
         requires may { MayBegin self.old turn.now moment }
         requires fits { most self.old.limit < 2 ^ 64 }
-        ensures ok { OnOk result
-            (self.new ≡ begun self.old (kind.Said turn.now.session turn.now.next line) moment) }
+        ensures ok { OnOk result (self.new
+            ≡ begun self.old (kind.Said turn.now.session turn.now.next line.old) moment) }
         ensures out { IfOk result (λ p. IsOut self.new p) }
         ensures line { IfOk result
             (λ p. (p.session ≡ turn.now.session) × (p.next ≡ Some (turn.now.next + 1))) }
         ensures err { OnErr result (self.new ≡ self.old) }
+        ensures taken { OnOk result (line.new ≡ piece.TooLong) }
+        ensures left { OnErr result (line.new ≡ line.old) }
     {
         let number = RecordNumber::new(self.journal.newest() as u64 + 1);
         let by = Planning {
@@ -64,7 +69,7 @@ impl<O: Outbox> Ledger<O> {
             number,
             moment: moment_of_record(moment),
         };
-        let (prepared, piece, quits) = prepare_line(&by, line)?;
+        let (prepared, quits) = prepare_line(&by, line)?;
         let Prepared {
             deeds,
             plan,
@@ -78,7 +83,7 @@ impl<O: Outbox> Ledger<O> {
             Kind::Said {
                 session: turn.session,
                 index: turn.next,
-                piece,
+                piece: line.take(),
             },
         );
         commit(&mut self.roster, deeds);

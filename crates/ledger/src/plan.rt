@@ -1,8 +1,8 @@
 //! The deliveries of a record, before they are put.
 //!
 //! The actor's own text is planned last, put first, and stands apart from the others', so no list takes memory where
-//! only the actor is told.
-ghost use Rattle.std.specs.Prelude.{◌≡◌, ◌≤◌, ◌≤ℤ◌, ◌++◌, [], false, not, length, pos};
+//! only the actor is told. Where one line is shown, as of most records, its hearers are planned in one pass.
+ghost use Rattle.std.specs.Prelude.{◌≡◌, ◌≤◌, ◌≤ℤ◌, ◌++◌, ◌∷◌, [], false, map, not, length, pos};
 ghost use Rattle.std.specs.Prelude.{None, OnOk, IfOk, option_to_list};
 ghost use Rattle.chronicle.specs.History.{is_quit};
 ghost use Rattle.roster.specs.LookBack.{after, caps, opened};
@@ -16,21 +16,20 @@ ghost use Rattle.deeds.specs.Departure.{departs};
 ghost use Rattle.deeds.specs.Rows.{of_asked};
 ghost use Rattle.deeds.specs.Deeds.{spelled};
 ghost use Rattle.drafts.specs.Verdicts.{IsVerdict};
-ghost use Rattle.ledger.specs.Ledger.{puts};
-ghost use Rattle.ledger.specs.Seats.{hears, told_own, heard_text, pinged_text, planned_from, planned_with};
-ghost use Rattle.ledger.specs.Heard.{delivery_of, deliveries_of, joined};
+ghost use Rattle.ledger.specs.Ledger.{others, puts};
+ghost use Rattle.ledger.specs.Seats.{hears, told_own, told_to, heard_text, pinged_text, planned_from, planned_with};
+ghost use Rattle.ledger.specs.Heard.{delivery_of, deliveries_of, heard_by, joined};
 ghost use Rattle.ledger.specs.Read.{counted};
 
-use crate::heard::{Heard, heard_in_order};
+use crate::heard::{Heard, ascend, by_number, hear_one, heard_in_order};
 use crate::read_line::ReadLine;
 use crate::seats::Seats;
 use crate::to_put::ToPut;
 use chronicle::{Moment, RecordMoment, RecordNumber, SessionId, Why};
-use commands::Asked;
 use deeds::{Shown, Verdict, decide, decide_gone, ping};
 use deliveries::Delivery;
-use labels_batches::{Receiver, Text, answer_text, takes_labels};
-use line_grammar::{Octets, Piece};
+use labels_batches::{Receiver, Spellings, Text, answer_text, takes_labels};
+use line_grammar::Octets;
 use numerics::Line;
 use roster::{Deed, Roster, Sessions};
 use smallvec::SmallVec;
@@ -156,6 +155,67 @@ fn plan_others(
     Ok(plan)
 }
 
+/// The deliveries of a line to hearers that stand by their numbers, each once.
+fn plan_line(
+    by: &Planning<'_>,
+    hearers: &[SessionId],
+    line: &mut Spellings,
+) -> Result<VecDeque<Planned>, AllocError>
+    ensures { IfOk result
+        (λ plan. plan.items ≡ deliveries_of by.now.seats.now by.now.actor by.now.number
+        (map (heard_by by.now.roster.now.facts line.old.moment line.old.line) hearers.now)) }
+{
+    let mut plan = VecDeque::with_capacity(by.alloc, hearers.len())?;
+    for hearer in hearers {
+        let heard = hear_one(by.roster, *hearer, line)?;
+        plan_one(&mut plan, by.seats, by.actor, by.number, heard)?;
+    }
+    Ok(plan)
+}
+
+/// The deliveries of lines, by session number.
+fn plan_lines(by: &Planning<'_>, shown: Vec<Shown>) -> Result<VecDeque<Planned>, AllocError>
+    ensures { IfOk result (λ plan. plan.items ≡ others (told_to by.now.seats.now by.now.number
+        (heard_text by.now.roster.now.facts by.now.moment shown.items)) by.now.actor 1
+        (length by.now.seats.now)) }
+{
+    let heard = heard_in_order(by.alloc, by.roster, shown, by.moment)?;
+    plan_others(by.alloc, by.seats, heard, by.actor, by.number)
+}
+
+/// The deliveries of one line, by session number.
+fn plan_sole(by: &Planning<'_>, shown: Shown) -> Result<VecDeque<Planned>, AllocError>
+    ensures { IfOk result (λ plan. plan.items ≡ others (told_to by.now.seats.now by.now.number
+        (heard_text by.now.roster.now.facts by.now.moment (shown ∷ []))) by.now.actor 1
+        (length by.now.seats.now)) }
+{
+    let Shown { hearers, line } = shown;
+    let hearers = by_number(by.alloc, hearers)?;
+    if ascend(hearers.as_slice()) {
+        let mut line = Spellings::new(by.alloc, line, by.moment)?;
+        return plan_line(by, hearers.as_slice(), &mut line);
+    }
+    let mut shown = Vec::new(by.alloc);
+    shown.push(Shown { hearers, line })?;
+    plan_lines(by, shown)
+}
+
+/// The deliveries of what others are shown, by session number.
+fn plan_shown(by: &Planning<'_>, shown: Vec<Shown>) -> Result<VecDeque<Planned>, AllocError>
+    ensures { IfOk result (λ plan. plan.items ≡ others (told_to by.now.seats.now by.now.number
+        (heard_text by.now.roster.now.facts by.now.moment shown.items)) by.now.actor 1
+        (length by.now.seats.now)) }
+{
+    let mut shown = shown;
+    if shown.len() != 1 {
+        return plan_lines(by, shown);
+    }
+    match shown.pop() {
+        Some(sole) => plan_sole(by, sole),
+        None => plan_lines(by, shown),
+    }
+}
+
 /// Plans what the actor is told: where it quits by the record, its last item.
 fn plan_own(by: &Planning<'_>, text: Octets, quits: bool) -> Result<Option<Planned>, AllocError>
     ensures { IfOk result (λ own. option_to_list own ≡ puts by.now.actor
@@ -189,8 +249,7 @@ fn plan_for(
     ensures { IfOk result (λ plan. plan ≡ planned_with by.now.seats.now by.now.actor by.now.number
         own (heard_text by.now.roster.now.facts by.now.moment shown.items) quits) }
 {
-    let heard = heard_in_order(by.alloc, by.roster, shown, by.moment)?;
-    let others = plan_others(by.alloc, by.seats, heard, by.actor, by.number)?;
+    let others = plan_shown(by, shown)?;
     let first = plan_own(by, own, quits)?;
     Ok(ToPut::new(first, others))
 }
@@ -227,60 +286,47 @@ fn with_room(
     })
 }
 
-/// Decides what a session does that asks for this, and whether it quits by it.
-fn decide_asked(by: &Planning<'_>, asked: Asked) -> Result<(Verdict, bool), AllocError>
-    requires known { IsOpened by.now.roster.now.facts by.now.actor }
-    ensures verdict { IfOk result (λ v. IsVerdict v.0 by.now.actor
-        (of_asked by.now.roster.now.settings by.now.roster.now.facts by.now.actor asked)) }
-    ensures next { IfOk result (λ v. AreNext by.now.roster.now.facts v.0.deeds.items) }
-    ensures opened { IfOk result (λ v. opened (after by.now.roster.now.facts v.0.deeds.items)
-        ≡ opened by.now.roster.now.facts) }
-    ensures quits { IfOk result (λ v. v.1 ≡ asks_for_quit asked) }
-{
-    let verdict = decide(by.alloc, by.roster, by.actor, &asked, by.moment.moment())?;
-    Ok((verdict, asked.is_quit()))
-}
-
 /// The label of a line as it counts for the actor, by the capabilities that it has before the line.
-fn counted_label(by: &Planning<'_>, label: Option<Octets>) -> Option<Octets>
-    ensures { result ≡ counted (caps by.now.roster.now.facts by.now.actor) label }
+fn counted_label(by: &Planning<'_>, label: &Option<Octets>) -> Result<Option<Octets>, AllocError>
+    ensures { IfOk result
+        (λ l. l ≡ counted (caps by.now.roster.now.facts by.now.actor) label.now) }
 {
-    if takes_labels(by.roster.caps_of(by.actor)) {
-        label
-    } else {
-        None
+    match label {
+        Some(label) if takes_labels(by.roster.caps_of(by.actor)) => Ok(Some(label.clone()?)),
+        _ => Ok(None),
     }
 }
 
-/// Decides what a line of a session does, plans its deliveries, and hands its piece back.
+/// Decides what a line of a session does, and plans its deliveries.
 pub(crate) fn prepare_line(
     by: &Planning<'_>,
-    line: ReadLine,
-) -> Result<(Prepared, Piece, bool), AllocError>
+    line: &ReadLine,
+) -> Result<(Prepared, bool), AllocError>
     requires known { IsOpened by.now.roster.now.facts by.now.actor }
     ensures deeds { IfOk result (λ p. p.0.deeds.items ≡ deeds_of (of_asked
-        by.now.roster.now.settings by.now.roster.now.facts by.now.actor (asked_of line))) }
+        by.now.roster.now.settings by.now.roster.now.facts by.now.actor (asked_of line.now))) }
     ensures next { IfOk result (λ p. AreNext by.now.roster.now.facts p.0.deeds.items) }
     ensures opened { IfOk result (λ p. opened (after by.now.roster.now.facts p.0.deeds.items)
         ≡ opened by.now.roster.now.facts) }
-    ensures piece { IfOk result (λ p. p.1 ≡ line) }
-    ensures quits { IfOk result (λ p. p.2 ≡ is_quit line) }
+    ensures quits { IfOk result (λ p. p.1 ≡ is_quit line.now) }
     ensures plan { IfOk result (λ p. p.0.plan ≡ planned_from by.now.seats.now by.now.actor
         by.now.number (spelled by.now.roster.now.settings by.now.roster.now.facts by.now.actor
-        (label_of (caps by.now.roster.now.facts by.now.actor) line)
+        (label_of (caps by.now.roster.now.facts by.now.actor) line.now)
         (of_asked by.now.roster.now.settings by.now.roster.now.facts by.now.actor
-        (asked_of line)) by.now.moment by.now.number) p.2) }
+        (asked_of line.now)) by.now.moment by.now.number) p.1) }
     ensures missed { IfOk result
         (λ p. (p.0.missed.items ≡ []) × (length p.0.plan ≤ p.0.missed.capacity)) }
 {
-    let ReadLine {
-        piece,
-        asked,
-        label,
-    } = line;
-    let (verdict, quits) = decide_asked(by, asked)?;
-    let prepared = with_room(by, counted_label(by, label), verdict, quits)?;
-    Ok((prepared, piece, quits))
+    let label = counted_label(by, &line.label)?;
+    let quits = line.asked.is_quit();
+    let verdict = decide(
+        by.alloc,
+        by.roster,
+        by.actor,
+        &line.asked,
+        by.moment.moment(),
+    )?;
+    Ok((with_room(by, label, verdict, quits)?, quits))
 }
 
 /// Decides what it does that a session is gone, and plans who is told.

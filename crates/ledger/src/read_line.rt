@@ -1,10 +1,12 @@
 //! A line that was read before it is begun.
 ghost use Rattle.std.specs.Prelude.{◌≡◌, IfOk};
+ghost use Rattle.line_grammar.specs.declared.splitter.Piece.TheVariants as piece;
 
 use commands::{Asked, ReadPiece, read_piece};
 use line_grammar::{Octets, Piece};
 use std::alloc::{AllocError, Global};
 use std::marker::Model;
+use std::mem::replace;
 
 /// An accepted piece with what it asks for and its label, so that nothing is left to be read when its line is begun.
 /// Whether the label counts is decided then. A clause sees the piece.
@@ -39,5 +41,16 @@ impl ReadLine {
             asked,
             label,
         })
+    }
+
+    /// Takes the piece out. What stays is what a line that is too long is read as.
+    #[tactic(auto, unfolding(commands::specs::Asked::asked_of, chronicle::specs::History::is_quit))]
+    pub(crate) fn take(&mut self) -> Piece
+        ensures piece { result ≡ self.old }
+        ensures taken { self.new ≡ piece.TooLong }
+    {
+        self.asked = Asked::TooLong;
+        self.label = None;
+        replace(&mut self.piece, Piece::TooLong)
     }
 }

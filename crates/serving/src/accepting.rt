@@ -4,17 +4,15 @@
 //! connections wait as the system does, where std's own would let 128. Refused connections are counted where that
 //! happens and reported here, at most once a second, so a flood of them is one line; with a log each is a line of it.
 //! Without file descriptors it tries again after 20 ms, and says so at most once a second.
-use crate::connections::{Connections, PAUSE};
-use crate::events::Event;
+use crate::connections::{PAUSE, Serving};
+use crate::events::{Event, Events};
 use crate::news::{Counts, News, Teller};
-use crate::opening::Serving;
 use crate::post::{Arrival, WAKE, Watch};
 use crate::stopping::Stopping;
-use chronicle::Moment;
-use crew::hall::{Naming, Told};
-use crew::{Gate, beat, tell, tick};
 use mio::net::TcpListener;
 use mio::{Interest, Registry, Token, Waker};
+use session_io::hall::{Naming, Told};
+use session_io::{Clock as _, Gate, beat, tell, tick};
 use std::alloc::Global;
 use std::io::ErrorKind;
 use std::net::{Net, SocketAddr};
@@ -57,33 +55,13 @@ enum Waiting {
     Refused(i32),
 }
 
-/// Accepts some of those who wait to connect, and answers who else waits.
-fn accept_some<L: Naming, R: Wait + Clock + Copy + Drop>(
-    connections: &Connections<L, R>,
-    listener: Option<&TcpListener>,
-    is_web: bool,
-) -> Waiting {
-    let Some(listener) = listener else {
-        return Waiting::Nobody;
-    };
-    for _ in 0..ACCEPTS {
-        if connections.is_stopping() {
-            return Waiting::Nobody;
-        }
-        match listener.accept() {
-            Ok((stream, peer)) => connections.bring(Arrival {
-                stream,
-                peer,
-                is_web,
-            }),
-            Err(error) => match error.kind() {
-                ErrorKind::WouldBlock => return Waiting::Nobody,
-                ErrorKind::Interrupted | ErrorKind::ConnectionAborted => {}
-                _ => return Waiting::Refused(error.raw_os_error().unwrap_or(0)),
-            },
-        }
+/// Who waits after a connection couldn't be accepted; `None` where the next may be.
+fn waiting_after(error: &io::Error) -> Option<Waiting> {
+    match error.kind() {
+        ErrorKind::WouldBlock => Some(Waiting::Nobody),
+        ErrorKind::Interrupted | ErrorKind::ConnectionAborted => None,
+        _ => Some(Waiting::Refused(error.raw_os_error().unwrap_or(0))),
     }
-    Waiting::Others
 }
 
 /// The system's error by which connections wait, if it is that for which they do.
@@ -94,169 +72,216 @@ fn error_of(tcp: Waiting, ws: Waiting) -> Option<i32> {
     }
 }
 
-/// Leaves for the log what it isn't told where it happens: that connections wait, and that events were lost.
-fn log_news<L: Naming, R: Wait + Clock + Copy + Drop>(
-    rt: &R,
-    connections: &Connections<L, R>,
-    waits: Option<i32>,
-) {
-    if let Some(code) = waits {
-        connections.note(Event::Waiting(code));
-    }
-    if let Some(log) = &connections.log {
-        log.leave_lost(rt);
-    }
-}
-
-/// Whether there is something to tell that wasn't told where it happened.
-fn has_news<L: Naming, R: Wait + Clock + Copy + Drop>(
-    connections: &Connections<L, R>,
-    waits: Option<i32>,
-) -> bool {
-    let has_lost = match &connections.log {
-        Some(log) => log.has_lost(),
-        None => false,
-    };
-    waits.is_some() || has_lost || connections.refused() != 0 || connections.kept.has_rolls()
-}
-
-/// Has it told that connections were refused or wait, and that the journal was rolled, where there is news, none wait
-/// to be told, and the last are long enough ago. It answers whether there is nothing more to tell.
-fn tell_news<L: Naming, R: Wait + Clock + Copy + Drop>(
-    rt: &R,
-    connections: &Connections<L, R>,
-    teller: &Teller,
-    told: &mut Option<Instant>,
-    waits: Option<i32>,
-) -> bool {
-    if !has_news(connections, waits) {
-        return true;
-    }
-    let Ok(now) = Instant::now(rt) else {
-        return true;
-    };
-    if let Some(before) = *told {
-        if now.duration_since(before) < Duration::from_secs(BETWEEN) {
-            return false;
-        }
-    }
-    if connections.log.is_some() {
-        *told = Some(now);
-        log_news(rt, connections, waits);
-        return true;
-    }
-    if teller.is_behind() {
-        return false;
-    }
-    *told = Some(now);
-    let refused = connections.tell_refused();
-    let rolls = connections.kept.take_rolls();
-    let counts = Counts {
-        refused,
-        rolls,
-        waits,
-    };
-    teller.leave(rt, News::Counts(counts));
-    true
-}
-
-/// When the last beat was, by the server's clock.
+/// Who accepts connections, has a beat every so often, and has it told that connections are refused and that the
+/// journal is rolled, where there is who tells it.
 #[derive(Drop)]
-pub(crate) struct Beats {
+pub(crate) struct Acceptor<'a, L: Naming, R: Wait + Clock + Copy + Drop, G: Gate, C: crate::Clock> {
+    rt: &'a R,
+    server: &'a Serving<'a, L, R, G, C>,
+    listeners: &'a Listeners,
+    teller: Option<&'a Teller>,
     told: Told,
+    /// When the last beat was, by the server's clock.
     last: i64,
+    /// When it was last told what happened.
+    reported: Option<Instant>,
 }
 
-impl Beats {
-    /// The first is to come as long after this moment as each later one after the last.
-    pub(crate) fn new(alloc: Global, now: Moment) -> Beats {
-        Beats {
+impl<'a, L, R, G, C> Acceptor<'a, L, R, G, C>
+where
+    L: Naming,
+    R: Wait + Clock + Copy + Drop,
+    G: Gate,
+    C: crate::Clock,
+{
+    /// Nobody is accepted yet. The first beat is to come as long after now as each later one after the last.
+    pub(crate) fn new(
+        rt: &'a R,
+        alloc: Global,
+        server: &'a Serving<'a, L, R, G, C>,
+        listeners: &'a Listeners,
+        teller: Option<&'a Teller>,
+    ) -> Acceptor<'a, L, R, G, C> {
+        Acceptor {
+            rt,
+            server,
+            listeners,
+            teller,
             told: Told::new(alloc),
-            last: now.milliseconds(),
+            last: server.host.now().milliseconds(),
+            reported: None,
         }
+    }
+}
+
+impl<L: Naming, R: Wait + Clock + Copy + Drop, G: Gate, C: crate::Clock> Acceptor<'_, L, R, G, C> {
+    /// Accepts some of those who wait to connect to a listener, and answers who else waits.
+    fn accept_some(&self, listener: &Option<TcpListener>, is_web: bool) -> Waiting {
+        let Some(listener) = listener else {
+            return Waiting::Nobody;
+        };
+        let connections = self.server.host.all;
+        for _ in 0..ACCEPTS {
+            if connections.is_stopping() {
+                return Waiting::Nobody;
+            }
+            let waiting = match listener.accept() {
+                Ok((stream, peer)) => {
+                    connections.bring(Arrival {
+                        stream,
+                        peer,
+                        is_web,
+                    });
+                    None
+                }
+                Err(error) => waiting_after(&error),
+            };
+            if let Some(waiting) = waiting {
+                return waiting;
+            }
+        }
+        Waiting::Others
     }
 
     /// Has a beat where it is time for one, or where the clock was set back, and answers in how many milliseconds
     /// the next is to be. Where it comes late nobody is ended before the next: who is quiet is pinged.
-    fn beat_in_time<L: Naming, R: Wait + Clock + Copy + Drop, G: Gate, C: crew::Clock>(
-        &mut self,
-        rt: &R,
-        server: &Serving<'_, L, R, G, C>,
-    ) -> u64 {
-        let now = server.clock.now().milliseconds();
+    fn beat_in_time(&mut self) -> u64 {
+        let now = self.server.host.now().milliseconds();
         let passed = now.saturating_sub(self.last);
         if 0 <= passed && passed < BEAT {
             return BEAT.saturating_sub(passed) as u64;
         }
         if passed < LATE {
             self.last = now;
-            let _ = beat(rt, server, &mut self.told);
+            let _ = beat(self.rt, self.server, &mut self.told);
             return BEAT as u64;
         }
         // Where nobody could be pinged the next is late as well.
-        if tick(rt, server, &mut self.told).answer.is_ok() {
+        if tick(self.rt, self.server, &mut self.told).answer.is_ok() {
             self.last = now;
         }
-        tell(server, &mut self.told);
+        tell(self.server, &mut self.told);
         BEAT as u64
     }
-}
 
-/// Has it told why the server stops.
-fn tell_stop<L: Naming, R: Wait + Clock + Copy + Drop>(
-    rt: &R,
-    connections: &Connections<L, R>,
-    teller: &Teller,
-) {
-    if connections.is_full() {
-        connections.note(Event::Stopping("journal full"));
-    } else if connections.log.is_some() {
-        connections.note(Event::Stopping("standard input ended"));
-    } else {
-        teller.leave(rt, News::InputEnded);
+    /// Whether there is something to tell that wasn't told where it happened.
+    fn has_news(&self, waits: Option<i32>) -> bool {
+        let connections = self.server.host.all;
+        let has_lost = match &connections.log {
+            Some(log) => log.has_lost(),
+            None => false,
+        };
+        waits.is_some() || has_lost || connections.refused() != 0 || connections.kept.has_rolls()
     }
-}
 
-/// Accepts connections until the server is asked to stop, has a beat every so often, and has it told that connections
-/// are refused and that the journal is rolled, where there is who tells it.
-pub(crate) fn accept_on<L: Naming, R: Wait + Clock + Copy + Drop, G: Gate, C: crew::Clock>(
-    rt: &R,
-    server: &Serving<'_, L, R, G, C>,
-    mut beats: Beats,
-    watch: &mut Watch,
-    listeners: &Listeners,
-    teller: Option<&Teller>,
-) {
-    let connections = server.sockets.all;
-    let Watch { poll, events } = watch;
-    let mut told = None;
-    for _ in rt.forever() {
-        let tcp = accept_some(connections, listeners.tcp.as_ref(), false);
-        let ws = accept_some(connections, listeners.ws.as_ref(), true);
-        if connections.is_stopping() {
-            break;
+    /// Leaves for the log what it isn't told where it happens: that connections wait, and that events were lost.
+    fn log_news(&self, log: &Events<R>, waits: Option<i32>) {
+        if let Some(code) = waits {
+            self.server.host.all.note(Event::Waiting(code));
         }
-        let next = Duration::from_millis(beats.beat_in_time(rt, server));
-        let is_told = match teller {
-            Some(teller) => tell_news(rt, connections, teller, &mut told, error_of(tcp, ws)),
+        log.leave_lost(self.rt);
+    }
+
+    /// Has it told how often things happened.
+    fn tell_counts(&self, teller: &Teller, waits: Option<i32>) {
+        let connections = self.server.host.all;
+        let counts = Counts {
+            refused: connections.tell_refused(),
+            rolls: connections.kept.take_rolls(),
+            waits,
+        };
+        teller.leave(self.rt, News::Counts(counts));
+    }
+
+    /// Whether so little time is over since it was last told what happened that nothing is told now.
+    fn is_early(&self, now: Instant) -> bool {
+        match self.reported {
+            Some(before) => now.duration_since(before) < Duration::from_secs(BETWEEN),
+            None => false,
+        }
+    }
+
+    /// Has it told that connections were refused or wait, and that the journal was rolled, where there is news, none
+    /// wait to be told, and the last are long enough ago. It answers whether there is nothing more to tell.
+    fn tell_news(&mut self, teller: &Teller, waits: Option<i32>) -> bool {
+        if !self.has_news(waits) {
+            return true;
+        }
+        let Ok(now) = Instant::now(self.rt) else {
+            return true;
+        };
+        if self.is_early(now) {
+            return false;
+        }
+        let connections = self.server.host.all;
+        if let Some(log) = &connections.log {
+            self.reported = Some(now);
+            self.log_news(log, waits);
+            return true;
+        }
+        if teller.is_behind() {
+            return false;
+        }
+        self.reported = Some(now);
+        self.tell_counts(teller, waits);
+        true
+    }
+
+    /// Has it told why the server stops.
+    fn tell_stop(&self, teller: &Teller) {
+        let connections = self.server.host.all;
+        if connections.is_full() {
+            connections.note(Event::Stopping("journal full"));
+        } else if connections.log.is_some() {
+            connections.note(Event::Stopping("standard input ended"));
+        } else {
+            teller.leave(self.rt, News::InputEnded);
+        }
+    }
+
+    /// Accepts some of those who wait to connect, does what is due, and answers how long to wait for others; `None`
+    /// where the server is asked to stop.
+    fn turn(&mut self) -> Option<Duration> {
+        let listeners = self.listeners;
+        let tcp = self.accept_some(&listeners.tcp, false);
+        let ws = self.accept_some(&listeners.ws, true);
+        if self.server.host.all.is_stopping() {
+            return None;
+        }
+        let next = Duration::from_millis(self.beat_in_time());
+        let waits = error_of(tcp, ws);
+        let is_told = match self.teller {
+            Some(teller) => self.tell_news(teller, waits),
             None => true,
         };
-        let wait = if tcp == Waiting::Others || ws == Waiting::Others {
-            Duration::from_millis(0)
-        } else if error_of(tcp, ws).is_some() {
-            Duration::from_millis(PAUSE)
+        if tcp == Waiting::Others || ws == Waiting::Others {
+            Some(Duration::from_millis(0))
+        } else if waits.is_some() {
+            Some(Duration::from_millis(PAUSE))
         } else if !is_told {
-            Duration::from_secs(BETWEEN).min(next)
+            Some(Duration::from_secs(BETWEEN).min(next))
         } else {
-            next
-        };
-        if poll.poll(events, Some(wait)).is_err() {
-            thread::sleep(rt, Duration::from_millis(PAUSE));
+            Some(next)
         }
     }
-    if let Some(teller) = teller {
-        let _ = tell_news(rt, connections, teller, &mut None, None);
-        tell_stop(rt, connections, teller);
+
+    /// Accepts connections until the server is asked to stop.
+    pub(crate) fn serve(&mut self, watch: &mut Watch) {
+        let rt = self.rt;
+        let Watch { poll, events } = watch;
+        for _ in rt.forever() {
+            let Some(wait) = self.turn() else {
+                break;
+            };
+            if poll.poll(events, Some(wait)).is_err() {
+                thread::sleep(rt, Duration::from_millis(PAUSE));
+            }
+        }
+        if let Some(teller) = self.teller {
+            self.reported = None;
+            let _ = self.tell_news(teller, None);
+            self.tell_stop(teller);
+        }
     }
 }
 
@@ -272,6 +297,13 @@ fn register(
     }
 }
 
+/// Has events come of listeners, and answers what wakes who waits for them.
+fn register_all(registry: &Registry, listeners: &mut Listeners) -> io::Result<Waker> {
+    register(registry, listeners.tcp.as_mut(), 0)?;
+    register(registry, listeners.ws.as_mut(), 1)?;
+    Waker::new(registry, WAKE)
+}
+
 /// What a thread waits by that accepts from listeners, and how it is asked to stop.
 pub(crate) fn door_of<R: Net>(
     rt: &R,
@@ -279,11 +311,8 @@ pub(crate) fn door_of<R: Net>(
     listeners: &mut Listeners,
 ) -> io::Result<(Watch, Stopping)> {
     let watch = Watch::new(rt, alloc, EVENTS)?;
-    let registry = watch.poll.registry();
-    register(registry, listeners.tcp.as_mut(), 0)?;
-    register(registry, listeners.ws.as_mut(), 1)?;
-    let stopping = Stopping::new(Waker::new(registry, WAKE)?);
-    Ok((watch, stopping))
+    let waker = register_all(watch.poll.registry(), listeners)?;
+    Ok((watch, Stopping::new(waker)))
 }
 
 /// Listens on an address, for as many at once who connect as the system lets wait.

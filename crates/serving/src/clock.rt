@@ -33,7 +33,7 @@ impl<R: Ticks + Copy + Drop> SystemClock<R> {
     }
 }
 
-impl<R: Ticks + Copy + Drop> crew::Clock for SystemClock<R> {
+impl<R: Ticks + Copy + Drop> crate::Clock for SystemClock<R> {
     fn now(&self) -> Moment {
         let passed = match (self.since, Instant::now(&self.rt)) {
             (Some(since), Ok(now)) => now.duration_since(since).as_millis(),

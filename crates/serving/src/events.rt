@@ -2,13 +2,13 @@
 use crate::clock::SystemClock;
 use crate::news::News;
 use chronicle::{Moment, SessionId};
-use crew::Clock as _;
 use crossbeam_channel::Sender;
 use line_grammar::Octets;
 use log::kv::Source;
 use log::span::Spans;
 use log::{Line, Log, Metadata, Record, info, warn};
 use numerics::{TimeFault, time_text};
+use session_io::Clock as _;
 use std::alloc::Global;
 use std::fmt::Display;
 use std::net::SocketAddr;
@@ -72,24 +72,78 @@ fn is_fault(why: &str) -> bool {
     matches!(why, "sendq" | "readfail" | "writefail" | "memory")
 }
 
-/// Tells of a session.
-fn tell_of_session<R: Eprint>(to: &Timed<'_, '_, R>, event: &Event) {
+/// Tells that a server began to serve, by so many workers.
+fn tell_started<R: Eprint>(to: Timed<'_, '_, R>, workers: usize) {
+    info!(to; workers = workers; "started");
+}
+
+/// Tells that a server is to end, and why.
+fn tell_stopping<R: Eprint>(to: Timed<'_, '_, R>, why: &str) {
+    info!(to; why = why; "stopping");
+}
+
+/// Tells that a server has ended.
+fn tell_ended<R: Eprint>(to: Timed<'_, '_, R>) {
+    info!(to; "ended");
+}
+
+/// Tells that a session was opened for who connected.
+fn tell_came<R: Eprint>(to: Timed<'_, '_, R>, session: SessionId, from: SocketAddr, is_web: bool) {
+    let by = if is_web { "websocket" } else { "tcp" };
+    info!(to; session = session.number(), from = from, by = by; "came");
+}
+
+/// Tells that a session has its first nickname.
+fn tell_named<R: Eprint>(to: Timed<'_, '_, R>, session: SessionId, nick: &Octets) {
+    let nick = str::from_utf8(nick.as_slice()).unwrap_or("-");
+    info!(to; session = session.number(), nick = nick; "named");
+}
+
+/// Warns that a session is gone that ended by a fault.
+fn warn_went<R: Eprint>(to: Timed<'_, '_, R>, session: SessionId, why: &str) {
+    warn!(to; session = session.number(), why = why; "went");
+}
+
+/// Tells that a session is gone.
+fn tell_went<R: Eprint>(to: Timed<'_, '_, R>, session: SessionId, why: &str) {
+    info!(to; session = session.number(), why = why; "went");
+}
+
+/// Warns that a connection was refused.
+fn warn_refused<R: Eprint>(to: Timed<'_, '_, R>, from: SocketAddr, why: &str) {
+    warn!(to; from = from, why = why; "refused");
+}
+
+/// Warns that connections wait, by this error of the system.
+fn warn_waiting<R: Eprint>(to: Timed<'_, '_, R>, code: i32) {
+    let why = io::Error::from_raw_os_error(code);
+    warn!(to; "connections wait: {why}");
+}
+
+/// Tells that the journal was rolled, and so many records were dropped.
+fn tell_rolled<R: Eprint>(to: Timed<'_, '_, R>, dropped: usize) {
+    info!(to; dropped = dropped; "rolled");
+}
+
+/// Warns that so many events found no room.
+fn warn_lost<R: Eprint>(to: Timed<'_, '_, R>, count: u64) {
+    warn!(to; count = count; "events lost");
+}
+
+/// Tells of an event.
+fn tell_to<R: Eprint>(to: Timed<'_, '_, R>, event: &Event) {
     match event {
-        Event::Came(session, from, is_web) => {
-            let by = if *is_web { "websocket" } else { "tcp" };
-            info!(*to; session = session.number(), from = *from, by = by; "came");
-        }
-        Event::Named(session, nick) => {
-            let nick = str::from_utf8(nick.as_slice()).unwrap_or("-");
-            info!(*to; session = session.number(), nick = nick; "named");
-        }
-        Event::Went(session, why) if is_fault(why) => {
-            warn!(*to; session = session.number(), why = *why; "went");
-        }
-        Event::Went(session, why) => {
-            info!(*to; session = session.number(), why = *why; "went");
-        }
-        _ => {}
+        Event::Started(workers) => tell_started(to, *workers),
+        Event::Stopping(why) => tell_stopping(to, why),
+        Event::Ended => tell_ended(to),
+        Event::Came(session, from, is_web) => tell_came(to, *session, *from, *is_web),
+        Event::Named(session, nick) => tell_named(to, *session, nick),
+        Event::Went(session, why) if is_fault(why) => warn_went(to, *session, why),
+        Event::Went(session, why) => tell_went(to, *session, why),
+        Event::Refused(from, why) => warn_refused(to, *from, why),
+        Event::Waiting(code) => warn_waiting(to, *code),
+        Event::Rolled(dropped) => tell_rolled(to, *dropped),
+        Event::Lost(count) => warn_lost(to, *count),
     }
 }
 
@@ -104,23 +158,8 @@ fn time_in<'a>(text: &'a Result<Octets, TimeFault>) -> &'a str {
 /// Tells of an event that was at this moment.
 pub(crate) fn tell_event<R: Eprint>(rt: &R, alloc: Global, at: Moment, event: &Event) {
     let text = time_text(alloc, at.milliseconds());
-    let to = Timed {
-        rt,
-        time: time_in(&text),
-    };
-    match event {
-        Event::Started(workers) => info!(to; workers = *workers; "started"),
-        Event::Stopping(why) => info!(to; why = *why; "stopping"),
-        Event::Ended => info!(to; "ended"),
-        Event::Refused(from, why) => warn!(to; from = *from, why = *why; "refused"),
-        Event::Waiting(code) => {
-            let why = io::Error::from_raw_os_error(*code);
-            warn!(to; "connections wait: {why}");
-        }
-        Event::Rolled(dropped) => info!(to; dropped = *dropped; "rolled"),
-        Event::Lost(count) => warn!(to; count = *count; "events lost"),
-        _ => tell_of_session(&to, event),
-    }
+    let time = time_in(&text);
+    tell_to(Timed { rt, time }, event);
 }
 
 /// Where events are left for who tells them.

@@ -12,7 +12,7 @@ pub(crate) struct Kept {
 }
 
 /// Rolls, and how many records they dropped.
-#[derive(Clone, Copy, Debug, PartialEq)]
+#[derive(Clone, Copy)]
 pub(crate) struct Rolls {
     pub(crate) count: u64,
     pub(crate) dropped: u64,

@@ -3,16 +3,12 @@
 #![tactic(auto)]
 
 mod accepting;
-mod client;
 mod clock;
 mod connections;
 mod events;
-mod hosts;
+mod greeting;
 mod journal;
-mod left;
 mod news;
-mod noting;
-mod opening;
 mod post;
 mod serve;
 mod stopping;
@@ -20,5 +16,5 @@ mod worker;
 
 pub use accepting::listen;
 pub use clock::SystemClock;
-pub use crew::{Clock, Gate};
 pub use serve::{OpenGate, Options, ServeFault, serve_on, serve_with};
+pub use session_io::{Clock, Gate};

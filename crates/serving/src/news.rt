@@ -49,45 +49,65 @@ pub(crate) struct Teller {
     end: Receiver<(), Global>,
 }
 
+/// Tells that so many connections were refused.
+fn tell_refused<R: Eprint>(rt: &R, refused: u64) {
+    let _ = eprintln!(rt; "halld: connections refused: {refused}");
+}
+
+/// Tells that connections wait, by this error of the system.
+fn tell_waiting<R: Eprint>(rt: &R, code: i32) {
+    let why = io::Error::from_raw_os_error(code);
+    let _ = eprintln!(rt; "halld: connections wait: {why}");
+}
+
+/// Tells of the journal's rolls.
+fn tell_rolls<R: Eprint>(rt: &R, rolls: Rolls) {
+    let (count, dropped) = (rolls.count, rolls.dropped);
+    let _ = eprintln!(rt; "halld: journal rolled: {count}, records dropped: {dropped}");
+}
+
+/// Tells that standard input ended.
+fn tell_input_ended<R: Eprint>(rt: &R) {
+    let _ = eprintln!(rt; "halld: standard input ended");
+}
+
 /// Tells how often things happened.
 fn tell_counts<R: Eprint>(rt: &R, counts: Counts) {
     if counts.refused != 0 {
-        let refused = counts.refused;
-        let _ = eprintln!(rt; "halld: connections refused: {refused}");
+        tell_refused(rt, counts.refused);
     }
     if let Some(code) = counts.waits {
-        let why = io::Error::from_raw_os_error(code);
-        let _ = eprintln!(rt; "halld: connections wait: {why}");
+        tell_waiting(rt, code);
     }
     if counts.rolls.count != 0 {
-        let (count, dropped) = (counts.rolls.count, counts.rolls.dropped);
-        let _ = eprintln!(rt; "halld: journal rolled: {count}, records dropped: {dropped}");
+        tell_rolls(rt, counts.rolls);
     }
 }
 
 /// Tells news, and answers whether more may come.
-fn tell<R: Eprint>(rt: &R, alloc: Global, news: News) -> bool {
+fn tell<R: Eprint>(rt: &R, alloc: Global, news: &News) -> bool {
     match news {
-        News::Counts(counts) => tell_counts(rt, counts),
-        News::Event(at, event) => tell_event(rt, alloc, at, &event),
-        News::InputEnded => {
-            let _ = eprintln!(rt; "halld: standard input ended");
-        }
+        News::Counts(counts) => tell_counts(rt, *counts),
+        News::Event(at, event) => tell_event(rt, alloc, *at, event),
+        News::InputEnded => tell_input_ended(rt),
         News::End => return false,
     }
     true
 }
 
+/// Tells what comes next, and answers whether more may come.
+fn tell_next<R: Wait + Eprint>(rt: &R, alloc: Global, news: &Receiver<News, Global>) -> bool {
+    match news.recv(rt) {
+        Ok(news) => tell(rt, alloc, &news),
+        Err(_) => false,
+    }
+}
+
 /// Tells what comes, until nothing more can.
 fn tell_all<R: Wait + Eprint>(rt: &R, alloc: Global, news: &Receiver<News, Global>) {
     for _ in rt.forever() {
-        match news.recv(rt) {
-            Ok(news) => {
-                if !tell(rt, alloc, news) {
-                    return;
-                }
-            }
-            Err(_) => return,
+        if !tell_next(rt, alloc, news) {
+            return;
         }
     }
 }

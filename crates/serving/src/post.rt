@@ -1,5 +1,4 @@
 //! What other threads leave for a worker.
-use crate::left::Left;
 use mio::net::TcpStream;
 use mio::{Events, Poll, Registry, Token, Waker};
 use std::alloc::Global;
@@ -60,6 +59,46 @@ impl Mail {
 
     fn is_empty(&self) -> bool {
         self.arrivals.is_empty() && self.calls.is_empty() && !self.is_all
+    }
+}
+
+/// Places of clients for whom something is left to be written.
+#[derive(Drop)]
+pub(crate) struct Left {
+    places: Vec<usize>,
+    /// There may be others, since there was no memory for the list.
+    is_all: bool,
+}
+
+impl Left {
+    /// Nobody.
+    pub(crate) fn new(alloc: Global) -> Left {
+        Left {
+            places: Vec::new(alloc),
+            is_all: false,
+        }
+    }
+
+    /// Whether nobody is left.
+    pub(crate) fn is_empty(&self) -> bool {
+        self.places.is_empty() && !self.is_all
+    }
+
+    /// Adds a client; all where there is no memory for the list.
+    pub(crate) fn add(&mut self, place: usize) {
+        if self.places.push(place).is_err() {
+            self.is_all = true;
+        }
+    }
+
+    /// Takes who was added last off the list.
+    pub(crate) fn pop(&mut self) -> Option<usize> {
+        self.places.pop()
+    }
+
+    /// Whether there may be others, and that who asks sees to all.
+    pub(crate) fn take_all(&mut self) -> bool {
+        mem::replace(&mut self.is_all, false)
     }
 }
 

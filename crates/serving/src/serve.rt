@@ -2,33 +2,29 @@
 ghost use Rattle.std.specs.Prelude.{◌≡◌, ◌<◌, [], false, Err};
 ghost use Rattle.serving.specs.declared.serve.ServeFault.TheVariants.{BadSettings, Memory};
 
-use crate::accepting::{Beats, Listeners, accept_on, door_of};
+mod doors;
+mod shared;
+
 use crate::clock::SystemClock;
-use crate::connections::{Connections, View};
-use crate::events::{Event, Events};
+use crate::connections::Connections;
+use crate::events::Events;
 use crate::news::Teller;
-use crate::opening::Serving;
-use crate::post::{Post, Watch};
-use crate::stopping::{Stopping, read_to_end};
-use crate::worker::{EVENTS, Worker};
-use chronicle::{SessionId, Why};
-use crew::hall::outbox::{ChannelName, Sender};
-use crew::hall::{BookFault, Hall, Naming, Register, Settings};
-use crew::{Gate, Server, Sockets, moment_in};
-use mio::net::TcpListener;
+use chronicle::SessionId;
+use doors::{Doors, doors_of, has_stop};
+use session_io::Gate;
+use session_io::hall::outbox::{ChannelName, Sender};
+use session_io::hall::{BookFault, Hall, Naming, Register, Settings};
+use shared::{Config, Shared, run_on};
 use std::alloc::{AllocError, Global};
 use std::hash::RandomState;
-use std::io::{ErrorKind, Read};
+use std::io::Read;
 use std::marker::Brand;
 use std::net::Net;
 use std::random::RandomSource;
 use std::sync::{Arc, Mutex, Wait};
-use std::thread::{Builder, Threads};
+use std::thread::Threads;
 use std::time::Clock;
-use std::{io, net, thread};
-
-/// Octets of a worker's stack.
-const STACK: usize = 1_048_576;
+use std::{mem, net};
 
 /// How many octets may wait for a session besides its newest delivery, where nothing is said.
 const SENDQ_BYTES: u64 = 4_194_304;
@@ -72,18 +68,9 @@ impl From<BookFault> for ServeFault {
     }
 }
 
-/// The most lines that a worker does before what they put is written.
-const MOST_LINES: usize = 32;
-
-/// How many lines a worker may do before what they put is written: so few that what all workers put together fills
-/// at most an eighth of an outbox for so many items, where it has room for so many.
-fn burst_of(sendq: usize, workers: usize) -> usize {
-    (sendq / 8 / workers.max(1)).clamp(1, MOST_LINES)
-}
-
 /// What a server is started with.
 #[derive(Drop)]
-pub struct Options<'a, G: Gate, C: crew::Clock> {
+pub struct Options<'a, G: Gate, C: crate::Clock> {
     /// Where clients connect; nobody does where there is none.
     pub tcp: Option<net::TcpListener>,
     /// Where clients connect that come by WebSocket; nobody does where there is none.
@@ -108,18 +95,6 @@ pub struct Options<'a, G: Gate, C: crew::Clock> {
     pub has_log: bool,
 }
 
-/// What all threads of a server share. Of the views there is one for each worker, and one more for a thread that is
-/// none.
-#[derive(Drop)]
-struct House<'a, L: Naming, R: Wait + Clock + Copy + Drop, G: Gate, C: crew::Clock> {
-    hall: &'a Mutex<Hall<L, Sender<R>>>,
-    views: &'a [View<'a, L, R>],
-    gate: &'a G,
-    clock: &'a C,
-    sendq: usize,
-    burst: usize,
-}
-
 /// A gate that is always open.
 #[derive(Clone, Copy, Debug, Drop)]
 pub struct OpenGate;
@@ -130,212 +105,36 @@ impl Gate for OpenGate {
     fn leave(&self, _session: SessionId) {}
 }
 
-/// Ends a session that is open, since the server stops, and answers whether there was one.
-fn hang_next<L: Naming, R: Wait + Clock + Copy + Drop, G: Gate, C: crew::Clock>(
-    rt: &R,
-    server: &Serving<'_, L, R, G, C>,
-) -> bool {
-    let mut hall = server.hall.lock(rt);
-    let Some(session) = server.sockets.all.any_open() else {
-        return false;
-    };
-    let moment = moment_in(&*hall, server.clock.now());
-    let _ = hall.hang(session, Why::Shutdown, moment);
-    drop(hall);
-    server.sockets.shut(session);
-    true
-}
-
-/// Serves as one of the workers.
-fn work_on<L: Naming, R: Wait + Clock + Copy + Drop, G: Gate, C: crew::Clock>(
+/// A hall that has this register, whose names are hashed by random keys.
+fn hall_of<L: Naming, R: Wait + RandomSource + Drop>(
     rt: &R,
     alloc: Global,
-    house: &House<'_, L, R, G, C>,
-    worker: usize,
-    watch: Watch,
-) {
-    let Watch { poll, mut events } = watch;
-    let Some(view) = house.views.get(worker) else {
-        return;
-    };
-    let Some(post) = view.all.post(worker) else {
-        return;
-    };
-    let server = Server {
-        hall: house.hall,
-        gate: house.gate,
-        sockets: view,
-        clock: house.clock,
-        burst: house.burst,
-    };
-    Worker::new(alloc, poll, house.sendq).serve(rt, &server, post, &mut events);
-}
-
-/// Ends all sessions, since the server stops, and has the workers end.
-fn end_all<L: Naming, R: Wait + Clock + Copy + Drop, G: Gate, C: crew::Clock>(
-    rt: &R,
-    house: &House<'_, L, R, G, C>,
-) {
-    let Some(view) = house.views.last() else {
-        return;
-    };
-    let server = Server {
-        hall: house.hall,
-        gate: house.gate,
-        sockets: view,
-        clock: house.clock,
-        burst: house.burst,
-    };
-    for _ in rt.forever() {
-        if !hang_next(rt, &server) {
-            break;
-        }
-    }
-    view.all.close();
-}
-
-/// Accepts connections until the server is asked to stop.
-fn accept_in<L: Naming, R: Wait + Clock + Copy + Drop, G: Gate, C: crew::Clock>(
-    rt: &R,
-    alloc: Global,
-    house: &House<'_, L, R, G, C>,
-    watch: &mut Watch,
-    listeners: &Listeners,
-    teller: Option<&Teller>,
-) {
-    let Some(view) = house.views.last() else {
-        return;
-    };
-    let server = Server {
-        hall: house.hall,
-        gate: house.gate,
-        sockets: view,
-        clock: house.clock,
-        burst: house.burst,
-    };
-    let beats = Beats::new(alloc, server.clock.now());
-    accept_on(rt, &server, beats, watch, listeners, teller);
-}
-
-/// Notes an event for the log, where there is one.
-fn note_in<L: Naming, R: Wait + Clock + Copy + Drop, G: Gate, C: crew::Clock>(
-    house: &House<'_, L, R, G, C>,
-    event: Event,
-) {
-    if let Some(view) = house.views.last() {
-        view.all.note(event);
-    }
-}
-
-/// Has a thread for each of the workers, accepts connections until the server is asked to stop, then ends all
-/// sessions, and waits for the threads. It answers whether all could be started.
-fn run_on<
-    L: Naming + Send + Sync,
-    R: Threads + Wait + Clock + Copy + Drop + Send + Sync,
-    G: Gate + Sync,
-    C: crew::Clock + Sync,
->(
-    rt: &R,
-    alloc: Global,
-    house: &House<'_, L, R, G, C>,
-    watches: Vec<Watch>,
-    watch: &mut Watch,
-    listeners: &Listeners,
-    teller: Option<&Teller>,
-) -> bool {
-    note_in(house, Event::Started(watches.len()));
-    let is_run = thread::scope(thread::scope_env(), rt, |scope| {
-        let mut are_started = true;
-        for (worker, watch) in watches.into_iter().enumerate() {
-            let started = Builder::new()
-                .stack_size(STACK)
-                .spawn_scoped(scope, move || work_on(rt, alloc, house, worker, watch));
-            are_started = are_started && started.is_ok();
-            drop(started);
-        }
-        if are_started {
-            accept_in(rt, alloc, house, watch, listeners, teller);
-        }
-        end_all(rt, house);
-        are_started
-    });
-    note_in(house, Event::Ended);
-    is_run
-}
-
-/// What the workers wait by, and where others leave something for them.
-fn workers_of<R: Net>(
-    rt: &R,
-    alloc: Global,
-    workers: usize,
-) -> io::Result<(Vec<Watch>, Vec<Post>)> {
-    let mut watches = Vec::new(alloc);
-    let mut posts = Vec::new(alloc);
-    for _ in 0..workers {
-        let watch = Watch::new(rt, alloc, EVENTS)?;
-        posts.push(Post::new(alloc, watch.poll.registry())?)?;
-        watches.push(watch)?;
-    }
-    Ok((watches, posts))
-}
-
-/// A listener that doesn't wait, where there is one.
-fn without_waiting(listener: Option<net::TcpListener>) -> io::Result<Option<TcpListener>> {
-    let Some(listener) = listener else {
-        return Ok(None);
-    };
-    listener.set_nonblocking(true)?;
-    Ok(Some(TcpListener::from_std(listener)))
-}
-
-/// What a server waits by.
-#[derive(Drop)]
-struct Doors {
-    listeners: Listeners,
-    watch: Watch,
-    watches: Vec<Watch>,
-    posts: Vec<Post>,
-    stopping: Arc<Stopping>,
-}
-
-/// What a server waits by that has so many workers.
-fn doors_of<R: Net>(
-    rt: &R,
-    alloc: Global,
-    tcp: Option<net::TcpListener>,
-    ws: Option<net::TcpListener>,
-    workers: usize,
-) -> io::Result<Doors> {
-    let mut listeners = Listeners {
-        tcp: without_waiting(tcp)?,
-        ws: without_waiting(ws)?,
-    };
-    let (watches, posts) = workers_of(rt, alloc, workers)?;
-    let (watch, stopping) = door_of(rt, alloc, &mut listeners)?;
-    let Ok(stopping) = Arc::new(alloc, stopping) else {
-        return Err(io::Error::from(ErrorKind::OutOfMemory));
-    };
-    Ok(Doors {
-        listeners,
-        watch,
-        watches,
-        posts,
-        stopping,
-    })
-}
-
-/// Has a thread read an input, which asks the server to stop at its end. It answers whether that could be started.
-fn has_stop<R, I>(rt: &R, stop: I, asked: Arc<Stopping>) -> bool
-where
-    R: Threads + Wait + Clock + Copy + Drop + Send + 'static,
-    I: Read + Send + Drop + 'static,
+    register: Register<ChannelName>,
+    settings: Settings,
+    limit: usize,
+) -> Result<Hall<L, Sender<R>>, ServeFault>
+    requires named { register.table ≡ L.table }
+    requires new { register.rows ≡ [] }
 {
-    let own = *rt;
-    let started = thread::spawn(rt, move || {
-        read_to_end(&own, stop);
-        asked.ask();
-    });
-    started.is_ok()
+    let Ok(state) = RandomState::new(rt) else {
+        return Err(ServeFault::NoKeys);
+    };
+    Ok(Hall::with_hasher(alloc, register, settings, limit, state)?)
+}
+
+/// Who tells on standard error what happens, unless the server is to be quiet and has no log.
+fn teller_of<R: Threads + Wait + Eprint + Copy + Drop + Send + 'static, G: Gate, C: crate::Clock>(
+    rt: &R,
+    alloc: Global,
+    config: &Config<'_, G, C>,
+) -> Result<Option<Teller>, ServeFault> {
+    if config.is_quiet && !config.has_log {
+        return Ok(None);
+    }
+    match Teller::start(rt, alloc, config.has_log)? {
+        Some(teller) => Ok(Some(teller)),
+        None => Err(ServeFault::Memory),
+    }
 }
 
 /// Where what happens is left for the log, if there is one.
@@ -350,41 +149,87 @@ fn log_of<R: Wait + Clock + Copy + Drop>(
     }
 }
 
-/// Who tells on standard error what happens, unless the server is to be quiet and has no log.
-fn teller_of<R: Threads + Wait + Eprint + Copy + Drop + Send + 'static>(
+/// The connections of a server that nobody is connected to yet.
+fn connections_of<L: Naming, R: Wait + Clock + Copy + Drop, G: Gate, C: crate::Clock>(
     rt: &R,
     alloc: Global,
-    is_quiet: bool,
-    has_log: bool,
-) -> Result<Option<Teller>, ServeFault> {
-    if is_quiet && !has_log {
-        return Ok(None);
-    }
-    match Teller::start(rt, alloc, has_log)? {
-        Some(teller) => Ok(Some(teller)),
-        None => Err(ServeFault::Memory),
+    doors: &mut Doors,
+    config: &Config<'_, G, C>,
+    teller: Option<&Teller>,
+) -> Result<Connections<L, R>, ServeFault> {
+    let log = log_of(rt, teller, config.has_log)?;
+    let stopping = Arc::try_clone(&doors.stopping)?;
+    let posts = mem::replace(&mut doors.posts, Vec::new(alloc));
+    let (most, journal) = (config.sendq_bytes, config.journal_bytes);
+    Ok(Connections::new(*rt, alloc, log, posts, stopping, most, journal))
+}
+
+/// How a server ended whose threads could all be started or not.
+fn end_of(is_run: bool, is_full: bool) -> Result<(), ServeFault> {
+    if !is_run {
+        Err(ServeFault::Memory)
+    } else if is_full {
+        Err(ServeFault::JournalFull)
+    } else {
+        Ok(())
     }
 }
 
-/// What a server has besides its settings and its listener.
-#[derive(Clone, Copy, Drop)]
-struct Terms<'a, G: Gate, C: crew::Clock> {
-    gate: &'a G,
-    clock: &'a C,
-    workers: usize,
-    sendq: usize,
-    sendq_bytes: u64,
-    journal_bytes: u64,
-    is_quiet: bool,
-    has_log: bool,
+/// Serves in this hall whoever connects, and has it told what happens.
+fn serve_told<
+    L: Naming + Send + Sync,
+    R: Threads + Wait + Clock + Copy + Drop + Send + Sync + 'static,
+    G: Gate + Sync,
+    C: crate::Clock + Sync,
+    I: Read + Send + Drop + 'static,
+>(
+    rt: &R,
+    alloc: Global,
+    hall: &Mutex<Hall<L, Sender<R>>>,
+    doors: &mut Doors,
+    config: &Config<'_, G, C>,
+    teller: Option<&Teller>,
+    stop: I,
+) -> Result<(), ServeFault> {
+    let connections = connections_of(rt, alloc, doors, config, teller)?;
+    let shared = Shared {
+        hall,
+        connections: &connections,
+        config,
+    };
+    let is_run = has_stop(rt, stop, &doors.stopping) && run_on(rt, alloc, &shared, doors, teller);
+    end_of(is_run, connections.is_full())
 }
 
-/// Serves in this hall whoever connects to a listener.
+/// Serves in this hall whoever connects by these doors.
+fn serve_by<
+    L: Naming + Send + Sync,
+    R: Threads + Wait + Clock + Eprint + Copy + Drop + Send + Sync + 'static,
+    G: Gate + Sync,
+    C: crate::Clock + Sync,
+    I: Read + Send + Drop + 'static,
+>(
+    rt: &R,
+    alloc: Global,
+    hall: &Mutex<Hall<L, Sender<R>>>,
+    doors: &mut Doors,
+    config: &Config<'_, G, C>,
+    stop: I,
+) -> Result<(), ServeFault> {
+    let teller = teller_of(rt, alloc, config)?;
+    let served = serve_told(rt, alloc, hall, doors, config, teller.as_ref(), stop);
+    if let Some(teller) = teller {
+        teller.finish(rt);
+    }
+    served
+}
+
+/// Serves in this hall whoever connects to these listeners.
 fn serve_in<
     L: Naming + Send + Sync,
     R: Threads + Wait + Clock + Net + Eprint + Copy + Drop + Send + Sync + 'static,
     G: Gate + Sync,
-    C: crew::Clock + Sync,
+    C: crate::Clock + Sync,
     I: Read + Send + Drop + 'static,
 >(
     rt: &R,
@@ -392,59 +237,13 @@ fn serve_in<
     hall: &Mutex<Hall<L, Sender<R>>>,
     tcp: Option<net::TcpListener>,
     ws: Option<net::TcpListener>,
-    terms: &Terms<'_, G, C>,
+    config: &Config<'_, G, C>,
     stop: I,
 ) -> Result<(), ServeFault> {
-    let Ok(doors) = doors_of(rt, alloc, tcp, ws, terms.workers) else {
-        return Err(ServeFault::Memory);
-    };
-    let Doors {
-        listeners,
-        mut watch,
-        watches,
-        posts,
-        stopping,
-    } = doors;
-    let asked = Arc::try_clone(&stopping)?;
-    let (most, journal) = (terms.sendq_bytes, terms.journal_bytes);
-    let teller = teller_of(rt, alloc, terms.is_quiet, terms.has_log)?;
-    let log = log_of(rt, teller.as_ref(), terms.has_log)?;
-    let connections = Connections::new(*rt, alloc, log, posts, asked, most, journal);
-    if !has_stop(rt, stop, Arc::try_clone(&stopping)?) {
-        return Err(ServeFault::Memory);
+    match doors_of(rt, alloc, tcp, ws, config.workers) {
+        Ok(mut doors) => serve_by(rt, alloc, hall, &mut doors, config, stop),
+        Err(_) => Err(ServeFault::Memory),
     }
-    let burst = burst_of(terms.sendq, terms.workers);
-    let mut views = Vec::new(alloc);
-    for worker in 0..=terms.workers {
-        let view = View {
-            all: &connections,
-            worker,
-            burst,
-        };
-        if views.push(view).is_err() {
-            return Err(ServeFault::Memory);
-        }
-    }
-    let house = House {
-        hall,
-        views: &views,
-        gate: terms.gate,
-        clock: terms.clock,
-        sendq: terms.sendq,
-        burst,
-    };
-    let told = teller.as_ref();
-    let is_run = run_on(rt, alloc, &house, watches, &mut watch, &listeners, told);
-    if let Some(teller) = teller {
-        teller.finish(rt);
-    }
-    if !is_run {
-        return Err(ServeFault::Memory);
-    }
-    if stopping.is_full() {
-        return Err(ServeFault::JournalFull);
-    }
-    Ok(())
 }
 
 /// Serves by a register of its own.
@@ -452,7 +251,7 @@ fn serve_named<
     L: Naming + Send + Sync,
     R: Threads + Wait + Clock + Net + RandomSource + Eprint + Copy + Drop + Send + Sync + 'static,
     G: Gate + Sync,
-    C: crew::Clock + Sync,
+    C: crate::Clock + Sync,
     I: Read + Send + Drop + 'static,
 >(
     rt: &R,
@@ -464,23 +263,17 @@ fn serve_named<
     requires named { register.table ≡ L.table }
     requires new { register.rows ≡ [] }
 {
-    let terms = Terms {
-        gate: options.gate,
-        clock: options.clock,
-        workers: options.workers,
-        sendq: options.sendq,
-        sendq_bytes: options.sendq_bytes,
-        journal_bytes: options.journal_bytes,
-        is_quiet: options.is_quiet,
-        has_log: options.has_log,
-    };
-    let Ok(state) = RandomState::new(rt) else {
-        return Err(ServeFault::NoKeys);
-    };
-    let (settings, limit) = (options.settings, options.limit);
-    let hall: Hall<L, Sender<R>> = Hall::with_hasher(alloc, register, settings, limit, state)?;
+    let config = Config::of(&options);
+    let Options {
+        tcp,
+        ws,
+        settings,
+        limit,
+        ..
+    } = options;
+    let hall: Hall<L, Sender<R>> = hall_of(rt, alloc, register, settings, limit)?;
     let hall = Mutex::new(hall);
-    let served = serve_in(rt, alloc, &hall, options.tcp, options.ws, &terms, stop);
+    let served = serve_in(rt, alloc, &hall, tcp, ws, &config, stop);
     drop(hall);
     served
 }
@@ -510,7 +303,7 @@ fn is_within(number: u64, limits: (u64, u64)) -> bool
 pub fn serve_with<
     R: Threads + Wait + Clock + Net + RandomSource + Eprint + Copy + Drop + Send + Sync + 'static,
     G: Gate + Sync,
-    C: crew::Clock + Sync,
+    C: crate::Clock + Sync,
     I: Read + Send + Drop + 'static,
 >(rt: &R, alloc: Global, options: Options<'_, G, C>, stop: I) -> Result<(), ServeFault>
     ensures no_worker { options.entry.workers ≡ 0 → result ≡ Err BadSettings }
@@ -523,11 +316,11 @@ pub fn serve_with<
     ensures large_journal { 68719476736 < options.entry.journal_bytes → result ≡ Err BadSettings }
 {
     let (workers, sendq) = (options.workers, options.sendq);
-    if workers < 1 || 64 < workers || sendq < 1 || 4096 < sendq {
-        return Err(ServeFault::BadSettings);
-    }
     let (sendq_bytes, journal_bytes) = (options.sendq_bytes, options.journal_bytes);
-    if !is_within(sendq_bytes, SENDQ_LIMITS) || !is_within(journal_bytes, JOURNAL_LIMITS) {
+    let are_counts_within = 1 <= workers && workers <= 64 && 1 <= sendq && sendq <= 4096;
+    let are_octets_within = is_within(sendq_bytes, SENDQ_LIMITS)
+        && is_within(journal_bytes, JOURNAL_LIMITS);
+    if !are_counts_within || !are_octets_within {
         return Err(ServeFault::BadSettings);
     }
     let register = Register::new(alloc)?;

@@ -58,19 +58,29 @@ impl Stopping {
 /// Milliseconds between two reads of an input that has nothing now.
 const REST: u64 = 200;
 
+/// Reads an input once, and answers whether it goes on: it hasn't ended and hasn't failed. After one that has nothing
+/// now it rests.
+fn goes_on<R: Wait + Clock, I: Read>(rt: &R, input: &mut I, room: &mut [u8]) -> bool {
+    match input.read(room) {
+        Ok(count) => count != 0,
+        Err(error) => match error.kind() {
+            ErrorKind::WouldBlock => {
+                thread::sleep(rt, Duration::from_millis(REST));
+                true
+            }
+            ErrorKind::Interrupted => true,
+            _ => false,
+        },
+    }
+}
+
 /// Reads until an input ends or fails. One that doesn't wait is read again and again.
 pub(crate) fn read_to_end<R: Wait + Clock, I: Read + Drop>(rt: &R, input: I) {
     let mut input = input;
-    let mut buffer = [0u8; 64];
+    let mut room = [0u8; 64];
     for _ in rt.forever() {
-        match input.read(&mut buffer) {
-            Ok(0) => return,
-            Ok(_) => {}
-            Err(error) => match error.kind() {
-                ErrorKind::WouldBlock => thread::sleep(rt, Duration::from_millis(REST)),
-                ErrorKind::Interrupted => {}
-                _ => return,
-            },
+        if !goes_on(rt, &mut input, &mut room) {
+            break;
         }
     }
 }

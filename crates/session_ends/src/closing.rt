@@ -6,7 +6,7 @@ ghost use Rattle.chronicle.specs.History.{last_moment};
 ghost use Rattle.session_ends.specs.Sweeping.{Sweeps};
 ghost use Rattle.session_ends.specs.Timing.{IsLater};
 
-use crate::server::{Clock, Gate, Server, Sockets, later};
+use crate::server::{Host, Server, later};
 use crate::shutting::shut_missed;
 use crate::telling::{tell, tell_many};
 use chronicle::Moment;
@@ -53,30 +53,30 @@ fn sweep_in<L: Naming, R: Wait + Drop>(
 ///
 /// The answer tells what came of it in the server's hall, at a moment that the clock showed or at that of the newest
 /// record where that is later: the record; that nobody was to be swept; or why there is none.
-pub fn sweep<L: Naming, R: Wait + Drop, G: Gate, S: Sockets, C: Clock>(
+pub fn sweep<L: Naming, R: Wait + Drop, H: Host>(
     rt: &R,
-    server: &Server<'_, L, R, G, S, C>,
+    server: &Server<'_, L, R, H>,
     told: &mut Told,
 ) -> Swept<L, R>
     ensures sweeps { Sweeps result.before.value result.after.value result.moment result.answer }
-    ensures moment { (t : ℤ) × C.shows server.now.clock.now t
+    ensures moment { (t : ℤ) × H.shows server.now.host.now t
         × IsLater t (last_moment result.before.value.history) result.moment }
     ensures shut { IfOk result.answer
-        (λ o. IfSome o (λ d. All (S.shuts server.now.sockets.now) d.missed)) }
+        (λ o. IfSome o (λ d. All (H.shuts server.now.host.now) d.missed)) }
 {
-    let moment = server.clock.now();
+    let moment = server.host.now();
     let swept = sweep_in(&mut *server.hall.lock(rt), moment, told);
     tell_many(server, told);
     if let Ok(Some(done)) = &swept.answer {
-        shut_missed(server.sockets, done);
+        shut_missed(server.host, done);
     }
     swept
 }
 
 /// Sweeps until nobody is to be swept, or memory is wanting.
-fn sweep_all<L: Naming, R: Wait + Drop, G: Gate, S: Sockets, C: Clock>(
+fn sweep_all<L: Naming, R: Wait + Drop, H: Host>(
     rt: &R,
-    server: &Server<'_, L, R, G, S, C>,
+    server: &Server<'_, L, R, H>,
     told: &mut Told,
 ) {
     for _ in rt.forever() {
@@ -109,9 +109,9 @@ pub struct GivenUp<L: Naming, R: Wait + Drop> {
 ///
 /// What comes back is of the baton's session, which so was swept and reaped in the server's hall; or why it wasn't,
 /// and the tokens that were given.
-pub fn give_up<L: Naming, R: Wait + Drop, G: Gate, S: Sockets, C: Clock>(
+pub fn give_up<L: Naming, R: Wait + Drop, H: Host>(
     rt: &R,
-    server: &Server<'_, L, R, G, S, C>,
+    server: &Server<'_, L, R, H>,
     baton: Baton<L, Sender<R>>,
     stub: Stub<L, ChannelName>,
     writer: Writer,
@@ -142,9 +142,9 @@ pub fn give_up<L: Naming, R: Wait + Drop, G: Gate, S: Sockets, C: Clock>(
 /// `told` then, or was told.
 ///
 /// What comes back is of the baton's session, which so was swept and reaped; or the tokens are those that were given.
-pub fn close_now<L: Naming, R: Wait + Drop, G: Gate, S: Sockets, C: Clock>(
+pub fn close_now<L: Naming, R: Wait + Drop, H: Host>(
     rt: &R,
-    server: &Server<'_, L, R, G, S, C>,
+    server: &Server<'_, L, R, H>,
     baton: Baton<L, Sender<R>>,
     stub: Stub<L, ChannelName>,
     writer: Writer,
@@ -168,10 +168,10 @@ pub fn close_now<L: Naming, R: Wait + Drop, G: Gate, S: Sockets, C: Clock>(
 /// gone yet, or memory was wanting, it pauses and tries again.
 ///
 /// What comes back is of the baton's session, which so was swept and reaped.
-pub fn close_up<L: Naming, R: Wait + Drop, G: Gate, S: Sockets, C: Clock>(
+pub fn close_up<L: Naming, R: Wait + Drop, H: Host>(
     rt: &R,
     alloc: Global,
-    server: &Server<'_, L, R, G, S, C>,
+    server: &Server<'_, L, R, H>,
     baton: Baton<L, Sender<R>>,
     stub: Stub<L, ChannelName>,
     writer: Writer,
@@ -188,7 +188,7 @@ pub fn close_up<L: Naming, R: Wait + Drop, G: Gate, S: Sockets, C: Clock>(
             Ok(left) => return left,
             Err(again) => tokens = again,
         }
-        server.sockets.pause();
+        server.host.pause();
     }
     unreachable!()
 }

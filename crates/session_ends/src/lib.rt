@@ -11,6 +11,6 @@ mod telling;
 
 pub use closing::{GivenUp, Swept, close_now, close_up, give_up, sweep};
 pub use hall;
-pub use server::{Clock, Gate, Server, Sockets, later, moment_in};
+pub use server::{Clock, Gate, Host, Server, Sockets, later, moment_in};
 pub use shutting::{Ending, end_refused, hang, hang_at, shut_missed, shut_those};
 pub use telling::{are_many, tell, tell_many};

@@ -70,13 +70,14 @@ pub trait Clock {
         ensures { shows self.now result };
 }
 
+/// What a server hands in: what stands before the lock of its hall, its connections, and its clock.
+pub trait Host: Gate + Sockets + Clock {}
+
 /// What all calls of a server's threads work with.
 #[derive(Drop)]
-pub struct Server<'a, L: Naming, R: Wait + Drop, G: Gate, S: Sockets, C: Clock> {
+pub struct Server<'a, L: Naming, R: Wait + Drop, H: Host> {
     pub hall: &'a Mutex<Hall<L, Sender<R>>>,
-    pub gate: &'a G,
-    pub sockets: &'a S,
-    pub clock: &'a C,
+    pub host: &'a H,
     /// How many lines a thread may do before what they put is written.
     pub burst: usize,
 }

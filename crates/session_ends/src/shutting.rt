@@ -4,7 +4,7 @@ ghost use Rattle.chronicle.specs.History.{last_moment};
 ghost use Rattle.session_ends.specs.Hanging.{Hangs};
 ghost use Rattle.session_ends.specs.Timing.{IsLater};
 
-use crate::server::{Clock, Gate, Server, Sockets, later};
+use crate::server::{Host, Server, Sockets, later};
 use crate::telling::tell_many;
 use chronicle::{Moment, SessionId, Why};
 use ghosts::Snapshot;
@@ -68,25 +68,25 @@ fn hang_in<L: Naming, R: Wait + Drop>(
 ///
 /// The answer tells what came of it in the server's hall: the record that ends the session, at a moment that the
 /// clock showed or at that of the newest record where that is later; or why there is none.
-pub fn hang<L: Naming, R: Wait + Drop, G: Gate, S: Sockets, C: Clock>(
+pub fn hang<L: Naming, R: Wait + Drop, H: Host>(
     rt: &R,
-    server: &Server<'_, L, R, G, S, C>,
+    server: &Server<'_, L, R, H>,
     session: SessionId,
     why: Why,
     told: &mut Told,
 ) -> Ending<L, R>
     ensures hangs { Hangs result.before.value result.after.value session why
         result.moment result.hung }
-    ensures moment { (t : ℤ) × C.shows server.now.clock.now t
+    ensures moment { (t : ℤ) × H.shows server.now.host.now t
         × IsLater t (last_moment result.before.value.history) result.moment }
-    ensures shut { OnOk result.hung (S.shuts server.now.sockets.now session) }
+    ensures shut { OnOk result.hung (H.shuts server.now.host.now session) }
 {
-    let moment = server.clock.now();
+    let moment = server.host.now();
     let ending = hang_in(&mut *server.hall.lock(rt), session, why, moment, told);
     tell_many(server, told);
     match ending.hung {
         Ok(_) => {
-            server.sockets.shut(session);
+            server.host.shut(session);
             ending
         }
         Err(_) => ending,
@@ -116,9 +116,9 @@ pub fn shut_those<S: Sockets>(sockets: &S, session: SessionId, done: &Done)
 
 /// Ends a session whose line was refused for want of memory, or of room for its record: then the server is asked to
 /// stop, too. It answers what came of that.
-pub fn end_refused<L: Naming, R: Wait + Drop, G: Gate, S: Sockets, C: Clock>(
+pub fn end_refused<L: Naming, R: Wait + Drop, H: Host>(
     rt: &R,
-    server: &Server<'_, L, R, G, S, C>,
+    server: &Server<'_, L, R, H>,
     session: SessionId,
     refusal: LineRefusal,
     told: &mut Told,
@@ -127,13 +127,13 @@ pub fn end_refused<L: Naming, R: Wait + Drop, G: Gate, S: Sockets, C: Clock>(
         (λ e. Hangs e.before.value e.after.value session Why.Memory e.moment e.hung) }
     ensures full { refusal ≡ LineRefusal.JournalFull → IsSomeAnd result
         (λ e. Hangs e.before.value e.after.value session Why.Shutdown e.moment e.hung) }
-    ensures stops { refusal ≡ LineRefusal.JournalFull → S.stops server.now.sockets.now }
+    ensures stops { refusal ≡ LineRefusal.JournalFull → H.stops server.now.host.now }
 {
     match refusal {
         LineRefusal::Memory => Some(hang(rt, server, session, Why::Memory, told)),
         LineRefusal::JournalFull => {
             let ending = hang(rt, server, session, Why::Shutdown, told);
-            server.sockets.stop();
+            server.host.stop();
             Some(ending)
         }
         LineRefusal::Busy | LineRefusal::WrongTurn | LineRefusal::Shut | LineRefusal::BadMoment =>

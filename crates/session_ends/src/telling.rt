@@ -1,7 +1,7 @@
 //! Who got something is told, so that what waits for them is written.
 ghost use Rattle.std.specs.Prelude.{◌≡◌, ◌<◌, []};
 
-use crate::server::{Clock, Gate, Server, Sockets};
+use crate::server::{Host, Server};
 use hall::{Naming, Told};
 use std::sync::Wait;
 
@@ -9,18 +9,15 @@ use std::sync::Wait;
 const MANY: usize = 4096;
 
 /// Sees to it that what waits for all who are told is written, and for none of them again.
-pub fn tell<L: Naming, R: Wait + Drop, G: Gate, S: Sockets, C: Clock>(
-    server: &Server<'_, L, R, G, S, C>,
-    told: &mut Told,
-)
-    ensures told { 0 < told.old.records → S.tells server.now.sockets.now told.old }
+pub fn tell<L: Naming, R: Wait + Drop, H: Host>(server: &Server<'_, L, R, H>, told: &mut Told)
+    ensures told { 0 < told.old.records → H.tells server.now.host.now told.old }
     ensures none { told.new.sessions ≡ [] }
     ensures records { told.new.records ≡ 0 }
 {
     if told.records() == 0 {
         return told.clear();
     }
-    server.sockets.tell(told);
+    server.host.tell(told);
     told.clear();
 }
 
@@ -30,8 +27,8 @@ pub fn are_many(told: &Told, burst: usize) -> bool {
 }
 
 /// Tells where many are to be told.
-pub fn tell_many<L: Naming, R: Wait + Drop, G: Gate, S: Sockets, C: Clock>(
-    server: &Server<'_, L, R, G, S, C>,
+pub fn tell_many<L: Naming, R: Wait + Drop, H: Host>(
+    server: &Server<'_, L, R, H>,
     told: &mut Told,
 ) {
     if are_many(told, server.burst) {

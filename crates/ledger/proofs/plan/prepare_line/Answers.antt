@@ -17,26 +17,26 @@ use Rattle.ledger.proofs.plan.prepare_line.Goals as goal
 pub returns-clause-deeds : goal.returns-clause-deeds
 returns-clause-deeds c =
     let by = c.args.by.now in let s = by.actor in let fs = by.roster.now.facts in let g = by.roster.now.settings in
-    c.in_ok-prepared.ensures.deeds ∙ c.in_ok-verdict.ensures.verdict.deeds
+    c.in_ok-with_room.ensures.deeds ∙ c.in_ok-verdict.ensures.verdict.deeds
     ∙ ap (λ (k : Asked). deeds_of (of_asked g fs s k)) (c.line.invariant.asks ∙ ap asked_of c.line.view_is)
 
 pub returns-clause-quits : goal.returns-clause-quits
-returns-clause-quits c = c.in_ok-verdict.ensures.quits ∙ c.line.invariant.quits ∙ ap is_quit c.line.view_is
+returns-clause-quits c = c.is_quit-quits.ensures ∙ c.line.invariant.quits ∙ ap is_quit c.line.view_is
 
 pub returns-clause-plan : goal.returns-clause-plan
 returns-clause-plan c =
     let by = c.args.by.now in
     let s = by.actor in
-    let fs = by.roster.now.facts in let g = by.roster.now.settings in let k = asked_of c.args.line in
+    let fs = by.roster.now.facts in let g = by.roster.now.settings in let k = asked_of c.args.line.now in
     let v = c.in_ok-verdict.verdict in
-    let seats = by.seats.now in let n = by.number in let m = by.moment in let q = c.in_ok-verdict.quits in
+    let seats = by.seats.now in let n = by.number in let m = by.moment in let q = c.is_quit-quits.result in
     let verdict : IsVerdict v s (of_asked g fs s k) =
     subst (λ (a : Asked). IsVerdict v s (of_asked g fs s a))
     (c.line.invariant.asks ∙ ap asked_of c.line.view_is) c.in_ok-verdict.ensures.verdict in
-    let label : c.counted_label.result ≡ label_of (caps fs s) c.args.line =
-    c.counted_label.ensures ∙ ap (λ (l : Option (List ℕ)). counted (caps fs s) l)
+    let label : c.in_ok-label.label ≡ label_of (caps fs s) c.args.line.now =
+    c.in_ok-label.ensures ∙ ap (λ (l : Option (List ℕ)). counted (caps fs s) l)
     (c.line.invariant.labelled ∙ ap piece_label c.line.view_is) in
-    c.in_ok-prepared.ensures.plan
+    c.in_ok-with_room.ensures.plan
     ∙ ap (λ (l : Option (List ℕ)). planned_with seats s n (rendered (caps fs s) m
     (answered g.server l n v.reply.items v.copies.items)) (heard_text fs m v.others.items) q) label
-    ∙ planned_same seats g fs s n (label_of (caps fs s) c.args.line) v (of_asked g fs s k) m q verdict
+    ∙ planned_same seats g fs s n (label_of (caps fs s) c.args.line.now) v (of_asked g fs s k) m q verdict

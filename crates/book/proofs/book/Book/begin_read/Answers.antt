@@ -15,7 +15,7 @@ invariant_of-self g c =
     let i = c.self.invariant in
     let k = c.begin.new.self in
     let b = c.baton.inside.turn in
-    let p = c.args.line in
+    let p = c.args.line.now in
     by_result c.begin.result (k ≡ begun a.ledger (Said b.session b.next p) c.args.moment) (MayBegin a.ledger b
     c.args.moment) (k ≡ a.ledger) c.begin.ensures.ok c.begin.ensures.may c.begin.ensures.err
     (λ is may. (
@@ -25,20 +25,18 @@ invariant_of-self g c =
     ))
     (λ is. (i.0, subst (λ m. IsTied g.O.Outbox.name m a.register.rows) (sym is) i.1))
 
-pub returns : goal.returns
-returns g c =
+pub returns-clause-begun : goal.returns-clause-begun
+returns-clause-begun g c =
     let k = c.begin.new.self in
     let b = c.baton.inside.turn in
+    let p = c.args.line.now in
     let begun = c.begin.ensures in
-    record {
-      begun = subst (λ (t : Turn). IsLineBegun c.args.self.now k (turn_of t) c.args.line c.args.moment c.begin.result)
-          c.baton.view_is
-          (subst (λ m. IsLineBegun m k b c.args.line c.args.moment c.begin.result) c.self.view_is (record {
-            ok = begun.ok;
-            out = begun.out;
-            line = begun.line;
-            may = begun.may;
-            refusal = begun.refusal;
-            err = begun.err;
-          }));
-    }
+    subst (λ (t : Turn). IsLineBegun c.args.self.now k (turn_of t) p c.args.moment c.begin.result) c.baton.view_is
+    (subst (λ m. IsLineBegun m k b p c.args.moment c.begin.result) c.self.view_is (record {
+      ok = begun.ok;
+      out = begun.out;
+      line = begun.line;
+      may = begun.may;
+      refusal = begun.refusal;
+      err = begun.err;
+    }))

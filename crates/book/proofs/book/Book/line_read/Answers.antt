@@ -10,7 +10,7 @@ pub returns-clause-outcome : goal.returns-clause-outcome
 returns-clause-outcome g c =
     let m = c.args.self.now in
     let b = c.args.baton.now in
-    let p = c.args.line in
+    let p = c.args.line.now in
     let k = c.put_rest.new.self in
     let began = c.in_ok-plan.ensures.begun in
     let put = c.put_rest.ensures in

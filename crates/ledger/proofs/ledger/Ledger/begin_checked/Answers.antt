@@ -52,15 +52,15 @@ overflow_add-result over c =
 
 history : (over : given.Over) (c : goal.After-result-1 over)
     → c.append.new.self.history ≡ fresh_record c.self.inside.journal.history c.args.moment
-    (Said c.args.turn.now.session c.args.turn.now.next c.args.line) ∷ c.self.inside.journal.history
+    (Said c.args.turn.now.session c.args.turn.now.next c.args.line.now) ∷ c.self.inside.journal.history
 history over c =
     let a = c.self.inside in let same = c.reserve.ensures.same in let app = c.append.ensures.appended in
-    let said : c.in_ok-prepared.piece ≡ c.args.line = c.in_ok-prepared.ensures.piece in
+    let said : c.take.result ≡ c.args.line.now = c.take.ensures.piece in
     let b : record { session = c.turn.inside.session; next = c.turn.inside.next }
     ≡ c.args.turn.now = c.turn.view_is in
     app.history ∙ ap (λ h. fresh_record h c.args.moment
-    (Said c.turn.inside.session c.turn.inside.next c.in_ok-prepared.piece) ∷ h) same.history
-    ∙ ap (λ (x : Turn). fresh_record a.journal.history c.args.moment (Said x.session x.next c.in_ok-prepared.piece)
+    (Said c.turn.inside.session c.turn.inside.next c.take.result) ∷ h) same.history
+    ∙ ap (λ (x : Turn). fresh_record a.journal.history c.args.moment (Said x.session x.next c.take.result)
     ∷ a.journal.history) b
     ∙ ap (λ (x : Piece). fresh_record a.journal.history c.args.moment
     (Said c.args.turn.now.session c.args.turn.now.next x) ∷ a.journal.history) said
@@ -70,20 +70,20 @@ limit over c = c.append.ensures.appended.limit ∙ c.reserve.ensures.same.limit
 
 plan : (over : given.Over) (c : goal.After-result-1 over) → c.in_ok-prepared.prepared.plan
     ≡ plan_of c.self.inside.roster.settings c.self.inside.journal.history (Said c.args.turn.now.session
-    c.args.turn.now.next c.args.line) c.args.moment (length c.self.inside.outboxes.boxes)
+    c.args.turn.now.next c.args.line.now) c.args.moment (length c.self.inside.outboxes.boxes)
 plan over c =
     let a = c.self.inside in let q = c.in_ok-prepared.quits in let g = a.roster.settings in let fs = a.roster.facts in
     let number : c.new-number.result ≡ length a.journal.history + 1 = grind (arith, common_steps) in
     let dated = subst
     (λ (m : ℤ). c.in_ok-prepared.prepared.plan ≡ planned_from a.seats c.turn.inside.session c.new-number.result
-    (spelled g fs c.turn.inside.session (label_of (caps fs c.turn.inside.session) c.args.line)
-    (of_asked g fs c.turn.inside.session (asked_of c.args.line)) m c.new-number.result) q)
+    (spelled g fs c.turn.inside.session (label_of (caps fs c.turn.inside.session) c.args.line.now)
+    (of_asked g fs c.turn.inside.session (asked_of c.args.line.now)) m c.new-number.result) q)
     c.moment_of_record.ensures c.in_ok-prepared.ensures.plan in
     let made = dated ∙ ap
-    (λ (t : ℕ). planned_from a.seats t c.new-number.result (spelled g fs t (label_of (caps fs t) c.args.line)
-    (of_asked g fs t (asked_of c.args.line)) c.args.moment c.new-number.result) q) (session over c) in
+    (λ (t : ℕ). planned_from a.seats t c.new-number.result (spelled g fs t (label_of (caps fs t) c.args.line.now)
+    (of_asked g fs t (asked_of c.args.line.now)) c.args.moment c.new-number.result) q) (session over c) in
     said_plan over.O.Outbox.sent a.journal g fs a.seats a.outboxes.boxes a.plan a.busy c.self.invariant.kept
-    c.args.turn.now c.args.line c.args.moment
+    c.args.turn.now c.args.line.now c.args.moment
     c.new-number.result q c.in_ok-prepared.prepared.plan (may over c) number c.in_ok-prepared.ensures.quits made
 
 settings : (over : given.Over) (c : goal.After-result-1 over) → c.commit.new.roster.settings
@@ -92,7 +92,7 @@ settings over c = c.commit.ensures.settings ∙ c.prepare.ensures.settings
 
 pub invariant_of-self-3 : goal.invariant_of-self-3
 invariant_of-self-3 over c =
-    let a = c.self.inside in let s = c.args.turn.now.session in let asked = asked_of c.args.line in
+    let a = c.self.inside in let s = c.args.turn.now.session in let asked = asked_of c.args.line.now in
     let room : length c.in_ok-prepared.prepared.plan ≤ c.append.new.self.left = grind (arith, common_steps) in
     let kept : c.held-room.result ≡ held a.journal.history = c.held-room.ensures.kept in
     let ok = c.reserve.ensures.ok in let more = c.append.ensures.appended.room in
@@ -120,11 +120,11 @@ invariant_of-self-3 over c =
           c.commit.new.roster.facts xs a.outboxes.boxes c.in_ok-prepared.prepared.plan true) (sym rows)
           (said_kept over.O.Outbox.sent a.journal a.roster.settings a.roster.facts a.seats a.outboxes.boxes a.plan
           a.busy c.self.invariant.kept c.append.new.self c.commit.new.roster.facts
-          c.in_ok-prepared.prepared.plan c.args.turn.now c.args.line c.args.moment c.in_ok-prepared.quits
+          c.in_ok-prepared.prepared.plan c.args.turn.now c.args.line.now c.args.moment c.in_ok-prepared.quits
           (may over c) c.in_ok-prepared.ensures.quits few (plan over c) (history over c)
           (limit over c) room free known same));
       based = (let h = a.journal.history in
-          let r = fresh_record h c.args.moment (Said c.args.turn.now.session c.args.turn.now.next c.args.line) in
+          let r = fresh_record h c.args.moment (Said c.args.turn.now.session c.args.turn.now.next c.args.line.now) in
           let n = a.journal.limit.dropped in let g = a.roster.settings in let was = a.outboxes.boxes in
           based_as a.base (r ∷ h) c.append.new.self.history n c.append.new.self.limit.dropped g
           c.commit.new.roster.settings was was (based_record a.base h r n g was c.self.invariant.based)
@@ -138,9 +138,9 @@ invariant_of-self-3 over c =
             here = t.turn.here;
           } in
           since_as ((s, x) ∷ remove_entry (nat_eq s) a.last_heard) c.hear.new.self
-          (fresh_record h m (Said s c.args.turn.now.next c.args.line) ∷ h) c.append.new.self.history
+          (fresh_record h m (Said s c.args.turn.now.next c.args.line.now) ∷ h) c.append.new.self.history
           a.outboxes.boxes a.outboxes.boxes
-          (since_said a.last_heard h s c.args.turn.now.next c.args.line m a.outboxes.boxes c.self.invariant.since
+          (since_said a.last_heard h s c.args.turn.now.next c.args.line.now m a.outboxes.boxes c.self.invariant.since
           there t.in_time.not_earlier)
           (c.hear.ensures ∙ ap (λ (k : ℕ). (k, x) ∷ remove_entry (nat_eq k) a.last_heard) (session over c))
           (history over c) refl);
@@ -152,8 +152,8 @@ returns-clause-ok over c =
     ap (λ (g : Settings). shown c.append.new.self g a.outboxes.boxes c.in_ok-prepared.prepared.plan true)
     (settings over c)
     ∙ begun_is a.journal c.append.new.self a.roster.settings a.outboxes.boxes a.plan c.in_ok-prepared.prepared.plan
-    a.busy (Said b.session b.next c.args.line) c.args.moment (history over c) (limit over c) (plan over c)
-    ∙ ap (λ m. begun m (Said b.session b.next c.args.line) c.args.moment) c.self.view_is
+    a.busy (Said b.session b.next c.args.line.now) c.args.moment (history over c) (limit over c) (plan over c)
+    ∙ ap (λ m. begun m (Said b.session b.next c.args.line.now) c.args.moment) c.self.view_is
 
 -- ---- what is asked of calls
 

@@ -1,6 +1,0 @@
-use Rattle.std.proofs.Common.{IfSome}
-use Rattle.crew.specs.Writing.{Pumps}
-use Rattle.crew.proofs.outlet.Outlet.write.Given as goal
-
-abbrev pub invariant-loop : goal.invariant-loop
-invariant-loop g l = IfSome l.pumped (λ p. Pumps p.before.value p.after.value p.session p.flow)

@@ -1,0 +1,11 @@
+use Rattle.std.proofs.Common.{◌≡◌, map, take}
+use Rattle.ledger.specs.Heard.{deliveries_of, heard_by}
+use Rattle.ledger.proofs.plan.plan_line.Given as goal
+
+-- what is planned is for those hearers that were reached
+abbrev pub invariant-loop-hearer : goal.invariant-loop-hearer
+invariant-loop-hearer l = record {
+  same : l.line ≡ l.fn.line;
+  plan : l.plan.items ≡ deliveries_of l.by.seats.now l.by.actor l.by.number
+      (map (heard_by l.by.roster.now.facts l.fn.line.moment l.fn.line.line) (take l.hearer-index l.hearers));
+}

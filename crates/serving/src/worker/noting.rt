@@ -1,0 +1,75 @@
+//! What workers note for the log: who comes, by which name, and who goes.
+use super::Context;
+use crate::connections::Connection;
+use crate::events::Event;
+use chronicle::{Kind, RecordNumber, SessionId};
+use line_grammar::Octets;
+use session_io::Gate;
+use session_io::hall::outbox::Sender;
+use session_io::hall::{Hall, Naming};
+use std::alloc::AllocError;
+use std::net::SocketAddr;
+use std::sync::Wait;
+use std::time::Clock;
+
+/// Who is gone by a record, and why it was ended, in one word.
+fn gone_by<L: Naming, R: Wait + Drop>(
+    hall: &Hall<L, Sender<R>>,
+    number: RecordNumber,
+) -> Option<(SessionId, &'static str)> {
+    match &hall.record(number)?.kind {
+        Kind::Gone { session } => Some((*session, hall.why_of(*session).word())),
+        _ => None,
+    }
+}
+
+/// A copy of a session's nickname, if it has one and there is memory for it.
+fn nick_in<L: Naming, R: Wait + Drop>(
+    hall: &Hall<L, Sender<R>>,
+    session: SessionId,
+) -> Option<Octets> {
+    let nick: Result<Octets, AllocError> = hall.nick_of(session)?.clone();
+    match nick {
+        Ok(nick) => Some(nick),
+        Err(_) => None,
+    }
+}
+
+impl<L: Naming, R: Wait + Clock + Copy + Drop, G: Gate, C: crate::Clock> Context<'_, L, R, G, C> {
+    /// Notes for the log that a session was opened.
+    pub(super) fn note_opened(
+        &self,
+        session: SessionId,
+        peer: SocketAddr,
+        connection: &Connection<L, R>,
+    ) {
+        let is_web = connection.web.is_some();
+        let all = self.server.host.all;
+        all.note(Event::Came(session, peer, is_web));
+    }
+
+    /// Notes for the log that a session has its first nickname, once, where there is memory for it.
+    pub(super) fn note_nick(&self, session: SessionId, connection: &Connection<L, R>) {
+        let all = self.server.host.all;
+        if all.log.is_none() || connection.is_named() {
+            return;
+        }
+        let nick = nick_in(&*self.server.hall.lock(self.rt), session);
+        if let Some(nick) = nick {
+            connection.name();
+            all.note(Event::Named(session, nick));
+        }
+    }
+
+    /// Notes for the log that a session is gone.
+    pub(super) fn note_gone(&self, number: RecordNumber) {
+        let all = self.server.host.all;
+        if all.log.is_none() {
+            return;
+        }
+        let gone = gone_by(&*self.server.hall.lock(self.rt), number);
+        if let Some((session, why)) = gone {
+            all.note(Event::Went(session, why));
+        }
+    }
+}

@@ -1,0 +1,7 @@
+pub mod Beating
+pub mod Doing
+pub mod Filling
+pub mod Writing
+pub use Rattle.session_ends.specs.Timing
+pub use Rattle.intakes.specs.Taking
+pub use Rattle.wire.specs.Wired
