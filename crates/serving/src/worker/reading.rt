@@ -143,8 +143,8 @@ impl<L: Naming, R: Wait + Clock + Copy + Drop, G: Gate, C: crate::Clock> Context
         }
     }
 
-    /// Reads the payloads of a client that came by WebSocket, or else its stream, where what waits for it lets that be,
-    /// and has the lines done that end in what that brings.
+    /// Reads the payloads of a client that came by WebSocket, or else its stream, where what waits for it lets that
+    /// be, and has the lines done that end in what that brings.
     fn do_lines(&mut self, client: &mut Client<L, R>) -> Next {
         let Client {
             baton,
