@@ -120,6 +120,17 @@ struct Held<'a, L: Naming, R: Wait + Drop> {
 }
 
 impl<'a, L: Naming, R: Wait + Drop> Held<'a, L, R> {
+    /// Reads more of these pieces, of which the first are read, as many as may be done in one hold, where the thread
+    /// hasn't the hall.
+    fn read_ahead(&self, ahead: &mut Ahead, pieces: &[Piece], burst: usize)
+        requires { IsFront ahead.old pieces.now }
+        ensures { IsFront ahead.new pieces.now }
+    {
+        if self.hall.is_none() {
+            ahead.read(pieces, burst.max(1));
+        }
+    }
+
     /// The hall, which is taken where the thread has it not.
     fn take<H: Host>(
         &mut self,
@@ -261,9 +272,7 @@ pub fn do_lines<'a, L: Naming, R: Wait + Drop, H: Host, B: Backlog>(
     let mut ahead = Ahead::new(told.allocator());
     let mut done = 0;
     for piece in pieces {
-        if held.hall.is_none() {
-            ahead.read(&pieces[done..], server.burst.max(1));
-        }
+        held.read_ahead(&mut ahead, &pieces[done..], server.burst);
         let Ok(line) = line_of(told.allocator(), piece, ahead.next()) else {
             held.refuse(rt, server, session, LineRefusal::Memory, told);
             return Count {
