@@ -7,7 +7,7 @@
 //! lock is asked for. The hall is held from one line of a read to the next, and given back when somebody is to be
 //! shut, many are to be written to, or a line was refused. Who got something is written to after so many lines
 //! (`burst`), so that the answers of one read don't fill their own session's outbox, and otherwise by the caller.
-ghost use Rattle.std.specs.Prelude.{◌≡◌, ◌≤◌, ◌++◌, ◌∷◌, [], length, take, true, false, IfOk, OnOk, OnErr};
+ghost use Rattle.std.specs.Prelude.{◌≡◌, ◌≤◌, ◌++◌, ◌∷◌, [], length, take, true, false, IfOk, IfSome, OnOk, OnErr};
 ghost use Rattle.session_io.specs.Doing.{TellsOf, IsSeenTo, IsNewestSeenTo};
 ghost use Rattle.session_io.specs.Filling.{IsFront};
 ghost use Rattle.session_ends.specs.Timing.{IsAt};
@@ -19,6 +19,7 @@ use line_grammar::Piece;
 use session_ends::hall::outbox::Sender;
 use session_ends::hall::{Baton, Done, Hall, LineRefusal, Naming, ReadLine, RollRefusal, Told};
 use session_ends::{Host, Server, are_many, end_refused, later, shut_those, tell, tell_many};
+use std::alloc::AllocError;
 use std::hint::spin_loop;
 use std::sync::{Mutex, MutexGuard, Wait};
 
@@ -139,6 +140,17 @@ impl<'a, L: Naming, R: Wait + Drop> Held<'a, L, R> {
         lock_soon(rt, server.hall)
     }
 
+    /// Reads more of these pieces, of which the first are read, as many as may be done in one hold, where the thread
+    /// hasn't the hall.
+    fn read_ahead(&self, ahead: &mut Ahead, pieces: &[Piece], burst: usize)
+        requires { IsFront ahead.old pieces.now }
+        ensures { IsFront ahead.new pieces.now }
+    {
+        if self.hall.is_none() {
+            ahead.read(pieces, burst.max(1));
+        }
+    }
+
     /// Gives the hall back, where the thread has it.
     fn give_back<H: Host>(&mut self, server: &Server<'a, L, R, H>, session: SessionId)
         ensures { self.new.moment ≡ self.old.moment }
@@ -207,6 +219,34 @@ impl<'a, L: Naming, R: Wait + Drop> Held<'a, L, R> {
         }
     }
 
+    /// Does one piece, as it was read before, where it was, and answers whether it was done.
+    fn do_piece<H: Host>(
+        &mut self,
+        rt: &R,
+        server: &Server<'a, L, R, H>,
+        baton: &mut Baton<L, Sender<R>>,
+        piece: &Piece,
+        line: Option<ReadLine>,
+        told: &mut Told,
+    ) -> bool
+        requires shown { H.shows server.now.host.now self.old.moment }
+        requires read { IfSome line (λ r. r ≡ piece.now) }
+        ensures done { result ≡ true → baton.new.pieces ≡ baton.old.pieces ++ piece.now ∷ [] }
+        ensures not_done { result ≡ false → baton.new ≡ baton.old }
+        ensures session { baton.new.session ≡ baton.old.session }
+        ensures seen_to { result ≡ true
+            → IsSeenTo (H.shows server.now.host.now) (H.shuts server.now.host.now) baton.new }
+        ensures shown { H.shows server.now.host.now self.new.moment }
+    {
+        match line_of(told.allocator(), piece, line) {
+            Ok(mut line) => self.line(rt, server, baton, &mut line, told),
+            Err(AllocError) => {
+                self.refuse(rt, server, baton.session(), LineRefusal::Memory, told);
+                false
+            }
+        }
+    }
+
     /// Whether much waits for the session. Where it does, this gives the hall back, has all told who got something,
     /// by which what waits is written as far as the stream takes it, and looks again.
     fn finds_much<H: Host, B: Backlog>(
@@ -262,17 +302,8 @@ pub fn do_lines<'a, L: Naming, R: Wait + Drop, H: Host, B: Backlog>(
     let mut ahead = Ahead::new(told.allocator());
     let mut done = 0;
     for piece in pieces {
-        if held.hall.is_none() {
-            ahead.read(&pieces[done..], server.burst.max(1));
-        }
-        let Ok(mut line) = line_of(told.allocator(), piece, ahead.next()) else {
-            held.refuse(rt, server, session, LineRefusal::Memory, told);
-            return Count {
-                done,
-                until: Until::Refused,
-            };
-        };
-        if !held.line(rt, server, baton, &mut line, told) {
+        held.read_ahead(&mut ahead, &pieces[done..], server.burst);
+        if !held.do_piece(rt, server, baton, piece, ahead.next(), told) {
             return Count {
                 done,
                 until: Until::Refused,
