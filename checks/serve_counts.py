@@ -63,7 +63,7 @@ def channel_texts(server, count):
 
 
 def names(server, count):
-    first = members(server, 100)[0]
+    first, *_others = members(server, 100)
     for _ in range(count):
         says(first, "NAMES #c", " 366 ")
 

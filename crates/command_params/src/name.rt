@@ -110,5 +110,5 @@ pub fn each_name_is_read()
 pub fn is_named(name: &[u8], other: &[u8]) -> bool
     ensures { result ≡ str_eq_ignore_ascii_case name.now other.now }
 {
-    name.eq_ignore_ascii_case(other)
+    name == other || name.eq_ignore_ascii_case(other)
 }

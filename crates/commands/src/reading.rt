@@ -22,14 +22,14 @@ use talk_commands::{read_away, read_notice, read_privmsg, read_tagmsg};
 fn read_by(alloc: Global, name: CommandName, message: LineMessage<'_>) -> Result<Command, ReadFault>
     ensures { IsRead (command_by name message.entry) result }
 {
-    let (tags, params) = (message.tags(), message.params());
+    let params = message.params();
     match name {
         CommandName::Quit => Ok(Command::Session(read_quit(alloc, message)?)),
         CommandName::Ping => Ok(Command::Session(read_ping(alloc, message)?)),
         CommandName::Pong => Ok(Command::Session(SessionCommand::Pong)),
-        CommandName::Privmsg => Ok(Command::Talk(read_privmsg(alloc, tags, &params)?)),
-        CommandName::Notice => Ok(Command::Talk(read_notice(alloc, tags, &params)?)),
-        CommandName::Tagmsg => Ok(Command::Talk(read_tagmsg(alloc, tags, &params)?)),
+        CommandName::Privmsg => Ok(Command::Talk(read_privmsg(alloc, message)?)),
+        CommandName::Notice => Ok(Command::Talk(read_notice(alloc, message)?)),
+        CommandName::Tagmsg => Ok(Command::Talk(read_tagmsg(alloc, message)?)),
         CommandName::Away => Ok(Command::Talk(read_away(alloc, &params)?)),
         CommandName::Join => Ok(Command::Channel(read_join(alloc, &params)?)),
         CommandName::Part => Ok(Command::Channel(read_part(alloc, &params)?)),

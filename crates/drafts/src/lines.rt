@@ -43,9 +43,9 @@ fn prefix_with(
 {
     let mut text = Vec::with_capacity(alloc, PREFIX_ROOM)?;
     push_title(&mut text, nick)?;
-    text.extend_from_slice(b"!")?;
+    text.push(b'!')?;
     push_title(&mut text, user)?;
-    text.extend_from_slice(b"@")?;
+    text.push(b'@')?;
     text.extend_from_slice(host)?;
     Ok(Octets::from_vec(text))
 }

@@ -168,11 +168,7 @@ fn split_line(octets: &[u8]) -> Option<(&[u8], &[u8])>
 fn first_line_end(octets: &[u8]) -> Option<usize>
     ensures { result ≡ position is_line_end octets.now }
 {
-    match octets {
-        [] => None,
-        [b'\r' | b'\n', ..] => Some(0),
-        _ => memchr2(b'\r', b'\n', octets),
-    }
+    memchr2(b'\r', b'\n', octets)
 }
 
 /// Cuts a stream that comes in any pieces. It keeps the unfinished line, at most 4606 octets of it: `@`, 4094 of tag

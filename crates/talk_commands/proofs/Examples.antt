@@ -1,5 +1,5 @@
 -- The definitions at work, computed. Sessions 1 to 4 are al, bo, cy and dee.
-use Rattle.std.proofs.Common.{◌≡◌, ℕ, true, false, List, [], ◌∷◌, ◌++◌, codes, replicate, Some, None, refl}
+use Rattle.std.proofs.Common.{◌≡◌, true, false, List, [], ◌∷◌, codes, replicate, Some, None, refl}
 use Rattle.casemapping.specs.Fold.{fold_of, is_same}
 use Rattle.channel_state.specs.declared.change.Change.TheVariants.{Joined}
 use Rattle.numerics.specs.Outgoing.{line}
@@ -7,7 +7,7 @@ use Rattle.registration.specs.declared.caps.Caps.{Caps}
 use Rattle.registration.specs.declared.caps.Cap.TheVariants.{AwayNotify, ExtendedJoin}
 use Rattle.registration.specs.Caps.{none_on, turned}
 use Rattle.roster.specs.declared.deed.Deed.{Deed}
-use Rattle.roster.specs.declared.deed.Deed.TheVariants.{Opened, NickSet, UserSet, CapsSet}
+use Rattle.roster.specs.declared.deed.Deed.TheVariants.{Opened, CapsSet}
 use Rattle.roster.specs.declared.deed.Deed.TheVariants.{AwaySet, ChannelMade, Changed}
 use Rattle.roster.specs.LookBack.{after}
 use Rattle.drafts.specs.Lines.{away_line}

@@ -1,3 +1,4 @@
+pub mod OneName
 pub mod Quiet
 pub mod Reached
 pub mod Relayed

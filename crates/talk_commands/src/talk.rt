@@ -1,6 +1,7 @@
 //! The commands that send texts: how each is read, and what it does (RFC 2812, sections 3.3.1, 3.3.2 and
 //! 4.1; IRCv3 message-tags).
-ghost use Rattle.std.specs.Prelude.{◌≡◌, IfOk, OnOk};
+ghost use Rattle.std.specs.Prelude.{◌≡◌, true, IfOk, OnOk};
+ghost use Rattle.line_grammar.specs.Parts.{is_present};
 ghost use Rattle.roster.specs.Legal.{IsOpened};
 ghost use Rattle.drafts.specs.Words.{grown};
 ghost use Rattle.command_params.specs.Lists.{names_of};
@@ -12,9 +13,9 @@ ghost use Rattle.talk_commands.specs.Talk.{away_command, relayed, second_or_empt
 
 use crate::{Sending, Verb, go_away, send};
 use chronicle::SessionId;
-use command_params::{CommandName, ReadFault, first, read_names};
+use command_params::{CommandName, ReadFault, first, into_first, read_names};
 use drafts::Draft;
-use line_grammar::{LineParameters, Octets, OctetsList};
+use line_grammar::{LineMessage, LineParameters, Octets, OctetsList, split_first};
 use message_tags::{client_only, tags_of};
 use std::alloc::{AllocError, Global};
 
@@ -58,17 +59,32 @@ fn relayed(alloc: Global, tag_data: &[u8]) -> Result<Octets, AllocError>
     client_only(alloc, &tags)
 }
 
-/// What is sent to those whom a list names.
+/// The names of a list that isn't empty. Where it has no comma it is kept as the one name.
+#[tactic(auto, using(crate::proofs::OneName::one_name))]
+fn names_in(alloc: Global, list: Octets) -> Result<OctetsList, AllocError>
+    requires { is_present list ≡ true }
+    ensures { IfOk result (λ names. names ≡ names_of list) }
+{
+    if let (_, Some(_)) = split_first(list.as_slice(), b',') {
+        return read_names(alloc, list.as_slice());
+    }
+    let mut names = Vec::with_capacity(alloc, 1)?;
+    names.push(list)?;
+    Ok(OctetsList::from_vec(names))
+}
+
+/// What is sent to those whom a list names, which isn't empty.
 fn sent(
     alloc: Global,
     verb: Verb,
-    list: &[u8],
+    list: Octets,
     text: Option<Octets>,
     tag_data: &[u8],
 ) -> Result<TalkCommand, AllocError>
-    ensures { IfOk result (λ k. k ≡ Send verb (names_of list.now) text (relayed tag_data.now)) }
+    requires { is_present list ≡ true }
+    ensures { IfOk result (λ k. k ≡ Send verb (names_of list) text (relayed tag_data.now)) }
 {
-    let targets = read_names(alloc, list)?;
+    let targets = names_in(alloc, list)?;
     let tags = relayed(alloc, tag_data)?;
     Ok(TalkCommand::Send {
         verb,
@@ -79,20 +95,17 @@ fn sent(
 }
 
 /// What PRIVMSG asks for (RFC 2812, section 3.3.1).
-pub fn read_privmsg(
-    alloc: Global,
-    tag_data: &[u8],
-    params: &LineParameters<'_>,
-) -> Result<TalkCommand, ReadFault>
-    ensures { IsRead (privmsg_command tag_data.now params.now) result }
+pub fn read_privmsg(alloc: Global, message: LineMessage<'_>) -> Result<TalkCommand, ReadFault>
+    ensures { IsRead (privmsg_command message.entry.tags message.entry.params) result }
 {
-    let list = first(params);
+    let (tag_data, params) = (message.tags(), message.params());
+    let list = into_first(alloc, message);
     if list.is_empty() {
         return Err(ReadFault::NoRecipient {
             command: CommandName::Privmsg,
         });
     }
-    let text = second(params);
+    let text = second(&params);
     if text.is_empty() {
         return Err(ReadFault::NoTextToSend);
     }
@@ -101,15 +114,12 @@ pub fn read_privmsg(
 }
 
 /// What NOTICE asks for (section 3.3.2).
-pub fn read_notice(
-    alloc: Global,
-    tag_data: &[u8],
-    params: &LineParameters<'_>,
-) -> Result<TalkCommand, ReadFault>
-    ensures { IsRead (notice_command tag_data.now params.now) result }
+pub fn read_notice(alloc: Global, message: LineMessage<'_>) -> Result<TalkCommand, ReadFault>
+    ensures { IsRead (notice_command message.entry.tags message.entry.params) result }
 {
-    let list = first(params);
-    let text = second(params);
+    let (tag_data, params) = (message.tags(), message.params());
+    let list = into_first(alloc, message);
+    let text = second(&params);
     if list.is_empty() || text.is_empty() {
         return Ok(TalkCommand::Send {
             verb: Verb::Notice,
@@ -123,14 +133,11 @@ pub fn read_notice(
 }
 
 /// What TAGMSG asks for (IRCv3 message-tags).
-pub fn read_tagmsg(
-    alloc: Global,
-    tag_data: &[u8],
-    params: &LineParameters<'_>,
-) -> Result<TalkCommand, ReadFault>
-    ensures { IsRead (tagmsg_command tag_data.now params.now) result }
+pub fn read_tagmsg(alloc: Global, message: LineMessage<'_>) -> Result<TalkCommand, ReadFault>
+    ensures { IsRead (tagmsg_command message.entry.tags message.entry.params) result }
 {
-    let list = first(params);
+    let tag_data = message.tags();
+    let list = into_first(alloc, message);
     if list.is_empty() {
         return Err(ReadFault::NoRecipient {
             command: CommandName::Tagmsg,

@@ -1,4 +1,4 @@
-use Rattle.std.proofs.Common.{ℕ, List, filter, rules, ap, ◌∙◌}
+use Rattle.std.proofs.Common.{filter, rules, ap, ◌∙◌}
 use Rattle.std.proofs.lemmas.Fn.{filter_same}
 use Rattle.talk_commands.specs.Talking.{reaches}
 use Rattle.talk_commands.proofs.talking.reached_of.Goals as goal
