@@ -301,7 +301,8 @@ impl<L: Naming, O: Lasting> Hall<L, O> {
         self.book.ledger().nick_of(session)
     }
 
-    /// Why a session ended, whether or not its records were dropped; where that was never told its outbox was full.
+    /// Why a session that isn't gone ended, whether or not its records were dropped; where that was never told its
+    /// outbox was full.
     pub fn why_of(&self, session: SessionId) -> Why
         ensures { result ≡ ended_for self.now session }
     {

@@ -24,19 +24,19 @@ const ROLLED: [Act; 5] = [
 ];
 
 /// The next record is kept, and the one before isn't. Al goes, and isn't counted any more once the journal is rolled
-/// again. Why it ended is known after that, too.
+/// again. Why it ended is known until it is gone.
 const GONE: [Act; 11] = [
     Act::IsKept(6, false),
     Act::IsKept(7, true),
     Act::Has(1),
     Act::Hung(1, Why::Shutdown, false),
+    Act::Ended(1, Why::Shutdown),
     Act::Swept(&[]),
     Act::IsKept(9, true),
     Act::Has(3),
     Act::Leaves(1, 6),
     Act::Rolled(3, 10),
     Act::Counted(1, None, None),
-    Act::Ended(1, Why::Shutdown),
 ];
 
 /// No record is dropped, and it is known that nobody came.

@@ -55,7 +55,7 @@ pub record Shown (O : Type 0) : Type 0 where
 abbrev pub nickname : {O : Type 0} → Shown O → ℕ → Option (List ℕ)
 nickname m s = nick (facts m.settings m.history) s
 
--- why session s ended by what was accepted; where that was never told its outbox was full
+-- why session s, which isn't gone, ended by what was accepted; where that was never told its outbox was full
 abbrev pub ended_for : {O : Type 0} → Shown O → ℕ → Why
 ended_for m s = why (facts m.settings m.history) s
 

@@ -635,7 +635,7 @@ impl<O: Outbox> Ledger<O> {
         self.roster.nick_of(session)
     }
 
-    /// Why a session ended by the history; where that was never told its outbox was full.
+    /// Why a session that isn't gone ended by the history; where that was never told its outbox was full.
     pub fn why_of(&self, session: SessionId) -> Why
         ensures { result ≡ ended_for self.now session }
     {

@@ -2,7 +2,7 @@
 use super::Context;
 use crate::connections::Connection;
 use crate::events::Event;
-use chronicle::{Kind, RecordNumber, SessionId};
+use chronicle::{Kind, Record, RecordNumber, SessionId, Why};
 use line_grammar::Octets;
 use session_io::Gate;
 use session_io::hall::outbox::Sender;
@@ -12,15 +12,42 @@ use std::net::SocketAddr;
 use std::sync::Wait;
 use std::time::Clock;
 
-/// Who is gone by a record, and why it was ended, in one word.
+/// Why a record ended this session, if it did: of what it said only a `QUIT` is looked at, since it is shut.
+fn why_by(record: &Record, session: SessionId) -> Option<Why> {
+    if record.missed.as_slice().contains(&session) {
+        return Some(Why::SendQ);
+    }
+    match &record.kind {
+        Kind::Hung {
+            session: whose,
+            why,
+        } if *whose == session => Some(*why),
+        Kind::Said { session: whose, .. } if *whose == session => Some(Why::Quit),
+        _ => None,
+    }
+}
+
+/// Who is gone by a record, and why it was ended: by the newest record before it that did that, in one word. Where
+/// that was dropped it isn't known.
 fn gone_by<L: Naming, R: Wait + Drop>(
     hall: &Hall<L, Sender<R>>,
     number: RecordNumber,
 ) -> Option<(SessionId, &'static str)> {
-    match &hall.record(number)?.kind {
-        Kind::Gone { session } => Some((*session, hall.why_of(*session).word())),
-        _ => None,
+    let session = match &hall.record(number)?.kind {
+        Kind::Gone { session } => *session,
+        _ => return None,
+    };
+    let mut place = number.number();
+    for _ in 0..hall.len() {
+        place = place.saturating_sub(1);
+        let Some(record) = hall.record(RecordNumber::new(place)) else {
+            break;
+        };
+        if let Some(why) = why_by(record, session) {
+            return Some((session, why.word()));
+        }
     }
+    Some((session, "unknown"))
 }
 
 /// A copy of a session's nickname, if it has one and there is memory for it.
