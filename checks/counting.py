@@ -4,12 +4,10 @@
 STEP = "interleave::play::Play::step::"
 
 
-def counted(program, room, play_by):
-    """The instructions in each function while steps are taken. What plays the script is given the words of its program."""
-    words = ["valgrind", "--tool=callgrind", "--compress-strings=no", f"--callgrind-out-file={room}/counts"]
-    play_by([*words, f"--toggle-collect={STEP}*", program])
+def functions_of(file):
+    """The instructions in each function that a file of counts tells of."""
     counts, function, is_call = {}, "", False
-    with open(f"{room}/counts", encoding="utf-8", errors="replace") as it:
+    with open(file, encoding="utf-8", errors="replace") as it:
         for line in it:
             if line.startswith("fn="):
                 function = line[3:].strip()
@@ -19,15 +17,11 @@ def counted(program, room, play_by):
     return counts
 
 
-def totals_of(file):
-    """All instructions that a file of counts tells of."""
-    total, is_call = 0, False
-    with open(file, encoding="utf-8", errors="replace") as it:
-        for line in it:
-            if line[:1] in "0123456789+-*" and not is_call:
-                total += int(line.split()[1])
-            is_call = line.startswith("calls=")
-    return total
+def counted(program, room, play_by):
+    """The instructions in each function while steps are taken. What plays the script is given the words of its program."""
+    words = ["valgrind", "--tool=callgrind", "--compress-strings=no", f"--callgrind-out-file={room}/counts"]
+    play_by([*words, f"--toggle-collect={STEP}*", program])
+    return functions_of(f"{room}/counts")
 
 
 def calls_of(file, functions):

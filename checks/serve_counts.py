@@ -5,7 +5,7 @@ is what one takes: so the start of a server, its clients' registration and its e
 """
 import os
 
-from counting import calls_of, totals_of
+from counting import calls_of, functions_of
 from served import Client, Server
 
 # A server under valgrind, which writes its counts where it ends.
@@ -24,10 +24,18 @@ def says(client, line, answer):
     client.hear(answer)
 
 
+def leave(*clients):
+    """Each quits, and is let go of before the server ends, whose end takes now more and now less."""
+    for client in clients:
+        client.send("QUIT")
+        client.rest()
+
+
 def pings(server, count):
     client = Client(server, "al")
     for turn in range(count):
         says(client, f"PING {turn}", f" PONG irc.example {turn}")
+    leave(client)
 
 
 def labelled_pings(server, count):
@@ -35,6 +43,7 @@ def labelled_pings(server, count):
     says(client, WITH_LABELS, " ACK ")
     for turn in range(count):
         says(client, f"@label={turn} PING x", f"@label={turn} ")
+    leave(client)
 
 
 def private_texts(server, count):
@@ -42,6 +51,7 @@ def private_texts(server, count):
     for turn in range(count):
         al.send(f"PRIVMSG bo :a text of some length {turn}")
         bo.hear(f"length {turn}")
+    leave(al, bo)
 
 
 def members(server, count, channel="#c"):
@@ -60,12 +70,14 @@ def channel_texts(server, count):
         speaker.send(f"PRIVMSG #c :a text of some length {turn}")
         for other in others:
             other.hear(f"length {turn}")
+    leave(speaker, *others)
 
 
 def names(server, count):
-    first, *_others = members(server, 100)
+    first, *others = members(server, 100)
     for _ in range(count):
         says(first, "NAMES #c", " 366 ")
+    leave(first, *others)
 
 
 def joins(server, count):
@@ -76,6 +88,7 @@ def joins(server, count):
         says(comer, "PART #c", " PART #c")
         for other in (first, *others):
             other.hear(":comer!comer@127.0.0.1 PART #c")
+    leave(comer, first, *others)
 
 
 def crowd(server, count):
@@ -88,9 +101,7 @@ def crowd(server, count):
             client.hear(" 366 ")
     for place, client in enumerate(clients):
         says(client, f"PART {channels}", f":m{place}!m{place}@127.0.0.1 PART #c5")
-    for client in clients:
-        client.send("QUIT")
-        client.rest()
+    leave(*clients)
 
 
 def connections(server, count):
@@ -114,8 +125,12 @@ LOADS = [
 ]
 
 
+# How many functions are listed of a load whose functions are.
+LISTED = 25
+
+
 def played(program, room, play, count):
-    """The instructions in all and the allocations of a server by which so much is played."""
+    """The instructions in each function, and the allocations, of a server by which so much is played."""
     counts, starter = f"{room}/counts", f"{room}/under"
     with open(starter, "w", encoding="utf-8") as it:
         it.write(UNDER.format(counts=counts, program=program))
@@ -126,11 +141,16 @@ def played(program, room, play, count):
         server.stop()
     finally:
         server.kill()
-    return totals_of(counts), calls_of(counts, ("malloc", "calloc", "realloc"))
+    return functions_of(counts), calls_of(counts, ("malloc", "calloc", "realloc"))
 
 
-def tell_loads(program, room):
+def tell_loads(program, room, profiled):
+    """A line a load, and of each its dearest functions where that is asked for."""
     for name, play, first, second, parts in LOADS:
         (low, few), (high, many) = played(program, room, play, first), played(program, room, play, second)
         of = (second - first) * parts
-        print(f"{name}: {(high - low) / of:,.0f} instructions, {(many - few) / of:,.1f} allocations", flush=True)
+        more = {it: (count - low.get(it, 0)) / of for it, count in high.items()}
+        print(f"{name}: {sum(more.values()):,.0f} instructions, {(many - few) / of:,.1f} allocations", flush=True)
+        if profiled:
+            for function, count in sorted(more.items(), key=lambda it: -it[1])[:LISTED]:
+                print(f"  {count:12,.1f}  {function}", flush=True)

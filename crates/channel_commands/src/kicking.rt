@@ -31,55 +31,6 @@ fn kick_text(draft: &Draft<'_>, session: SessionId, text: &Octets) -> Result<Oct
     first_octets(text, KICKLEN)
 }
 
-/// Puts a user out of a channel that is there, where it is on it.
-fn kick_there(
-    draft: &mut Draft,
-    session: SessionId,
-    from: &[u8],
-    text: &Octets,
-    name: &Octets,
-    user: SessionId,
-    nick: &Octets,
-    seen: &Seen,
-) -> Result<(), AllocError>
-    requires seen { IsSeen draft.old.facts seen.now }
-    requires nick { nick.now ≡ title (nick_of draft.old.base user) }
-    ensures { OnOk result (draft.new ≡ grown draft.old (kicks_user draft.old.settings draft.old.base
-        draft.old.facts session from.now text.now name.now user (Some seen.now))) }
-{
-    if !seen.state().has(user) {
-        return deny_absent(draft, session, nick, name);
-    }
-    let line = kick_line(
-        draft.alloc(),
-        from,
-        name.as_slice(),
-        nick.as_slice(),
-        text.as_slice(),
-    )?;
-    leave(draft, seen, user, line)
-}
-
-/// Puts a user out of a channel, where it is on it.
-fn kick_user(
-    draft: &mut Draft,
-    session: SessionId,
-    from: &[u8],
-    text: &Octets,
-    name: &Octets,
-    user: SessionId,
-) -> Result<(), AllocError>
-    ensures { OnOk result
-        (draft.new ≡ grown draft.old (kicks_user draft.old.settings draft.old.base draft.old.facts
-        session from.now text.now name.now user (channel_of draft.old.facts name.now))) }
-{
-    let nick = title_of(draft.alloc(), draft.before().nick_of(user))?;
-    match channel_of(draft, name)? {
-        Some(seen) => kick_there(draft, session, from, text, name, user, &nick, &seen),
-        None => deny_absent(draft, session, &nick, name),
-    }
-}
-
 /// A session puts users out of a channel, by their nicknames.
 #[derive(Clone, Copy)]
 struct Kicking<'a> {
@@ -89,6 +40,49 @@ struct Kicking<'a> {
     name: &'a Octets,
 }
 
+impl Kicking<'_> {
+    /// Puts a user out of the channel, which is there, where it is on it.
+    fn kick_there(
+        &self,
+        draft: &mut Draft,
+        user: SessionId,
+        nick: &Octets,
+        seen: &Seen,
+    ) -> Result<(), AllocError>
+        requires seen { IsSeen draft.old.facts seen.now }
+        requires nick { nick.now ≡ title (nick_of draft.old.base user) }
+        ensures { OnOk result (draft.new ≡ grown draft.old (kicks_user draft.old.settings
+            draft.old.base draft.old.facts self.now.session self.now.from.now self.now.text.now
+            self.now.name.now user (Some seen.now))) }
+    {
+        if !seen.state().has(user) {
+            return deny_absent(draft, self.session, nick, self.name);
+        }
+        let line = kick_line(
+            draft.alloc(),
+            self.from,
+            self.name.as_slice(),
+            nick.as_slice(),
+            self.text.as_slice(),
+        )?;
+        leave(draft, seen, user, line)
+    }
+
+    /// Puts a user out of the channel, where it is on it.
+    fn kick_user(&self, draft: &mut Draft, user: SessionId) -> Result<(), AllocError>
+        ensures { OnOk result
+            (draft.new ≡ grown draft.old (kicks_user draft.old.settings draft.old.base
+            draft.old.facts self.now.session self.now.from.now self.now.text.now
+            self.now.name.now user (channel_of draft.old.facts self.now.name.now))) }
+    {
+        let nick = title_of(draft.alloc(), draft.before().nick_of(user))?;
+        match channel_of(draft, self.name)? {
+            Some(seen) => self.kick_there(draft, user, &nick, &seen),
+            None => deny_absent(draft, self.session, &nick, self.name),
+        }
+    }
+}
+
 impl DoesFor<Octets> for Kicking<'_> {
     ghost use Rattle.channel_commands.specs.Leaving.{kicks_one};
 
@@ -96,15 +90,9 @@ impl DoesFor<Octets> for Kicking<'_> {
         k.name.now facts nick };
 
     fn do_for(&self, draft: &mut Draft, nick: &Octets) -> Result<(), AllocError> {
-        let Kicking {
-            session,
-            from,
-            text,
-            name,
-        } = *self;
         match user_of(draft, nick) {
-            Some(user) => kick_user(draft, session, from, text, name, user),
-            None => deny(draft, session, Denial::NoSuchNick, nick),
+            Some(user) => self.kick_user(draft, user),
+            None => deny(draft, self.session, Denial::NoSuchNick, nick),
         }
     }
 }

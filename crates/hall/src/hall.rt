@@ -48,7 +48,8 @@ impl<L: Naming, O: Lasting> Hall<L, O> {
     ghost use Rattle.book.specs.Outcomes.{IsLineOutcome, IsOpenOutcome, IsReapOutcome};
     ghost use Rattle.book.specs.Outcomes.{IsHangOutcome, IsRollOutcome, IsSweepOutcome, IsTickOutcome};
     ghost use Rattle.ledger.specs.Ledger.{empty_ledger, opened, IsSound, late};
-    ghost use Rattle.ledger.specs.Ledger.{is_here, base_of, nickname, ended_for, to_ping, MayBegin, MayTick, HasRoom};
+    ghost use Rattle.ledger.specs.Ledger.{is_here, base_of, nickname, ended_for, to_ping, to_sweep, MayBegin};
+    ghost use Rattle.ledger.specs.Ledger.{MayTick, HasRoom};
     ghost use Rattle.ledger.specs.Ledger.{IsSomebodyQuiet, IsLineRefusal, IsTickRefusal, IsOpenRefusal, MayOpen};
     ghost use Rattle.ledger.specs.Noted.{base_by, is_noted};
     ghost use Rattle.book.specs.Reaping.{turn_of};
@@ -299,6 +300,13 @@ impl<L: Naming, O: Lasting> Hall<L, O> {
             → result ≡ None }
     {
         self.book.ledger().nick_of(session)
+    }
+
+    /// The shut session of the lowest number that isn't gone, which is swept next.
+    pub fn next_to_sweep(&self) -> Option<SessionId>
+        ensures { result ≡ to_sweep self.now.history }
+    {
+        self.book.ledger().next_to_sweep()
     }
 
     /// Why a session that isn't gone ended, whether or not its records were dropped; where that was never told its

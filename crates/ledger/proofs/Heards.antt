@@ -1,13 +1,20 @@
 -- What hearers hear, by the numbers of their sessions, and the deliveries that are made of it.
 use Rattle.std.proofs.lemmas.Bool.Decides.{eqb_tells, nat_tests}
-use Rattle.std.proofs.Common.{◌≡◌, ◌≢◌, inl, inr, ℕ, ℤ, zero, suc, ◌+◌, ◌<◌, ◌≤◌, Bool, true, false, not}
-use Rattle.std.proofs.Common.{◌&&◌, ◌==◌, cond, List, [], ◌∷◌, ◌++◌, filter, map, length, take, get_or}
-use Rattle.std.proofs.Common.{slice_index_or, None, nat_lt, nat_le, lit<, arith, refl, sym, ap, ◌∙◌}
+use Rattle.std.proofs.Common.{◌≡◌, ◌≢◌, inl, inr, ℕ, ℤ, zero, suc, ◌+◌, ◌-◌, ◌<◌, ◌≤◌, Bool, true, false, not}
+use Rattle.std.proofs.Common.{◌&&◌, ◌==◌, cond, List, [], ◌∷◌, ◌++◌, filter, map, length, take, drop, get_or}
+use Rattle.std.proofs.Common.{slice_index_or, slice_get, Option, Some, None, nat_lt, nat_le}
+use Rattle.std.proofs.Common.{lit<, arith, refl, sym, ap, ◌∙◌}
 use Rattle.std.proofs.Common.{subst, append_assoc, append-nil, eq-eqb, ne_eqb}
 use Rattle.std.specs.List.{flat_map}
 use Rattle.std.specs.List.Sorted.{ties, IsSortedBy, IsStableBy}
 use Rattle.std.specs.Ordering.{nat_cmp, is_lt}
-use Rattle.std.proofs.lemmas.List.{take_more, map-append}
+use Rattle.std.specs.Option.{option_map, option_map_or}
+use Rattle.std.proofs.lemmas.Option.{slice_get-get_or, slice_get-map}
+use Rattle.std.proofs.lemmas.List.{take_more, drop_more, drop-drop, map-append, length-append, length-drop, get_or_at}
+use Rattle.std.proofs.lemmas.List.{get_or-drop, get_or_default, flat_map_more}
+use Rattle.std.proofs.Math.Bool.{beq}
+use Rattle.std.specs.Cmp.Lexicographic.{pointwise}
+use Rattle.registration.specs.declared.caps.Caps.{Caps}
 use Rattle.std.proofs.lemmas.List.Elements.{filter_agree}
 use Rattle.numerics.specs.declared.outgoing.Out.{Out}
 use Rattle.deliveries.specs.declared.delivery.Delivery.{Delivery}
@@ -15,16 +22,18 @@ use Rattle.roster.specs.declared.deed.Deed.{Deed}
 use Rattle.roster.specs.LookBack.{caps}
 use Rattle.labels_batches.specs.Answers.{tagged_as}
 use Rattle.labels_batches.specs.Rendered.{rendered}
-use Rattle.labels_batches.specs.Spellings.{spelled_for}
+use Rattle.labels_batches.specs.Spellings.{Spelled, spelled_for}
 use Rattle.drafts.specs.Effects.{heard}
 use Rattle.drafts.specs.declared.verdict.Shown.{Shown}
 use Rattle.ledger.specs.declared.heard.Heard.{Heard}
+use Rattle.ledger.specs.declared.heard.Hearing.{Hearing}
 use Rattle.ledger.specs.declared.plan.Planned.{Planned}
 use Rattle.ledger.specs.declared.seat.Seat.{Seat}
 use Rattle.ledger.specs.Ledger.{puts, others}
 use Rattle.ledger.proofs.Begins.{others_same}
 use Rattle.ledger.specs.Seats.{seat_at, hears, told, told_here, told_to, heard_text}
-use Rattle.ledger.specs.Heard.{heard_by, all_heard, text_for, rises, joined_to, joined, delivery_of, deliveries_of}
+use Rattle.ledger.specs.Heard.{heard_by, all_heard, hearing_of, hearings, spelled_at, text_of, heard_of, text_for}
+use Rattle.ledger.specs.Heard.{rises, joined_to, joined, delivery_of, deliveries_of}
 
 -- ---- the texts of one session
 
@@ -49,7 +58,7 @@ text_append (x ∷ xs) ys t = text_first x (xs ++ ys) t ∙ ap (λ bs. cond (x.s
 -- ---- what is heard of lines
 
 -- one hearer more
-pub heard_more : (f : ℕ → Heard) (hs : List ℕ) (k h : ℕ) → k < length hs → h ≡ get_or hs k h
+pub heard_more : {X : Type 0} (f : ℕ → X) (hs : List ℕ) (k h : ℕ) → k < length hs → h ≡ get_or hs k h
     → map f (take (k + 1) hs) ≡ map f (take k hs) ++ f h ∷ []
 heard_more f hs k h l is = ap (map f) (take_more hs k h l ∙ ap (λ (y : ℕ). take k hs ++ y ∷ []) (sym is))
     ∙ map-append f (take k hs) (h ∷ [])
@@ -73,39 +82,140 @@ heard_all fs moment (x ∷ xs) t =
     (λ bs. text_for (map (heard_by fs moment x.line) x.hearers) t ++ bs) (heard_all fs moment xs t)
     ∙ ap (λ bs. bs ++ heard_text fs moment xs t) (heard_each fs moment x.line x.hearers t)
 
+-- each hears a line as it takes it
+heard_line : (fs : List Deed) (ls : List Spelled) (n : ℕ) (moment : ℤ) (line : Out) (hs : List ℕ)
+    → slice_get ls n ≡ Some (record { line = line; moment = moment })
+    → map (heard_of ls) (map (hearing_of fs n) hs) ≡ map (heard_by fs moment line) hs
+heard_line fs ls n moment line [] is = refl
+heard_line fs ls n moment line (h ∷ hs) is =
+    let one : heard_of ls (hearing_of fs n h) ≡ heard_by fs moment line h = ap (λ (o : Option Spelled). record {
+      session = h;
+      text = option_map_or (λ (l : Spelled). spelled_for (caps fs h) l.moment l.line) o [];
+    }) is in
+    ap (λ (x : Heard). x ∷ map (heard_of ls) (map (hearing_of fs n) hs)) one
+    ∙ ap (λ (xs : List Heard). heard_by fs moment line h ∷ xs) (heard_line fs ls n moment line hs is)
+
+-- and so all lines that stand behind some
+heard_lines : (fs : List Deed) (moment : ℤ) (before xs : List Shown)
+    → map (heard_of (map (spelled_at moment) (before ++ xs))) (hearings fs (length before) xs)
+    ≡ all_heard fs moment xs
+heard_lines fs moment before [] = refl
+heard_lines fs moment before (x ∷ xs) =
+    let n = length before in let all = before ++ x ∷ xs in let ls = map (spelled_at moment) all in
+    let there : n < length all = omega (arith, length-append before (x ∷ xs)) in
+    let here : slice_get ls n ≡ Some (spelled_at moment x) = slice_get-map (spelled_at moment) all n
+    ∙ ap (option_map (spelled_at moment)) (slice_get-get_or all n x there
+    ∙ ap (λ y. Some y) (get_or_at before x xs x n refl)) in
+    let on : length (before ++ x ∷ []) ≡ n + 1 = length-append before (x ∷ []) in
+    let rest : map (heard_of ls) (hearings fs (n + 1) xs) ≡ all_heard fs moment xs =
+    ap (λ (k : ℕ). map (heard_of ls) (hearings fs k xs)) (sym on)
+    ∙ ap (λ (ys : List Shown). map (heard_of (map (spelled_at moment) ys))
+    (hearings fs (length (before ++ x ∷ [])) xs))
+    (sym (append_assoc before (x ∷ []) xs))
+    ∙ heard_lines fs moment (before ++ x ∷ []) xs in
+    map-append (heard_of ls) (map (hearing_of fs n) x.hearers) (hearings fs (n + 1) xs)
+    ∙ ap (λ (ys : List Heard). ys ++ map (heard_of ls) (hearings fs (n + 1) xs))
+    (heard_line fs ls n moment x.line x.hearers here)
+    ∙ ap (λ (ys : List Heard). map (heard_by fs moment x.line) x.hearers ++ ys) rest
+
+pub heard_hearings : (fs : List Deed) (moment : ℤ) (xs : List Shown) (t : ℕ)
+    → text_for (map (heard_of (map (spelled_at moment) xs)) (hearings fs 0 xs)) t ≡ heard_text fs moment xs t
+heard_hearings fs moment xs t = ap (λ (ys : List Heard). text_for ys t) (heard_lines fs moment [] xs)
+    ∙ heard_all fs moment xs t
+
+-- who hears lines, one more
+pub hearings_more : (fs : List Deed) (xs : List Shown) (k : ℕ) (x : Shown) → k < length xs → x ≡ get_or xs k x
+    → hearings fs k (drop k xs) ≡ map (hearing_of fs k) x.hearers ++ hearings fs (k + 1) (drop (k + 1) xs)
+hearings_more fs xs k x there is = ap (hearings fs k) (drop_more xs k x there
+    ∙ ap (λ (y : Shown). y ∷ drop (k + 1) xs) (sym is))
+
+-- capabilities that are alike are the same
+same_flags : (xs ys : List Bool) → pointwise beq xs ys ≡ true → xs ≡ ys
+same_flags [] [] e = refl
+same_flags [] (y ∷ ys) e = absurd (let f : false ≡ true = e in cc)
+same_flags (x ∷ xs) [] e = absurd (let f : false ≡ true = e in cc)
+same_flags (true ∷ xs) (true ∷ ys) e = ap (λ (zs : List Bool). true ∷ zs) (same_flags xs ys e)
+same_flags (false ∷ xs) (false ∷ ys) e = ap (λ (zs : List Bool). false ∷ zs) (same_flags xs ys e)
+same_flags (true ∷ xs) (false ∷ ys) e = absurd (let f : false ≡ true = e in cc)
+same_flags (false ∷ xs) (true ∷ ys) e = absurd (let f : false ≡ true = e in cc)
+
+pub same_caps : (x y : Caps) → not (pointwise beq x.on y.on) ≡ false → x ≡ y
+same_caps x y e = ap (λ (flags : List Bool). record { on = flags })
+    (same_flags x.on y.on (true_from (pointwise beq x.on y.on) e))
+  where
+    true_from : (b : Bool) → not b ≡ false → b ≡ true
+    true_from true e = refl
+    true_from false e = absurd (let f : true ≡ false = e in cc)
+
+-- who hears the same line by the same capabilities hears the same text
+pub alike_more : (ls : List Spelled) (xs ys : List Hearing) (k : ℕ) (x y : Hearing) → k < length xs → k < length ys
+    → x ≡ get_or xs k x → y ≡ get_or ys k y → x.line ≡ y.line → x.caps ≡ y.caps
+    → flat_map (text_of ls) (take k xs) ≡ flat_map (text_of ls) (take k ys)
+    → flat_map (text_of ls) (take (k + 1) xs) ≡ flat_map (text_of ls) (take (k + 1) ys)
+alike_more ls xs ys k x y a b at_x at_y line caps same =
+    one xs x a at_x ∙ ap (λ bs. bs ++ text_of ls x) same
+    ∙ ap (λ bs. flat_map (text_of ls) (take k ys) ++ bs) text ∙ sym (one ys y b at_y)
+  where
+    one : (zs : List Hearing) (z : Hearing) → k < length zs → z ≡ get_or zs k z
+        → flat_map (text_of ls) (take (k + 1) zs) ≡ flat_map (text_of ls) (take k zs) ++ text_of ls z
+    one zs z l is = ap (flat_map (text_of ls))
+        (take_more zs k z l ∙ ap (λ (h : Hearing). take k zs ++ h ∷ []) (sym is))
+        ∙ sym (flat_map_more (text_of ls) [] (take k zs) z)
+
+    text : text_of ls x ≡ text_of ls y
+    text = ap (λ (i : ℕ). option_map_or (λ (l : Spelled). spelled_for x.caps l.moment l.line) (slice_get ls i) []) line
+        ∙ ap (λ (cs : Caps). option_map_or (λ (l : Spelled). spelled_for cs l.moment l.line) (slice_get ls y.line) [])
+        caps
+
 -- ---- a stable sort by session
 
-abbrev goes_before : Heard → Heard → Bool
+abbrev goes_before : Hearing → Hearing → Bool
 goes_before x y = is_lt (nat_cmp x.session y.session)
 
 pub session_ties : (a b : ℕ) → (not (is_lt (nat_cmp a b)) && not (is_lt (nat_cmp b a))) ≡ (b == a)
 session_ties a b = grind (arith, nat_tests)
 
+-- what one session hears
+text_mapped : (ls : List Spelled) (xs : List Hearing) (t : ℕ) → text_for (map (heard_of ls) xs) t
+    ≡ flat_map (text_of ls) (filter (λ (x : Hearing). x.session == t) xs)
+text_mapped ls [] t = refl
+text_mapped ls (x ∷ xs) t =
+    let rest : List Hearing = filter (λ (y : Hearing). y.session == t) xs in
+    text_first (heard_of ls x) (map (heard_of ls) xs) t
+    ∙ ap (λ bs. cond (x.session == t) (text_of ls x) [] ++ bs) (text_mapped ls xs t)
+    ∙ elim (x.session == t) as (λ b. cond b (text_of ls x) [] ++ flat_map (text_of ls) rest
+    ≡ flat_map (text_of ls) (cond b (x ∷ rest) rest)) [ true ↦ refl | false ↦ refl ]
+
 -- it leaves the texts of each session as they were
-pub texts_stable : (xs ys : List Heard) → IsStableBy goes_before xs ys → (t : ℕ) → text_for ys t ≡ text_for xs t
-texts_stable xs ys stable t = ap (flat_map (λ (x : Heard). x.text))
-    (test ys ∙ stable (record { session = t; text = [] }) ∙ sym (test xs))
+pub texts_stable : (ls : List Spelled) (xs ys : List Hearing) → IsStableBy goes_before xs ys → (t : ℕ)
+    → text_for (map (heard_of ls) ys) t ≡ text_for (map (heard_of ls) xs) t
+texts_stable ls xs ys stable t =
+    text_mapped ls ys t
+    ∙ ap (flat_map (text_of ls)) (test ys ∙ stable (hearing_of [] 0 t) ∙ sym (test xs))
+    ∙ sym (text_mapped ls xs t)
   where
-    test : (zs : List Heard) → filter (λ (x : Heard). x.session == t) zs
-        ≡ filter (ties goes_before (record { session = t; text = [] })) zs
+    test : (zs : List Hearing) → filter (λ (x : Hearing). x.session == t) zs
+        ≡ filter (ties goes_before (hearing_of [] 0 t)) zs
     test zs = filter_agree _ _ (λ x. sym (session_ties t x.session)) zs
 
 not_before : (a b : ℕ) → is_lt (nat_cmp b a) ≡ false → a ≤ b
 not_before a b e = grind (arith, nat_tests)
 
-rises_on : (x : Heard) (xs : List Heard) → IsSortedBy goes_before (x ∷ xs) → rises x.session xs
-rises_on x [] up = tt
-rises_on x (y ∷ ys) up = (
+rises_on : (ls : List Spelled) (x : Hearing) (xs : List Hearing) → IsSortedBy goes_before (x ∷ xs)
+    → rises x.session (map (heard_of ls) xs)
+rises_on ls x [] up = tt
+rises_on ls x (y ∷ ys) up = (
   not_before x.session y.session (up 0 x (omega arith) (omega arith)),
-  rises_on y ys (λ k d a b. let e : suc k + 1 ≡ suc (k + 1) = omega arith in subst
+  rises_on ls y ys (λ k d a b. let e : suc k + 1 ≡ suc (k + 1) = omega arith in subst
       (λ (j : ℕ). goes_before (slice_index_or (x ∷ y ∷ ys) j d) (slice_index_or (x ∷ y ∷ ys) (suc k) d) ≡ false) e
       (up (suc k) d (omega arith) (omega arith))),
 )
 
 -- and they stand by the numbers of their sessions
-pub sorted_rises : (xs : List Heard) → IsSortedBy goes_before xs → rises 0 xs
-sorted_rises [] up = tt
-sorted_rises (x ∷ xs) up = ((omega arith), rises_on x xs up)
+pub sorted_rises : (ls : List Spelled) (xs : List Hearing) → IsSortedBy goes_before xs
+    → rises 0 (map (heard_of ls) xs)
+sorted_rises ls [] up = tt
+sorted_rises ls (x ∷ xs) up = ((omega arith), rises_on ls x xs up)
 
 -- ---- texts that are made one
 
@@ -123,6 +233,63 @@ joined_text x (y ∷ ys) t =
       | inr apart ↦ rw apart.0 (text_first x (joined_to y ys) t ∙ ap
           (λ bs. cond (x.session == t) x.text [] ++ bs) (joined_text y ys t) ∙ sym (text_first x (y ∷ ys) t))
     ]
+
+-- what one session hears is made one
+joined_run : (ls : List Spelled) (x : Heard) (n : ℕ) (ys : List Hearing) → n ≤ length ys
+    → ((d : Hearing) (i : ℕ) → i < n → (slice_index_or ys i d).session ≡ x.session)
+    → ((d : Hearing) → n < length ys → (slice_index_or ys n d).session ≢ x.session)
+    → joined_to x (map (heard_of ls) ys)
+    ≡ record { session = x.session; text = x.text ++ flat_map (text_of ls) (take n ys) }
+    ∷ joined (map (heard_of ls) (drop n ys))
+joined_run ls x zero [] within same apart = ap (λ (bs : List ℕ). record { session = x.session; text = bs } ∷ [])
+    (sym (append-nil x.text))
+joined_run ls x zero (y ∷ ys) within same apart =
+    rw (ne_eqb y.session x.session (apart y (omega arith)))
+    (ap (λ (bs : List ℕ). record { session = x.session; text = bs } ∷ joined_to (heard_of ls y) (map (heard_of ls) ys))
+    (sym (append-nil x.text)))
+joined_run ls x (suc n) [] within same apart = absurd (omega arith)
+joined_run ls x (suc n) (y ∷ ys) within same apart =
+    rw (eq-eqb y.session x.session (same y 0 (omega arith)))
+    (joined_run ls (record { session = x.session; text = x.text ++ text_of ls y }) n ys (omega arith)
+    (λ d i l. same d (suc i) (omega arith)) (λ d l. apart d (omega arith))
+    ∙ ap (λ (bs : List ℕ). record { session = x.session; text = bs } ∷ joined (map (heard_of ls) (drop n ys)))
+    (append_assoc x.text (text_of ls y) (flat_map (text_of ls) (take n ys))))
+
+-- and so what the session at a place hears
+pub joined_from : (ls : List Spelled) (xs : List Hearing) (from end : ℕ) (h : Hearing) → from < length xs
+    → from < end → end ≤ length xs → h ≡ get_or xs from h
+    → ((d : Hearing) (i : ℕ) → from ≤ i → i < end
+    → (slice_index_or xs i d).session ≡ (slice_index_or xs from d).session)
+    → ((d : Hearing) → end < length xs
+    → (slice_index_or xs end d).session ≢ (slice_index_or xs from d).session)
+    → joined (map (heard_of ls) (drop from xs))
+    ≡ record { session = h.session; text = flat_map (text_of ls) (take (end - from) (drop from xs)) }
+    ∷ joined (map (heard_of ls) (drop end xs))
+joined_from ls xs from end h there after within is same apart =
+    let n = end - (from + 1) in let ys = drop (from + 1) xs in
+    let cut : drop from xs ≡ h ∷ ys = drop_more xs from h there ∙ ap (λ (y : Hearing). y ∷ ys) (sym is) in
+    let size : end - from ≡ suc n = omega arith in
+    let on : from + 1 + n ≡ end = omega arith in
+    let long : length ys ≡ length xs - (from + 1) = length-drop (from + 1) xs in
+    let mine : (d : Hearing) → (slice_index_or xs from d).session ≡ h.session = λ d. ap (λ (y : Hearing). y.session)
+    (get_or_default xs from d h there ∙ sym is) in
+    let at : (d : Hearing) (i : ℕ) → slice_index_or ys i d ≡ slice_index_or xs (from + 1 + i) d =
+    λ d i. get_or-drop (from + 1) xs i d in
+    let run = joined_run ls (heard_of ls h) n ys (omega (arith, long))
+    (λ d i l. ap (λ (y : Hearing). y.session) (at d i) ∙ same d (from + 1 + i) (omega arith) (omega arith) ∙ mine d)
+    (λ d l e. apart d (omega (arith, long)) (ap (λ (k : ℕ). (slice_index_or xs k d).session) (sym on)
+    ∙ sym (ap (λ (y : Hearing). y.session) (at d n)) ∙ e ∙ sym (mine d))) in
+    let rest : drop n ys ≡ drop end xs = drop-drop n (from + 1) xs ∙ ap (λ (k : ℕ). drop k xs) on in
+    let whole : take (end - from) (drop from xs) ≡ h ∷ take n ys = ap (λ (k : ℕ). take k (drop from xs)) size
+    ∙ ap (take (suc n)) cut in
+    ap (λ (zs : List Hearing). joined (map (heard_of ls) zs)) cut ∙ run
+    ∙ ap (λ (zs : List Hearing). record {
+      session = h.session;
+      text = text_of ls h ++ flat_map (text_of ls) (take n ys);
+    }
+    ∷ joined (map (heard_of ls) zs)) rest
+    ∙ ap (λ (zs : List Hearing). record { session = h.session; text = flat_map (text_of ls) zs }
+    ∷ joined (map (heard_of ls) (drop end xs))) (sym whole)
 
 -- each session stands once, from number k on
 abbrev pub climbs : ℕ → List Heard → Type 0

@@ -1,12 +1,15 @@
 -- What hearers hear of a record, and the deliveries that are made of it.
-use Rattle.std.specs.Prelude.{ℕ, ℤ, ◌<◌, ◌≤◌, ◌==◌, cond, List, [], ◌∷◌, ◌++◌, filter, map}
+use Rattle.std.specs.Prelude.{ℕ, ℤ, ◌≡◌, ◌<◌, ◌≤◌, ◌+◌, ◌==◌, cond, List, [], ◌∷◌, ◌++◌, filter, map, slice_get}
 use Rattle.std.specs.List.{flat_map}
+use Rattle.std.specs.Option.{option_map_or}
 use Rattle.numerics.specs.declared.outgoing.Out.{Out}
 use Rattle.roster.specs.declared.deed.Deed.{Deed}
 use Rattle.roster.specs.LookBack.{caps}
-use Rattle.labels_batches.specs.Spellings.{spelled_for}
+use Rattle.labels_batches.specs.Spellings.{Spelled, spelled_for}
 use Rattle.drafts.specs.declared.verdict.Shown.{Shown}
 use Rattle.ledger.specs.declared.heard.Heard.{Heard}
+use Rattle.ledger.specs.declared.heard.Hearing.{Hearing}
+use Rattle.ledger.specs.declared.line_texts.Whole.{Whole}
 use Rattle.ledger.specs.declared.plan.Planned.{Planned}
 use Rattle.ledger.specs.declared.seat.Seat.{Seat}
 use Rattle.ledger.specs.Ledger.{puts}
@@ -19,6 +22,30 @@ heard_by fs moment line t = record { session = t; text = spelled_for (caps fs t)
 -- lines as each of their hearers takes them
 abbrev pub all_heard : List Deed → ℤ → List Shown → List Heard
 all_heard fs moment xs = flat_map (λ x. map (heard_by fs moment x.line) x.hearers) xs
+
+-- t hears the line of a number, and takes it by the capabilities that it has
+abbrev pub hearing_of : List Deed → ℕ → ℕ → Hearing
+hearing_of fs line t = record { session = t; caps = caps fs t; line = line }
+
+-- who hears lines that are shown, of which the first has number k
+abbrev pub hearings : List Deed → ℕ → List Shown → List Hearing
+hearings fs k [] = []
+hearings fs k (x ∷ xs) = map (hearing_of fs k) x.hearers ++ hearings fs (k + 1) xs
+
+-- a line that is shown, at the moment of its record
+abbrev pub spelled_at : ℤ → Shown → Spelled
+spelled_at moment x = record { line = x.line; moment = moment }
+
+-- what is heard of lines by who hears one of them
+abbrev pub text_of : List Spelled → Hearing → List ℕ
+text_of ls x = option_map_or (λ l. spelled_for x.caps l.moment l.line) (slice_get ls x.line) []
+
+abbrev pub heard_of : List Spelled → Hearing → Heard
+heard_of ls x = record { session = x.session; text = text_of ls x }
+
+-- a text is what some of these lines make
+abbrev pub IsWhole : List Spelled → Whole → Type 0
+IsWhole ls x = x.text ≡ flat_map (text_of ls) x.parts.items
 
 -- the texts of t, one after another
 abbrev pub text_for : List Heard → ℕ → List ℕ

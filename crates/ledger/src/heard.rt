@@ -1,15 +1,18 @@
 //! What each hearer of a record hears.
 //!
-//! Each hearer of each line has the text as it takes it. A stable sort puts those of one session side by side, by the
-//! numbers of the sessions, in the order that they have. Where one line is shown, its hearers are sorted before they
-//! hear it.
-ghost use Rattle.std.specs.Prelude.{◌≡◌, ◌==◌, ℕ, ◌++◌, filter, map, true, IfOk, OnOk};
+//! Of each line it is noted who hears it, and by what capabilities. A stable sort puts the lines of one session side
+//! by side, by the numbers of the sessions, in the order that they have. Where one line is shown, its hearers are
+//! sorted before they hear it.
+ghost use Rattle.std.specs.Prelude.{◌≡◌, ◌==◌, ℕ, ℤ, ◌++◌, List, filter, map, true, IfOk, OnOk};
+ghost use Rattle.labels_batches.specs.Spellings.{Spelled};
 ghost use Rattle.ledger.specs.Seats.{heard_text};
-ghost use Rattle.ledger.specs.Heard.{heard_by, all_heard, text_for, rises, ascends};
+ghost use Rattle.ledger.specs.Heard.{heard_by, hearing_of, hearings, heard_of, spelled_at};
+ghost use Rattle.ledger.specs.Heard.{text_for, rises, ascends};
 
-use chronicle::{RecordMoment, SessionId};
+use chronicle::SessionId;
 use deeds::Shown;
 use labels_batches::{Spellings, Text};
+use registration::Caps;
 use roster::{Roster, Sessions};
 use std::alloc::{AllocError, Global};
 
@@ -35,62 +38,57 @@ pub(crate) fn hear_one(
     Ok(Heard { session, text })
 }
 
-/// Adds a line as each of some sessions takes it.
+/// That a session hears a line of a record: which it is, and by what capabilities the session takes it.
+#[derive(Clone, Copy)]
+pub(crate) struct Hearing {
+    pub(crate) session: SessionId,
+    pub(crate) caps: Caps,
+    pub(crate) line: usize,
+}
+
+/// Adds that each of some sessions hears the line of a number.
 fn hear_each(
     roster: &Roster,
-    heard: &mut Vec<Heard>,
+    heard: &mut Vec<Hearing>,
     hearers: &[SessionId],
-    line: &mut Spellings,
+    line: usize,
 ) -> Result<(), AllocError>
-    ensures { OnOk result (heard.new.items ≡ heard.old.items
-        ++ map (heard_by roster.now.facts line.old.moment line.old.line) hearers.now) }
+    ensures { OnOk result (heard.new.items
+        ≡ heard.old.items ++ map (hearing_of roster.now.facts line) hearers.now) }
 {
     heard.reserve(hearers.len())?;
     for hearer in hearers {
-        heard.push(hear_one(roster, *hearer, line)?)?;
+        let session = *hearer;
+        let caps = roster.caps_of(session);
+        heard.push(Hearing {
+            session,
+            caps,
+            line,
+        })?;
     }
     Ok(())
 }
 
-/// Adds a line as each of its hearers takes it.
-fn hear_line(
-    alloc: Global,
-    roster: &Roster,
-    heard: &mut Vec<Heard>,
-    shown: Shown,
-    moment: RecordMoment,
-) -> Result<(), AllocError>
-    ensures { OnOk result (heard.new.items
-        ≡ heard.old.items ++ map (heard_by roster.now.facts moment shown.line) shown.hearers) }
-{
-    let Shown { hearers, line } = shown;
-    let mut line = Spellings::new(alloc, line, moment)?;
-    hear_each(roster, heard, hearers.as_slice(), &mut line)
-}
-
-/// Lines as each of their hearers takes them, line by line. Each line is spelled once.
-fn hear_all(
-    alloc: Global,
-    roster: &Roster,
-    shown: Vec<Shown>,
-    moment: RecordMoment,
-) -> Result<Vec<Heard>, AllocError>
-    ensures { IfOk result (λ v. v.items ≡ all_heard roster.now.facts moment shown.items) }
+/// Who hears lines, line by line.
+fn hear_all(alloc: Global, roster: &Roster, shown: &[Shown]) -> Result<Vec<Hearing>, AllocError>
+    ensures { IfOk result (λ v. v.items ≡ hearings roster.now.facts 0 shown.now) }
 {
     let mut heard = Vec::new(alloc);
-    for one in shown {
-        hear_line(alloc, roster, &mut heard, one, moment)?;
+    for (line, one) in shown.iter().enumerate() {
+        hear_each(roster, &mut heard, one.hearers.as_slice(), line)?;
     }
     Ok(heard)
 }
 
-/// Puts the texts of each session side by side, by its number, in the order that they have.
-fn sort_by_session(heard: &mut Vec<Heard>) -> Result<(), AllocError>
-    ensures texts { (t : ℕ) → text_for heard.new.items t ≡ text_for heard.old.items t }
-    ensures order { OnOk result (rises 0 heard.new.items) }
+/// Puts what each session hears side by side, by its number, in the order that it has.
+fn sort_by_session(heard: &mut Vec<Hearing>) -> Result<(), AllocError>
+    ensures texts { (ls : List Spelled) (t : ℕ) → text_for (map (heard_of ls) heard.new.items) t
+        ≡ text_for (map (heard_of ls) heard.old.items) t }
+    ensures order { OnOk result
+        ((ls : List Spelled) → rises 0 (map (heard_of ls) heard.new.items)) }
 {
     heard.sort_by_key(
-        |one: &Heard| -> u64
+        |one: &Hearing| -> u64
             ensures { result ≡ one.now.session }
         { one.session.number() },
     )?;
@@ -128,18 +126,18 @@ pub(crate) fn by_number(alloc: Global, hearers: Sessions) -> Result<Sessions, Al
     Ok(Sessions::from_vec(sorted))
 }
 
-/// What the hearers of lines hear, by the numbers of their sessions.
+/// Who hears lines, by the numbers of their sessions.
 pub(crate) fn heard_in_order(
     alloc: Global,
     roster: &Roster,
-    shown: Vec<Shown>,
-    moment: RecordMoment,
-) -> Result<Vec<Heard>, AllocError>
-    ensures texts { IfOk result
-        (λ v. (t : ℕ) → text_for v.items t ≡ heard_text roster.now.facts moment shown.items t) }
-    ensures order { IfOk result (λ v. rises 0 v.items) }
+    shown: &[Shown],
+) -> Result<Vec<Hearing>, AllocError>
+    ensures texts { IfOk result (λ v. (moment : ℤ) (t : ℕ)
+        → text_for (map (heard_of (map (spelled_at moment) shown.now)) v.items) t
+        ≡ heard_text roster.now.facts moment shown.now t) }
+    ensures order { IfOk result (λ v. (ls : List Spelled) → rises 0 (map (heard_of ls) v.items)) }
 {
-    let mut heard = hear_all(alloc, roster, shown, moment)?;
+    let mut heard = hear_all(alloc, roster, shown)?;
     sort_by_session(&mut heard)?;
     Ok(heard)
 }

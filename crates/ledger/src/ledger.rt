@@ -311,11 +311,11 @@ impl<O: Outbox> Ledger<O> {
         ensures session { plan.new.session ≡ plan.old.session }
         ensures next { plan.new.next ≡ plan.old.next }
     {
-        let put = self.plan.take_first()?;
+        let (put, place) = self.plan.take_first()?;
         let hearer = put.session;
         let settings = self.roster.settings();
         let item = Item::new(put.delivery, hearer, &self.journal, settings);
-        if self.outboxes.offer(item) {
+        if self.outboxes.offer(item, place) {
             return Some(Step::Put(hearer));
         }
         self.seats.shut(hearer);
@@ -392,7 +392,8 @@ impl<O: Outbox> Ledger<O> {
         self.seats.shut(session);
         let last = Delivery::Last { number, why };
         let item = Item::new(last, session, &self.journal, self.roster.settings());
-        if self.outboxes.offer(item) {
+        let place = self.outboxes.last_place(session);
+        if self.outboxes.offer(item, place) {
             return Ok(Hung {
                 number,
                 missed: false,
@@ -405,8 +406,8 @@ impl<O: Outbox> Ledger<O> {
         })
     }
 
-    /// The shut session of the lowest number that isn't gone.
-    fn next_to_sweep(&self) -> Option<SessionId>
+    /// The shut session of the lowest number that isn't gone, which is swept next.
+    pub fn next_to_sweep(&self) -> Option<SessionId>
         ensures { result ≡ to_sweep self.now.history }
     {
         self.seats.next_to_sweep()

@@ -7,6 +7,7 @@ mod heard;
 mod last_heard;
 mod laws;
 mod ledger;
+mod line_texts;
 mod lines;
 mod out;
 mod outboxes;

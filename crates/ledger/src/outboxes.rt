@@ -10,7 +10,7 @@ ghost use Rattle.ledger.specs.Noted.{AreCountsOf};
 use crate::base::Counts;
 use crate::counting::Counting;
 use crate::last_heard::LastHeard;
-use crate::places::{Places, is_in, place_in, take_out};
+use crate::places::{Places, is_in, place_in, place_near, take_out};
 use crate::seats::Seats;
 use chronicle::SessionId;
 use deliveries::Item;
@@ -92,8 +92,14 @@ impl<O: Outbox> Outboxes<O> {
         self.opened = number;
     }
 
-    /// Puts an item into its session's outbox, and answers whether that took it. It takes no memory.
-    pub(crate) fn offer(&mut self, item: Item) -> bool
+    /// Where the outbox of a session was put last. It may be another's by now.
+    pub(crate) fn last_place(&self, session: SessionId) -> usize {
+        self.places.last(session)
+    }
+
+    /// Puts an item into its session's outbox, which is at this place or elsewhere, and answers whether that took it.
+    /// It takes no memory.
+    pub(crate) fn offer(&mut self, item: Item, guess: usize) -> bool
         requires there { IsThere self.old.boxes item.session }
         requires next { MayFollow O.sent (box_at self.old.boxes item.session) item }
         requires few { IfSome (box_at self.old.boxes item.session)
@@ -102,7 +108,7 @@ impl<O: Outbox> Outboxes<O> {
         ensures fault { result ≡ false → IsNotTaken O.refuses self.old.boxes item }
         ensures same { result ≡ false → self.new.boxes ≡ self.old.boxes }
     {
-        let Some(place) = place_in(&self.outboxes, &self.places, item.session()) else {
+        let Some(place) = place_near(&self.outboxes, &self.places, item.session(), guess) else {
             unreachable!();
         };
         let Some(outbox) = self.outboxes.get_index_mut(place) else {

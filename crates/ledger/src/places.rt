@@ -2,6 +2,7 @@
 ghost use Rattle.std.specs.Prelude.{◌≡◌, ◌+◌, ◌<◌, ℕ, cond, nat_eq, length, slice_get, is_some};
 ghost use Rattle.std.specs.Prelude.{if◌then◌else◌, None, Some, IfSome, OnOk, option_copied};
 ghost use Rattle.std.specs.Map.{lookup};
+ghost use Rattle.std.specs.Option.{option_map};
 ghost use Rattle.ledger.specs.Seats.{IsPlace};
 
 use chronicle::SessionId;
@@ -61,7 +62,7 @@ impl Places {
     }
 
     /// Where the entry of a session was put last. It may be another's by now.
-    fn last(&self, session: SessionId) -> usize {
+    pub(crate) fn last(&self, session: SessionId) -> usize {
         let number = session.number();
         if number == 0 {
             return 0;
@@ -103,7 +104,39 @@ pub(crate) fn place_in<V>(
     Some(place)
 }
 
-/// The entry of a session: where it was put last, if it is still there, and else by its number.
+/// The place of a session's entry: at a guess, if it is there, and else as `place_in` finds it.
+pub(crate) fn place_near<V>(
+    map: &IndexMap<u64, V>,
+    places: &Places,
+    session: SessionId,
+    guess: usize,
+) -> Option<usize>
+    ensures there { IfSome result (IsPlace map.now.entries session) }
+    ensures absent { result ≡ None → lookup (nat_eq session) map.now.entries ≡ None }
+{
+    if entry_at(map, guess, session).is_some() {
+        return Some(guess);
+    }
+    place_in(map, places, session)
+}
+
+/// The entry of a session and its place: where it was put last, if it is still there, and else by its number.
+pub(crate) fn find_at<'a, V>(
+    map: &'a IndexMap<u64, V>,
+    places: &Places,
+    session: SessionId,
+) -> Option<(usize, &'a V)>
+    ensures { option_map (λ r. r.1.now) result ≡ lookup (nat_eq session) map.now.entries }
+{
+    let place = places.last(session);
+    if let Some(value) = entry_at(map, place, session) {
+        return Some((place, value));
+    }
+    let (place, _, value) = map.get_full(&session.number())?;
+    Some((place, value))
+}
+
+/// The entry of a session.
 pub(crate) fn find_in<'a, V>(
     map: &'a IndexMap<u64, V>,
     places: &Places,
@@ -111,10 +144,8 @@ pub(crate) fn find_in<'a, V>(
 ) -> Option<&'a V>
     ensures { option_copied result ≡ lookup (nat_eq session) map.now.entries }
 {
-    match entry_at(map, places.last(session), session) {
-        Some(value) => Some(value),
-        None => map.get(&session.number()),
-    }
+    let (_, value) = find_at(map, places, session)?;
+    Some(value)
 }
 
 /// Whether a session has an entry.

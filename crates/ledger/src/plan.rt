@@ -2,7 +2,8 @@
 //!
 //! The actor's own text is planned last, put first, and stands apart from the others', so no list takes memory where
 //! only the actor is told. Where one line is shown, as of most records, its hearers are planned in one pass.
-ghost use Rattle.std.specs.Prelude.{◌≡◌, ◌≤◌, ◌≤ℤ◌, ◌++◌, ◌∷◌, [], false, map, not, length, pos};
+ghost use Rattle.std.specs.Prelude.{◌≡◌, ◌≢◌, ℕ, ◌≤◌, ◌<◌, ◌≤ℤ◌, ◌++◌, ◌∷◌, [], false, map, not, length, pos};
+ghost use Rattle.std.specs.Prelude.{slice_index_or};
 ghost use Rattle.std.specs.Prelude.{None, OnOk, IfOk, option_to_list};
 ghost use Rattle.chronicle.specs.History.{is_quit};
 ghost use Rattle.roster.specs.LookBack.{after, caps, opened};
@@ -18,10 +19,12 @@ ghost use Rattle.deeds.specs.Deeds.{spelled};
 ghost use Rattle.drafts.specs.Verdicts.{IsVerdict};
 ghost use Rattle.ledger.specs.Ledger.{others, puts};
 ghost use Rattle.ledger.specs.Seats.{hears, told_own, told_to, heard_text, pinged_text, planned_from, planned_with};
-ghost use Rattle.ledger.specs.Heard.{delivery_of, deliveries_of, heard_by, joined};
+ghost use Rattle.ledger.specs.Heard.{delivery_of, deliveries_of, heard_by, heard_of, joined};
 ghost use Rattle.ledger.specs.Read.{counted};
+ghost use Rattle.ledger.specs.declared.heard.Hearing.{Hearing};
 
-use crate::heard::{Heard, ascend, by_number, hear_one, heard_in_order};
+use crate::heard::{Heard, Hearing, ascend, by_number, hear_one, heard_in_order};
+use crate::line_texts::LineTexts;
 use crate::read_line::ReadLine;
 use crate::seats::Seats;
 use crate::to_put::ToPut;
@@ -35,13 +38,39 @@ use roster::{Deed, Roster, Sessions};
 use smallvec::SmallVec;
 use std::alloc::{AllocError, Global};
 use std::collections::VecDeque;
-use std::mem::replace;
+use std::marker::Model;
 
 /// A delivery that is still to be put.
 #[derive(Drop)]
 pub(crate) struct Planned {
     pub(crate) session: SessionId,
     pub(crate) delivery: Delivery,
+}
+
+/// A delivery that is still to be put, and where its session's outbox was when it was planned. A clause sees the
+/// delivery.
+#[derive(Drop)]
+pub(crate) struct Placed {
+    pub(crate) planned: Planned,
+    pub(crate) place: usize,
+}
+
+impl Model for Placed {
+    ghost use Rattle.ledger.specs.declared.plan.Planned.{Planned};
+
+    ghost Value = { Planned };
+
+    ghost view = { λ a. a.planned };
+}
+
+impl Placed {
+    /// The delivery, and the place.
+    pub(crate) fn into_parts(self) -> (Planned, usize)
+        ensures { result.0 ≡ self }
+    {
+        let Placed { planned, place } = self;
+        (planned, place)
+    }
 }
 
 /// The facts that a record establishes and its deliveries, with room for those who miss it.
@@ -97,7 +126,7 @@ fn own_text(
 
 /// Plans, after all others, the delivery of a text to a session that isn't the actor.
 fn plan_one(
-    plan: &mut VecDeque<Planned>,
+    plan: &mut VecDeque<Placed>,
     seats: &Seats,
     actor: SessionId,
     number: RecordNumber,
@@ -107,51 +136,63 @@ fn plan_one(
         (plan.new.items ≡ plan.old.items ++ delivery_of seats.now actor number heard) }
 {
     let Heard { session, text } = heard;
-    if session == actor || !seats.is_listening(session) || text.is_empty() {
+    if session == actor || text.is_empty() {
         return Ok(());
     }
-    plan.push_back(Planned {
-        session,
-        delivery: Delivery::Lines { number, text },
+    let Some(place) = seats.listening_at(session) else {
+        return Ok(());
+    };
+    let delivery = Delivery::Lines { number, text };
+    plan.push_back(Placed {
+        planned: Planned { session, delivery },
+        place,
     })?;
     Ok(())
 }
 
-/// What a session hears, and what it hears next.
-fn joined_with(alloc: Global, heard: Heard, next: &Heard) -> Result<Heard, AllocError>
-    ensures { IfOk result
-        (λ x. x ≡ record { session = heard.session; text = heard.text ++ next.now.text }) }
+/// Where what the session at a place hears ends.
+fn run_end(heard: &[Hearing], from: usize) -> usize
+    requires there { from < length heard.now }
+    ensures after { from < result }
+    ensures within { result ≤ length heard.now }
+    ensures run { (d : Hearing) (i : ℕ) → from ≤ i → i < result
+        → (slice_index_or heard.now i d).session ≡ (slice_index_or heard.now from d).session }
+    ensures next { (d : Hearing) → result < length heard.now
+        → (slice_index_or heard.now result d).session
+        ≢ (slice_index_or heard.now from d).session }
 {
-    let Heard { session, text } = heard;
-    let text = text.followed(alloc, &next.text)?;
-    Ok(Heard { session, text })
+    let session = heard[from].session;
+    let mut end = from + 1;
+    while end < heard.len() {
+        if heard[end].session != session {
+            return end;
+        }
+        end += 1;
+    }
+    end
 }
 
-/// The deliveries of texts, which stand by the numbers of their sessions: one a session, but for the actor's.
+/// The deliveries of lines to their hearers, who stand by the numbers of their sessions: one a session, but for the
+/// actor's.
 fn plan_others(
-    alloc: Global,
-    seats: &Seats,
-    heard: Vec<Heard>,
-    actor: SessionId,
-    number: RecordNumber,
-) -> Result<VecDeque<Planned>, AllocError>
-    ensures { IfOk result
-        (λ plan. plan.items ≡ deliveries_of seats.now actor number (joined heard.items)) }
+    by: &Planning<'_>,
+    heard: &[Hearing],
+    lines: &mut LineTexts,
+) -> Result<VecDeque<Placed>, AllocError>
+    ensures { IfOk result (λ plan. plan.items ≡ deliveries_of by.now.seats.now by.now.actor
+        by.now.number (joined (map (heard_of lines.old) heard.now))) }
 {
-    let mut plan = VecDeque::with_capacity(alloc, heard.len())?;
-    let mut rest = heard.into_iter();
-    let Some(mut current) = rest.next() else {
-        return Ok(plan);
-    };
-    for next in rest {
-        if next.session == current.session {
-            current = joined_with(alloc, current, &next)?;
-        } else {
-            let whole = replace(&mut current, next);
-            plan_one(&mut plan, seats, actor, number, whole)?;
-        }
+    let least = heard.len() / lines.len().max(1);
+    let mut plan = VecDeque::with_capacity(by.alloc, least)?;
+    let mut from = 0;
+    while from < heard.len() {
+        let end = run_end(heard, from);
+        let text = lines.text_for(&heard[from..end])?;
+        let session = heard[from].session;
+        let whole = Heard { session, text };
+        plan_one(&mut plan, by.seats, by.actor, by.number, whole)?;
+        from = end;
     }
-    plan_one(&mut plan, seats, actor, number, current)?;
     Ok(plan)
 }
 
@@ -160,7 +201,7 @@ fn plan_line(
     by: &Planning<'_>,
     hearers: &[SessionId],
     line: &mut Spellings,
-) -> Result<VecDeque<Planned>, AllocError>
+) -> Result<VecDeque<Placed>, AllocError>
     ensures { IfOk result
         (λ plan. plan.items ≡ deliveries_of by.now.seats.now by.now.actor by.now.number
         (map (heard_by by.now.roster.now.facts line.old.moment line.old.line) hearers.now)) }
@@ -174,17 +215,18 @@ fn plan_line(
 }
 
 /// The deliveries of lines, by session number.
-fn plan_lines(by: &Planning<'_>, shown: Vec<Shown>) -> Result<VecDeque<Planned>, AllocError>
+fn plan_lines(by: &Planning<'_>, shown: Vec<Shown>) -> Result<VecDeque<Placed>, AllocError>
     ensures { IfOk result (λ plan. plan.items ≡ others (told_to by.now.seats.now by.now.number
         (heard_text by.now.roster.now.facts by.now.moment shown.items)) by.now.actor 1
         (length by.now.seats.now)) }
 {
-    let heard = heard_in_order(by.alloc, by.roster, shown, by.moment)?;
-    plan_others(by.alloc, by.seats, heard, by.actor, by.number)
+    let heard = heard_in_order(by.alloc, by.roster, &shown)?;
+    let mut lines = LineTexts::new(by.alloc, shown, by.moment)?;
+    plan_others(by, &heard, &mut lines)
 }
 
 /// The deliveries of one line, by session number.
-fn plan_sole(by: &Planning<'_>, shown: Shown) -> Result<VecDeque<Planned>, AllocError>
+fn plan_sole(by: &Planning<'_>, shown: Shown) -> Result<VecDeque<Placed>, AllocError>
     ensures { IfOk result (λ plan. plan.items ≡ others (told_to by.now.seats.now by.now.number
         (heard_text by.now.roster.now.facts by.now.moment (shown ∷ []))) by.now.actor 1
         (length by.now.seats.now)) }
@@ -201,7 +243,7 @@ fn plan_sole(by: &Planning<'_>, shown: Shown) -> Result<VecDeque<Planned>, Alloc
 }
 
 /// The deliveries of what others are shown, by session number.
-fn plan_shown(by: &Planning<'_>, shown: Vec<Shown>) -> Result<VecDeque<Planned>, AllocError>
+fn plan_shown(by: &Planning<'_>, shown: Vec<Shown>) -> Result<VecDeque<Placed>, AllocError>
     ensures { IfOk result (λ plan. plan.items ≡ others (told_to by.now.seats.now by.now.number
         (heard_text by.now.roster.now.facts by.now.moment shown.items)) by.now.actor 1
         (length by.now.seats.now)) }
@@ -217,12 +259,15 @@ fn plan_shown(by: &Planning<'_>, shown: Vec<Shown>) -> Result<VecDeque<Planned>,
 }
 
 /// Plans what the actor is told: where it quits by the record, its last item.
-fn plan_own(by: &Planning<'_>, text: Octets, quits: bool) -> Result<Option<Planned>, AllocError>
+fn plan_own(by: &Planning<'_>, text: Octets, quits: bool) -> Result<Option<Placed>, AllocError>
     ensures { IfOk result (λ own. option_to_list own ≡ puts by.now.actor
         (told_own (not (hears by.now.seats.now by.now.actor)) by.now.number text quits)) }
 {
     let (session, number) = (by.actor, by.number);
-    if !by.seats.is_listening(session) || (!quits && text.is_empty()) {
+    let Some(place) = by.seats.listening_at(session) else {
+        return Ok(None);
+    };
+    if !quits && text.is_empty() {
         return Ok(None);
     }
     let delivery = if quits {
@@ -236,7 +281,10 @@ fn plan_own(by: &Planning<'_>, text: Octets, quits: bool) -> Result<Option<Plann
             text: Text::new(by.alloc, text)?,
         }
     };
-    Ok(Some(Planned { session, delivery }))
+    Ok(Some(Placed {
+        planned: Planned { session, delivery },
+        place,
+    }))
 }
 
 /// The deliveries of a record: the actor's text first, then what others hear, by session number.

@@ -6,12 +6,13 @@
 //! passes for it.
 ghost use Rattle.std.specs.Prelude.{◌≡◌, ◌≢◌, ℕ, ◌<◌, ◌≤◌, ◌+◌, ◌-◌, ◌^◌, ◌++◌, ◌∷◌, [], ◌&&◌, true, false, not};
 ghost use Rattle.std.specs.Prelude.{sum_by, length, slice_index_or, slice_set, Some, None, IfSome, OnOk, OnErr};
+ghost use Rattle.std.specs.Option.{is_some};
 ghost use Rattle.std.specs.VecDeque.{deque_capacity};
 ghost use Rattle.roster.specs.LookBack.{numbers};
 ghost use Rattle.ledger.specs.Ledger.{first};
 ghost use Rattle.ledger.specs.Seats.{no_seat, away, stands, seat_at, kept_by, hears, sweeps, placed, IsSeated};
 
-use crate::places::{Places, find_in, place_in, take_out};
+use crate::places::{Places, find_at, find_in, place_in, take_out};
 use crate::seat::Seat;
 use chronicle::SessionId;
 use indexmap::IndexMap;
@@ -119,14 +120,22 @@ impl Seats {
         Some(standing(*seat))
     }
 
+    /// Where the seat of a session is that was opened and isn't shut. The session's outbox is at the same place among
+    /// the outboxes: both are added and taken out together.
+    pub(crate) fn listening_at(&self, session: SessionId) -> Option<usize>
+        ensures { is_some result ≡ hears self.now session }
+    {
+        let Some((place, seat)) = find_at(&self.seats, &self.places, session) else {
+            return None;
+        };
+        if seat.shut { None } else { Some(place) }
+    }
+
     /// Whether a session was opened and isn't shut.
     pub(crate) fn is_listening(&self, session: SessionId) -> bool
         ensures { result ≡ hears self.now session }
     {
-        let Some(seat) = find_in(&self.seats, &self.places, session) else {
-            return false;
-        };
-        !seat.shut
+        self.listening_at(session).is_some()
     }
 
     /// Adds the seat of the next session. A refusal changes nothing.

@@ -1,7 +1,8 @@
 //! The deliveries of a record that are still to be put.
 ghost use Rattle.std.specs.Prelude.{◌≡◌, ◌++◌, [], None, length, option_to_list};
+ghost use Rattle.std.specs.Option.{option_map};
 
-use crate::plan::Planned;
+use crate::plan::{Placed, Planned};
 use std::alloc::Global;
 use std::collections::VecDeque;
 use std::marker::Model;
@@ -9,8 +10,8 @@ use std::marker::Model;
 /// Deliveries in the order in which they are put: the actor's own, which has room inside, and then the others.
 #[derive(Drop)]
 pub(crate) struct ToPut {
-    own: Option<Planned>,
-    others: VecDeque<Planned>,
+    own: Option<Placed>,
+    others: VecDeque<Placed>,
 }
 
 impl Model for ToPut {
@@ -24,7 +25,7 @@ impl Model for ToPut {
 
 impl ToPut {
     /// The actor's own delivery, if it has one, and then the others. It takes no memory.
-    pub(crate) fn new(own: Option<Planned>, others: VecDeque<Planned>) -> ToPut
+    pub(crate) fn new(own: Option<Placed>, others: VecDeque<Placed>) -> ToPut
         ensures { result ≡ option_to_list own ++ others.items }
     {
         ToPut { own, others }
@@ -47,14 +48,25 @@ impl ToPut {
         }
     }
 
-    /// Takes the first out. It takes no memory.
-    pub(crate) fn take_first(&mut self) -> Option<Planned>
+    /// Takes the first out.
+    fn take(&mut self) -> Option<Placed>
         ensures items { self.old ≡ option_to_list result ++ self.new }
         ensures none { result ≡ None → self.old ≡ [] }
     {
         match self.own {
             Some(_) => self.own.take(),
             None => self.others.pop_front(),
+        }
+    }
+
+    /// Takes the first out, with the place of its session's outbox. It takes no memory.
+    pub(crate) fn take_first(&mut self) -> Option<(Planned, usize)>
+        ensures items { self.old ≡ option_to_list (option_map (λ r. r.0) result) ++ self.new }
+        ensures none { result ≡ None → self.old ≡ [] }
+    {
+        match self.take() {
+            Some(first) => Some(first.into_parts()),
+            None => None,
         }
     }
 }

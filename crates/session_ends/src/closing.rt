@@ -3,13 +3,13 @@ ghost use Rattle.std.specs.Prelude.{◌≡◌, ℤ, All, Some, IfOk, IfErr, IfSo
 ghost use Rattle.hall.specs.Ledger.{reaped};
 ghost use Rattle.hall.specs.Reaping.{IsReapRefusal};
 ghost use Rattle.chronicle.specs.History.{last_moment};
-ghost use Rattle.session_ends.specs.Sweeping.{Sweeps};
+ghost use Rattle.session_ends.specs.Sweeping.{Sweeps, ended_next};
 ghost use Rattle.session_ends.specs.Timing.{IsLater};
 
 use crate::server::{Host, Server, later};
 use crate::shutting::shut_missed;
 use crate::telling::{tell, tell_many};
-use chronicle::Moment;
+use chronicle::{Moment, SessionId, Why};
 use ghosts::Snapshot;
 use hall::outbox::{ChannelName, Sender, Writer};
 use hall::{Baton, Done, Hall, Left, Naming, ReapRefusal, Stub, SweepRefusal, Told};
@@ -20,6 +20,8 @@ use std::sync::Wait;
 #[derive(Drop)]
 pub struct Swept<L: Naming, R: Wait + Drop> {
     pub answer: Result<Option<Done>, SweepRefusal>,
+    /// Who was to be swept next, if anybody was, and why that session ended.
+    pub ended: Option<(SessionId, Why)>,
     pub moment: Moment,
     pub before: Snapshot<Hall<L, Sender<R>>>,
     pub after: Snapshot<Hall<L, Sender<R>>>,
@@ -33,15 +35,21 @@ fn sweep_in<L: Naming, R: Wait + Drop>(
     told: &mut Told,
 ) -> Swept<L, R>
     ensures sweeps { Sweeps result.before.value result.after.value result.moment result.answer }
+    ensures ended { result.ended ≡ ended_next result.before.value }
     ensures moment { IsLater moment (last_moment result.before.value.history) result.moment }
 {
     let moment = later(moment, hall.last_moment());
     told.begin();
+    let ended = match hall.next_to_sweep() {
+        Some(session) => Some((session, hall.why_of(session))),
+        None => None,
+    };
     let before = Snapshot::of(&*hall);
     let answer = hall.sweep_told(moment, told);
     let after = Snapshot::of(&*hall);
     Swept {
         answer,
+        ended,
         moment,
         before,
         after,
@@ -52,13 +60,15 @@ fn sweep_in<L: Naming, R: Wait + Drop>(
 /// and shuts whoever missed that. Who got something is added to `told`.
 ///
 /// The answer tells what came of it in the server's hall, at a moment that the clock showed or at that of the newest
-/// record where that is later: the record; that nobody was to be swept; or why there is none.
+/// record where that is later: the record; that nobody was to be swept; or why there is none. It tells, too, whom that
+/// is of, and why that session ended.
 pub fn sweep<L: Naming, R: Wait + Drop, H: Host>(
     rt: &R,
     server: &Server<'_, L, R, H>,
     told: &mut Told,
 ) -> Swept<L, R>
     ensures sweeps { Sweeps result.before.value result.after.value result.moment result.answer }
+    ensures ended { result.ended ≡ ended_next result.before.value }
     ensures moment { (t : ℤ) × H.shows server.now.host.now t
         × IsLater t (last_moment result.before.value.history) result.moment }
     ensures shut { IfOk result.answer

@@ -1,9 +1,8 @@
-use Rattle.std.proofs.Common.{◌≡◌, ◌++◌}
-use Rattle.std.specs.Vec.Iter.{into_iter_items}
-use Rattle.ledger.specs.Heard.{all_heard}
+use Rattle.std.proofs.Common.{◌≡◌, ◌++◌, drop}
+use Rattle.ledger.specs.Heard.{hearings}
 use Rattle.ledger.proofs.heard.hear_all.Given as goal
 
--- what is heard, with what the lines that are left make
-abbrev pub invariant-loop-one : goal.invariant-loop-one
-invariant-loop-one l = l.heard.items ++ all_heard l.roster.facts l.moment (into_iter_items l.one-iterator)
-    ≡ all_heard l.roster.facts l.moment l.fn.shown.items
+-- who hears the lines so far, with those of the lines that are left
+abbrev pub invariant-loop-line : goal.invariant-loop-line
+invariant-loop-line l = l.heard.items ++ hearings l.roster.facts l.line (drop l.line l.shown)
+    ≡ hearings l.roster.facts 0 l.shown

@@ -1,9 +1,12 @@
-use Rattle.std.proofs.Common.{List, ap, ◌∙◌}
-use Rattle.ledger.specs.declared.heard.Heard.{Heard}
-use Rattle.ledger.specs.Heard.{text_for}
-use Rattle.ledger.proofs.Heards.{heard_all}
+use Rattle.std.proofs.Common.{List, map, ap, ◌∙◌}
+use Rattle.ledger.specs.declared.heard.Hearing.{Hearing}
+use Rattle.ledger.specs.Heard.{text_for, heard_of, spelled_at}
+use Rattle.ledger.proofs.Heards.{heard_hearings}
 use Rattle.ledger.proofs.heard.heard_in_order.Goals as goal
 
 pub returns-clause-texts : goal.returns-clause-texts
-returns-clause-texts c = λ t. c.sort_by_session.ensures.texts t ∙ ap (λ (xs : List Heard). text_for xs t)
-    c.in_ok-heard.ensures ∙ heard_all c.args.roster.now.facts c.args.moment c.args.shown.items t
+returns-clause-texts c = λ moment t.
+    let ls = map (spelled_at moment) c.args.shown.now in
+    c.sort_by_session.ensures.texts ls t
+    ∙ ap (λ (xs : List Hearing). text_for (map (heard_of ls) xs) t) c.in_ok-heard.ensures
+    ∙ heard_hearings c.args.roster.now.facts moment c.args.shown.now t

@@ -1,9 +1,16 @@
-use Rattle.std.proofs.Common.{◌≡◌, ◌++◌}
-use Rattle.std.specs.Vec.Iter.{into_iter_items}
-use Rattle.ledger.specs.Heard.{deliveries_of, joined, joined_to}
+use Rattle.std.proofs.Common.{◌≡◌, ◌++◌, ◌-◌, ◌≤◌, length, map, drop}
+use Rattle.ledger.specs.Heard.{deliveries_of, heard_of, joined}
 use Rattle.ledger.proofs.plan.plan_others.Given as goal
 
--- what is planned, with what the texts that are left make
-abbrev pub invariant-loop-next : goal.invariant-loop-next
-invariant-loop-next l = l.plan.items ++ deliveries_of l.seats l.actor l.number (joined_to l.current
-    (into_iter_items l.next-iterator)) ≡ deliveries_of l.seats l.actor l.number (joined l.fn.heard.items)
+-- what is planned, with what the hearings that are left make
+abbrev pub invariant-loop-from : goal.invariant-loop-from
+invariant-loop-from l = record {
+  same : l.lines ≡ l.fn.lines;
+  within : l.from ≤ length l.heard;
+  plan : l.plan.items ++ deliveries_of l.by.seats.now l.by.actor l.by.number
+      (joined (map (heard_of l.fn.lines) (drop l.from l.heard)))
+      ≡ deliveries_of l.by.seats.now l.by.actor l.by.number (joined (map (heard_of l.fn.lines) l.heard));
+}
+
+abbrev pub decreases-loop-from : goal.decreases-loop-from
+decreases-loop-from l = length l.heard - l.from
