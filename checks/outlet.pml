@@ -1,4 +1,4 @@
-/* The three flags of an outlet (crates/session_io/src/outlet.rt), and the count of who is left to its worker (View::leave, View::write_left of
+/* The three flags of an outlet (crates/session_io/src/outlet.rt), and the count of who is left to its worker (View::leave_to_worker, View::write_left of
    crates/serving/src/connections/view.rt), over all interleavings: two threads that put something and write it, or leave it to the owner;
    the owner that hears the stream's events, and writes what was left to it; and the peer that reads. Checked by
 
@@ -21,76 +21,85 @@ bool refused_write;         /* a write would block since the last event: the sys
 bool writable;              /* the event that there is room */
 bool locked;                /* the wire's lock */
 bool is_wanted, is_busy, is_behind;
-byte left_puts;             /* of how many puts the owner was told since it was left to it to write them */
+bool is_left;               /* the owner was told of puts since it was left to it to write them: the count isn't 0 */
 byte listed;                /* how often the owner's list has it */
 byte done;                  /* threads that have put all */
 
-/* Outlet::pump: writes what waits, as far as the stream takes it, with the lock held. It may stop before that is all. */
-inline pump(behind) {
+/* Outlet::pump: writes what waits, as far as the stream takes it, with the lock held. It may stop before that is all, and says so. */
+inline pump(behind, more) {
   is_busy = true;
   /* not behind comes before anything is taken: who leaves it alone since it was behind has put before that, and is seen */
   is_behind = false;
   behind = false;
+  more = false;
   do
   :: atomic { waiting > 0 && sent < ROOM -> waiting--; sent++ }
   :: atomic { waiting > 0 && sent >= ROOM -> refused_write = true; behind = true; break }
   :: waiting == 0 -> break
-  :: waiting > 0 -> is_wanted = true; break
+  :: waiting > 0 -> more = true; break
   od;
   /* behind comes before not busy: who finds it not busy sees whether it is behind */
   if
-  :: behind -> is_behind = true
+  :: behind -> is_behind = true; behind = false
   :: else
   fi;
   is_busy = false
 }
 
 /* Outlet::write */
-inline write_wire(behind) {
+inline write_wire(behind, more) {
+  more = false;
   /* wanted comes before the lock is asked for: who has it looks again when it has given it back */
   is_wanted = true;
   do
   :: !is_wanted -> break
   :: else ->
     if
-    :: atomic { locked -> break }
+    :: atomic { locked -> more = false; break }
     :: atomic { !locked -> locked = true };
        is_wanted = false;
-       pump(behind);
+       pump(behind, more);
        locked = false
     fi
   od
 }
 
 /* Outlet::write_now */
-inline write_now(behind) {
+inline write_now(behind, more) {
   if
-  :: is_behind
-  :: else -> write_wire(behind)
+  :: is_behind -> more = false
+  :: else -> write_wire(behind, more)
   fi
 }
 
-/* View::leave: whoever finds that the count was 0 lists it */
-inline leave(before) {
-  atomic { before = left_puts; left_puts++ };
+/* View::leave_to_worker: whoever finds that the count was 0 lists it */
+inline leave() {
   if
-  :: before == 0 -> listed++
+  :: atomic { !is_left -> is_left = true }; listed++
+  :: is_left
+  fi
+}
+
+/* View::go_on_in_turn: what is left after a turn of writing is left to the owner */
+inline go_on_in_turn(more) {
+  if
+  :: atomic { more -> more = false }; leave()
   :: else
   fi
 }
 
 /* After each put, View::tell: writes, or leaves that to the owner */
 active [2] proctype Putter() {
-  byte puts = 0, before;
-  bool behind;
+  byte puts = 0;
+  bool behind, more;
   do
   :: puts == PUTS -> break
   :: else ->
     waiting++;
     if
-    :: write_now(behind)
+    :: write_now(behind, more); go_on_in_turn(more)
 #ifdef LEAVES
-    :: leave(before)
+    :: leave()
 #endif
     fi;
     puts++
@@ -100,23 +109,25 @@ active [2] proctype Putter() {
 
 /* Outlet::go_on, at each event; View::write_left, for what stands in its list */
 active proctype Owner() {
-  bool behind;
+  bool behind, more;
 end:
   do
   :: atomic { listed > 0 -> listed-- };
      /* the count is taken back before what waits is looked at: who found more than 0 there has put before that */
-     left_puts = 0;
-     write_now(behind)
+     is_left = false;
+     write_now(behind, more);
+     go_on_in_turn(more)
   :: atomic { writable -> writable = false };
      /* busy is looked at before behind: who writes says first that it is behind, and then that it is done */
      if
-     :: is_busy -> write_wire(behind)
+     :: is_busy -> write_wire(behind, more)
      :: else ->
         if
-        :: is_behind -> write_wire(behind)
-        :: else
+        :: is_behind -> write_wire(behind, more)
+        :: else -> more = false
         fi
-     fi
+     fi;
+     go_on_in_turn(more)
   od
 }
 

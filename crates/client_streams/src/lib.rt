@@ -10,5 +10,5 @@ mod web;
 pub use crowd::Crowd;
 pub use guests::{Came, Guest, Guests, MOST_GREETING, end_guest};
 pub use lingering::{LINGER_TRIES, Lingerers, MOST_LINGERING};
-pub use web::{Payloads, Web, WebStream};
+pub use web::{Framing, Payloads, Web, WebStream};
 pub use websocket_front;

@@ -1,10 +1,10 @@
-//! Clients that come by WebSocket, as the rest of a server sees them: what is read of one is octets, and so is what
-//! is written.
+//! Clients that come by WebSocket, as the rest of a server sees them: what is read of one is octets, and what goes out
+//! to it is whole items.
 //!
 //! A front is behind a lock, since its worker reads it while any thread writes to it; both calls return at once
 //! whatever the socket does. Frames that were read already bring no event, so a client that gave something has its
 //! turn again. Of messages without a payload, such as pings, 64 are read in a turn.
-ghost use Rattle.std.specs.Prelude.{◌≤◌, length, IfOk};
+ghost use Rattle.std.specs.Prelude.{◌≡◌, ◌≤◌, [], length, IfOk, OnOk};
 
 use crate::frames::Frames;
 use deliveries::Item;
@@ -262,30 +262,6 @@ impl<R: Wait + Copy + Drop> Web<R> {
         self.shared.is_wanted.swap(false, Ordering::SeqCst)
     }
 
-    /// Puts lines into frames, as many as have room, and answers how many octets of the lines those are.
-    fn put(&self, octets: &[u8]) -> io::Result<usize>
-        ensures { IfOk result (λ n. n ≤ length octets.now) }
-    {
-        let mut front = self.front()?;
-        let front = &mut *front;
-        if !front.is_ready() {
-            return Ok(0);
-        }
-        match front.put_lines(octets) {
-            Ok(count) => Ok(count.min(octets.len())),
-            Err(fault) => Err(error_of(fault)),
-        }
-    }
-
-    /// Writes what waits, all of it or else as far as the stream takes it.
-    fn write_waiting(&self) -> io::Result<()> {
-        match self.front()?.flush() {
-            Ok(true) => Ok(()),
-            Ok(false) => Err(Error::from(ErrorKind::WouldBlock)),
-            Err(fault) => Err(error_of(fault)),
-        }
-    }
-
     /// Writes what waits, such as an answer to a ping or a close, as far as the stream takes it, and answers whether
     /// more is left for when it takes more.
     pub fn go_on(&self) -> bool {
@@ -325,23 +301,66 @@ impl<R: Wait + Copy + Drop> Web<R> {
     }
 }
 
-impl<R: Wait + Copy + Drop> Write for Web<R> {
-    fn write(&mut self, buf: &[u8]) -> io::Result<usize> {
-        match self.put(buf) {
-            Ok(0) => {}
-            Ok(count) => return Ok(count),
-            Err(error) => {
-                // What waits, such as the answer to the client's close, goes out before the stream is given up.
-                self.write_waiting()?;
-                return Err(error);
-            }
-        }
-        self.write_waiting()?;
-        self.put(buf)
+/// Writes what waits in a front, all of it or else as far as the stream takes it.
+fn write_waiting(front: &mut Front<WebStream>) -> io::Result<()>
+    ensures { OnOk result (front.new.rest ≡ []) }
+{
+    match front.flush() {
+        Ok(true) => Ok(()),
+        Ok(false) => Err(Error::from(ErrorKind::WouldBlock)),
+        Err(fault) => Err(error_of(fault)),
+    }
+}
+
+/// Sees to it that each line of a front is in a frame, by writing what waits where one isn't.
+fn make_ready(front: &mut Front<WebStream>) -> io::Result<()>
+    ensures { OnOk result (front.new.rest ≡ []) }
+{
+    if front.is_ready() {
+        Ok(())
+    } else {
+        write_waiting(front)
+    }
+}
+
+/// What a session's items go out on that has a WebSocket: one after another, each line in a frame of its own.
+#[derive(Drop)]
+pub struct Framing<R: Wait + Copy + Drop> {
+    web: Web<R>,
+    // The front has the item that goes out now, of which some lines have no frame yet.
+    is_put: bool,
+}
+
+impl<R: Wait + Copy + Drop> Framing<R> {
+    /// No item goes out yet.
+    pub fn new(web: Web<R>) -> Framing<R> {
+        Framing { web, is_put: false }
     }
 
-    fn flush(&mut self) -> io::Result<()> {
-        self.write_waiting()
+    /// Puts an item's lines into frames, and is done once each has its own. Where the output has no room for one, what
+    /// waits is written; where the stream takes no more then, the item isn't done, and is to be put again: so an item
+    /// counts as waiting until no line of it does.
+    pub fn put(&mut self, item: &Item, host: &[u8]) -> io::Result<()> {
+        let mut front = self.web.front()?;
+        let front = &mut *front;
+        if !self.is_put {
+            make_ready(front)?;
+            if let Err(fault) = front.put_item(item, host) {
+                // What waits, such as the answer to the client's close, goes out before the stream is given up.
+                write_waiting(front)?;
+                return Err(error_of(fault));
+            }
+            self.is_put = true;
+        }
+        make_ready(front)?;
+        self.is_put = false;
+        Ok(())
+    }
+
+    /// Writes what waits, all of it or else as far as the stream takes it.
+    pub fn flush(&mut self) -> io::Result<()> {
+        let mut front = self.web.front()?;
+        write_waiting(&mut *front)
     }
 }
 

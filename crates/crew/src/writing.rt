@@ -4,10 +4,9 @@ ghost use Rattle.session_io.specs.Wired.{IsSameWire};
 
 use chronicle::Why;
 use session_io::hall::{Naming, Told};
-use session_io::wire::{Flow, Wire};
+use session_io::wire::{Flow, Sink, Wire};
 use session_io::{Host, Server, hang, tell};
 use std::alloc::Global;
-use std::io::Write;
 use std::sync::Wait;
 use std::time::Duration;
 
@@ -23,7 +22,7 @@ const TRIES: u32 = 250;
 ///
 /// The wire that comes back is the one given: its writer is that of the session's outbox, and what went out is the
 /// texts of the items that it took, in order, but for a rest (`Wire::in_step`).
-pub fn write_on<L: Naming, W: Write + Drop, R: Wait + Drop, H: Host>(
+pub fn write_on<L: Naming, W: Sink + Drop, R: Wait + Drop, H: Host>(
     rt: &R,
     alloc: Global,
     server: &Server<'_, L, R, H>,

@@ -6,6 +6,7 @@ use std::io::{ErrorKind, Read, Write};
 use std::sync::atomic::{AtomicBool, AtomicI64, AtomicU64, AtomicUsize, Ordering};
 use std::time::Duration;
 use std::{io, thread, time};
+use wire::Sink;
 
 /// How often a wait looks before it gives up.
 pub(crate) const TURNS: u32 = 10_000;
@@ -279,3 +280,5 @@ impl Write for Stream<'_> {
         Ok(())
     }
 }
+
+impl Sink for Stream<'_> {}

@@ -17,12 +17,11 @@ use hall::{Baton, Hall, Left, LineRefusal, Naming, ReapRefusal, Stub, Told};
 use line_grammar::{Octets, Piece};
 use outbox::{Bell, ChannelName, Sender, Writer, pair};
 use std::alloc::Global;
-use std::io::Write;
 use std::sync::atomic::Ordering;
 use std::sync::{Mutex, Wait};
 use std::thread::{Threads, join};
 use std::time::Clock;
-use wire::{Flow, Wire};
+use wire::{Flow, Sink, Wire};
 
 /// A line. Memory is asked for again where there was none.
 pub(crate) fn line(alloc: Global, octets: &[u8]) -> Option<Piece> {
@@ -266,7 +265,7 @@ impl<L: Naming, R: Wait + Drop> Guest<L, R> {
     }
 
     /// Makes a wire from its outbox to this stream.
-    fn wire<W: Write + Drop>(&mut self, alloc: Global, stream: W) -> Option<Wire<L, W>>
+    fn wire<W: Sink + Drop>(&mut self, alloc: Global, stream: W) -> Option<Wire<L, W>>
         ensures { IfSome result (λ w. w.session ≡ self.new.session) }
     {
         let host = Octets::copied(alloc, b"h1").ok()?;

@@ -10,9 +10,13 @@ mod deciding;
 #[cfg(test)]
 mod feeding;
 #[cfg(test)]
+mod items;
+#[cfg(test)]
 mod narrow;
 #[cfg(test)]
 mod one_thread;
+#[cfg(test)]
+mod shelf;
 #[cfg(test)]
 mod two_threads;
 #[cfg(test)]

@@ -2,6 +2,7 @@
 use std::alloc::Global;
 use std::io;
 use std::io::{ErrorKind, Write};
+use wire::Sink;
 
 /// Counts what it is asked to write. It takes `most` octets in one write and `left` in all. Of each `period` writes
 /// it takes nothing in one, where that isn't 0. After what is left it takes none, or fails.
@@ -51,3 +52,5 @@ impl Write for Narrow {
         Ok(())
     }
 }
+
+impl Sink for Narrow {}

@@ -13,16 +13,16 @@ use std::marker::Brand;
 use std::process::Abort;
 use std::sync::Wait;
 use std::test::Fail;
-use wire::{Flow, Wire};
+use wire::{Flow, Sink, Wire};
 
 /// What each item delivers.
-const TOLD: &[u8; 45] = b":irc.example 417 * :Input line was too long\r\n";
+pub(crate) const TOLD: &[u8; 45] = b":irc.example 417 * :Input line was too long\r\n";
 
 /// How many items wait: as many as a wire writes at once.
-const ITEMS: u64 = 400;
+pub(crate) const ITEMS: u64 = 400;
 
 /// Their octets.
-const OCTETS: usize = 18_000;
+pub(crate) const OCTETS: usize = 18_000;
 
 /// More items than a wire writes at once.
 const MANY_ITEMS: u64 = 1500;
@@ -31,16 +31,16 @@ const MANY_ITEMS: u64 = 1500;
 const MANY_OCTETS: usize = 67_500;
 
 /// More than any call takes.
-const CALLS: u32 = 100_000;
+pub(crate) const CALLS: u32 = 100_000;
 
-/// A wire over a stream of this shape, for which so many items wait, and what feeds it.
-fn fed<L: Naming, R: Wait + Abort + Drop + Copy>(
+/// A wire over a stream, for which so many items wait, and what feeds it.
+pub(crate) fn fed<L: Naming, R: Wait + Abort + Drop + Copy, W: Sink + Drop>(
     rt: &R,
     alloc: Global,
     mut register: Register<ChannelName>,
-    shape: Shape,
+    stream: W,
     items: u64,
-) -> (Feed<Sender<R>>, Wire<L, Narrow>)
+) -> (Feed<Sender<R>>, Wire<L, W>)
     requires named { register.table ≡ L.table }
     requires new { register.rows ≡ [] }
 {
@@ -51,14 +51,17 @@ fn fed<L: Naming, R: Wait + Abort + Drop + Copy>(
         let _ = feed.feed(alloc);
     }
     let host = Octets::from_vec(Vec::new(alloc));
-    match Wire::new(alloc, writer, stub, Narrow::new(alloc, shape), host) {
+    match Wire::new(alloc, writer, stub, stream, host) {
         Ok(wire) => (feed, wire),
         Err(_) => rt.abort(),
     }
 }
 
 /// Pumps until nothing waits or the stream is at its end.
-fn pump_all<L: Naming, R: Wait>(rt: &R, wire: &mut Wire<L, Narrow>) -> Result<Flow, WriteFault> {
+pub(crate) fn pump_all<L: Naming, R: Wait, W: Sink + Drop>(
+    rt: &R,
+    wire: &mut Wire<L, W>,
+) -> Result<Flow, WriteFault> {
     for _ in 0..CALLS {
         match wire.pump(rt)? {
             Flow::Idle => return Ok(Flow::Idle),
@@ -70,7 +73,7 @@ fn pump_all<L: Naming, R: Wait>(rt: &R, wire: &mut Wire<L, Narrow>) -> Result<Fl
 }
 
 /// Whether octets are the front of what the items deliver.
-fn is_front(octets: &[u8]) -> bool {
+pub(crate) fn is_front(octets: &[u8]) -> bool {
     let mut place = 0;
     for octet in octets {
         if TOLD.get(place) != Some(octet) {
@@ -108,7 +111,8 @@ fn goes_out<L: Naming, R: Wait + Abort + Drop + Copy>(
     requires named { register.table ≡ L.table }
     requires new { register.rows ≡ [] }
 {
-    let (_feed, mut wire) = fed::<L, R>(rt, alloc, register, shape, items);
+    let narrow = Narrow::new(alloc, shape);
+    let (_feed, mut wire) = fed::<L, R, Narrow>(rt, alloc, register, narrow, items);
     pump_all(rt, &mut wire) == Ok(Flow::Idle)
         && wire.stream().octets.len() == octets
         && is_front(wire.stream().octets.as_slice())
@@ -170,7 +174,8 @@ fn writes_for<L: Naming, R: Wait + Abort + Drop + Copy>(
         period: 0,
         fails: true,
     };
-    let (_feed, mut wire) = fed::<L, R>(rt, alloc, register, shape, items);
+    let narrow = Narrow::new(alloc, shape);
+    let (_feed, mut wire) = fed::<L, R, Narrow>(rt, alloc, register, narrow, items);
     match wire.pump(rt) {
         Ok(Flow::Idle) => wire.stream().writes,
         _ => 0,
@@ -208,7 +213,8 @@ fn is_gauged<L: Naming, R: Wait + Abort + Drop + Copy>(
     requires named { register.table ≡ L.table }
     requires new { register.rows ≡ [] }
 {
-    let (_feed, mut wire) = fed::<L, R>(rt, alloc, register, shape, ITEMS);
+    let narrow = Narrow::new(alloc, shape);
+    let (_feed, mut wire) = fed::<L, R, Narrow>(rt, alloc, register, narrow, ITEMS);
     let besides = OCTETS - TOLD.len();
     wire.gauge().waiting_besides_newest() == besides as u64 && is_told_always(rt, &mut wire)
 }
@@ -282,7 +288,8 @@ fn is_front_at<L: Naming, R: Wait + Abort + Drop + Copy>(
         period: 5,
         fails: fault == WriteFault::Failed,
     };
-    let (_feed, mut wire) = fed::<L, R>(rt, alloc, register, shape, items);
+    let narrow = Narrow::new(alloc, shape);
+    let (_feed, mut wire) = fed::<L, R, Narrow>(rt, alloc, register, narrow, items);
     pump_all(rt, &mut wire) == Err(fault)
         && wire.pump(rt) == Err(WriteFault::Failed)
         && wire.stream().octets.len() == left
@@ -319,7 +326,8 @@ fn goes_on<L: Naming, R: Wait + Abort + Drop + Copy>(
         period: 0,
         fails: true,
     };
-    let (mut feed, mut wire) = fed::<L, R>(rt, alloc, register, shape, ITEMS);
+    let narrow = Narrow::new(alloc, shape);
+    let (mut feed, mut wire) = fed::<L, R, Narrow>(rt, alloc, register, narrow, ITEMS);
     let is_first = pump_all(rt, &mut wire) == Ok(Flow::Idle)
         && pump_all(rt, &mut wire) == Ok(Flow::Idle)
         && wire.stream().octets.len() == OCTETS;

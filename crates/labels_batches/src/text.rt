@@ -1,5 +1,5 @@
 //! The octets of a delivery, which several deliveries may share.
-ghost use Rattle.std.specs.Prelude.{◌≡◌, ◌++◌, ◌↔◌, [], IfOk, IsTrue};
+ghost use Rattle.std.specs.Prelude.{◌≡◌, ◌↔◌, [], IfOk, IsTrue};
 
 use line_grammar::Octets;
 use std::alloc::{AllocError, Global};
@@ -46,17 +46,6 @@ impl Text {
         ensures { IsTrue result ↔ (self.now ≡ []) }
     {
         self.octets.is_empty()
-    }
-
-    /// A text of these octets, and then those of another.
-    pub fn followed(&self, alloc: Global, more: &Text) -> Result<Text, AllocError>
-        ensures { IfOk result (λ t. t ≡ self.now ++ more.now) }
-    {
-        let room = self.octets.len().saturating_add(more.octets.len());
-        let mut octets = Vec::with_capacity(alloc, room)?;
-        octets.extend_from_slice(self.as_slice())?;
-        octets.extend_from_slice(more.as_slice())?;
-        Text::new(alloc, Octets::from_vec(octets))
     }
 }
 

@@ -204,6 +204,21 @@ fn last_item_is_its_error_line(rt: HostRuntime) -> Result<(), Fail> {
     Ok(())
 }
 
+/// Items that are put one after another wait in order, each line in a frame of its own, and go out by one flush.
+#[test]
+fn items_that_are_put_go_out_together(rt: HostRuntime) -> Result<(), Fail> {
+    let alloc = rt.alloc();
+    let (first, second) = (lines(alloc, b"a\r\nbc\r\n")?, lines(alloc, b"d\r\n")?);
+    let mut front = front(alloc, BINARY, b"")?;
+    assert!(rt; front.put_item(&first, b"h").is_ok());
+    assert!(rt; front.is_ready());
+    assert!(rt; front.put_item(&second, b"h").is_ok());
+    assert!(rt; written(&front, BINARY) == b"".as_slice());
+    assert!(rt; front.flush() == Ok(true));
+    assert!(rt; written(&front, BINARY) == b"\x82\x01a\x82\x02bc\x82\x01d".as_slice());
+    Ok(())
+}
+
 /// Some octets 2,000 times.
 fn repeated(alloc: Global, octets: &[u8]) -> Result<Vec<u8>, AllocError> {
     let mut all = Vec::new(alloc);

@@ -16,7 +16,7 @@ use session_ends::hall::Naming;
 use std::io::Write;
 use std::sync::atomic::{AtomicBool, Ordering};
 use std::sync::{Mutex, Wait};
-use wire::{Flow, Wire};
+use wire::{Flow, Sink, Wire};
 
 /// What came of pumping a session's wire, with the wire before that and after it, which exist for clauses alone.
 #[derive(Drop)]
@@ -30,8 +30,9 @@ pub struct Pumped<L: Naming, W: Write + Drop> {
 
 /// A session's wire, on which whoever put something into the session's outbox writes at once. No call waits for
 /// another that writes: it leaves word instead, and the other writes once more. A stream that didn't take all is
-/// left alone until it is told to take more (`go_on`). `checks/outlet` tries the three flags over all interleavings
-/// of a small model.
+/// left alone until it is told to take more (`go_on`). Of what waits one call writes a part, so that others have their
+/// turn: where it answers `Flow::More`, the caller sees to it that what is left is written, too. `checks/outlet` tries
+/// the three flags over all interleavings of a small model.
 #[derive(Drop)]
 pub struct Outlet<L: Naming, W: Write + Drop> {
     wire: Mutex<Option<Wire<L, W>>>,
@@ -43,7 +44,7 @@ pub struct Outlet<L: Naming, W: Write + Drop> {
     is_behind: AtomicBool,
 }
 
-impl<L: Naming, W: Write + Drop> Outlet<L, W> {
+impl<L: Naming, W: Sink + Drop> Outlet<L, W> {
     /// An outlet that has no wire yet.
     pub fn new() -> Outlet<L, W> {
         Outlet {
@@ -59,9 +60,9 @@ impl<L: Naming, W: Write + Drop> Outlet<L, W> {
         *self.wire.lock(rt) = Some(wire);
     }
 
-    /// Writes what waits, as far as the stream takes it, and answers what came of that; or `None` where another
-    /// thread writes, which so writes once more, where there is no wire, or where the stream didn't take all before:
-    /// then nothing is tried.
+    /// Writes what waits, as far as the stream takes it and one turn goes, and answers what came of that; or `None`
+    /// where another thread writes, which so writes once more, where there is no wire, or where the stream didn't take
+    /// all before: then nothing is tried.
     pub fn write_now<R: Wait>(&self, rt: &R) -> Option<Pumped<L, W>>
         ensures { IfSome result (λ p. Pumps p.before.value p.after.value p.session p.flow) }
     {
@@ -119,8 +120,7 @@ impl<L: Naming, W: Write + Drop> Outlet<L, W> {
         match flow {
             // Before busy is taken back: the event that the stream takes more may have come already.
             Ok(Flow::Behind) => self.is_behind.store(true, Ordering::SeqCst),
-            Ok(Flow::More) => self.is_wanted.store(true, Ordering::SeqCst),
-            Ok(Flow::Idle | Flow::Ended) | Err(_) => {}
+            Ok(Flow::More | Flow::Idle | Flow::Ended) | Err(_) => {}
         }
         self.is_busy.store(false, Ordering::SeqCst);
         Pumped {

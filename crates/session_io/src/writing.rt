@@ -9,7 +9,7 @@ use session_ends::hall::{Naming, Told};
 use session_ends::{Host, Server, hang};
 use std::io::Write;
 use std::sync::Wait;
-use wire::Flow;
+use wire::{Flow, Sink};
 
 /// How a session's writing stands.
 #[derive(Clone, Copy, Debug, PartialEq)]
@@ -35,7 +35,7 @@ pub struct Written<L: Naming, W: Write + Drop> {
 /// found empty in this call; or where its stream answered that it takes no more. What went out is said by the wire
 /// itself (`Wire::in_step`), whoever pumped it: the texts of the items that its writer took, in order, but for a rest.
 /// The writer comes back out of the wire.
-pub fn write_some<L: Naming, W: Write + Drop, R: Wait + Drop, H: Host>(
+pub fn write_some<L: Naming, W: Sink + Drop, R: Wait + Drop, H: Host>(
     rt: &R,
     server: &Server<'_, L, R, H>,
     session: SessionId,

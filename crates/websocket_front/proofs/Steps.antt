@@ -1,14 +1,14 @@
 -- What waits, after each step by which it goes out.
 use Rattle.std.proofs.Common.{◌≡◌, ℕ, Bool, List, [], ◌∷◌, ◌++◌, Option, drop, refl, sym}
 use Rattle.std.proofs.Common.{ap, ◌∙◌, subst, append_assoc, append-nil}
-use Rattle.std.proofs.KnownBytes.{Appends-nil, Appends-trans}
+use Rattle.std.proofs.KnownBytes.{Appends-nil}
 use Rattle.tungstenite.specs.Content.{Content}
 use Rattle.tungstenite.specs.Socket.{Socket, Flushed}
 use Rattle.websocket_front.specs.declared.subprotocol.Subprotocol.{Subprotocol}
 use Rattle.websocket_front.specs.declared.counted.Causes.{Causes}
 use Rattle.websocket_front.specs.Lines.{lines}
 use Rattle.websocket_front.specs.Frames.{message, frame_of, frame, frames}
-use Rattle.websocket_front.specs.Fronted.{Fronted, waiting, GoesOut, Gains, IsFramed, TakesLines}
+use Rattle.websocket_front.specs.Fronted.{Fronted, waiting, GoesOut, Gains, IsFramed}
 use Rattle.websocket_front.proofs.Lines.{lines_none}
 
 -- a text that is put where nothing was left
@@ -24,13 +24,6 @@ pub waits_none : (p : Subprotocol) (output rest : List ℕ) → output ≡ [] �
     → output ++ frames p (lines rest) ≡ []
 waits_none p output rest out none =
     ap (λ o. o ++ frames p (lines rest)) out ∙ ap (λ r. frames p (lines r)) none ∙ ap (frames p) lines_none
-
--- the frames of one line more
-pub frames_more : (p : Subprotocol) (ls : List (List ℕ)) (line : List ℕ) → frames p (ls ++ line ∷ [])
-    ≡ frames p ls ++ frame p line
-frames_more p [] line = append-nil (frame p line)
-frames_more p (l ∷ ls) line = ap (λ o. frame p l ++ o) (frames_more p ls line)
-    ∙ sym (append_assoc (frame p l) (frames p ls) (frame p line))
 
 module _ {S : Type 0} where
   -- what waits where no line is left is the output
@@ -106,46 +99,4 @@ module _ {S : Type 0} where
         gone = [];
         appended = Appends-nil (contents s.stream);
         parts = ap (λ r. s.output ++ frames p (lines r)) none;
-      }
-
-  -- no line was taken
-  pub takes_none : (contents : S → Option (List ℕ)) (f : Fronted S) (text : List ℕ) → TakesLines contents f text f 0
-  takes_none contents f text = record {
-    taken = [];
-    parts = refl;
-    out =
-        record { gone = []; appended = Appends-nil (contents f.socket.stream); parts = append-nil (waiting f) };
-  }
-
-  -- one line more, where no other line waits
-  pub takes_more : (contents : S → Option (List ℕ)) (f g h : Fronted S) (text : List ℕ) (place next : ℕ)
-      → g.subprotocol ≡ f.subprotocol → g.rest ≡ [] → h.rest ≡ [] → TakesLines contents f text g place
-      → IsFramed contents g.subprotocol (drop place text) text g.socket h.socket next
-      → TakesLines contents f text h next
-  takes_more contents f g h text place next kind none none2 takes is =
-      let p = f.subprotocol in
-      let done = waiting f ++ frames p takes.taken in
-      let one = frame p is.line in
-      let was : waiting g ≡ g.socket.output = idle g none in
-      let now : waiting h ≡ h.socket.output = idle h none2 in
-      let gained : g.socket.output ++ one ≡ is.gained.gone ++ h.socket.output = subst (λ (q : Subprotocol).
-      g.socket.output ++ frame q is.line ≡ is.gained.gone ++ h.socket.output) kind is.gained.parts in
-      record {
-        taken = takes.taken ++ is.line ∷ [];
-        parts = takes.parts ∙ ap (λ l. takes.taken ++ l) is.parts
-            ∙ sym (append_assoc takes.taken (is.line ∷ []) (lines (drop next text)));
-        out = record {
-          gone = takes.out.gone ++ is.gained.gone;
-          appended = Appends-trans (contents f.socket.stream) (contents g.socket.stream)
-              (contents h.socket.stream) takes.out.gone is.gained.gone takes.out.appended is.gained.appended;
-          parts =
-              ap (λ l. waiting f ++ l) (frames_more p takes.taken is.line)
-              ∙ sym (append_assoc (waiting f) (frames p takes.taken) one)
-              ∙ ap (λ l. l ++ one) takes.out.parts
-              ∙ append_assoc takes.out.gone (waiting g) one
-              ∙ ap (λ l. takes.out.gone ++ (l ++ one)) was
-              ∙ ap (λ l. takes.out.gone ++ l) gained
-              ∙ ap (λ l. takes.out.gone ++ (is.gained.gone ++ l)) (sym now)
-              ∙ sym (append_assoc takes.out.gone is.gained.gone (waiting h));
-        };
       }

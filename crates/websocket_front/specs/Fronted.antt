@@ -122,13 +122,6 @@ module _ {S : Type 0} where
   FramesNext contents p left text old new None = new ≡ old
   FramesNext contents p left text old new (Some next) = IsFramed contents p left text old new next
 
-  -- the first of a text's lines, which have so many of its octets, joined what waits, of which some went to the stream
-  pub record TakesLines (contents : S → Option (List ℕ)) (old : Fronted S) (text : List ℕ) (new : Fronted S)
-      (count : ℕ) : Type 0 where
-    pub taken : List (List ℕ)
-    pub parts : lines text ≡ taken ++ lines (drop count text)
-    pub out : GoesOut contents old.socket.stream (waiting old ++ frames old.subprotocol taken) new
-
   -- all of the octets went to the stream
   abbrev pub IsOut : (S → Option (List ℕ)) → S → List ℕ → Fronted S → Type 0
   IsOut contents old octets new = Appends (contents old) (contents new.socket.stream) octets × (waiting new ≡ [])

@@ -11,7 +11,7 @@ ghost use Rattle.websocket_front.specs.Causes.{Grows, Answers, Pauses};
 ghost use Rattle.websocket_front.specs.Lines.{line_length, lines};
 ghost use Rattle.websocket_front.specs.Frames.{IsNext};
 ghost use Rattle.websocket_front.specs.Fronted.{with_causes, waiting, waiting_with, output_with_close};
-ghost use Rattle.websocket_front.specs.Fronted.{GoesOut, FramesNext, TakesLines, IsOut, IsUnsent, IsNotOut};
+ghost use Rattle.websocket_front.specs.Fronted.{GoesOut, FramesNext, IsOut, IsUnsent, IsNotOut};
 
 use crate::counted::Counted;
 use crate::front::{Ending, Front, FrontFault};
@@ -30,7 +30,7 @@ pub(crate) enum Framed {
     One,
     /// There is none.
     All,
-    /// The output has no room for its frame.
+    /// The output has no room for its frame, or there is no memory for it.
     Full,
 }
 
@@ -136,64 +136,6 @@ impl<S: Read + Write + Drop> Front<S> {
         self.frame_lines()
     }
 
-    /// Puts the lines at the front of a text into frames, while the output has room and there is memory, and answers
-    /// how many octets of the text those lines have, with their CR LF.
-    #[tactic(auto, using(crate::proofs::Growing::grows_trans, crate::proofs::Growing::answers_after))]
-    pub fn put_lines(&mut self, text: &[u8]) -> Result<usize, FrontFault>
-        requires ready { self.old.rest ≡ [] }
-        ensures ok { IfOk result (TakesLines S.contents self.old text.now self.new) }
-        ensures cause { self.old.is_open ≡ true
-            → IfErr result (λ f. Answers f self.old.causes self.new.causes) }
-        ensures stays_open { OnOk result (self.new.is_open ≡ true) }
-        ensures subprotocol { self.new.subprotocol ≡ self.old.subprotocol }
-    {
-        match self.ending {
-            Some(Ending::Closed) => return Err(FrontFault::Protocol),
-            Some(Ending::Failed(fault)) => return Err(fault),
-            None => {}
-        }
-        let mut place = 0;
-        for _ in 0..text.len() {
-            if text.len() <= place {
-                return Ok(text.len());
-            }
-            match self.frame_line(text, place) {
-                Ok(Some(next)) => place = next,
-                Ok(None) => return Ok(place),
-                Err(FrontFault::Memory) if 0 < place => return Ok(place),
-                Err(fault) => return Err(fault),
-            }
-        }
-        Ok(place.min(text.len()))
-    }
-
-    /// Puts the line that begins at a place of a text into a frame, where the output has room, and answers where the
-    /// next begins.
-    fn frame_line(&mut self, text: &[u8], place: usize) -> Result<Option<usize>, FrontFault>
-        requires is_open { self.old.is_open ≡ true }
-        requires ready { self.old.rest ≡ [] }
-        requires inside { place < length text.now }
-        ensures ok { IfOk result (FramesNext S.contents self.old.subprotocol
-            (drop place text.now) text.now self.old.socket self.new.socket) }
-        ensures stays_open { OnOk result (self.new.is_open ≡ true) }
-        ensures rest { self.new.rest ≡ [] }
-        ensures memory { result ≡ Err FrontFault.Memory
-            → self.new ≡ with_causes self.old self.new.causes }
-        ensures grows { Grows self.old.causes self.new.causes }
-        ensures cause { IfErr result (λ f. Answers f self.old.causes self.new.causes) }
-        ensures subprotocol { self.new.subprotocol ≡ self.old.subprotocol }
-    {
-        match frame_line(&mut self.socket, self.subprotocol, text, place) {
-            Ok(next) => Ok(next),
-            Err(FrontFault::Memory) => Err(FrontFault::Memory),
-            Err(fault) => {
-                self.begun = None;
-                self.ending = Some(Ending::Failed(fault));
-                Err(fault)
-            }
-        }
-    }
-
     /// Puts lines into frames while the output has room and there is memory.
     #[tactic(auto, using(crate::proofs::Growing::grows_trans, crate::proofs::Growing::answers_after))]
     fn frame_lines(&mut self) -> Result<(), FrontFault>
@@ -210,7 +152,6 @@ impl<S: Read + Write + Drop> Front<S> {
             match self.frame_next() {
                 Ok(Framed::One) => {}
                 Ok(_) => return Ok(()),
-                Err(FrontFault::Memory) => return Ok(()),
                 Err(fault) => return Err(fault),
             }
         }
@@ -226,8 +167,7 @@ impl<S: Read + Write + Drop> Front<S> {
         ensures one { result ≡ Ok Framed.One
             → length (lines self.old.rest) ≡ length (lines self.new.rest) + 1 }
         ensures all { result ≡ Ok Framed.All → self.new.rest ≡ [] }
-        ensures memory { result ≡ Err FrontFault.Memory
-            → self.new ≡ with_causes self.old self.new.causes }
+        ensures memory { IfErr result (λ e. e ≡ FrontFault.Memory → ⊥) }
         ensures full { result ≡ Ok Framed.Full
             → self.new ≡ with_causes self.old self.new.causes }
         ensures no_room { result ≡ Ok Framed.Full
@@ -250,7 +190,7 @@ impl<S: Read + Write + Drop> Front<S> {
                 Ok(Framed::One)
             }
             Ok(None) => Ok(Framed::Full),
-            Err(FrontFault::Memory) => Err(FrontFault::Memory),
+            Err(FrontFault::Memory) => Ok(Framed::Full),
             Err(fault) => {
                 self.begun = None;
                 self.ending = Some(Ending::Failed(fault));

@@ -1,7 +1,7 @@
 //! An item on its way to a stream.
 //!
 //! An item counts as begun until its last octet is in the wire.
-ghost use Rattle.std.specs.Prelude.{◌≡◌, ◌≤◌, [], Some, Err, drop, length, OnOk, MatchResult};
+ghost use Rattle.std.specs.Prelude.{◌≡◌, ◌≤◌, [], Some, Err, drop, length, OnOk, OnErr, MatchResult};
 ghost use Rattle.deliveries.specs.Text.{delivery_text};
 ghost use Rattle.wire.specs.Causes.{AreSame, HasCause};
 ghost use Rattle.wire.specs.declared.stream.Stop.TheVariants.{Later};
@@ -9,9 +9,9 @@ ghost use Rattle.wire.specs.Gathering.{gathered_contents};
 ghost use Rattle.wire.specs.Wired.{rest_of, GoesOut, LastIsWhole};
 
 use crate::gathered::Gathered;
+use crate::sink::Sink;
 use crate::stream::Stop;
 use deliveries::{Delivery, Item};
-use std::io::Write;
 
 /// More octets than a session's last item has.
 const LAST: usize = 512;
@@ -25,7 +25,7 @@ pub(crate) struct Begun {
 
 /// Writes what comes after so many octets of a text, until all is written or a write stops. It answers how much is
 /// written then.
-fn write_lines<W: Write + Drop>(
+fn write_lines<W: Sink + Drop>(
     text: &[u8],
     from: usize,
     out: &mut Gathered<W>,
@@ -48,7 +48,7 @@ fn write_lines<W: Write + Drop>(
 }
 
 /// Writes a session's last item, after all octets before it. It answers how much of it is written.
-fn write_last<W: Write + Drop>(
+fn write_last<W: Sink + Drop>(
     delivery: &Delivery,
     host: &[u8],
     out: &mut Gathered<W>,
@@ -81,7 +81,7 @@ impl Begun {
     }
 
     /// Writes what is left of the item, as far as the stream takes it.
-    pub(crate) fn write_rest<W: Write + Drop>(
+    pub(crate) fn write_rest<W: Sink + Drop>(
         &mut self,
         host: &[u8],
         out: &mut Gathered<W>,
@@ -89,15 +89,19 @@ impl Begun {
         requires last { LastIsWhole (Some self.old) }
         ensures item { self.new.item ≡ self.old.item }
         ensures last { result ≡ Err Later → LastIsWhole (Some self.new) }
-        ensures more { GoesOut (gathered_contents W.contents out.old)
+        ensures whole { OnOk result (GoesOut (gathered_contents W.contents out.old)
+            (gathered_contents W.contents out.new) (rest_of host.now (Some self.old)) []) }
+        ensures more { OnErr result (GoesOut (gathered_contents W.contents out.old)
             (gathered_contents W.contents out.new) (rest_of host.now (Some self.old))
-            (rest_of host.now (Some self.new)) }
-        ensures whole { OnOk result (rest_of host.now (Some self.new) ≡ []) }
+            (rest_of host.now (Some self.new))) }
         ensures few { length out.old.waiting.items ≤ 65536
             → length out.new.waiting.items ≤ 65536 }
         ensures cause { MatchResult result (λ _. AreSame out.old.stream out.new.stream)
             (λ s. HasCause s out.old.stream out.new.stream) }
     {
+        if self.count == 0 && out.takes_items() {
+            return out.put(&self.item, host);
+        }
         match self.item.delivery() {
             Delivery::Lines { text, .. } => {
                 let (count, written) = write_lines(text.as_slice(), self.count, out);

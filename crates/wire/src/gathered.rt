@@ -2,9 +2,9 @@
 //!
 //! In place of `BufWriter`, which can't grow and drops its stream where it can't be made. Room for 512 octets is
 //! always there, so that the line of a session's end needs no memory. If more room is refused, what waits goes out
-//! first and then each item by itself.
+//! first and then each item by itself. For what takes items no octets wait, and there is no room for any.
 ghost use Rattle.std.specs.Prelude.{◌≡◌, ◌≤◌, ◌<◌, ◌+◌, ◌++◌, [], true, false, None, length, take};
-ghost use Rattle.std.specs.Prelude.{drop, vec_len, Err, IfOk, IfSome, OnOk, MatchResult};
+ghost use Rattle.std.specs.Prelude.{drop, vec_len, Err, IfOk, IfSome, OnOk, OnErr, MatchResult};
 ghost use Rattle.std.specs.Io.KnownBytes.{Appends, Keeps, WriteAppends};
 ghost use Rattle.deliveries.specs.Text.{delivery_text};
 ghost use Rattle.wire.specs.Causes.{AreSame, HasCause};
@@ -12,8 +12,9 @@ ghost use Rattle.wire.specs.declared.stream.Stop.TheVariants.{Later};
 ghost use Rattle.wire.specs.Gathering.{gathered_contents};
 ghost use Rattle.wire.specs.Wired.{GoesOut};
 
+use crate::sink::Sink;
 use crate::stream::{Stop, Stream};
-use deliveries::{Delivery, WriteFault, write_out};
+use deliveries::{Delivery, Item, WriteFault, write_out};
 use outbox::Gauge;
 use std::alloc::{AllocError, Global};
 use std::io::Write;
@@ -40,7 +41,7 @@ pub(crate) struct Gathered<W: Write + Drop> {
 }
 
 /// Writes octets until all are written or a write fails, and answers how many were written.
-fn write_front<W: Write + Drop>(octets: &[u8], to: &mut Stream<W>) -> (usize, Result<(), Stop>)
+fn write_front<W: Sink + Drop>(octets: &[u8], to: &mut Stream<W>) -> (usize, Result<(), Stop>)
     ensures within { result.0 ≤ length octets.now }
     ensures all { OnOk result.1 (result.0 ≡ length octets.now) }
     ensures written { Appends (W.contents to.old.inner) (W.contents to.new.inner)
@@ -58,6 +59,14 @@ fn write_front<W: Write + Drop>(octets: &[u8], to: &mut Stream<W>) -> (usize, Re
     (count, Ok(()))
 }
 
+/// As how many octets a gauge counts a delivery.
+fn octets_of(delivery: &Delivery) -> u64 {
+    match delivery {
+        Delivery::Lines { text, .. } => text.as_slice().len() as u64,
+        Delivery::Last { .. } => 0,
+    }
+}
+
 /// Takes the first of some octets away.
 fn remove_front(octets: &mut Vec<u8>, count: usize)
     requires { count ≤ vec_len octets.old }
@@ -68,20 +77,29 @@ fn remove_front(octets: &mut Vec<u8>, count: usize)
     octets.truncate(left);
 }
 
-impl<W: Write + Drop> Gathered<W> {
+impl<W: Sink + Drop> Gathered<W> {
     /// A stream for which nothing waits, and the gauge of what goes out on it.
     pub(crate) fn new(alloc: Global, stream: W, gauge: Gauge) -> Result<Gathered<W>, AllocError>
         ensures stream { IfOk result (λ g. g.stream.inner ≡ stream) }
         ensures none { IfOk result (λ g. g.waiting.items ≡ []) }
         ensures faults { IfOk result (λ g. g.stream.faults.value ≡ 0) }
     {
-        let waiting = Vec::with_capacity(alloc, KEPT)?;
+        let waiting = if stream.takes_items() {
+            Vec::new(alloc)
+        } else {
+            Vec::with_capacity(alloc, KEPT)?
+        };
         Ok(Gathered {
             stream: Stream::new(stream),
             waiting,
             was_long: false,
             gauge,
         })
+    }
+
+    /// Whether the stream takes items: then no octets wait for it.
+    pub(crate) fn takes_items(&self) -> bool {
+        self.stream.get().takes_items()
     }
 
     /// Makes room for so many octets more, and answers whether there is. There is none for more than may wait, or
@@ -98,6 +116,9 @@ impl<W: Write + Drop> Gathered<W> {
         }
         if more <= self.waiting.capacity() - len {
             return true;
+        }
+        if self.takes_items() {
+            return false;
         }
         let wanted = if all <= SOME { SOME } else { MOST };
         self.waiting.reserve_exact(wanted - len).is_ok()
@@ -211,6 +232,23 @@ impl<W: Write + Drop> Gathered<W> {
             Ok(()) => (count, Ok(())),
             Err(fault) => (count, Err(Stop::Fault(fault))),
         }
+    }
+
+    /// Writes what waits, and then has the stream take an item whole.
+    pub(crate) fn put(&mut self, item: &Item, host: &[u8]) -> Result<(), Stop>
+        ensures whole { OnOk result (GoesOut (gathered_contents W.contents self.old)
+            (gathered_contents W.contents self.new)
+            (delivery_text item.now.delivery host.now) []) }
+        ensures none { OnErr result (Keeps (gathered_contents W.contents self.old)
+            (gathered_contents W.contents self.new)) }
+        ensures few { length self.new.waiting.items ≤ length self.old.waiting.items }
+        ensures cause { MatchResult result (λ _. AreSame self.old.stream self.new.stream)
+            (λ s. HasCause s self.old.stream self.new.stream) }
+    {
+        self.write_waiting()?;
+        self.stream.put(item, host)?;
+        self.gauge.go_out(octets_of(item.delivery()));
+        Ok(())
     }
 
     /// Writes what waits, and has the stream give it on.

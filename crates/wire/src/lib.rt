@@ -3,7 +3,9 @@
 
 mod begun;
 mod gathered;
+mod sink;
 mod stream;
 mod wire;
 
+pub use sink::Sink;
 pub use wire::{Flow, Wire};

@@ -2,12 +2,13 @@
 //!
 //! That an answer says that the stream takes nothing now, an error of the kind WouldBlock, TimedOut or Interrupted, is
 //! read in `stop_of`.
-ghost use Rattle.std.specs.Prelude.{◌≡◌, ◌≤◌, ◌<◌, ◌↔◌, length, take, IfOk, IsOk, MatchResult};
+ghost use Rattle.std.specs.Prelude.{◌≡◌, ◌≤◌, ◌<◌, ◌↔◌, length, take, IfOk, IsOk, OnOk, OnErr, MatchResult};
 ghost use Rattle.std.specs.Io.KnownBytes.{Appends, Keeps, WriteAppends};
 ghost use Rattle.deliveries.specs.Text.{delivery_text};
 ghost use Rattle.wire.specs.Causes.{AreSame, HasCause, Faults};
 
-use deliveries::{Delivery, WriteFault, write_out};
+use crate::sink::Sink;
+use deliveries::{Delivery, Item, WriteFault, write_out};
 use ghosts::{Change, Snapshot, apply};
 use std::io;
 use std::io::{Error, ErrorKind, Write};
@@ -48,7 +49,7 @@ pub(crate) struct Stream<W: Write + Drop> {
     faults: Snapshot<u64>,
 }
 
-impl<W: Write + Drop> Stream<W> {
+impl<W: Sink + Drop> Stream<W> {
     /// A stream that wasn't written to yet.
     pub(crate) fn new(inner: W) -> Stream<W>
         ensures inner { result.inner ≡ inner }
@@ -116,6 +117,21 @@ impl<W: Write + Drop> Stream<W> {
             self.stopped(Stop::Fault(*fault));
         }
         (count, written)
+    }
+
+    /// Has the stream take an item whole.
+    pub(crate) fn put(&mut self, item: &Item, host: &[u8]) -> Result<(), Stop>
+        ensures whole { OnOk result (Appends (W.contents self.old.inner) (W.contents self.new.inner)
+            (delivery_text item.now.delivery host.now)) }
+        ensures none { OnErr result
+            (Keeps (W.contents self.old.inner) (W.contents self.new.inner)) }
+        ensures cause { MatchResult result (λ _. AreSame self.old self.new)
+            (λ s. HasCause s self.old self.new) }
+    {
+        match self.inner.put(item, host) {
+            Ok(()) => Ok(()),
+            Err(error) => Err(self.stopped(stop_of(&error))),
+        }
     }
 
     /// Has the stream give on what it took.

@@ -12,6 +12,7 @@ ghost use Rattle.wire.specs.Wired.{ends, is_last, IsInStep, IsSameWire};
 
 use crate::begun::Begun;
 use crate::gathered::Gathered;
+use crate::sink::Sink;
 use crate::stream::Stop;
 use chronicle::SessionId;
 use deliveries::{Delivery, WriteFault};
@@ -24,8 +25,8 @@ use std::io::Write;
 use std::marker::Model;
 use std::sync::Wait;
 
-/// How many items one call takes at most before it answers.
-const TURNS: u32 = 4096;
+/// How many items one call takes at most before it answers, so that others have their turn.
+const TURNS: u32 = 256;
 
 /// How a wire stands after it was pumped.
 #[derive(Clone, Copy, Debug, PartialEq)]
@@ -100,7 +101,7 @@ impl<L: Naming, W: Write + Drop> Model for Wire<L, W> {
         × (length a.out.waiting.items ≤ 65536) };
 }
 
-impl<L: Naming, W: Write + Drop> Wire<L, W> {
+impl<L: Naming, W: Sink + Drop> Wire<L, W> {
     /// A wire of a session that has this host, by its writer and its stub. Where there is no memory for it, the
     /// three come back.
     pub fn new(
@@ -314,7 +315,7 @@ fn is_last(delivery: &Delivery) -> bool
 
 /// Has the text of lines wait, where there is room for all of it, and answers whether there was. A session's last item
 /// never waits so.
-fn keeps<W: Write + Drop>(delivery: &Delivery, out: &mut Gathered<W>) -> bool
+fn keeps<W: Sink + Drop>(delivery: &Delivery, out: &mut Gathered<W>) -> bool
     ensures stream { out.new.stream ≡ out.old.stream }
     ensures kept { result ≡ true → (host : List ℕ) → out.new.waiting.items
         ≡ out.old.waiting.items ++ delivery_text delivery.now host }

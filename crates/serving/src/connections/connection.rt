@@ -1,12 +1,14 @@
 //! A session's connection, as any thread may write to it.
-use client_streams::Web;
 use client_streams::websocket_front::CloseCode;
+use client_streams::{Framing, Web};
+use deliveries::Item;
 use mio::net::TcpStream;
 use session_io::hall::Naming;
 use session_io::hall::outbox::Gauge;
+use session_io::wire::Sink;
 use session_io::{Backlog, Outlet};
 use std::io;
-use std::io::Write;
+use std::io::{Error, ErrorKind, Write};
 use std::net::Shutdown;
 use std::sync::atomic::{AtomicBool, AtomicU64, Ordering};
 use std::sync::{Arc, Wait};
@@ -19,14 +21,14 @@ const MUCH: u64 = 65_536;
 #[derive(Drop)]
 pub(crate) enum Output<R: Wait + Copy + Drop> {
     Octets(Arc<TcpStream>),
-    Frames(Web<R>),
+    Frames(Framing<R>),
 }
 
 impl<R: Wait + Copy + Drop> Output<R> {
     /// What a connection's items go out on.
     pub(crate) fn of<L: Naming>(connection: &Connection<L, R>) -> Option<Output<R>> {
         if let Some(web) = &connection.web {
-            return Some(Output::Frames(web.again()?));
+            return Some(Output::Frames(Framing::new(web.again()?)));
         }
         match Arc::try_clone(&connection.stream) {
             Ok(stream) => Some(Output::Octets(stream)),
@@ -39,14 +41,27 @@ impl<R: Wait + Copy + Drop> Write for Output<R> {
     fn write(&mut self, buf: &[u8]) -> io::Result<usize> {
         match self {
             Output::Octets(stream) => (&**stream).write(buf),
-            Output::Frames(web) => web.write(buf),
+            Output::Frames(_) => Err(Error::from(ErrorKind::Unsupported)),
         }
     }
 
     fn flush(&mut self) -> io::Result<()> {
         match self {
             Output::Octets(_) => Ok(()),
-            Output::Frames(web) => web.flush(),
+            Output::Frames(framing) => framing.flush(),
+        }
+    }
+}
+
+impl<R: Wait + Copy + Drop> Sink for Output<R> {
+    fn takes_items(&self) -> bool {
+        matches!(self, Output::Frames(_))
+    }
+
+    fn put(&mut self, item: &Item, host: &[u8]) -> io::Result<()> {
+        match self {
+            Output::Octets(_) => Err(Error::from(ErrorKind::Unsupported)),
+            Output::Frames(framing) => framing.put(item, host),
         }
     }
 }

@@ -54,9 +54,23 @@ impl<L: Naming, R: Wait + Clock + Copy + Drop, G: Gate, C: crate::Clock> View<'_
         }
     }
 
+    /// Leaves it to a connection's worker to go on with a writing of which one turn wasn't enough.
+    pub(crate) fn go_on_in_turn(
+        &self,
+        connection: &Connection<L, R>,
+        pumped: &Pumped<L, Output<R>>,
+    ) {
+        if matches!(pumped.flow, Ok(Flow::More)) {
+            self.leave_to_worker(connection, 1);
+        }
+    }
+
     /// Writes what waits for a connection. Where its stream leaves more waiting than may, its worker ends the session.
     fn write_on(&self, connection: &Connection<L, R>) {
         let pumped = connection.outlet.write_now(&self.all.rt);
+        if let Some(pumped) = &pumped {
+            self.go_on_in_turn(connection, pumped);
+        }
         if self.all.most < connection.gauge.waiting_besides_newest() {
             connection.is_beyond.store(true, Ordering::SeqCst);
             self.call(connection);
@@ -67,6 +81,7 @@ impl<L: Naming, R: Wait + Clock + Copy + Drop, G: Gate, C: crate::Clock> View<'_
     /// Writes what waits for a connection whose stream takes more.
     pub(crate) fn go_on(&self, connection: &Connection<L, R>) {
         if let Some(pumped) = connection.outlet.go_on(&self.all.rt) {
+            self.go_on_in_turn(connection, &pumped);
             self.call_after(connection, Some(pumped));
         }
     }
@@ -84,10 +99,10 @@ impl<L: Naming, R: Wait + Clock + Copy + Drop, G: Gate, C: crate::Clock> View<'_
         }
     }
 
-    /// Leaves what waits for a connection, of so many records, to its worker to write, and answers whether that may be
-    /// left to it. What was put before the count grew is written by whoever takes the count back, since that writes
-    /// after it.
-    fn is_left(&self, connection: &Connection<L, R>, records: usize) -> bool {
+    /// Leaves what waits for a connection, of so many records, to its worker to write, and answers of how many it was
+    /// left before and isn't written. What was put before the count grew is written by whoever takes the count back,
+    /// since that writes after it.
+    fn leave_to_worker(&self, connection: &Connection<L, R>, records: usize) -> u64 {
         let before = connection.left.fetch_add(records as u64, Ordering::SeqCst);
         if before == 0 {
             if let Some(post) = self.all.post(connection.worker) {
@@ -95,6 +110,13 @@ impl<L: Naming, R: Wait + Clock + Copy + Drop, G: Gate, C: crate::Clock> View<'_
                 post.leave(&self.all.rt, connection.place, is_own);
             }
         }
+        before
+    }
+
+    /// Leaves what waits for a connection, of so many records, to its worker to write, and answers whether that may be
+    /// left to it.
+    fn is_left(&self, connection: &Connection<L, R>, records: usize) -> bool {
+        let before = self.leave_to_worker(connection, records);
         before.saturating_add(records as u64) < self.burst as u64
     }
 

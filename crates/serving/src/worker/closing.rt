@@ -116,7 +116,10 @@ impl<L: Naming, R: Wait + Clock + Copy + Drop, G: Gate, C: crate::Clock> Context
         let told = &mut self.told;
         let written = write_some(self.rt, self.server, client.session, outlet, is_shut, told);
         let is_fault = match &written.pumped {
-            Some(pumped) => pumped.flow.is_err(),
+            Some(pumped) => {
+                self.server.host.go_on_in_turn(&client.connection, pumped);
+                pumped.flow.is_err()
+            }
             None => false,
         };
         Wrote {
@@ -204,9 +207,9 @@ impl<L: Naming, R: Wait + Clock + Copy + Drop, G: Gate, C: crate::Clock> Context
             return most;
         }
         for swept in 0..most {
-            let Swept { answer, .. } = sweep(self.rt, self.server, &mut self.told);
+            let Swept { answer, ended, .. } = sweep(self.rt, self.server, &mut self.told);
             match answer {
-                Ok(Some(done)) => self.note_gone(done.number),
+                Ok(Some(_)) => self.note_gone(ended),
                 Ok(None) => return most.saturating_sub(swept),
                 Err(_) => {
                     self.is_sweep_again = true;

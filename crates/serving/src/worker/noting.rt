@@ -2,7 +2,7 @@
 use super::Context;
 use crate::connections::Connection;
 use crate::events::Event;
-use chronicle::{Kind, Record, RecordNumber, SessionId, Why};
+use chronicle::{SessionId, Why};
 use line_grammar::Octets;
 use session_io::Gate;
 use session_io::hall::outbox::Sender;
@@ -11,44 +11,6 @@ use std::alloc::AllocError;
 use std::net::SocketAddr;
 use std::sync::Wait;
 use std::time::Clock;
-
-/// Why a record ended this session, if it did: of what it said only a `QUIT` is looked at, since it is shut.
-fn why_by(record: &Record, session: SessionId) -> Option<Why> {
-    if record.missed.as_slice().contains(&session) {
-        return Some(Why::SendQ);
-    }
-    match &record.kind {
-        Kind::Hung {
-            session: whose,
-            why,
-        } if *whose == session => Some(*why),
-        Kind::Said { session: whose, .. } if *whose == session => Some(Why::Quit),
-        _ => None,
-    }
-}
-
-/// Who is gone by a record, and why it was ended: by the newest record before it that did that, in one word. Where
-/// that was dropped it isn't known.
-fn gone_by<L: Naming, R: Wait + Drop>(
-    hall: &Hall<L, Sender<R>>,
-    number: RecordNumber,
-) -> Option<(SessionId, &'static str)> {
-    let session = match &hall.record(number)?.kind {
-        Kind::Gone { session } => *session,
-        _ => return None,
-    };
-    let mut place = number.number();
-    for _ in 0..hall.len() {
-        place = place.saturating_sub(1);
-        let Some(record) = hall.record(RecordNumber::new(place)) else {
-            break;
-        };
-        if let Some(why) = why_by(record, session) {
-            return Some((session, why.word()));
-        }
-    }
-    Some((session, "unknown"))
-}
 
 /// A copy of a session's nickname, if it has one and there is memory for it.
 fn nick_in<L: Naming, R: Wait + Drop>(
@@ -88,15 +50,10 @@ impl<L: Naming, R: Wait + Clock + Copy + Drop, G: Gate, C: crate::Clock> Context
         }
     }
 
-    /// Notes for the log that a session is gone.
-    pub(super) fn note_gone(&self, number: RecordNumber) {
-        let all = self.server.host.all;
-        if all.log.is_none() {
-            return;
-        }
-        let gone = gone_by(&*self.server.hall.lock(self.rt), number);
-        if let Some((session, why)) = gone {
-            all.note(Event::Went(session, why));
+    /// Notes for the log that a session is gone, and why it ended.
+    pub(super) fn note_gone(&self, ended: Option<(SessionId, Why)>) {
+        if let Some((session, why)) = ended {
+            self.server.host.all.note(Event::Went(session, why.word()));
         }
     }
 }

@@ -79,7 +79,10 @@ impl<L: Naming, R: Wait + Clock + Copy + Drop, G: Gate, C: crate::Clock> Context
     fn hold_up(&mut self, at: usize, connection: &Connection<L, R>) {
         // What another thread found of the stream may be older than the last event, so this thread tries for itself.
         let is_told = match connection.outlet.go_on(self.rt) {
-            Some(pumped) => matches!(pumped.flow, Ok(Flow::Behind)),
+            Some(pumped) => {
+                self.server.host.go_on_in_turn(connection, &pumped);
+                matches!(pumped.flow, Ok(Flow::Behind))
+            }
             None => false,
         };
         if !is_told {

@@ -15,19 +15,29 @@ not_begun true faults begun x none bad good is = let more = bad refl in absurd (
 not_begun false faults begun x none bad good is = subst LastIsWhole is (good refl)
 
 -- more of the newest item went out: how all stands then
-further : (host lent : List ℕ) (a b c : Option (List ℕ)) (since : List Item) (begun : Option Begun) (x y : Begun)
+further : (host lent : List ℕ) (a b c : Option (List ℕ)) (since : List Item) (begun : Option Begun) (x : Begun)
+    (left : List ℕ) → lent ≡ host → begun ≡ Some x → GoesOut a b (texts host since) (rest_of host begun)
+    → ((n : ℕ) × (rest_of host begun ≡ drop n (newest_text host since)))
+    → GoesOut b c (rest_of lent (Some x)) left
+    → GoesOut a c (texts host since) left × ((n : ℕ) × (left ≡ drop n (newest_text host since)))
+further host lent a b c since begun x left same is before tail now =
+    let here : GoesOut b c (rest_of host (Some x)) left =
+    subst (λ h. GoesOut b c (rest_of h (Some x)) left) same now in
+    let from : GoesOut b c (rest_of host begun) left =
+    subst (λ o. GoesOut b c (rest_of host o) left) (sym is) here in (
+      goes_on a b c (texts host since) (rest_of host begun) left before from,
+      tail_on b c (rest_of host begun) left (newest_text host since) from tail,
+    )
+
+-- the same where some of it is left
+further_rest : (host lent : List ℕ) (a b c : Option (List ℕ)) (since : List Item) (begun : Option Begun) (x y : Begun)
     → lent ≡ host → begun ≡ Some x → GoesOut a b (texts host since) (rest_of host begun)
     → ((n : ℕ) × (rest_of host begun ≡ drop n (newest_text host since)))
     → GoesOut b c (rest_of lent (Some x)) (rest_of lent (Some y)) → GoesOut a c (texts host since)
     (rest_of host (Some y)) × ((n : ℕ) × (rest_of host (Some y) ≡ drop n (newest_text host since)))
-further host lent a b c since begun x y same is before tail now =
-    let here : GoesOut b c (rest_of host (Some x)) (rest_of host (Some y)) =
-    subst (λ h. GoesOut b c (rest_of h (Some x)) (rest_of h (Some y))) same now in
-    let from : GoesOut b c (rest_of host begun) (rest_of host (Some y)) =
-    subst (λ o. GoesOut b c (rest_of host o) (rest_of host (Some y))) (sym is) here in (
-      goes_on a b c (texts host since) (rest_of host begun) (rest_of host (Some y)) before from,
-      tail_on b c (rest_of host begun) (rest_of host (Some y)) (newest_text host since) from tail,
-    )
+further_rest host lent a b c since begun x y same is before tail now =
+    further host lent a b c since begun x (rest_of host (Some y)) same is before tail
+    (subst (λ h. GoesOut b c (rest_of lent (Some x)) (rest_of h (Some y))) same now)
 
 pub write_rest-requires : goal.write_rest-requires
 write_rest-requires g c =
@@ -46,16 +56,14 @@ invariant_of-self-in-Ok g c =
     let known = gathered_contents g.W.Write.contents in
     let before = g.W.Write.contents a.stream_before.value in
     let f = further a.host lent before (known a.out) (known c.write_rest.new.out) i.1.since a.begun c.in-Some.begun
-    c.write_rest.new.self c.as_slice.ensures c.in-Some.is i.1.out i.1.newest c.write_rest.ensures.more in
-    let all : rest_of a.host (Some c.write_rest.new.self) ≡ [] =
-    ap (λ h. rest_of h (Some c.write_rest.new.self)) (sym c.as_slice.ensures) ∙ c.in-Ok.ensures.whole in
+    [] c.as_slice.ensures c.in-Some.is i.1.out i.1.newest c.in-Ok.ensures.whole in
     let same = c.in-Ok.ensures.cause.1 in (
       i.0,
       record {
         since = i.1.since;
         taken = i.1.taken;
-        out = subst (λ (l : List ℕ). GoesOut before (known c.write_rest.new.out) (texts a.host i.1.since) l) all f.0;
-        newest = (f.1.0, sym all ∙ f.1.1);
+        out = f.0;
+        newest = f.1;
       },
       i.2,
       (λ e. let h = i.3 e in omega (arith, h, same)),
@@ -71,8 +79,9 @@ invariant_of-self-in-Err-Later g c =
     let lent = c.as_slice.result.now in
     let known = gathered_contents g.W.Write.contents in
     let before = g.W.Write.contents a.stream_before.value in
-    let f = further a.host lent before (known a.out) (known c.write_rest.new.out) i.1.since a.begun c.in-Some.begun
-    c.write_rest.new.self c.as_slice.ensures c.in-Some.is i.1.out i.1.newest c.write_rest.ensures.more in
+    let f = further_rest a.host lent before (known a.out) (known c.write_rest.new.out) i.1.since a.begun
+    c.in-Some.begun c.write_rest.new.self c.as_slice.ensures c.in-Some.is i.1.out i.1.newest
+    c.in-Err-Later.ensures.more in
     let same = (subst (λ s. HasCause s a.out.stream c.write_rest.new.out.stream) c.in-Err-Later.field-0-is
     c.in-Err-Later.ensures.cause).1 in (
       i.0,
@@ -91,8 +100,9 @@ invariant_of-self-in-Err-Fault g c =
     let lent = c.as_slice.result.now in
     let known = gathered_contents g.W.Write.contents in
     let before = g.W.Write.contents a.stream_before.value in
-    let f = further a.host lent before (known a.out) (known c.write_rest.new.out) i.1.since a.begun c.in-Some.begun
-    c.write_rest.new.self c.as_slice.ensures c.in-Some.is i.1.out i.1.newest c.write_rest.ensures.more in
+    let f = further_rest a.host lent before (known a.out) (known c.write_rest.new.out) i.1.since a.begun
+    c.in-Some.begun c.write_rest.new.self c.as_slice.ensures c.in-Some.is i.1.out i.1.newest
+    c.in-Err-Fault.ensures.more in
     let more = (subst (λ s. HasCause s a.out.stream c.write_rest.new.out.stream) c.in-Err-Fault.field-0-is
     c.in-Err-Fault.ensures.cause).1 in (
       i.0,
