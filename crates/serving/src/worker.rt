@@ -35,8 +35,11 @@ use std::{mem, thread};
 /// How many events are looked at before what was put is written.
 pub(crate) const EVENTS: usize = 256;
 
-/// How many sessions that are over are swept in a round, of which each who shares a channel is told.
-const SWEEPS: u32 = 4;
+/// How many sessions that are over are swept in a round.
+const SWEEPS: u32 = 64;
+
+/// After how many deliveries of its sweeps, about, a round sweeps nobody more: each who shares a channel is told.
+const SHOWN: usize = 10_000;
 
 /// A worker: its clients' places, and what it works with besides, so that a place can be lent to that.
 #[derive(Drop)]

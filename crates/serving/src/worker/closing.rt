@@ -2,7 +2,7 @@
 use super::client::Client;
 use super::places::Place;
 use super::sessions::Tokens;
-use super::{Context, Worker};
+use super::{Context, SHOWN, Worker};
 use crate::connections::Connection;
 use chronicle::{SessionId, Why};
 use client_streams::LINGER_TRIES;
@@ -200,13 +200,22 @@ impl<L: Naming, R: Wait + Clock + Copy + Drop, G: Gate, C: crate::Clock> Context
         }
     }
 
-    /// Sweeps some of those who are shut, at most so many, and answers how many more may be swept now. Where there is
-    /// no memory for one it is tried again after a pause.
+    /// Sweeps some of those who are shut, at most so many and no more once many are told, and answers how many more may
+    /// be swept now. Where there is no memory for one it is tried again after a pause.
     pub(super) fn sweep_some(&mut self, most: u32) -> u32 {
         if most == 0 || !self.server.host.all.take_unswept() {
             return most;
         }
         for swept in 0..most {
+            if SHOWN
+                < self
+                    .told
+                    .sessions()
+                    .len()
+                    .saturating_mul(self.told.records())
+            {
+                break;
+            }
             let Swept { answer, ended, .. } = sweep(self.rt, self.server, &mut self.told);
             match answer {
                 Ok(Some(_)) => self.note_gone(ended),
