@@ -200,8 +200,8 @@ impl<L: Naming, R: Wait + Clock + Copy + Drop, G: Gate, C: crate::Clock> Context
         }
     }
 
-    /// Sweeps some of those who are shut, at most so many and no more once many are told, and answers how many more may
-    /// be swept now. Where there is no memory for one it is tried again after a pause.
+    /// Sweeps some of those who are shut, at most so many and no more once many are told, and answers how many more
+    /// may be swept now. Where there is no memory for one it is tried again after a pause.
     pub(super) fn sweep_some(&mut self, most: u32) -> u32 {
         if most == 0 || !self.server.host.all.take_unswept() {
             return most;
