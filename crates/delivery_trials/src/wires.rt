@@ -18,7 +18,7 @@ use wire::{Flow, Sink, Wire};
 /// What each item delivers.
 pub(crate) const TOLD: &[u8; 45] = b":irc.example 417 * :Input line was too long\r\n";
 
-/// How many items wait: as many as a wire writes at once.
+/// How many items wait: more than one call takes.
 pub(crate) const ITEMS: u64 = 400;
 
 /// Their octets.
@@ -158,7 +158,7 @@ fn more_than_a_write_goes_out_in_order(rt: HostRuntime) -> Result<(), Fail> {
     Ok(())
 }
 
-/// In how many writes so many items go out in one call, to a stream that takes all; 0 where they don't.
+/// In how many writes so many items go out to a stream that takes all; 0 where they don't.
 fn writes_for<L: Naming, R: Wait + Abort + Drop + Copy>(
     rt: &R,
     alloc: Global,
@@ -176,7 +176,7 @@ fn writes_for<L: Naming, R: Wait + Abort + Drop + Copy>(
     };
     let narrow = Narrow::new(alloc, shape);
     let (_feed, mut wire) = fed::<L, R, Narrow>(rt, alloc, register, narrow, items);
-    match wire.pump(rt) {
+    match pump_all(rt, &mut wire) {
         Ok(Flow::Idle) => wire.stream().writes,
         _ => 0,
     }
@@ -243,8 +243,8 @@ fn a_gauge_tells_what_waits(rt: HostRuntime) -> Result<(), Fail> {
 /// 65,536.
 const WRITES: [(u64, u32); 5] = [(0, 0), (1, 1), (100, 1), (1456, 1), (1457, 2)];
 
-/// All items that wait go out in one write: 100 of 45 octets each, and 1,456, which have 65,520; one more goes in a
-/// second.
+/// All items that wait go out in one write, in however many calls: 100 of 45 octets each, and 1,456, which have 65,520;
+/// one more goes in a second.
 #[test]
 fn all_that_waits_goes_out_in_one_write(rt: HostRuntime) -> Result<(), Fail> {
     for (items, writes) in WRITES {
