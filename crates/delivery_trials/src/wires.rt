@@ -243,8 +243,8 @@ fn a_gauge_tells_what_waits(rt: HostRuntime) -> Result<(), Fail> {
 /// 65,536.
 const WRITES: [(u64, u32); 5] = [(0, 0), (1, 1), (100, 1), (1456, 1), (1457, 2)];
 
-/// All items that wait go out in one write, in however many calls: 100 of 45 octets each, and 1,456, which have 65,520;
-/// one more goes in a second.
+/// All items that wait go out in one write, in however many calls: 100 of 45 octets each, and 1,456, which have
+/// 65,520; one more goes in a second.
 #[test]
 fn all_that_waits_goes_out_in_one_write(rt: HostRuntime) -> Result<(), Fail> {
     for (items, writes) in WRITES {
